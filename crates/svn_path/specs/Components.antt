@@ -1,0 +1,37 @@
+-- The components of a path. Subversion's dump format notes give paths as bytes, cut at `/`; the names `.` and
+-- `..` stand in no repository (Subversion book, "Repository URLs and paths").
+use Rattle.std.specs.Prelude.{ℕ, ◌==◌, Bool, true, false, ◌||◌, List, [], ◌∷◌, filter, IsTrue, IsFalse, bytes_eq, codes, flat_map}
+use Rattle.std.specs.List.{slice_split, list_any}
+
+abbrev pub is_slash : ℕ → Bool
+is_slash byte = byte == 47
+
+abbrev pub is_not_empty : List ℕ → Bool
+is_not_empty [] = false
+is_not_empty (byte ∷ bytes) = true
+
+-- what stands between the slashes, empty parts dropped
+abbrev pub parts_of : List ℕ → List (List ℕ)
+parts_of bytes = filter is_not_empty (slice_split is_slash bytes)
+
+-- `.` or `..`
+abbrev pub is_dot : List ℕ → Bool
+is_dot part = bytes_eq part (codes ".") || bytes_eq part (codes "..")
+
+-- some part of the path is `.` or `..`
+abbrev pub HasDot : List ℕ → Type 0
+HasDot bytes = IsTrue (list_any is_dot (parts_of bytes))
+
+pub record IsComponent (part : List ℕ) : Type 0 where
+  pub not_empty : IsTrue (is_not_empty part)
+  pub no_slash : IsFalse (list_any is_slash part)
+  pub not_dot : IsFalse (is_dot part)
+
+-- a slash before each component
+abbrev pub below_root : List (List ℕ) → List ℕ
+below_root parts = flat_map (λ each. 47 ∷ each) parts
+
+-- the same, and a slash for the root
+abbrev pub printed : List (List ℕ) → List ℕ
+printed [] = codes "/"
+printed (part ∷ parts) = below_root (part ∷ parts)

@@ -1,0 +1,7 @@
+pub mod Below
+pub mod Components
+pub mod Lookup
+pub mod Names
+pub mod Path
+pub mod PathError
+pub mod PathOrder

@@ -1,0 +1,35 @@
+-- A table of names: each component once, numbered from 0 in the order in which they came.
+use Rattle.std.specs.Prelude.{ℕ, ◌+◌, ◌≤◌, Bool, List, [], ◌∷◌, ◌++◌, All, fold, length, map, replicate, slice_index_or, bytes_eq, if◌then◌else◌, Vec}
+use Rattle.std.specs.List.{list_any, IsDistinct}
+use Rattle.std.specs.declared.alloc.Global.{Global}
+use Rattle.svn_path.specs.Components.{IsComponent}
+
+-- how many names a table holds at most
+abbrev pub most_names : ℕ
+most_names = 4294967295
+
+abbrev pub has_name : List (List ℕ) → List ℕ → Bool
+has_name names name = list_any (λ each. bytes_eq each name) names
+
+-- the table with a name that it may have already
+abbrev pub with_name : List (List ℕ) → List ℕ → List (List ℕ)
+with_name names name = if has_name names name then names else names ++ name ∷ []
+
+-- the table with these names, one after another
+abbrev pub with_names : List (List ℕ) → List (List ℕ) → List (List ℕ)
+with_names names added = fold with_name names added
+
+-- the name of a number; a number past the table's end stands for slashes, which no component has and of which
+-- there are as many for no other number
+abbrev pub name_of : List (List ℕ) → ℕ → List ℕ
+name_of names number = slice_index_or names number (replicate (number + 1) 47)
+
+-- the bytes of the names that a table keeps
+abbrev pub texts : List (Vec ℕ Global) → List (List ℕ)
+texts names = map (λ name. name.items) names
+
+-- what every table keeps
+pub record IsTable (names : List (List ℕ)) : Type 0 where
+  pub few : length names ≤ most_names
+  pub components : All IsComponent names
+  pub distinct : IsDistinct bytes_eq names

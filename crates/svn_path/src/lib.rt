@@ -1,0 +1,11 @@
+//! Paths of a Subversion repository, as lists of numbered names.
+#![tactic(auto)]
+
+mod names;
+mod parts;
+mod path;
+#[cfg(test)]
+mod tests;
+
+pub use names::{NameId, Names, NamesError};
+pub use path::{Lookup, Path, PathError};

@@ -1,0 +1,127 @@
+//! The table of names that the components of paths are numbers of.
+ghost use Rattle.std.specs.Prelude.{◌≡◌, ◌≢◌, ℕ, ◌<◌, ◌≤◌, ◌↔◌, List, [], Some, All, length, slice_get, bytes_eq, IsTrue, IsFalse, IsSome, IfOk, IfSome, OnErr, IsErrOf};
+ghost use Rattle.std.specs.List.{IsDistinct};
+ghost use Rattle.svn_path.specs.Components.{IsComponent};
+ghost use Rattle.svn_path.specs.Names.{has_name, with_name, most_names};
+
+use indexmap::IndexSet;
+use std::alloc::{AllocError, AllocFailed, Global};
+use std::marker::Model;
+use thiserror::Error;
+
+/// The number of a name in a table. Numbers begin at 0 and follow the order in which names came.
+#[derive(Clone, Copy, Debug, PartialEq, Eq, PartialOrd, Ord, Hash)]
+pub struct NameId(pub u32);
+
+/// Why a table didn't take a name.
+#[derive(Debug, Drop, Error)]
+pub enum NamesError {
+    #[error("the table of names is full")]
+    Full,
+    #[error("out of memory")]
+    Memory,
+}
+
+/// The distinct components of a repository's paths, seen as the list of their bytes.
+#[derive(Drop)]
+pub struct Names {
+    known: IndexSet<Vec<u8>>,
+}
+
+impl Model for Names {
+    ghost use Rattle.std.specs.Prelude.{ℕ, List, ◌≤◌, All, length, bytes_eq};
+    ghost use Rattle.std.specs.List.{IsDistinct};
+    ghost use Rattle.svn_path.specs.Components.{IsComponent};
+    ghost use Rattle.svn_path.specs.Names.{IsTable, texts};
+
+    ghost Value = { List (List ℕ) };
+
+    ghost view = { λ n. texts n.known.keys };
+
+    ghost invariant = { λ n. IsTable (texts n.known.keys) };
+}
+
+impl From<AllocError> for NamesError {
+    ghost use Rattle.svn_path.specs.declared.names.NamesError.TheVariants.{Memory};
+
+    ghost from_gives = { λ _ e. e ≡ Memory };
+
+    fn from(_e: AllocError) -> NamesError {
+        NamesError::Memory
+    }
+}
+
+impl<T: Drop> From<AllocFailed<T>> for NamesError {
+    ghost use Rattle.svn_path.specs.declared.names.NamesError.TheVariants.{Memory};
+
+    ghost from_gives = { λ _ e. e ≡ Memory };
+
+    fn from(_e: AllocFailed<T>) -> NamesError {
+        NamesError::Memory
+    }
+}
+
+impl Names {
+    /// A table without names. It takes no memory.
+    pub fn new(alloc: Global) -> Self
+        ensures { result ≡ [] }
+    {
+        Names {
+            known: IndexSet::new(alloc),
+        }
+    }
+
+    /// The number of a name, which is put at the table's end where it isn't there yet.
+    pub fn add(&mut self, name: &[u8]) -> Result<NameId, NamesError>
+        requires { IsComponent name.now }
+        ensures number { IfOk result (λ id. slice_get self.new id.0 ≡ Some name.now) }
+        ensures table { IfOk result (λ _. self.new ≡ with_name self.old name.now) }
+        ensures full { IsErrOf result NamesError.Full ↔ ((length self.old ≡ most_names) × IsFalse (has_name self.old name.now)) }
+        ensures err { OnErr result (self.new ≡ self.old) }
+    {
+        if let Some(id) = self.find(name) {
+            return Ok(id);
+        }
+        let index = self.known.len();
+        if index == u32::MAX as usize {
+            return Err(NamesError::Full);
+        }
+        self.known
+            .insert(Vec::from_slice(*self.known.allocator(), name)?)?;
+        Ok(NameId(index as u32))
+    }
+
+    /// The number of a name, if the table has it.
+    pub fn find(&self, name: &[u8]) -> Option<NameId>
+        ensures number { IfSome result (λ id. slice_get self.now id.0 ≡ Some name.now) }
+        ensures found { IsSome result ↔ IsTrue (has_name self.now name.now) }
+    {
+        self.known
+            .get_index_of(name)
+            .map(|index| NameId(index as u32))
+    }
+
+    /// The name of a number.
+    pub fn text(&self, id: NameId) -> &[u8]
+        requires { id.0 < length self.now }
+        ensures { slice_get self.now id.0 ≡ Some result.now }
+    {
+        self.known[id.0 as usize].as_slice()
+    }
+
+    /// How many names there are.
+    pub fn len(&self) -> usize
+        ensures count { result ≡ length self.now }
+        ensures few { length self.now ≤ most_names }
+        ensures components { All IsComponent self.now }
+        ensures distinct { IsDistinct bytes_eq self.now }
+    {
+        self.known.len()
+    }
+
+    pub fn is_empty(&self) -> bool
+        ensures { IsTrue result ↔ (self.now ≡ []) }
+    {
+        self.known.is_empty()
+    }
+}

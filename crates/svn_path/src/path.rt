@@ -1,0 +1,282 @@
+//! A path as the list of the numbers of its components.
+ghost use Rattle.std.specs.Prelude.{◌≡◌, ◌≢◌, ℕ, ◌<◌, ◌↔◌, List, [], ◌++◌, Some, All, drop, take, length, option_map, is_some, IsTrue, IfOk, OnOk, OnErr, IsErrOf, refl};
+ghost use Rattle.std.specs.Cmp.{partial_equiv_from_equiv, partial_order_from_agreeing_total};
+ghost use Rattle.std.specs.Cmp.Lexicographic.{pointwise, slice_cmp};
+ghost use Rattle.std.specs.Ordering.{as_partial_cmp};
+ghost use Rattle.svn_path.specs.Below.{is_below, parent_of};
+ghost use Rattle.svn_path.specs.Components.{parts_of, below_root, printed, HasDot};
+ghost use Rattle.svn_path.specs.Lookup.{IsLookup};
+ghost use Rattle.svn_path.specs.Names.{with_names, most_names};
+ghost use Rattle.svn_path.specs.Path.{same_name, spelled, IsOf, HasUnknown};
+ghost use Rattle.svn_path.specs.PathOrder.{name_cmp, paths_equiv, paths_total, paths_ties};
+
+use crate::names::{NameId, Names, NamesError};
+use crate::parts::{has_dot, next_part};
+use std::alloc::{AllocError, AllocFailed, Global};
+use std::cmp::Ordering;
+use std::marker::Model;
+use thiserror::Error;
+
+/// Why bytes were not read as a path.
+#[derive(Debug, Drop, Error)]
+pub enum PathError {
+    #[error("a component of the path is `.` or `..`")]
+    Dot,
+    #[error("the table of names is full")]
+    Full,
+    #[error("out of memory")]
+    Memory,
+}
+
+/// A path from the root of the repository, seen as the list of its components' numbers.
+#[derive(Drop)]
+pub struct Path {
+    parts: Vec<NameId>,
+}
+
+/// What a search for a path in a table of names gave.
+#[derive(Drop)]
+pub enum Lookup {
+    /// The path, all of whose components have a number.
+    Known(Path),
+    /// Some component has no number.
+    Unknown,
+}
+
+impl Model for Path {
+    ghost use Rattle.std.specs.Prelude.{List};
+    ghost use Rattle.svn_path.specs.declared.names.NameId.{NameId};
+
+    ghost Value = { List NameId };
+
+    ghost view = { λ p. p.parts.items };
+}
+
+impl PartialEq for Path {
+    ghost eq = { pointwise same_name };
+
+    ghost laws = { partial_equiv_from_equiv paths_equiv };
+
+    fn eq(&self, other: &Path) -> bool {
+        self.parts == other.parts
+    }
+}
+
+impl Eq for Path {
+    ghost laws = { paths_equiv };
+}
+
+impl PartialOrd for Path {
+    ghost partial_cmp = { as_partial_cmp (slice_cmp name_cmp) };
+
+    ghost laws = { partial_order_from_agreeing_total (slice_cmp name_cmp) paths_total (λ _ _. refl) paths_ties };
+
+    fn partial_cmp(&self, other: &Path) -> Option<Ordering> {
+        Some(self.cmp(other))
+    }
+}
+
+/// Paths are ordered component by component, by the numbers in the table.
+impl Ord for Path {
+    ghost cmp = { slice_cmp name_cmp };
+
+    ghost total = { paths_total };
+
+    ghost matches_partial_cmp = { λ _ _. refl };
+
+    ghost matches_eq = { paths_ties };
+
+    fn cmp(&self, other: &Path) -> Ordering {
+        self.parts.cmp(&other.parts)
+    }
+}
+
+impl From<NamesError> for PathError {
+    ghost use Rattle.svn_path.specs.PathError.{told};
+
+    ghost from_gives = { λ e told_as. told_as ≡ told e };
+
+    fn from(e: NamesError) -> PathError {
+        match e {
+            NamesError::Full => PathError::Full,
+            NamesError::Memory => PathError::Memory,
+        }
+    }
+}
+
+impl From<AllocError> for PathError {
+    ghost use Rattle.svn_path.specs.declared.path.PathError.TheVariants.{Memory};
+
+    ghost from_gives = { λ _ e. e ≡ Memory };
+
+    fn from(_e: AllocError) -> PathError {
+        PathError::Memory
+    }
+}
+
+impl<T: Drop> From<AllocFailed<T>> for PathError {
+    ghost use Rattle.svn_path.specs.declared.path.PathError.TheVariants.{Memory};
+
+    ghost from_gives = { λ _ e. e ≡ Memory };
+
+    fn from(_e: AllocFailed<T>) -> PathError {
+        PathError::Memory
+    }
+}
+
+impl Path {
+    /// The root of the repository. It takes no memory.
+    pub fn root(alloc: Global) -> Self
+        ensures { result ≡ [] }
+    {
+        Path {
+            parts: Vec::new(alloc),
+        }
+    }
+
+    /// The path that the bytes spell, its new components put at the table's end.
+    pub fn read(alloc: Global, names: &mut Names, bytes: &[u8]) -> Result<Self, PathError>
+        ensures within { IfOk result (λ path. IsOf names.new path) }
+        ensures spelled { IfOk result (λ path. spelled names.new path ≡ parts_of bytes.now) }
+        ensures table { OnOk result (names.new ≡ with_names names.old (parts_of bytes.now)) }
+
+        // `Dot` is looked for first, and leaves the table as it was.
+        ensures dot { IsErrOf result PathError.Dot ↔ HasDot bytes.now }
+        ensures unchanged { IsErrOf result PathError.Dot → names.new ≡ names.old }
+
+        // Any other refusal may leave some leading new components in the table.
+        ensures full { IsErrOf result PathError.Full → (length names.new ≡ most_names) × HasUnknown names.new (parts_of bytes.now) }
+        ensures err { OnErr result ((n : ℕ) × (names.new ≡ with_names names.old (take n (parts_of bytes.now)))) }
+    {
+        if has_dot(bytes) {
+            return Err(PathError::Dot);
+        }
+        let mut parts = Vec::new(alloc);
+        let mut rest = bytes;
+        while let Some((part, more)) = next_part(rest) {
+            let id = names.add(part)?;
+            parts.push(id)?;
+            rest = more;
+        }
+        Ok(Path { parts })
+    }
+
+    /// The path that the bytes spell, if the table has all of its components.
+    pub fn find(alloc: Global, names: &Names, bytes: &[u8]) -> Result<Lookup, PathError>
+        ensures ok { IfOk result (IsLookup names.now (parts_of bytes.now)) }
+        ensures dot { IsErrOf result PathError.Dot ↔ HasDot bytes.now }
+        ensures never_full { IsErrOf result PathError.Full → ⊥ }
+    {
+        if has_dot(bytes) {
+            return Err(PathError::Dot);
+        }
+        let mut parts = Vec::new(alloc);
+        let mut rest = bytes;
+        while let Some((part, more)) = next_part(rest) {
+            match names.find(part) {
+                Some(id) => parts.push(id)?,
+                None => return Ok(Lookup::Unknown),
+            }
+            rest = more;
+        }
+        Ok(Lookup::Known(Path { parts }))
+    }
+
+    /// The numbers of the components, the one below the root first.
+    pub fn parts(&self) -> &[NameId]
+        ensures { result.now ≡ self.now }
+    {
+        self.parts.as_slice()
+    }
+
+    /// The path of these components.
+    pub fn of(alloc: Global, parts: &[NameId]) -> Result<Self, AllocError>
+        ensures { IfOk result (λ path. path ≡ parts.now) }
+    {
+        Ok(Path {
+            parts: Vec::from_slice(alloc, parts)?,
+        })
+    }
+
+    /// Whether this path is the other one or below it.
+    pub fn starts_with(&self, front: &Path) -> bool
+        ensures { IsTrue result ↔ IsTrue (is_below same_name front.now self.now) }
+    {
+        self.parts().starts_with(front.parts())
+    }
+
+    /// How many components it has: none for the root.
+    pub fn len(&self) -> usize
+        ensures { result ≡ length self.now }
+    {
+        self.parts.len()
+    }
+
+    /// Whether it is the root.
+    pub fn is_empty(&self) -> bool
+        ensures { IsTrue result ↔ (self.now ≡ []) }
+    {
+        self.parts.is_empty()
+    }
+
+    /// An equal path.
+    pub fn dup(&self) -> Result<Self, AllocError>
+        ensures { IfOk result (λ path. path ≡ self.now) }
+    {
+        Path::of(*self.parts.allocator(), self.parts())
+    }
+
+    /// The path of the directory in which this path stands: `None` for the root.
+    pub fn parent(&self) -> Result<Option<Self>, AllocError>
+        ensures { IfOk result (λ path. path ≡ parent_of self.now) }
+    {
+        match self.parts().split_last() {
+            None => Ok(None),
+            Some((_, above)) => Ok(Some(Path::of(*self.parts.allocator(), above)?)),
+        }
+    }
+
+    /// The path below `to` that this one is below `from`.
+    pub fn rebase(&self, from: &Path, to: &Path) -> Result<Self, AllocError>
+        requires { IsTrue (is_below same_name from.now self.now) }
+        ensures { IfOk result (λ path. path ≡ to.now ++ drop (length from.now) self.now) }
+    {
+        let (_, rest) = self.parts().split_at(from.len());
+        let front = to.parts();
+        let mut parts = Vec::with_capacity(*self.parts.allocator(), front.len() + rest.len())?;
+        parts.extend_from_slice(front)?;
+        parts.extend_from_slice(rest)?;
+        Ok(Path { parts })
+    }
+
+    /// Appends the path as it is printed.
+    pub fn write(&self, names: &Names, out: &mut Vec<u8>) -> Result<(), AllocError>
+        requires { IsOf names.now self.now }
+        ensures ok { OnOk result (out.new.items ≡ out.old.items ++ printed (spelled names.now self.now)) }
+        ensures err { OnErr result (out.new.items ≡ out.old.items) }
+    {
+        if self.is_empty() {
+            out.push(b'/')?;
+            return Ok(());
+        }
+        let before = out.len();
+        let written = self.append(names, out);
+        if written.is_err() {
+            out.truncate(before);
+        }
+        written
+    }
+
+    // Appends a slash and the name for each component.
+    fn append(&self, names: &Names, out: &mut Vec<u8>) -> Result<(), AllocError>
+        requires { IsOf names.now self.now }
+        ensures ok { OnOk result (out.new.items ≡ out.old.items ++ below_root (spelled names.now self.now)) }
+        ensures err { OnErr result ((more : List ℕ) × (out.new.items ≡ out.old.items ++ more)) }
+    {
+        for id in self.parts() {
+            out.push(b'/')?;
+            out.extend_from_slice(names.text(*id))?;
+        }
+        Ok(())
+    }
+}
