@@ -1,0 +1,101 @@
+-- Items in groups of given sizes, and what one more item or one more group makes of them.
+use Rattle.std.proofs.Common.{◌≡◌, ℕ, zero, suc, ◌+◌, ◌-◌, ◌<◌, ◌≤◌, List, [], ◌∷◌, ◌++◌, map, length, take, drop, get_or, set, replicate, refl, sym, ap, ap₂, ◌∙◌, append_assoc, append-nil, arith, length-append, length-drop, take_all}
+use Rattle.std.proofs.lemmas.List.{take-map, drop-map, take-append-le, drop-append-le, length_push, length-replicate, replicate_more, take-append-drop, nil_from_length, get_or_read}
+use Rattle.std.specs.List.{flat_map}
+use Rattle.svn_dump.specs.Dump.{grouped, revisions_from}
+use Rattle.svn_dump.specs.Record.{RecordOfBytes, with_record}
+
+-- how many items the counts are of
+abbrev pub total : List ℕ → ℕ
+total [] = 0
+total (count ∷ counts) = count + total counts
+
+-- one more item in the last group
+abbrev pub with_more : List ℕ → List ℕ
+with_more [] = []
+with_more (count ∷ []) = (count + 1) ∷ []
+with_more (count ∷ more ∷ counts) = count ∷ with_more (more ∷ counts)
+
+-- it opens no group
+pub length-with_more : (counts : List ℕ) → length (with_more counts) ≡ length counts
+length-with_more [] = refl
+length-with_more (count ∷ []) = refl
+length-with_more (count ∷ more ∷ counts) = ap suc (length-with_more (more ∷ counts))
+
+-- no count is above the total
+pub get_or-le-total : (counts : List ℕ) (k : ℕ) → get_or counts k 0 ≤ total counts
+get_or-le-total [] k = omega arith
+get_or-le-total (count ∷ counts) zero = omega arith
+get_or-le-total (count ∷ counts) (suc k) = omega (arith, get_or-le-total counts k)
+
+-- there are as many groups as counts
+pub length-grouped : {X : Type 0} (counts : List ℕ) (items : List X) → length (grouped counts items) ≡ length counts
+length-grouped [] items = refl
+length-grouped (count ∷ counts) items = ap suc (length-grouped counts (drop count items))
+
+-- a map of all items is one of each group's
+pub map-grouped : {X Y : Type 0} (f : X → Y) (counts : List ℕ) (items : List X) → map (map f) (grouped counts items) ≡ grouped counts (map f items)
+map-grouped f [] items = refl
+map-grouped f (count ∷ counts) items =
+    ap₂ (λ group groups. group ∷ groups) (sym (take-map f count items)) (map-grouped f counts (drop count items) ∙ ap (grouped counts) (sym (drop-map f count items)))
+
+-- the groups joined are the items, where the counts are as many
+pub flat_map-grouped : {X : Type 0} (counts : List ℕ) (items : List X) → total counts ≡ length items → flat_map (λ group. group) (grouped counts items) ≡ items
+flat_map-grouped [] items h = sym (nil_from_length items (sym h))
+flat_map-grouped (count ∷ counts) items h =
+    ap (λ rest. take count items ++ rest) (flat_map-grouped counts (drop count items) (omega (arith, length-drop count items)))
+    ∙ take-append-drop count items
+
+-- one more item goes into the last group
+pub grouped-with_more : (counts : List ℕ) (items : List RecordOfBytes) (item : RecordOfBytes) → total counts ≡ length items → 0 < length counts → grouped (with_more counts) (items ++ item ∷ []) ≡ with_record (grouped counts items) item
+grouped-with_more [] items item h some = absurd (omega arith)
+grouped-with_more (count ∷ []) items item h some =
+    ap (λ group. group ∷ []) (take_all (count + 1) (items ++ item ∷ []) (omega (arith, length_push items item)) ∙ ap (λ group. group ++ item ∷ []) (sym (take_all count items (omega arith))))
+grouped-with_more (count ∷ more ∷ counts) items item h some =
+    ap₂ (λ group groups. group ∷ groups) (take-append-le count items (item ∷ []) (omega arith))
+    (ap (grouped (with_more (more ∷ counts))) (drop-append-le count items (item ∷ []) (omega arith))
+    ∙ grouped-with_more (more ∷ counts) (drop count items) item (omega (arith, length-drop count items)) (omega arith))
+
+-- one more count is one more group, empty
+pub grouped-with_group : {X : Type 0} (counts : List ℕ) (items : List X) → grouped (counts ++ 0 ∷ []) items ≡ grouped counts items ++ [] ∷ []
+grouped-with_group [] items = refl
+grouped-with_group (count ∷ counts) items = ap (λ groups. take count items ∷ groups) (grouped-with_group counts (drop count items))
+
+-- ---- the revision of each item
+
+-- each item has its revision
+pub length-revisions_from : (rev : ℕ) (counts : List ℕ) → length (revisions_from rev counts) ≡ total counts
+length-revisions_from rev [] = refl
+length-revisions_from rev (count ∷ counts) =
+    omega (arith, length-append (replicate count rev) (revisions_from (rev + 1) counts), length-replicate count rev, length-revisions_from (rev + 1) counts)
+
+-- one more item is of the last revision
+pub revisions_from-with_more : (rev : ℕ) (counts : List ℕ) → 0 < length counts → revisions_from rev (with_more counts) ≡ revisions_from rev counts ++ (rev + (length counts - 1)) ∷ []
+revisions_from-with_more rev [] some = absurd (omega arith)
+revisions_from-with_more rev (count ∷ []) some =
+    append-nil (replicate (count + 1) rev) ∙ sym (replicate_more count rev)
+    ∙ ap₂ (λ front n. front ++ n ∷ []) (sym (append-nil (replicate count rev))) (omega arith)
+revisions_from-with_more rev (count ∷ more ∷ counts) some =
+    ap (λ revs. replicate count rev ++ revs) (revisions_from-with_more (rev + 1) (more ∷ counts) (omega arith))
+    ∙ sym (append_assoc (replicate count rev) _ _)
+    ∙ ap (λ n. replicate count rev ++ revisions_from (rev + 1) (more ∷ counts) ++ n ∷ []) (omega arith)
+
+-- one more revision is of no item
+pub revisions_from-with_group : (rev : ℕ) (counts : List ℕ) → revisions_from rev (counts ++ 0 ∷ []) ≡ revisions_from rev counts
+revisions_from-with_group rev [] = refl
+revisions_from-with_group rev (count ∷ counts) = ap (λ revs. replicate count rev ++ revs) (revisions_from-with_group (rev + 1) counts)
+
+-- a write to the last count
+pub set_last : (counts : List ℕ) → 0 < length counts → set counts (length counts - 1) (get_or counts (length counts - 1) 0 + 1) ≡ with_more counts
+set_last [] some = absurd (omega arith)
+set_last (count ∷ []) some = refl
+set_last (count ∷ more ∷ counts) some =
+    let e : length (count ∷ more ∷ counts) - 1 ≡ suc (length (more ∷ counts) - 1) = omega arith in
+    ap (λ n. set (count ∷ more ∷ counts) n (get_or (count ∷ more ∷ counts) n 0 + 1)) e ∙ ap (λ rest. count ∷ rest) (set_last (more ∷ counts) (omega arith))
+
+-- the same, where the last count was read
+pub set_last_read : (counts : List ℕ) (last count : ℕ) → last ≡ length counts - 1 → 0 < length counts → count ≡ get_or counts last count → set counts last (count + 1) ≡ with_more counts
+set_last_read counts last count is_last some read =
+    let read_so : count ≡ get_or counts (length counts - 1) 0 =
+    get_or_read counts last count (omega arith) read 0 ∙ ap (λ n. get_or counts n 0) is_last in
+    ap₂ (λ n m. set counts n (m + 1)) is_last read_so ∙ set_last counts some

@@ -1,0 +1,94 @@
+-- The history that a dump shows, after one more record and after one more revision.
+use Rattle.std.proofs.Common.{◌≡◌, ℕ, ◌<◌, List, [], ◌∷◌, ◌++◌, map, length, refl, sym, ap, ◌∙◌, append_assoc, append-nil, arith}
+use Rattle.std.specs.Prelude.{All}
+use Rattle.std.specs.List.{flat_map}
+use Rattle.std.proofs.lemmas.Grind.{fold-append, flat_map-append}
+use Rattle.std.proofs.lemmas.List.{map-append, length-map}
+use Rattle.svn_path.specs.Names.{name_of, with_name, with_names}
+use Rattle.svn_dump.specs.Draft.{Extends, record_told, dump_of}
+use Rattle.svn_dump.specs.Dump.{RecordIsOf, record_shown, grouped, revisions_from, history_shown, text_of}
+use Rattle.svn_dump.specs.DumpText.{parts_of_record, all_records, names_of}
+use Rattle.svn_dump.specs.History.{rename_record}
+use Rattle.svn_dump.specs.Record.{RecordOfBytes, HistoryOfBytes, with_record}
+use Rattle.svn_dump.specs.declared.record.NodeRecord.{NodeRecord}
+use Rattle.svn_dump.proofs.Growing.{map-record_told-grows}
+use Rattle.svn_dump.proofs.Grouped.{total, with_more, length-grouped, map-grouped, flat_map-grouped, grouped-with_more, grouped-with_group, length-revisions_from}
+
+map-map : {A B C : Type 0} (f : B → C) (g : A → B) (xs : List A) → map f (map g xs) ≡ map (λ x. f (g x)) xs
+map-map f g [] = refl
+map-map f g (x ∷ xs) = ap (λ ys. f (g x) ∷ ys) (map-map f g xs)
+
+-- the history in bytes, by its flat list of records
+pub history_shown-told : (names : List (List ℕ)) (records : List NodeRecord) (counts : List ℕ) → history_shown (dump_of names records counts) ≡ grouped counts (map (record_told names) records)
+history_shown-told names records counts =
+    let f : (each : _) → RecordOfBytes = rename_record (λ name. name_of names name.0) (λ value. text_of [] value.0) in
+    map-grouped f counts (map record_shown records) ∙ ap (grouped counts) (map-map f record_shown records)
+
+-- as many records as the counts say
+pub total-revisions : (records : List NodeRecord) (counts : List ℕ) → map (λ each. each.rev) records ≡ revisions_from 0 counts → total counts ≡ length records
+total-revisions records counts h = sym (length-revisions_from 0 counts) ∙ ap length (sym h) ∙ length-map records (λ each. each.rev)
+
+-- ---- the names and the records of a history
+
+-- the records of groups are those that were grouped
+pub all_records-grouped : (counts : List ℕ) (records : List RecordOfBytes) → total counts ≡ length records → all_records (grouped counts records) ≡ records
+all_records-grouped counts records h = flat_map-grouped counts records h
+
+-- one more record comes last
+pub all_records-with_record : (history : HistoryOfBytes) (each : RecordOfBytes) → 0 < length history → all_records (with_record history each) ≡ all_records history ++ each ∷ []
+all_records-with_record [] each some = absurd (omega arith)
+all_records-with_record (records ∷ []) each some = append-nil (records ++ each ∷ []) ∙ ap (λ front. front ++ each ∷ []) (sym (append-nil records))
+all_records-with_record (records ∷ more ∷ history) each some =
+    ap (λ rest. records ++ rest) (all_records-with_record (more ∷ history) each (omega arith)) ∙ sym (append_assoc records _ _)
+
+-- one more revision has none yet
+pub all_records-with_revision : (history : HistoryOfBytes) → all_records (history ++ [] ∷ []) ≡ all_records history
+all_records-with_revision history = flat_map-append (λ records. records) history ([] ∷ []) ∙ append-nil (all_records history)
+
+-- one more record adds its names
+pub names_of-with_record : (history : HistoryOfBytes) (each : RecordOfBytes) → 0 < length history → names_of (with_record history each) ≡ with_names (names_of history) (parts_of_record each)
+names_of-with_record history each some =
+    ap (λ records. with_names [] (flat_map parts_of_record records)) (all_records-with_record history each some)
+    ∙ ap (with_names []) (flat_map-append parts_of_record (all_records history) (each ∷ []))
+    ∙ fold-append with_name [] (flat_map parts_of_record (all_records history)) (parts_of_record each ++ [])
+    ∙ ap (with_names (names_of history)) (append-nil (parts_of_record each))
+
+-- one more revision adds none
+pub names_of-with_revision : (history : HistoryOfBytes) → names_of (history ++ [] ∷ []) ≡ names_of history
+names_of-with_revision history = ap (λ records. with_names [] (flat_map parts_of_record records)) (all_records-with_revision history)
+
+-- ---- one more
+
+-- the dump with one more record, and its new names, shows the history with that record
+pub history_shown-with_record :
+    (old new : List (List ℕ)) (records : List NodeRecord) (counts : List ℕ) (each : NodeRecord) →
+    Extends old new → All (RecordIsOf (dump_of old records counts)) records →
+    map (λ one. one.rev) records ≡ revisions_from 0 counts → 0 < length counts →
+    history_shown (dump_of new (records ++ each ∷ []) (with_more counts)) ≡ with_record (history_shown (dump_of old records counts)) (record_told new each)
+history_shown-with_record old new records counts each grows all revisions some =
+    history_shown-told new (records ++ each ∷ []) (with_more counts)
+    ∙ ap (grouped (with_more counts)) (map-append (record_told new) records (each ∷ []) ∙ ap (λ front. front ++ record_told new each ∷ []) (map-record_told-grows (dump_of old records counts) new records grows all))
+    ∙ grouped-with_more counts (map (record_told old) records) (record_told new each) (total-revisions records counts revisions ∙ sym (length-map records (record_told old))) some
+    ∙ ap (λ history. with_record history (record_told new each)) (sym (history_shown-told old records counts))
+
+-- the dump with one more revision shows the history with that revision
+pub history_shown-with_revision :
+    (names : List (List ℕ)) (records : List NodeRecord) (counts : List ℕ) →
+    history_shown (dump_of names records (counts ++ 0 ∷ [])) ≡ history_shown (dump_of names records counts) ++ [] ∷ []
+history_shown-with_revision names records counts =
+    history_shown-told names records (counts ++ 0 ∷ [])
+    ∙ grouped-with_group counts (map (record_told names) records)
+    ∙ ap (λ history. history ++ [] ∷ []) (sym (history_shown-told names records counts))
+
+-- ---- how many
+
+-- there are as many revisions as counts
+pub length-history_shown : (names : List (List ℕ)) (records : List NodeRecord) (counts : List ℕ) → length (history_shown (dump_of names records counts)) ≡ length counts
+length-history_shown names records counts = ap length (history_shown-told names records counts) ∙ length-grouped counts (map (record_told names) records)
+
+-- and as many records as the dump has
+pub length-all_records : (names : List (List ℕ)) (records : List NodeRecord) (counts : List ℕ) → map (λ one. one.rev) records ≡ revisions_from 0 counts → length (all_records (history_shown (dump_of names records counts))) ≡ length records
+length-all_records names records counts revisions =
+    ap (λ history. length (all_records history)) (history_shown-told names records counts)
+    ∙ ap length (all_records-grouped counts (map (record_told names) records) (total-revisions records counts revisions ∙ sym (length-map records (record_told names))))
+    ∙ length-map records (record_told names)

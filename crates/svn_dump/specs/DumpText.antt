@@ -1,0 +1,46 @@
+-- A whole dump, as `svnadmin dump` writes it (Subversion's dump format notes, version 2); for now one whose records have
+-- no properties and replace nothing.
+use Rattle.std.specs.Prelude.{◌≡◌, ◌≢◌, ℕ, ◌≤◌, List, [], ◌∷◌, ◌++◌, Some, codes, flat_map, length}
+use Rattle.svn_path.specs.Names.{with_names}
+use Rattle.svn_dump.specs.Block.{Block, AreBlocks}
+use Rattle.svn_dump.specs.History.{delete, change, add, copy}
+use Rattle.svn_dump.specs.Record.{RecordOfBytes, ActionOfBytes, HistoryOfBytes, history_of}
+
+abbrev pub first_line : List ℕ
+first_line = codes "SVN-fs-dump-format-version: 2" ++ 10 ∷ []
+
+-- the components of the paths that an action names, and that a record names
+abbrev pub parts_of_action : ActionOfBytes → List (List ℕ)
+parts_of_action delete = []
+parts_of_action (change setting) = []
+parts_of_action (add replace kind setting) = []
+parts_of_action (copy replace from from_rev setting) = from
+
+abbrev pub parts_of_record : RecordOfBytes → List (List ℕ)
+parts_of_record each = each.path ++ parts_of_action each.action
+
+abbrev pub all_records : HistoryOfBytes → List RecordOfBytes
+all_records history = flat_map (λ records. records) history
+
+-- the distinct names of a history
+abbrev pub names_of : HistoryOfBytes → List (List ℕ)
+names_of history = with_names [] (flat_map parts_of_record (all_records history))
+
+-- how many names, records and revisions a dump has at most
+abbrev pub most_numbered : ℕ
+most_numbered = 4294967294
+
+pub record IsSmall (history : HistoryOfBytes) : Type 0 where
+  pub names : length (names_of history) ≤ most_numbered
+  pub records : length (all_records history) ≤ most_numbered
+  pub revisions : length history ≤ most_numbered
+
+-- the bytes are a dump without property sections of nodes and without replacements, and tell this history
+pub record IsDumpText (bytes : List ℕ) (history : HistoryOfBytes) : Type 0 where
+  pub rest : List ℕ
+  pub blocks : List Block
+  pub begins : bytes ≡ first_line ++ rest
+  pub follows : AreBlocks rest blocks
+  pub tells : history_of blocks ≡ Some history
+  pub some_revision : history ≢ []
+  pub small : IsSmall history

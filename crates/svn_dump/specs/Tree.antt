@@ -1,0 +1,96 @@
+-- The trees of a history, every path of every revision listed (Subversion book, "Revisions" and "Copying branches":
+-- a copy makes one entry for each path at its source or below it).
+use Rattle.std.specs.Prelude.{ℕ, Bool, not, List, [], ◌∷◌, ◌++◌, Option, Some, None, option_map, fold, filter, filter_map, map, length, is_some, slice_index_or, if◌then◌else◌}
+use Rattle.svn_path.specs.Below.{below, is_below, same_path}
+use Rattle.svn_dump.specs.History.{Setting, keep, put, Action, delete, change, add, copy, Record, History}
+use Rattle.svn_dump.specs.declared.kind.Kind.{Kind}
+use Rattle.svn_dump.specs.declared.kind.Kind.TheVariants.{Dir}
+
+-- a file or a directory, its mergeinfo text, and the path and the smaller revision that it came from
+pub record Entry (C M : Type 0) : Type 0 where
+  pub kind : Kind
+  pub mergeinfo : Option M
+  pub origin : Option (List C × ℕ)
+
+abbrev pub Tree : Type 0 → Type 0 → Type 0
+Tree C M = List (List C × Entry C M)
+
+-- what stands at a path
+unfoldable pub entry_at : {C M : Type 0} → (C → C → Bool) → Tree C M → List C → Option (Entry C M)
+entry_at same [] path = None
+entry_at same (each ∷ tree) path = if same_path same each.0 path then Some each.1 else entry_at same tree path
+
+abbrev pub is_there : {C M : Type 0} → (C → C → Bool) → Tree C M → List C → Bool
+is_there same tree path = is_some (entry_at same tree path)
+
+-- ---- the effect of one record
+
+-- the mergeinfo that a record leaves where there was some or none
+abbrev pub settled : {M : Type 0} → Setting M → Option M → Option M
+settled keep old = old
+settled (put new) old = new
+
+-- the path and all below it taken out
+abbrev pub without : {C M : Type 0} → (C → C → Bool) → List C → Tree C M → Tree C M
+without same path tree = filter (λ each. not (is_below same path each.0)) tree
+
+-- the mergeinfo of the path as the record gives it, where the path is there
+abbrev pub changed : {C M : Type 0} → (C → C → Bool) → List C → Setting M → Tree C M → Tree C M
+changed same path setting tree =
+    map (λ each. if same_path same each.0 path then (each.0, record each.1 { mergeinfo = settled setting each.1.mergeinfo }) else each) tree
+
+-- an entry of the source tree at its place below the copy, if it is one that the copy takes along
+abbrev pub moved : {C M : Type 0} → (C → C → Bool) → List C → ℕ → List C → List C × Entry C M → Option (List C × Entry C M)
+moved same from from_rev path each =
+    option_map (λ rest. (path ++ rest, record each.1 { origin = Some (each.0, from_rev) })) (below same from each.0)
+
+-- the tree of a revision; the empty one past the last
+abbrev pub tree_of : {C M : Type 0} → List (Tree C M) → ℕ → Tree C M
+tree_of trees rev = slice_index_or trees rev []
+
+-- the tree after a record, given the finished trees of the revisions before
+unfoldable pub apply_action : {C M : Type 0} → (C → C → Bool) → List (Tree C M) → List C → Action C M → Tree C M → Tree C M
+apply_action same trees path delete tree = without same path tree
+apply_action same trees path (change setting) tree = changed same path setting tree
+apply_action same trees path (add replace kind setting) tree =
+    without same path tree ++ (path, record { kind = kind; mergeinfo = settled setting None; origin = None }) ∷ []
+apply_action same trees path (copy replace from from_rev setting) tree =
+    without same path tree ++ changed same path setting (filter_map (moved same from from_rev path) (tree_of trees from_rev))
+
+abbrev pub apply : {C M : Type 0} → (C → C → Bool) → List (Tree C M) → Tree C M → Record C M → Tree C M
+apply same trees tree each = apply_action same trees each.path each.action tree
+
+-- ---- revisions
+
+-- the root alone
+abbrev pub first_tree : {C M : Type 0} → Tree C M
+first_tree = ([], record { kind = Dir; mergeinfo = None; origin = None }) ∷ []
+
+-- each path, come from itself in that revision
+abbrev pub carried : {C M : Type 0} → ℕ → Tree C M → Tree C M
+carried rev tree = map (λ each. (each.0, record each.1 { origin = Some (each.0, rev) })) tree
+
+-- the tree with which the next revision begins
+unfoldable pub opening : {C M : Type 0} → List (Tree C M) → Tree C M
+opening [] = first_tree
+opening (tree ∷ trees) = carried (length trees) (tree_of (tree ∷ trees) (length trees))
+
+-- the tree after the records of one revision
+abbrev pub closing : {C M : Type 0} → (C → C → Bool) → List (Tree C M) → List (Record C M) → Tree C M
+closing same trees records = fold (apply same trees) (opening trees) records
+
+abbrev pub with_revision : {C M : Type 0} → (C → C → Bool) → List (Tree C M) → List (Record C M) → List (Tree C M)
+with_revision same trees records = trees ++ closing same trees records ∷ []
+
+-- the trees of all revisions, revision 0 first
+unfoldable pub trees_of : {C M : Type 0} → (C → C → Bool) → History C M → List (Tree C M)
+trees_of same history = fold (with_revision same) [] history
+
+-- ---- renaming
+
+abbrev pub rename_entry : {C D M N : Type 0} → (C → D) → (M → N) → Entry C M → Entry D N
+rename_entry name text each =
+    record { kind = each.kind; mergeinfo = option_map text each.mergeinfo; origin = option_map (λ o. (map name o.0, o.1)) each.origin }
+
+abbrev pub rename_tree : {C D M N : Type 0} → (C → D) → (M → N) → Tree C M → Tree D N
+rename_tree name text tree = map (λ each. (map name each.0, rename_entry name text each.1)) tree

@@ -1,0 +1,36 @@
+//! Why bytes were not read as a dump.
+
+use std::alloc::{AllocError, AllocFailed};
+use thiserror::Error;
+
+/// Why bytes were not read as a dump.
+#[derive(Debug, Drop, Error)]
+pub enum DumpError {
+    /// The number of the refusal, and where the faulty block begins.
+    #[error("refusal {number} at byte {at}")]
+    Refused { number: u8, at: u64 },
+    #[error("out of memory")]
+    Memory,
+}
+
+impl From<AllocError> for DumpError {
+    ghost use Rattle.std.specs.Prelude.{◌≡◌};
+    ghost use Rattle.svn_dump.specs.declared.error.DumpError.TheVariants.{Memory};
+
+    ghost from_gives = { λ _ e. e ≡ Memory };
+
+    fn from(_e: AllocError) -> DumpError {
+        DumpError::Memory
+    }
+}
+
+impl<T: Drop> From<AllocFailed<T>> for DumpError {
+    ghost use Rattle.std.specs.Prelude.{◌≡◌};
+    ghost use Rattle.svn_dump.specs.declared.error.DumpError.TheVariants.{Memory};
+
+    ghost from_gives = { λ _ e. e ≡ Memory };
+
+    fn from(_e: AllocFailed<T>) -> DumpError {
+        DumpError::Memory
+    }
+}

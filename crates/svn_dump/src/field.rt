@@ -1,0 +1,63 @@
+//! The header names that are read.
+ghost use Rattle.std.specs.Prelude.{◌≡◌, MatchOption, All, slice_get, Some, bytes_eq, IsFalse};
+ghost use Rattle.svn_dump.specs.Block.{listed_names};
+ghost use Rattle.svn_dump.specs.Field.{place_of};
+
+/// A header name that is read, in the order of the list of such names.
+#[derive(Clone, Copy, Debug, PartialEq, Eq)]
+pub(crate) enum Field {
+    Uuid,
+    RevisionNumber,
+    NodePath,
+    NodeKind,
+    NodeAction,
+    CopyfromRevision,
+    CopyfromPath,
+    PropertiesLength,
+    TextLength,
+    ContentLength,
+    PropertiesDelta,
+    TextDelta,
+}
+
+impl Field {
+    /// The field of that name, if it is one that is read.
+    pub(crate) fn of(name: &[u8]) -> Option<Field>
+        ensures { MatchOption result (All (λ listed. IsFalse (bytes_eq listed name.now)) listed_names) (λ field. slice_get listed_names (place_of field) ≡ Some name.now) }
+    {
+        if name == b"UUID".as_slice() {
+            Some(Field::Uuid)
+        } else if name == b"Revision-number".as_slice() {
+            Some(Field::RevisionNumber)
+        } else if name == b"Node-path".as_slice() {
+            Some(Field::NodePath)
+        } else if name == b"Node-kind".as_slice() {
+            Some(Field::NodeKind)
+        } else if name == b"Node-action".as_slice() {
+            Some(Field::NodeAction)
+        } else if name == b"Node-copyfrom-rev".as_slice() {
+            Some(Field::CopyfromRevision)
+        } else if name == b"Node-copyfrom-path".as_slice() {
+            Some(Field::CopyfromPath)
+        } else if name == b"Prop-content-length".as_slice() {
+            Some(Field::PropertiesLength)
+        } else if name == b"Text-content-length".as_slice() {
+            Some(Field::TextLength)
+        } else if name == b"Content-length".as_slice() {
+            Some(Field::ContentLength)
+        } else if name == b"Prop-delta".as_slice() {
+            Some(Field::PropertiesDelta)
+        } else if name == b"Text-delta".as_slice() {
+            Some(Field::TextDelta)
+        } else {
+            None
+        }
+    }
+
+    /// Its place in the list.
+    pub(crate) fn place(self) -> usize
+        ensures { result ≡ place_of self }
+    {
+        self as usize
+    }
+}

@@ -1,0 +1,27 @@
+//! The reader of Subversion dumps, and the definitions of the history that a dump tells.
+#![tactic(auto)]
+
+mod block;
+mod draft;
+mod dump;
+mod error;
+mod field;
+mod headers;
+mod kind;
+mod length;
+mod line;
+mod node;
+mod number;
+mod read_error;
+mod reader;
+mod record;
+
+pub use dump::Dump;
+pub use error::DumpError;
+pub use kind::Kind;
+pub use number::number_up_to;
+pub use reader::read;
+pub use record::{Act, Mi, NodeRecord, ValueId};
+
+#[cfg(test)]
+mod tests;

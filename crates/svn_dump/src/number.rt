@@ -1,0 +1,23 @@
+//! Numbers of a dump.
+ghost use Rattle.std.specs.Prelude.{◌≡◌, ◌≤◌};
+ghost use Rattle.svn_dump.specs.Number.{number_up_to, greatest_length};
+
+/// The number that the bytes are, if they are one and it is at most this. It may have any number of digits.
+pub fn number_up_to(most: u64, bytes: &[u8]) -> Option<u64>
+    requires { most ≤ greatest_length }
+    ensures { result ≡ number_up_to most bytes.now }
+{
+    if bytes.is_empty() {
+        return None;
+    }
+    let mut value = 0u64;
+    for byte in bytes {
+        if !byte.is_ascii_digit() {
+            return None;
+        }
+        value = value
+            .saturating_mul(10)
+            .saturating_add(u64::from(*byte - b'0'));
+    }
+    (value <= most).then_some(value)
+}
