@@ -1,0 +1,11 @@
+pub mod Answers
+pub mod Bundles
+pub mod Cuts
+pub mod Queries
+pub mod Reports
+pub mod Shown
+pub mod Traces
+pub mod TreePaths
+pub mod TreeReads
+pub mod TreeSame
+pub mod TreesBuilt

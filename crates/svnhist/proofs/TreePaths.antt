@@ -1,0 +1,201 @@
+-- What holds of each component of a history's paths holds of each path of its trees, and of what its locations find.
+use Rattle.std.proofs.Common.{◌≡◌, ℕ, zero, suc, ◌<◌, ◌==◌, nat_lt, Bool, true, false, if◌then◌else◌, List, [], ◌∷◌, ◌++◌, Option, None, Some, All, IfSome, is_some, option_map, fold, length, map, take, drop, refl, sym, ap, subst, ◌∙◌, true≢false}
+use Rattle.std.proofs.lemmas.Bool.{cond_both}
+use Rattle.std.proofs.lemmas.List.Elements.{All-nil, All-cons, All-head, All-tail, All-append, All-push, All-map, All-weaker, All-filter, All-take, All-drop}
+use Rattle.std.proofs.lemmas.Option.{none-some, same_Some, option_and_then_some}
+use Rattle.svn_dump.specs.Dump.{DumpValue, IsDump, RecordIsOf, ActIsOf, grouped, record_shown, action_shown, history_by_number}
+use Rattle.svn_dump.specs.History.{Setting, Action, delete, change, add, copy, Record, History}
+use Rattle.svn_dump.specs.Location.{origin_of, traced, location}
+use Rattle.svn_dump.specs.Tree.{Tree, Entry, entry_at, is_there, tree_of, without, changed, moved, apply_action, apply, carried, opening, closing, with_revision, trees_of}
+use Rattle.svn_dump.specs.declared.record.Act.{Act}
+use Rattle.svn_dump.specs.declared.record.Act.TheVariants as act
+use Rattle.svn_dump.proofs.Belows.{IsSame, path_from_same}
+use Rattle.svn_dump.proofs.Revisions.{each_tree_push}
+use Rattle.svn_dump.proofs.Trees.{entry_from, settled_entry}
+use Rattle.svn_path.specs.Below.{below, same_path}
+use Rattle.svn_path.specs.Path.{same_name, IsOf}
+use Rattle.svn_path.specs.declared.names.NameId.{NameId}
+use Rattle.svnhist.specs.TreeShown.{TreeOfNumbers, SameTrees}
+use Rattle.svnhist.proofs.TreeReads.{All-filter_map, names_are_same}
+use Rattle.svnhist.proofs.TreeSame.{location-same}
+
+-- the components of the source have it
+abbrev pub SourceHas : {C M : Type 0} → (C → Type 0) → Action C M → Type 0
+SourceHas P delete = Unit {0}
+SourceHas P (change setting) = Unit {0}
+SourceHas P (add replace kind setting) = Unit {0}
+SourceHas P (copy replace from from_rev setting) = All P from
+
+-- and so have those of the path
+pub record RecordHas {C M : Type 0} (P : C → Type 0) (each : Record C M) : Type 0 where
+  pub path : All P each.path
+  pub source : SourceHas P each.action
+
+-- each record of the history is so
+abbrev pub HistoryHas : {C M : Type 0} → (C → Type 0) → History C M → Type 0
+HistoryHas P history = All (All (RecordHas P)) history
+
+-- what is left of a path keeps it
+rest_has : {C : Type 0} (same : C → C → Bool) (P : C → Type 0) (front path rest : List C) → below same front path ≡ Some rest → All P path → All P rest
+rest_has same P [] path rest left has = subst (All P) (same_Some path rest left) has
+rest_has same P (f ∷ front) [] rest left has = absurd (none-some rest left)
+rest_has {C} same P (f ∷ front) (c ∷ path) rest left has = by (same f c) left (λ more. rest_has same P front path rest more (All-tail P c path has))
+  where
+    by : (b : Bool) → (if b then below same front path else None) ≡ Some rest → (below same front path ≡ Some rest → All P rest) → All P rest
+    by true left later = later left
+    by false left later = absurd (none-some rest left)
+
+not_past : {X : Type 0} (b : Bool) (o : Option X) (x : X) → (if b then None else o) ≡ Some x → o ≡ Some x
+not_past true o x e = absurd (none-some x e)
+not_past false o x e = e
+
+module _ {C M : Type 0} (same : C → C → Bool) (P : C → Type 0) where
+  -- the components of the path and of its origin have it
+  abbrev EntryHas : List C × Entry C M → Type 0
+  EntryHas each = All P each.0 × IfSome each.1.origin (λ from. All P from.0)
+
+  moved_has : (from : List C) (from_rev : ℕ) (path : List C) → All P path → (each : List C × Entry C M) → EntryHas each → IfSome {T = List C × Entry C M} (moved same from from_rev path each) EntryHas
+  moved_has from from_rev path has each e = by (below same from each.0) refl
+    where
+      by : (b : Option (List C)) → below same from each.0 ≡ b → IfSome {T = List C × Entry C M} (option_map (λ rest. (path ++ rest, entry_from each.0 from_rev each.1)) b) EntryHas
+      by None left = tt
+      by (Some rest) left = (All-append P path rest has (rest_has same P from each.0 rest left e.0), e.0)
+
+  changed_has : (path : List C) (setting : Setting M) (tree : Tree C M) → All EntryHas tree → All EntryHas (changed same path setting tree)
+  changed_has path setting tree has =
+      All-map EntryHas _ tree
+      (All-weaker EntryHas _ (λ each e. cond_both (same_path same each.0 path) (each.0, settled_entry setting each.1) each EntryHas (λ _. e) (λ _. e)) tree has)
+
+  carried_has : (rev : ℕ) (tree : Tree C M) → All EntryHas tree → All EntryHas (carried rev tree)
+  carried_has rev tree has = All-map EntryHas _ tree (All-weaker EntryHas (λ each. EntryHas (each.0, entry_from each.0 rev each.1)) (λ each e. (e.0, e.0)) tree has)
+
+  module _ (trees : List (Tree C M)) (all : (rev : ℕ) → All EntryHas (tree_of trees rev)) where
+    action_has : (path : List C) (action : Action C M) (tree : Tree C M) → All P path → SourceHas P action → All EntryHas tree → All EntryHas (apply_action same trees path action tree)
+    unfolding apply_action
+    action_has path delete tree at from has = All-filter _ EntryHas tree has
+    action_has path (change setting) tree at from has = changed_has path setting tree has
+    action_has path (add replace kind setting) tree at from has = All-push EntryHas (without same path tree) _ (All-filter _ EntryHas tree has) (at, tt)
+    action_has path (copy replace from from_rev setting) tree at source has =
+        All-append EntryHas (without same path tree) _ (All-filter _ EntryHas tree has)
+        (changed_has path setting _ (All-filter_map (moved same from from_rev path) EntryHas (tree_of trees from_rev)
+        (All-weaker EntryHas _ (moved_has from from_rev path at) (tree_of trees from_rev) (all from_rev))))
+
+    records_have : (tree : Tree C M) (records : List (Record C M)) → All (RecordHas P) records → All EntryHas tree → All EntryHas (fold (apply same trees) tree records)
+    records_have tree [] each has = has
+    records_have tree (r ∷ records) each has =
+        let here = All-head (RecordHas P) r records each in
+        records_have (apply same trees tree r) records (All-tail (RecordHas P) r records each) (action_has r.path r.action tree here.path here.source has)
+
+  opening_has : (trees : List (Tree C M)) → ((rev : ℕ) → All EntryHas (tree_of trees rev)) → All EntryHas (opening trees)
+  unfolding opening
+  opening_has [] all = All-cons EntryHas _ [] (All-nil P, tt) (All-nil EntryHas)
+  opening_has (tree ∷ trees) all = carried_has (length trees) (tree_of (tree ∷ trees) (length trees)) (all (length trees))
+
+  revisions_have : (trees : List (Tree C M)) (history : History C M) → HistoryHas P history → ((rev : ℕ) → All EntryHas (tree_of trees rev))
+      → (rev : ℕ) → All EntryHas (tree_of (fold (with_revision same) trees history) rev)
+  revisions_have trees [] each all = all
+  revisions_have trees (records ∷ history) each all =
+      let last = records_have trees all (opening trees) records (All-head (All (RecordHas P)) records history each) (opening_has trees all) in
+      revisions_have (with_revision same trees records) history (All-tail (All (RecordHas P)) records history each)
+      (each_tree_push (λ rev tree. All EntryHas tree) trees (closing same trees records) (λ rev. All-nil EntryHas) all last)
+
+  trees_have : (history : History C M) → HistoryHas P history → (rev : ℕ) → All EntryHas (tree_of (trees_of same history) rev)
+  unfolding trees_of
+  trees_have history each = revisions_have [] history each (λ rev. All-nil EntryHas)
+
+  -- ---- what stands at a path, and what a location finds
+
+  module _ (is : IsSame same) where
+    found_has : (tree : Tree C M) (path : List C) (entry : Entry C M) → All EntryHas tree → entry_at same tree path ≡ Some entry → EntryHas (path, entry)
+    unfolding entry_at
+    found_has [] path entry has found = absurd (none-some entry found)
+    found_has (each ∷ tree) path entry has found =
+        by (same_path same each.0 path) refl found (All-head EntryHas each tree has) (found_has tree path entry (All-tail EntryHas each tree has))
+      where
+        by : (b : Bool) → same_path same each.0 path ≡ b → (if b then Some each.1 else entry_at same tree path) ≡ Some entry → EntryHas each
+            → (entry_at same tree path ≡ Some entry → EntryHas (path, entry)) → EntryHas (path, entry)
+        by true at found here later =
+            subst (λ e. EntryHas (path, e)) (same_Some each.1 entry found) (subst (λ p. EntryHas (p, each.1)) (path_from_same same is each.0 path at) here)
+        by false at found here later = later found
+
+    module _ (history : History C M) (each : HistoryHas P history) where
+      -- a path of a tree
+      pub path_has : (path : List C) (rev : ℕ) → is_there same (tree_of (trees_of same history) rev) path ≡ true → All P path
+      path_has path rev there = by (entry_at same (tree_of (trees_of same history) rev) path) refl there
+        where
+          by : (o : Option (Entry C M)) → entry_at same (tree_of (trees_of same history) rev) path ≡ o → is_some o ≡ true → All P path
+          by None found there = absurd (true≢false (sym there))
+          by (Some entry) found there = (found_has (tree_of (trees_of same history) rev) path entry (trees_have history each rev) found).0
+
+      -- an origin
+      pub origin_has : (path : List C) (rev : ℕ) (from : List C) (from_rev : ℕ) → origin_of same (trees_of same history) path rev ≡ Some (from, from_rev) → All P from
+      origin_has path rev from from_rev came =
+          option_and_then_some (λ (entry : Entry C M). entry.origin) (entry_at same (tree_of (trees_of same history) rev) path) (from, from_rev) came
+          (λ entry found origin.
+          subst (λ o. IfSome o (λ o. All P o.0)) origin (found_has (tree_of (trees_of same history) rev) path entry (trees_have history each rev) found).1)
+
+      traced_has : (steps : ℕ) (path : List C) (rev wanted : ℕ) (at : List C) → All P path → traced same (trees_of same history) steps path rev wanted ≡ Some at → All P at
+      unfolding traced
+      traced_has zero path rev wanted at has found = by (rev == wanted) found
+        where
+          by : (b : Bool) → (if b then Some path else None) ≡ Some at → All P at
+          by true found = subst (All P) (same_Some path at found) has
+          by false found = absurd (none-some at found)
+      traced_has (suc steps) path rev wanted at has found =
+          by (rev == wanted) found
+          (λ back. option_and_then_some _ (origin_of same (trees_of same history) path rev) at back
+          (λ from came onward. traced_has steps from.0 from.1 wanted at (origin_has path rev from.0 from.1 came) (not_past (nat_lt from.1 wanted) _ at onward)))
+        where
+          by : (b : Bool) {o : Option (List C)} → (if b then Some path else o) ≡ Some at → (o ≡ Some at → All P at) → All P at
+          by true found later = subst (All P) (same_Some path at found) has
+          by false found later = later found
+
+      -- what a location finds, where the path that is asked about has it
+      pub location_has : (path : List C) (rev wanted : ℕ) (at : List C) → All P path → location same (trees_of same history) path rev wanted ≡ Some at → All P at
+      location_has path rev wanted at has found = traced_has rev path rev wanted at has found
+
+-- ---- the paths of a dump are of its names
+
+-- what holds of each item holds of each in its group
+pub All-grouped : {X : Type 0} (P : X → Type 0) (counts : List ℕ) (items : List X) → All P items → All (All P) (grouped counts items)
+All-grouped P [] items each = All-nil (All P)
+All-grouped P (count ∷ counts) items each =
+    All-cons (All P) (take count items) (grouped counts (drop count items)) (All-take P count items each) (All-grouped P counts (drop count items) (All-drop P count items each))
+
+abbrev IsNamed : DumpValue → NameId → Type 0
+IsNamed dump name = name.0 < length dump.names
+
+source_named : (dump : DumpValue) (rev : ℕ) (each : Act) → ActIsOf dump rev each → SourceHas (IsNamed dump) (action_shown each)
+source_named dump rev act.Delete is = tt
+source_named dump rev (act.Change setting) is = tt
+source_named dump rev (act.Add replace kind setting) is = tt
+source_named dump rev (act.Copy replace from from_rev setting) is = is.0
+
+-- each component of a dump's paths is the number of a name
+pub HistoryHas-names : (dump : DumpValue) → IsDump dump → HistoryHas (λ name. name.0 < length dump.names) (history_by_number dump)
+HistoryHas-names dump is =
+    All-grouped (RecordHas (IsNamed dump)) dump.counts (map record_shown dump.records)
+    (All-map (RecordHas (IsNamed dump)) record_shown dump.records
+    (All-weaker (RecordIsOf dump) (λ each. RecordHas (IsNamed dump) (record_shown each))
+    (λ each of. record { path = of.path; source = source_named dump each.rev each.act of.act }) dump.records is.records))
+
+module _ (dump : DumpValue) (is : IsDump dump) where
+  -- a path that is there
+  pub IsOf-there : (path : List NameId) (rev : ℕ) → is_there same_name (tree_of (trees_of same_name (history_by_number dump)) rev) path ≡ true → IsOf dump.names path
+  IsOf-there path rev there = path_has same_name (IsNamed dump) names_are_same (history_by_number dump) (HistoryHas-names dump is) path rev there
+
+  -- what a location finds
+  pub IsOf-location : (path : List NameId) (peg rev : ℕ) (found : List NameId) → IsOf dump.names path
+      → location same_name (trees_of same_name (history_by_number dump)) path peg rev ≡ Some found → IsOf dump.names found
+  IsOf-location path peg rev found of at = location_has same_name (IsNamed dump) names_are_same (history_by_number dump) (HistoryHas-names dump is) path peg rev found of at
+
+  -- both in trees that show the same
+  module _ (trees : List TreeOfNumbers) (same : SameTrees trees (trees_of same_name (history_by_number dump))) where
+    -- a path that is there
+    pub IsOf-there_same : (path : List NameId) (rev : ℕ) → is_there same_name (tree_of trees rev) path ≡ true → IsOf dump.names path
+    IsOf-there_same path rev there = IsOf-there path rev (sym (ap is_some (same.each rev path)) ∙ there)
+
+    -- what a location finds
+    pub IsOf-location_same : (path : List NameId) (peg rev : ℕ) (found : List NameId) → IsOf dump.names path → location same_name trees path peg rev ≡ Some found → IsOf dump.names found
+    IsOf-location_same path peg rev found of at =
+        IsOf-location path peg rev found of (sym (location-same trees (trees_of same_name (history_by_number dump)) same path peg rev) ∙ at)

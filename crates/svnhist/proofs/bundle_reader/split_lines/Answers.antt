@@ -1,0 +1,18 @@
+use Rattle.std.proofs.Common.{refl, []}
+use Rattle.svnhist.proofs.Bundles.{too_few_lines, AreLines-none, AreLines_push, moved_line}
+use Rattle.svnhist.proofs.bundle_reader.split_lines.Goals as goal
+
+pub loop-init : goal.loop-init
+loop-init c = ([], refl, AreLines-none)
+
+pub loop-preserved : goal.loop-preserved
+loop-preserved c =
+    let (taken, whole, lines) = c.loop.invariant in
+    let cut = c.in_ok-more.ensures.found in
+    (_, moved_line _ _ _ _ _ whole cut, AreLines_push _ _ _ _ _ lines cut)
+
+pub returns-in_err-more-clause-none : goal.returns-in_err-more-clause-none
+returns-in_err-more-clause-none c =
+    let (taken, whole, lines) = c.loop.invariant in
+    rw c.from_residual.ensures (λ queries dump given many.
+    too_few_lines _ _ _ _ _ _ _ whole lines c.in_err-more.ensures.none c.loop-test.true given many)

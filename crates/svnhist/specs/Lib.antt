@@ -1,0 +1,16 @@
+pub mod AnswerShown
+pub mod Bundle
+pub mod Calls
+pub mod Cut
+pub mod Device
+pub mod FaultShown
+pub mod Load
+pub mod Program
+pub mod Query
+pub mod QueryShown
+pub mod Report
+pub mod RunError
+pub mod RunFault
+pub mod StatusShown
+pub mod TreeShown
+pub mod TreesFault

@@ -1,0 +1,29 @@
+-- How a run tells that an input could not be read.
+use Rattle.std.specs.Prelude.{◌≡◌, ℕ, ◌≤◌, List, Option, length}
+use Rattle.std.specs.Io.KnownBytes.{Consumes}
+use Rattle.svnhist.specs.declared.run_error.RunError.{RunError}
+use Rattle.svnhist.specs.declared.run_error.RunError.TheVariants.{TooMany, Dump, Fault as Faulty, Read, Memory}
+use Rattle.svnhist.specs.declared.run_error.Source.{Source}
+
+-- how many reads one call makes at most
+abbrev pub most_reads : ℕ
+most_reads = 4294967296
+
+-- the bytes left were at least as many as the reads, so the end was not reached
+abbrev pub GivesMore : Option (List ℕ) → Option (List ℕ) → Type 0
+GivesMore old new = (bytes : List ℕ) × (most_reads ≤ length bytes) × Consumes old new bytes
+
+abbrev pub IsReadError : RunError → Type 0
+IsReadError TooMany = ⊥
+IsReadError (Dump refused) = ⊥
+IsReadError (Faulty fault) = ⊥
+IsReadError (Read source) = Unit {0}
+IsReadError Memory = ⊥
+
+-- the source could not be read, or memory ran out
+abbrev pub IsLoadError : Source → RunError → Type 0
+IsLoadError source TooMany = ⊥
+IsLoadError source (Dump refused) = ⊥
+IsLoadError source (Faulty fault) = ⊥
+IsLoadError source (Read told) = told ≡ source
+IsLoadError source Memory = Unit {0}

@@ -1,0 +1,44 @@
+-- Why there is no report on a dump.
+use Rattle.std.specs.Prelude.{◌≡◌, ℕ, ◌<◌, List, Some, length, bytes_eq}
+use Rattle.svn_dump.specs.DumpText.{IsDumpText}
+use Rattle.svn_dump.specs.Fault.{first_fault}
+use Rattle.svn_dump.specs.Record.{HistoryOfBytes}
+use Rattle.svn_dump.specs.declared.error.DumpError.{DumpError}
+use Rattle.svn_dump.specs.declared.error.DumpError.TheVariants as refusal
+use Rattle.svnhist.specs.FaultShown.{kind_shown}
+use Rattle.svnhist.specs.Query.{query_lines}
+use Rattle.svnhist.specs.Report.{most_queries}
+use Rattle.svnhist.specs.declared.fault.Fault.{Fault}
+use Rattle.svnhist.specs.declared.run_error.RunError.{RunError}
+use Rattle.svnhist.specs.declared.run_error.RunError.TheVariants as run
+use Rattle.svnhist.specs.declared.trees.TreesError.{TreesError}
+use Rattle.svnhist.specs.declared.trees.TreesError.TheVariants as error
+
+-- the bytes are a dump, and this is its first faulty record
+pub record IsFirstFault (dump : List ℕ) (fault : Fault) : Type 0 where
+  pub history : HistoryOfBytes
+  pub read : IsDumpText dump history
+  pub first : first_fault bytes_eq history ≡ Some (fault.number, kind_shown fault.kind)
+
+-- a refusal of the dump itself; running out of memory is told as such
+abbrev pub IsRefused : DumpError → Type 0
+IsRefused (refusal.Refused number at) = (number ≡ 7) × (at ≡ 0)
+IsRefused refusal.Memory = ⊥
+
+-- an error that there is for this dump and these queries
+abbrev pub IsRunError : List ℕ → List ℕ → RunError → Type 0
+IsRunError dump queries run.TooMany = most_queries < length (query_lines queries)
+IsRunError dump queries (run.Dump refused) = IsRefused refused
+IsRunError dump queries (run.Fault fault) = IsFirstFault dump fault
+IsRunError dump queries (run.Read source) = ⊥
+IsRunError dump queries run.Memory = Unit {0}
+
+-- ---- how the refusals of the steps are told
+
+abbrev pub refused_as : DumpError → RunError
+refused_as (refusal.Refused number at) = run.Dump (refusal.Refused number at)
+refused_as refusal.Memory = run.Memory
+
+abbrev pub faulty_as : TreesError → RunError
+faulty_as (error.Fault fault) = run.Fault fault
+faulty_as error.Memory = run.Memory

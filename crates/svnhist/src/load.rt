@@ -1,0 +1,40 @@
+//! Reading all of an input.
+ghost use Rattle.std.specs.Prelude.{◌≡◌, ◌+◌, ◌≤◌, ◌⊎◌, Bool, IfErr, IfOk, OnOk, IsTrue, IsFalse};
+ghost use Rattle.std.specs.Io.KnownBytes.{Consumes, IsAtEnd};
+ghost use Rattle.svnhist.specs.Load.{most_reads, GivesMore, IsLoadError, IsReadError};
+
+use crate::device::Pull;
+use crate::run_error::{RunError, Source};
+use std::alloc::Global;
+
+// How many reads one call makes at the most, and how many bytes one read gives.
+const MOST_READS: u64 = 4_294_967_296;
+
+const PIECE: usize = 65_536;
+
+/// All bytes of an input.
+///
+/// A device that fails, or that isn't at its end after 4,294,967,296 reads, gives `Read`.
+pub fn load<P: Pull>(alloc: Global, input: &mut P, source: Source) -> Result<Vec<u8>, RunError>
+    ensures bytes { IfOk result (λ bytes. Consumes (P.left input.old) (P.left input.new) bytes.items) }
+    ensures end { OnOk result (IsAtEnd (P.left input.new)) }
+    ensures sound { OnOk result (IsFalse (P.has_failed input.new)) }
+    ensures error { IfErr result (IsLoadError source) }
+
+    // `Read` comes only where the device failed, or where the reads are used up and each gave some bytes.
+    ensures honest { IfErr result (λ e. IsReadError e → IsTrue (P.has_failed input.new)
+        ⊎ ((P.calls input.new ≡ P.calls input.old + most_reads) × GivesMore (P.left input.old) (P.left input.new))) }
+    ensures reads { P.calls input.new ≤ P.calls input.old + most_reads }
+{
+    let mut piece = Vec::with_capacity(alloc, PIECE)?;
+    piece.resize(PIECE, 0)?;
+    let mut bytes = Vec::new(alloc);
+    for _ in 0..MOST_READS {
+        match input.pull(piece.as_mut_slice()) {
+            Err(_) => return Err(RunError::Read(source)),
+            Ok(0) => return Ok(bytes),
+            Ok(n) => bytes.extend_from_slice(&piece[..n])?,
+        }
+    }
+    Err(RunError::Read(source))
+}
