@@ -1,4 +1,5 @@
 pub mod AnswerShown
+pub mod Arguments
 pub mod Bundle
 pub mod Calls
 pub mod Cut

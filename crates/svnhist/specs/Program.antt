@@ -1,10 +1,36 @@
--- What the program answers to its input.
-use Rattle.std.specs.Prelude.{ℕ, List, Option, Some, None, Vec}
+-- What the program answers to its input, and what its status tells.
+use Rattle.std.specs.Prelude.{◌≡◌, ℕ, ◌⊎◌, List, Option, Some, None, Vec}
+use Rattle.std.specs.Io.KnownBytes.{Appends, Consumes, IsAtEnd}
 use Rattle.std.specs.declared.alloc.Global.{Global}
 use Rattle.svnhist.specs.Bundle.{BundleValue, IsBundle}
 use Rattle.svnhist.specs.Report.{IsReport}
+use Rattle.svnhist.specs.RunFault.{IsRunError}
+use Rattle.svnhist.specs.declared.run_error.RunError.{RunError}
 
 -- the report on the bundle that the bytes are, or none where they are no bundle
 abbrev pub IsBundleAnswer : List ℕ → Option (Vec ℕ Global) → Type 0
 IsBundleAnswer bytes None = (value : BundleValue) → IsBundle bytes value → ⊥
 IsBundleAnswer bytes (Some report) = (value : BundleValue) × IsBundle bytes value × IsReport value.dump value.queries report.items
+
+-- why there is no report on the bundle that the bytes are
+abbrev pub IsBundleError : List ℕ → RunError → Type 0
+IsBundleError bytes error = (value : BundleValue) × IsBundle bytes value × IsRunError value.dump value.queries error
+
+-- all of an input was read, and what it is as a bundle is answered
+abbrev pub IsInputAnswer : Option (List ℕ) → Option (List ℕ) → Option (Vec ℕ Global) → Type 0
+IsInputAnswer old new answer = (bytes : List ℕ) × Consumes old new bytes × IsAtEnd new × IsBundleAnswer bytes answer
+
+-- a report went out whole
+pub record IsSent (old new : Option (List ℕ)) (dump queries : List ℕ) : Type 0 where
+  pub report : List ℕ
+  pub right : IsReport dump queries report
+  pub sent : Appends old new report
+
+-- all of an input was read, it is a bundle, and its report went out
+pub record IsRun (left_old left_new gone_old gone_new : Option (List ℕ)) : Type 0 where
+  pub bytes : List ℕ
+  pub value : BundleValue
+  pub read : Consumes left_old left_new bytes
+  pub end : IsAtEnd left_new
+  pub bundle : IsBundle bytes value
+  pub sent : IsSent gone_old gone_new value.dump value.queries

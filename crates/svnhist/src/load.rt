@@ -1,11 +1,13 @@
-//! Reading all of an input.
+//! Reading all of an input or a file.
 ghost use Rattle.std.specs.Prelude.{◌≡◌, ◌+◌, ◌≤◌, ◌⊎◌, Bool, IfErr, IfOk, OnOk, IsTrue, IsFalse};
 ghost use Rattle.std.specs.Io.KnownBytes.{Consumes, IsAtEnd};
 ghost use Rattle.svnhist.specs.Load.{most_reads, GivesMore, IsLoadError, IsReadError};
 
-use crate::device::Pull;
+use crate::device::{Device, Pull};
 use crate::run_error::{RunError, Source};
 use std::alloc::Global;
+use std::fs;
+use std::rt::Files;
 
 // How many reads one call makes at the most, and how many bytes one read gives.
 const MOST_READS: u64 = 4_294_967_296;
@@ -37,4 +39,19 @@ pub fn load<P: Pull>(alloc: Global, input: &mut P, source: Source) -> Result<Vec
         }
     }
     Err(RunError::Read(source))
+}
+
+/// All bytes of a file. One that can't be opened gives `Read`.
+pub(crate) fn load_file<R: Files>(
+    rt: &R,
+    alloc: Global,
+    path: &str,
+    source: Source,
+) -> Result<Vec<u8>, RunError>
+    ensures { IfErr result (IsLoadError source) }
+{
+    match fs::open(rt, path) {
+        Ok(file) => load(alloc, &mut Device::new(file), source),
+        Err(_) => Err(RunError::Read(source)),
+    }
 }

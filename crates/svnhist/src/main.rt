@@ -2,6 +2,7 @@
 #![tactic(auto)]
 
 mod answer;
+mod arguments;
 mod bundle;
 mod bundle_reader;
 mod calls;
@@ -23,21 +24,33 @@ mod text;
 mod tree;
 mod trees;
 
+use arguments::read_arguments;
 use device::Device;
-use std::env;
-use std::io::ErrorKind;
+use std::env::{self, Env};
+use std::io::{self, ErrorKind};
 use std::process::ExitCode;
 
 fn main(rt: HostRuntime) -> ExitCode {
+    let mut output = Device::new(rt.stdout());
     let mut errors = Device::new(rt.stderr());
-    let status = match env::args(&rt) {
-        Ok(args) if args.len() <= 1 => {
+    let status = match arguments_of(&rt) {
+        Ok(args) if args.is_empty() => {
             let mut input = Device::new(rt.stdin());
-            let mut output = Device::new(rt.stdout());
             program::run(&rt, rt.alloc(), &mut input, &mut output, &mut errors)
         }
+        Ok(args) => match read_arguments(args.as_slice()) {
+            Some(asked) => program::run_files(&rt, rt.alloc(), &asked, &mut output, &mut errors),
+            None => program::refuse_usage(&mut errors),
+        },
         Err(e) if e.kind() == ErrorKind::OutOfMemory => program::refuse_memory(&mut errors),
-        _ => program::refuse_usage(&mut errors),
+        Err(_) => program::refuse_usage(&mut errors),
     };
     ExitCode::from(status)
+}
+
+// The arguments behind the program's name.
+fn arguments_of<R: Env + AllocGlobal>(rt: &R) -> io::Result<Vec<String>> {
+    let mut args = env::args(rt)?;
+    let _ = args.next();
+    Ok(args.collect(rt.alloc())?)
 }

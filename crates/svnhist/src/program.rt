@@ -1,15 +1,21 @@
-//! The program: a bundle in, its report out.
-ghost use Rattle.std.specs.Prelude.{IfOk};
-ghost use Rattle.svnhist.specs.Program.{IsBundleAnswer};
+//! The program: a bundle or two files in, their report out.
+ghost use Rattle.std.specs.Prelude.{◌≡◌, ℕ, ◌<◌, ◌≤◌, ◌⊎◌, List, IfErr, IfOk};
+ghost use Rattle.std.specs.Io.KnownBytes.{Appends};
+ghost use Rattle.svnhist.specs.Program.{IsBundleAnswer, IsBundleError, IsInputAnswer, IsRun, IsSent};
+ghost use Rattle.svnhist.specs.Report.{IsReport};
+ghost use Rattle.svnhist.specs.RunError.{line_of, status_of};
+ghost use Rattle.svnhist.specs.RunFault.{IsRunError};
 
+use crate::arguments::Arguments;
 use crate::bundle_reader::bundle;
 use crate::device::{Pull, Push};
 use crate::gate::NoGate;
-use crate::load::load;
+use crate::load::{load, load_file};
 use crate::report::report;
 use crate::run_error::{RunError, Source};
 use crate::send::send;
 use std::alloc::{AllocError, Global};
+use std::rt::Files;
 use std::sync::Wait;
 use std::thread::Threads;
 
@@ -27,7 +33,10 @@ pub(crate) fn run<R: Threads + Wait + Sync, I: Pull, O: Push, E: Push>(
     input: &mut I,
     output: &mut O,
     errors: &mut E,
-) -> u8 {
+) -> u8
+    ensures sent { result ≡ 0 → IsRun (I.left input.old) (I.left input.new) (O.gone output.old) (O.gone output.new) }
+    ensures quiet { (result ≡ 0) ⊎ (result ≡ 3) ⊎ (output.new ≡ output.old) }
+{
     match answer_input(rt, alloc, input) {
         Ok(Some(report)) => deliver(output, errors, report.as_slice()),
         Ok(None) => refuse_usage(errors),
@@ -35,19 +44,44 @@ pub(crate) fn run<R: Threads + Wait + Sync, I: Pull, O: Push, E: Push>(
     }
 }
 
+/// Reads two files, sends their report and answers the status with which the program ends.
+pub(crate) fn run_files<R: Files + Threads + Wait + Sync, O: Push, E: Push>(
+    rt: &R,
+    alloc: Global,
+    asked: &Arguments<'_>,
+    output: &mut O,
+    errors: &mut E,
+) -> u8
+    requires some_worker { 0 < asked.now.workers }
+    requires few_workers { asked.now.workers ≤ 64 }
+    ensures sent { result ≡ 0 → (dump queries : List ℕ) × IsSent (O.gone output.old) (O.gone output.new) dump queries }
+    ensures quiet { (result ≡ 0) ⊎ (result ≡ 3) ⊎ (output.new ≡ output.old) }
+{
+    match answer_files(rt, alloc, asked) {
+        Ok(report) => deliver(output, errors, report.as_slice()),
+        Err(error) => refuse(alloc, errors, &error),
+    }
+}
+
 /// Tells how the program is used.
-pub(crate) fn refuse_usage<E: Push>(errors: &mut E) -> u8 {
+pub(crate) fn refuse_usage<E: Push>(errors: &mut E) -> u8
+    ensures { result ≡ 2 }
+{
     tell(errors, USAGE);
     2
 }
 
 /// Tells that memory ran out.
-pub(crate) fn refuse_memory<E: Push>(errors: &mut E) -> u8 {
+pub(crate) fn refuse_memory<E: Push>(errors: &mut E) -> u8
+    ensures { result ≡ 4 }
+{
     tell(errors, NO_MEMORY);
     4
 }
 
-fn refuse<E: Push>(alloc: Global, errors: &mut E, error: &RunError) -> u8 {
+fn refuse<E: Push>(alloc: Global, errors: &mut E, error: &RunError) -> u8
+    ensures { (result ≡ status_of error.now) ⊎ (result ≡ 4) }
+{
     match error_line(alloc, error) {
         Ok(line) => {
             tell(errors, line.as_slice());
@@ -57,13 +91,18 @@ fn refuse<E: Push>(alloc: Global, errors: &mut E, error: &RunError) -> u8 {
     }
 }
 
-fn error_line(alloc: Global, error: &RunError) -> Result<Vec<u8>, AllocError> {
+fn error_line(alloc: Global, error: &RunError) -> Result<Vec<u8>, AllocError>
+    ensures { IfOk result (λ line. line.items ≡ line_of error.now) }
+{
     let mut line = Vec::new(alloc);
     error.write(&mut line)?;
     Ok(line)
 }
 
-fn deliver<O: Push, E: Push>(output: &mut O, errors: &mut E, report: &[u8]) -> u8 {
+fn deliver<O: Push, E: Push>(output: &mut O, errors: &mut E, report: &[u8]) -> u8
+    ensures sent { result ≡ 0 → Appends (O.gone output.old) (O.gone output.new) report.now }
+    ensures status { (result ≡ 0) ⊎ (result ≡ 3) }
+{
     match send(output, report) {
         Ok(()) => 0,
         Err(_) => {
@@ -82,7 +121,9 @@ fn answer_input<R: Threads + Wait + Sync, I: Pull>(
     rt: &R,
     alloc: Global,
     input: &mut I,
-) -> Result<Option<Vec<u8>>, RunError> {
+) -> Result<Option<Vec<u8>>, RunError>
+    ensures { IfOk result (IsInputAnswer (I.left input.old) (I.left input.new)) }
+{
     let bytes = load(alloc, input, Source::Input)?;
     answer_bundle(rt, alloc, bytes.as_slice())
 }
@@ -93,25 +134,60 @@ fn answer_bundle<R: Threads + Wait + Sync>(
     alloc: Global,
     bytes: &[u8],
 ) -> Result<Option<Vec<u8>>, RunError>
-    ensures { IfOk result (IsBundleAnswer bytes.now) }
+    ensures ok { IfOk result (IsBundleAnswer bytes.now) }
+    ensures error { IfErr result (IsBundleError bytes.now) }
 {
     let Some(parts) = bundle(bytes) else {
         return Ok(None);
     };
-    let lengths = [parts.block];
-    let cuts = if parts.block == 0 {
-        &[]
-    } else {
-        lengths.as_slice()
-    };
-    let report = report(
+    let report = answer_blocks(
         rt,
         alloc,
         parts.dump,
         parts.queries,
-        cuts,
+        parts.block,
         parts.workers,
-        &NoGate,
     )?;
     Ok(Some(report))
+}
+
+// The report on two files, of which the queries are read first.
+fn answer_files<R: Files + Threads + Wait + Sync>(
+    rt: &R,
+    alloc: Global,
+    asked: &Arguments<'_>,
+) -> Result<Vec<u8>, RunError>
+    requires some_worker { 0 < asked.now.workers }
+    requires few_workers { asked.now.workers ≤ 64 }
+    ensures { IfOk result (λ report. (dump queries : List ℕ) × IsReport dump queries report.items) }
+{
+    let queries = load_file(rt, alloc, asked.queries, Source::Queries)?;
+    let dump = load_file(rt, alloc, asked.dump, Source::Dump)?;
+    answer_blocks(
+        rt,
+        alloc,
+        dump.as_slice(),
+        queries.as_slice(),
+        asked.block,
+        asked.workers,
+    )
+}
+
+// The report over blocks of one length, where 0 is one block.
+fn answer_blocks<R: Threads + Wait + Sync>(
+    rt: &R,
+    alloc: Global,
+    dump: &[u8],
+    queries: &[u8],
+    block: u32,
+    workers: usize,
+) -> Result<Vec<u8>, RunError>
+    requires some_worker { 0 < workers }
+    requires few_workers { workers ≤ 64 }
+    ensures ok { IfOk result (λ report. IsReport dump.now queries.now report.items) }
+    ensures error { IfErr result (IsRunError dump.now queries.now) }
+{
+    let lengths = [block];
+    let cuts = if block == 0 { &[] } else { lengths.as_slice() };
+    report(rt, alloc, dump, queries, cuts, workers, &NoGate)
 }

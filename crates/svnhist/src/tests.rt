@@ -1,21 +1,22 @@
 //! Reports, inputs and outputs at small examples.
 ghost use Rattle.std.specs.Prelude.{◌<◌, ◌≤◌, All};
 
+use crate::arguments::read_arguments;
 use crate::bundle_reader::bundle;
 use crate::device::{Device, Failed, Pull};
 use crate::fault::{Fault, FaultKind};
 use crate::gate::{Gate, NoGate};
-use crate::load::load;
+use crate::load::{load, load_file};
 use crate::report::report;
 use crate::run_error::{RunError, Source};
 use crate::send::{SendError, send};
 use std::alloc::Global;
-use std::io;
 use std::io::{Read, Write};
 use std::sync::Wait;
 use std::sync::atomic::{AtomicUsize, Ordering};
 use std::test::Fail;
 use std::thread::Threads;
+use std::{env, fs, io};
 use svn_dump::DumpError;
 
 const FIRST: &[u8] =
@@ -326,6 +327,59 @@ fn refuses_what_is_no_bundle(rt: HostRuntime) {
     ] {
         assert!(rt; bundle(bytes).is_none(), "{bytes:?}");
     }
+}
+
+fn texts(alloc: Global, texts: &[&str]) -> Result<Vec<String>, Fail> {
+    let mut all = Vec::new(alloc);
+    for text in texts {
+        all.push(String::from_str(alloc, *text)?)?;
+    }
+    Ok(all)
+}
+
+#[test]
+fn reads_arguments(rt: HostRuntime) -> Result<(), Fail> {
+    let all = texts(rt.alloc(), &["a dump", "-", "2147483647", "064"])?;
+    let asked = read_arguments(all.as_slice()).ok_or("arguments")?;
+    assert_eq!(rt; (asked.dump, asked.queries), ("a dump", "-"));
+    assert_eq!(rt; (asked.block, asked.workers), (2_147_483_647, 64));
+    Ok(())
+}
+
+#[test]
+fn refuses_wrong_arguments(rt: HostRuntime) -> Result<(), Fail> {
+    for wrong in [
+        ["d", "q", "0", "0"],
+        ["d", "q", "0", "65"],
+        ["d", "q", "2147483648", "1"],
+        ["d", "q", "", "1"],
+        ["d", "q", "-1", "1"],
+        ["d", "q", "0", "1 "],
+    ] {
+        let all = texts(rt.alloc(), wrong.as_slice())?;
+        assert!(rt; read_arguments(all.as_slice()).is_none(), "{wrong:?}");
+    }
+    for few in [
+        ["d", "q", "0"].as_slice(),
+        ["d", "q", "0", "1", "1"].as_slice(),
+    ] {
+        let all = texts(rt.alloc(), few)?;
+        assert!(rt; read_arguments(all.as_slice()).is_none());
+    }
+    Ok(())
+}
+
+#[test]
+fn loads_a_file(rt: HostRuntime) -> Result<(), Fail> {
+    let mut path = env::temp_dir(&rt)?;
+    path.push("svnhist-loads-a-file")?;
+    fs::write(&rt, path.as_path(), FIRST)?;
+    let found = load_file(&rt, rt.alloc(), path.as_path().as_str(), Source::Dump);
+    fs::remove_file(&rt, path.as_path())?;
+    assert_eq!(rt; found?.as_slice(), FIRST);
+    let missing = load_file(&rt, rt.alloc(), path.as_path().as_str(), Source::Queries);
+    assert!(rt; matches!(missing, Err(RunError::Read(Source::Queries))));
+    Ok(())
 }
 
 // A writer that takes so many bytes a call. One of its calls fails, and a flush may.

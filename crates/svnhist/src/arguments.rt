@@ -1,0 +1,39 @@
+//! The arguments of a run on two files.
+ghost use Rattle.std.specs.Prelude.{map, string_bytes, IfNone, IfSome};
+ghost use Rattle.svnhist.specs.Arguments.{ArgumentsValue, IsArguments, arguments_shown};
+
+use svn_dump::number_up_to;
+
+/// What a run is asked to do, lent by its arguments.
+#[derive(Clone, Copy, Debug)]
+pub(crate) struct Arguments<'a> {
+    /// The path of the dump.
+    pub dump: &'a str,
+    /// The path of the query lines.
+    pub queries: &'a str,
+    /// How many revisions a block has, 0 for one block.
+    pub block: u32,
+    /// How many workers answer, from 1 to 64.
+    pub workers: usize,
+}
+
+/// What the arguments behind the program's name ask for, or `None` where they are wrong.
+pub(crate) fn read_arguments(texts: &[String]) -> Option<Arguments<'_>>
+    ensures found { IfSome result (λ asked. IsArguments (map string_bytes texts.now) (arguments_shown asked)) }
+    ensures none { IfNone result ((value : ArgumentsValue) → IsArguments (map string_bytes texts.now) value → ⊥) }
+{
+    let [dump, queries, block, workers] = texts else {
+        return None;
+    };
+    let block = number_up_to(2_147_483_647, block.as_bytes())?;
+    let workers = number_up_to(64, workers.as_bytes())?;
+    if workers == 0 {
+        return None;
+    }
+    Some(Arguments {
+        dump: dump.as_str(),
+        queries: queries.as_str(),
+        block: block as u32,
+        workers: workers as usize,
+    })
+}
