@@ -5,11 +5,12 @@ use Rattle.std.proofs.lemmas.Bool.{both_ways}
 use Rattle.std.proofs.lemmas.Grind.{flat_map-append}
 use Rattle.std.proofs.lemmas.List.{drop_more, take_rest, replicate_more, take-append-drop, length-take-le}
 use Rattle.std.proofs.lemmas.List.Elements.{All-push}
-use Rattle.svn_dump.specs.Block.{IsHeader, line_text, body_length}
+use Rattle.svn_dump.specs.Block.{IsHeader, line_text, body_length, length_or_zero, properties_length}
 use Rattle.svn_dump.specs.Field.{fields_of}
 use Rattle.svn_dump.specs.Found.{BeginsWithLines, BeginsWithBlock, begins_with_newline}
 use Rattle.svn_dump.specs.Headers.{AreHeaders}
-use Rattle.svn_dump.specs.Said.{body_length_said}
+use Rattle.svn_dump.specs.Said.{body_length_said, value_of}
+use Rattle.svn_dump.specs.declared.field.Field.TheVariants.{PropertiesLength}
 
 -- one more empty line
 pub with_empty_line : (bytes rest : List ℕ) (n : ℕ) → n ≡ length rest → 1 ≤ length rest → get_or rest 0 0 ≡ 10 → (empty : ℕ) × (bytes ≡ replicate empty 10 ++ rest) → (empty : ℕ) × (bytes ≡ replicate empty 10 ++ take (n - 1) (drop 1 rest))
@@ -43,9 +44,16 @@ some_lines : (from rest : List ℕ) (lines : List (List ℕ)) → from ≡ flat_
 some_lines from rest [] whole other none = both_ways _ other (ap begins_with_newline whole)
 some_lines from rest (line ∷ lines) whole other none = absurd (omega arith)
 
--- a block, by its lines and the length of its body
-pub with_body : (bytes from : List ℕ) (values : List (Option (List ℕ))) (rest : List ℕ) (length_said : ℕ) → (empty : ℕ) × (bytes ≡ replicate empty 10 ++ from) → IsFalse (begins_with_newline from) → BeginsWithLines from values (10 ∷ rest) → body_length_said values ≡ Some length_said → length_said ≤ length rest → BeginsWithBlock bytes values (drop length_said rest)
-with_body bytes from values rest n skipped other found said within = record {
+properties_length-said : (lines : List (List ℕ)) → properties_length lines ≡ length_or_zero (value_of (fields_of lines) PropertiesLength)
+properties_length-said lines = refl
+
+-- a block, by its lines and the lengths of its body and of its property section
+pub with_body :
+    (bytes from : List ℕ) (values : List (Option (List ℕ))) (rest : List ℕ) (section whole : ℕ) →
+    (empty : ℕ) × (bytes ≡ replicate empty 10 ++ from) → IsFalse (begins_with_newline from) → BeginsWithLines from values (10 ∷ rest) →
+    body_length_said values ≡ Some whole → length_or_zero (value_of values PropertiesLength) ≡ Some section → section ≤ whole → whole ≤ length rest →
+    BeginsWithBlock bytes values (take section (take whole rest)) (drop whole rest)
+with_body bytes from values rest section n skipped other found said in_front inside within = record {
   empty = skipped.0;
   block = record { lines = found.lines; body = take n rest };
   is_block = record {
@@ -55,6 +63,9 @@ with_body bytes from values rest n skipped other found said within = record {
     whole = body_length-said found.lines ∙ ap body_length_said (sym found.fields.fields) ∙ said ∙ ap Some (sym (length-take-le n rest within));
   };
   fields = found.fields.fields;
+  section =
+      properties_length-said found.lines ∙ ap (λ all. length_or_zero (value_of all PropertiesLength)) (sym found.fields.fields) ∙ in_front ∙ ap Some (sym long);
+  front = ap (λ k. take k (take n rest)) (sym long);
   whole =
       let front = replicate skipped.0 10 in
       let lines = flat_map line_text found.lines in
@@ -62,3 +73,6 @@ with_body bytes from values rest n skipped other found said within = record {
       ∙ sym (append_assoc front (lines ++ 10 ∷ take n rest) (drop n rest)
       ∙ ap (λ text. front ++ text) (append_assoc lines (10 ∷ take n rest) (drop n rest) ∙ ap (λ body. lines ++ 10 ∷ body) (take-append-drop n rest)));
 }
+  where
+    long : length (take section (take n rest)) ≡ section
+    long = length-take-le section (take n rest) (omega (arith, length-take-le n rest within))

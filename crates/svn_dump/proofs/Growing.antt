@@ -1,16 +1,19 @@
--- What stays the same while a table of names grows.
-use Rattle.std.proofs.Common.{◌≡◌, ℕ, ◌≤◌, List, [], ◌∷◌, ◌++◌, map, length, get_or, refl, sym, ap, ap₂, subst, ◌∙◌, append_assoc, append-nil, arith, length-append}
-use Rattle.std.specs.Prelude.{All}
+-- What stays the same while the tables of names and of texts grow.
+use Rattle.std.proofs.Common.{◌≡◌, ℕ, ◌<◌, ◌≤◌, List, [], ◌∷◌, ◌++◌, map, length, get_or, refl, sym, ap, ap₂, subst, ◌∙◌, append_assoc, append-nil, arith, length-append}
+use Rattle.std.specs.Prelude.{All, None, Some}
+use Rattle.std.proofs.lemmas.List.{get_or_append_left}
 use Rattle.std.proofs.lemmas.List.Elements.{All-head, All-tail}
 use Rattle.svn_path.specs.Names.{with_names}
 use Rattle.svn_path.specs.Path.{IsOf, spelled}
 use Rattle.svn_path.specs.declared.names.NameId.{NameId}
 use Rattle.svn_path.proofs.Tables.{with_names-append, IsOf-append, spelled-append}
-use Rattle.svn_dump.specs.Draft.{Extends, action_told, record_told}
-use Rattle.svn_dump.specs.Dump.{DumpValue, ActIsOf, RecordIsOf, setting_of, text_of}
-use Rattle.svn_dump.specs.History.{rename_setting, copy}
+use Rattle.svn_dump.specs.Draft.{Extends, action_told, record_told, setting_told}
+use Rattle.svn_dump.specs.Dump.{DumpValue, ActIsOf, RecordIsOf, SettingIsOf, text_of}
+use Rattle.svn_dump.specs.History.{put, change, add, copy}
 use Rattle.svn_dump.specs.declared.record.Act.{Act}
 use Rattle.svn_dump.specs.declared.record.Act.TheVariants as act
+use Rattle.svn_dump.specs.declared.record.Mi.{Mi}
+use Rattle.svn_dump.specs.declared.record.Mi.TheVariants as mi
 use Rattle.svn_dump.specs.declared.record.NodeRecord.{NodeRecord}
 
 -- ---- tables
@@ -47,46 +50,66 @@ IsOf-grows old new path grows of = subst (λ names. IsOf names path) (sym grows.
 pub spelled-grows : (old new : List (List ℕ)) (path : List NameId) → Extends old new → IsOf old path → spelled new path ≡ spelled old path
 spelled-grows old new path grows of = ap (λ names. spelled names path) grows.1 ∙ spelled-append old grows.0 path of
 
+-- ---- settings
+
+-- a text keeps its number
+pub text_of-grows : (old new : List (List ℕ)) (number : ℕ) → Extends old new → number < length old → text_of new number ≡ text_of old number
+text_of-grows old new number grows below = ap (λ texts. text_of texts number) grows.1 ∙ get_or_append_left old grows.0 [] number below
+
+-- a setting of the table stays one
+pub SettingIsOf-grows : (old new : List (List ℕ)) (each : Mi) → Extends old new → SettingIsOf (length old) each → SettingIsOf (length new) each
+SettingIsOf-grows old new mi.Keep grows of = tt
+SettingIsOf-grows old new (mi.Put None) grows of = tt
+SettingIsOf-grows old new (mi.Put (Some id)) grows of = omega (arith, length-Extends old new grows)
+
+-- and tells the same
+pub setting_told-grows : (old new : List (List ℕ)) (each : Mi) → Extends old new → SettingIsOf (length old) each → setting_told new each ≡ setting_told old each
+setting_told-grows old new mi.Keep grows of = refl
+setting_told-grows old new (mi.Put None) grows of = refl
+setting_told-grows old new (mi.Put (Some id)) grows of = ap (λ text. put (Some text)) (text_of-grows old new id.0 grows of)
+
 -- ---- records
 
 -- an action of the dump stays one
-pub ActIsOf-grows : (old new : DumpValue) (rev : ℕ) (each : Act) → Extends old.names new.names → new.values ≡ old.values → ActIsOf old rev each → ActIsOf new rev each
-ActIsOf-grows old new rev act.Delete grows same of = tt
-ActIsOf-grows old new rev (act.Change setting) grows same of = rw same of
-ActIsOf-grows old new rev (act.Add replace kind setting) grows same of = rw same of
-ActIsOf-grows old new rev (act.Copy replace from from_rev setting) grows same of =
-    (IsOf-grows old.names new.names from grows of.0, of.1, of.2, rw same of.3)
+pub ActIsOf-grows : (old new : DumpValue) (rev : ℕ) (each : Act) → Extends old.names new.names → Extends old.values new.values → ActIsOf old rev each → ActIsOf new rev each
+ActIsOf-grows old new rev act.Delete grows texts of = tt
+ActIsOf-grows old new rev (act.Change setting) grows texts of = SettingIsOf-grows old.values new.values setting texts of
+ActIsOf-grows old new rev (act.Add replace kind setting) grows texts of = SettingIsOf-grows old.values new.values setting texts of
+ActIsOf-grows old new rev (act.Copy replace from from_rev setting) grows texts of =
+    (IsOf-grows old.names new.names from grows of.0, of.1, of.2, SettingIsOf-grows old.values new.values setting texts of.3)
 
 -- and so does a record
-pub RecordIsOf-grows : (old new : DumpValue) (each : NodeRecord) → Extends old.names new.names → new.values ≡ old.values → RecordIsOf old each → RecordIsOf new each
-RecordIsOf-grows old new each grows same of = record {
+pub RecordIsOf-grows : (old new : DumpValue) (each : NodeRecord) → Extends old.names new.names → Extends old.values new.values → RecordIsOf old each → RecordIsOf new each
+RecordIsOf-grows old new each grows texts of = record {
   path = IsOf-grows old.names new.names each.path grows of.path;
   length = of.length;
-  act = ActIsOf-grows old new each.rev each.act grows same of.act;
+  act = ActIsOf-grows old new each.rev each.act grows texts of.act;
   above_zero = of.above_zero;
   root = of.root;
 }
 
 -- and so do all records
-pub All-RecordIsOf-grows : (old new : DumpValue) (records : List NodeRecord) → Extends old.names new.names → new.values ≡ old.values → All (RecordIsOf old) records → All (RecordIsOf new) records
-All-RecordIsOf-grows old new records grows same all = λ k d h. RecordIsOf-grows old new (get_or records k d) grows same (all k d h)
+pub All-RecordIsOf-grows : (old new : DumpValue) (records : List NodeRecord) → Extends old.names new.names → Extends old.values new.values → All (RecordIsOf old) records → All (RecordIsOf new) records
+All-RecordIsOf-grows old new records grows texts all = λ k d h. RecordIsOf-grows old new (get_or records k d) grows texts (all k d h)
 
--- an action tells the same
-pub action_told-grows : (dump : DumpValue) (new : List (List ℕ)) (rev : ℕ) (each : Act) → Extends dump.names new → ActIsOf dump rev each → action_told new each ≡ action_told dump.names each
-action_told-grows dump new rev act.Delete grows of = refl
-action_told-grows dump new rev (act.Change setting) grows of = refl
-action_told-grows dump new rev (act.Add replace kind setting) grows of = refl
-action_told-grows dump new rev (act.Copy replace from from_rev setting) grows of =
-    ap (λ parts. copy replace parts from_rev (rename_setting (λ value. text_of [] value.0) (setting_of setting))) (spelled-grows dump.names new from grows of.0)
+module _ (dump : DumpValue) (new texts : List (List ℕ)) (grows : Extends dump.names new) (texts_grow : Extends dump.values texts) where
+  -- an action tells the same
+  pub action_told-grows : (rev : ℕ) (each : Act) → ActIsOf dump rev each → action_told new texts each ≡ action_told dump.names dump.values each
+  action_told-grows rev act.Delete of = refl
+  action_told-grows rev (act.Change setting) of = ap change (setting_told-grows dump.values texts setting texts_grow of)
+  action_told-grows rev (act.Add replace kind setting) of = ap (add replace kind) (setting_told-grows dump.values texts setting texts_grow of)
+  action_told-grows rev (act.Copy replace from from_rev setting) of =
+      ap₂ (λ parts told. copy replace parts from_rev told) (spelled-grows dump.names new from grows of.0)
+      (setting_told-grows dump.values texts setting texts_grow of.3)
 
--- and so does a record
-pub record_told-grows : (dump : DumpValue) (new : List (List ℕ)) (each : NodeRecord) → Extends dump.names new → RecordIsOf dump each → record_told new each ≡ record_told dump.names each
-record_told-grows dump new each grows of =
-    ap₂ (λ path action. record { path = path; action = action }) (spelled-grows dump.names new each.path grows of.path) (action_told-grows dump new each.rev each.act grows of.act)
+  -- and so does a record
+  pub record_told-grows : (each : NodeRecord) → RecordIsOf dump each → record_told new texts each ≡ record_told dump.names dump.values each
+  record_told-grows each of =
+      ap₂ (λ path action. record { path = path; action = action }) (spelled-grows dump.names new each.path grows of.path) (action_told-grows each.rev each.act of.act)
 
--- and so do all records
-pub map-record_told-grows : (dump : DumpValue) (new : List (List ℕ)) (records : List NodeRecord) → Extends dump.names new → All (RecordIsOf dump) records → map (record_told new) records ≡ map (record_told dump.names) records
-map-record_told-grows dump new [] grows all = refl
-map-record_told-grows dump new (each ∷ records) grows all =
-    ap₂ (λ x xs. x ∷ xs) (record_told-grows dump new each grows (All-head (RecordIsOf dump) each records all))
-    (map-record_told-grows dump new records grows (All-tail (RecordIsOf dump) each records all))
+  -- and so do all records
+  pub map-record_told-grows : (records : List NodeRecord) → All (RecordIsOf dump) records → map (record_told new texts) records ≡ map (record_told dump.names dump.values) records
+  map-record_told-grows [] all = refl
+  map-record_told-grows (each ∷ records) all =
+      ap₂ (λ x xs. x ∷ xs) (record_told-grows each (All-head (RecordIsOf dump) each records all))
+      (map-record_told-grows records (All-tail (RecordIsOf dump) each records all))

@@ -7,7 +7,7 @@ use Rattle.std.proofs.lemmas.List.{map-append, length-map}
 use Rattle.svn_path.specs.Names.{name_of, with_name, with_names}
 use Rattle.svn_dump.specs.Draft.{Extends, record_told, dump_of}
 use Rattle.svn_dump.specs.Dump.{RecordIsOf, record_shown, grouped, revisions_from, history_shown, text_of}
-use Rattle.svn_dump.specs.DumpText.{parts_of_record, all_records, names_of}
+use Rattle.svn_dump.specs.DumpText.{parts_of_record, texts_of_action, all_records, names_of, values_of}
 use Rattle.svn_dump.specs.History.{rename_record}
 use Rattle.svn_dump.specs.Record.{RecordOfBytes, HistoryOfBytes, with_record}
 use Rattle.svn_dump.specs.declared.record.NodeRecord.{NodeRecord}
@@ -19,9 +19,9 @@ map-map f g [] = refl
 map-map f g (x ∷ xs) = ap (λ ys. f (g x) ∷ ys) (map-map f g xs)
 
 -- the history in bytes, by its flat list of records
-pub history_shown-told : (names : List (List ℕ)) (records : List NodeRecord) (counts : List ℕ) → history_shown (dump_of names records counts) ≡ grouped counts (map (record_told names) records)
-history_shown-told names records counts =
-    let f : (each : _) → RecordOfBytes = rename_record (λ name. name_of names name.0) (λ value. text_of [] value.0) in
+pub history_shown-told : (names : List (List ℕ)) (records : List NodeRecord) (counts : List ℕ) (texts : List (List ℕ)) → history_shown (dump_of names records counts texts) ≡ grouped counts (map (record_told names texts) records)
+history_shown-told names records counts texts =
+    let f : (each : _) → RecordOfBytes = rename_record (λ name. name_of names name.0) (λ value. text_of texts value.0) in
     map-grouped f counts (map record_shown records) ∙ ap (grouped counts) (map-map f record_shown records)
 
 -- as many records as the counts say
@@ -45,50 +45,61 @@ all_records-with_record (records ∷ more ∷ history) each some =
 pub all_records-with_revision : (history : HistoryOfBytes) → all_records (history ++ [] ∷ []) ≡ all_records history
 all_records-with_revision history = flat_map-append (λ records. records) history ([] ∷ []) ∙ append-nil (all_records history)
 
--- one more record adds its names
+-- what a record adds to a table, one more record adds
+with_names-with_record : (added : RecordOfBytes → List (List ℕ)) (history : HistoryOfBytes) (each : RecordOfBytes) → 0 < length history → with_names [] (flat_map added (all_records (with_record history each))) ≡ with_names (with_names [] (flat_map added (all_records history))) (added each)
+with_names-with_record added history each some =
+    ap (λ records. with_names [] (flat_map added records)) (all_records-with_record history each some)
+    ∙ ap (with_names []) (flat_map-append added (all_records history) (each ∷ []))
+    ∙ fold-append with_name [] (flat_map added (all_records history)) (added each ++ [])
+    ∙ ap (with_names (with_names [] (flat_map added (all_records history)))) (append-nil (added each))
+
+-- its names
 pub names_of-with_record : (history : HistoryOfBytes) (each : RecordOfBytes) → 0 < length history → names_of (with_record history each) ≡ with_names (names_of history) (parts_of_record each)
-names_of-with_record history each some =
-    ap (λ records. with_names [] (flat_map parts_of_record records)) (all_records-with_record history each some)
-    ∙ ap (with_names []) (flat_map-append parts_of_record (all_records history) (each ∷ []))
-    ∙ fold-append with_name [] (flat_map parts_of_record (all_records history)) (parts_of_record each ++ [])
-    ∙ ap (with_names (names_of history)) (append-nil (parts_of_record each))
+names_of-with_record history each some = with_names-with_record parts_of_record history each some
+
+-- and its text
+pub values_of-with_record : (history : HistoryOfBytes) (each : RecordOfBytes) → 0 < length history → values_of (with_record history each) ≡ with_names (values_of history) (texts_of_action each.action)
+values_of-with_record history each some = with_names-with_record (λ one. texts_of_action one.action) history each some
 
 -- one more revision adds none
 pub names_of-with_revision : (history : HistoryOfBytes) → names_of (history ++ [] ∷ []) ≡ names_of history
 names_of-with_revision history = ap (λ records. with_names [] (flat_map parts_of_record records)) (all_records-with_revision history)
 
+pub values_of-with_revision : (history : HistoryOfBytes) → values_of (history ++ [] ∷ []) ≡ values_of history
+values_of-with_revision history = ap (λ records. with_names [] (flat_map (λ one. texts_of_action one.action) records)) (all_records-with_revision history)
+
 -- ---- one more
 
--- the dump with one more record, and its new names, shows the history with that record
+-- the dump with one more record, and its new names and texts, shows the history with that record
 pub history_shown-with_record :
-    (old new : List (List ℕ)) (records : List NodeRecord) (counts : List ℕ) (each : NodeRecord) →
-    Extends old new → All (RecordIsOf (dump_of old records counts)) records →
+    (old new old_texts new_texts : List (List ℕ)) (records : List NodeRecord) (counts : List ℕ) (each : NodeRecord) →
+    Extends old new → Extends old_texts new_texts → All (RecordIsOf (dump_of old records counts old_texts)) records →
     map (λ one. one.rev) records ≡ revisions_from 0 counts → 0 < length counts →
-    history_shown (dump_of new (records ++ each ∷ []) (with_more counts)) ≡ with_record (history_shown (dump_of old records counts)) (record_told new each)
-history_shown-with_record old new records counts each grows all revisions some =
-    history_shown-told new (records ++ each ∷ []) (with_more counts)
-    ∙ ap (grouped (with_more counts)) (map-append (record_told new) records (each ∷ []) ∙ ap (λ front. front ++ record_told new each ∷ []) (map-record_told-grows (dump_of old records counts) new records grows all))
-    ∙ grouped-with_more counts (map (record_told old) records) (record_told new each) (total-revisions records counts revisions ∙ sym (length-map records (record_told old))) some
-    ∙ ap (λ history. with_record history (record_told new each)) (sym (history_shown-told old records counts))
+    history_shown (dump_of new (records ++ each ∷ []) (with_more counts) new_texts) ≡ with_record (history_shown (dump_of old records counts old_texts)) (record_told new new_texts each)
+history_shown-with_record old new old_texts new_texts records counts each grows texts_grow all revisions some =
+    history_shown-told new (records ++ each ∷ []) (with_more counts) new_texts
+    ∙ ap (grouped (with_more counts)) (map-append (record_told new new_texts) records (each ∷ [])
+    ∙ ap (λ front. front ++ record_told new new_texts each ∷ []) (map-record_told-grows (dump_of old records counts old_texts) new new_texts grows texts_grow records all))
+    ∙ grouped-with_more counts (map (record_told old old_texts) records) (record_told new new_texts each) (total-revisions records counts revisions ∙ sym (length-map records (record_told old old_texts))) some
+    ∙ ap (λ history. with_record history (record_told new new_texts each)) (sym (history_shown-told old records counts old_texts))
 
--- the dump with one more revision shows the history with that revision
-pub history_shown-with_revision :
-    (names : List (List ℕ)) (records : List NodeRecord) (counts : List ℕ) →
-    history_shown (dump_of names records (counts ++ 0 ∷ [])) ≡ history_shown (dump_of names records counts) ++ [] ∷ []
-history_shown-with_revision names records counts =
-    history_shown-told names records (counts ++ 0 ∷ [])
-    ∙ grouped-with_group counts (map (record_told names) records)
-    ∙ ap (λ history. history ++ [] ∷ []) (sym (history_shown-told names records counts))
+module _ (names : List (List ℕ)) (records : List NodeRecord) (counts : List ℕ) (texts : List (List ℕ)) where
+  -- the dump with one more revision shows the history with that revision
+  pub history_shown-with_revision : history_shown (dump_of names records (counts ++ 0 ∷ []) texts) ≡ history_shown (dump_of names records counts texts) ++ [] ∷ []
+  history_shown-with_revision =
+      history_shown-told names records (counts ++ 0 ∷ []) texts
+      ∙ grouped-with_group counts (map (record_told names texts) records)
+      ∙ ap (λ history. history ++ [] ∷ []) (sym (history_shown-told names records counts texts))
 
--- ---- how many
+  -- ---- how many
 
--- there are as many revisions as counts
-pub length-history_shown : (names : List (List ℕ)) (records : List NodeRecord) (counts : List ℕ) → length (history_shown (dump_of names records counts)) ≡ length counts
-length-history_shown names records counts = ap length (history_shown-told names records counts) ∙ length-grouped counts (map (record_told names) records)
+  -- there are as many revisions as counts
+  pub length-history_shown : length (history_shown (dump_of names records counts texts)) ≡ length counts
+  length-history_shown = ap length (history_shown-told names records counts texts) ∙ length-grouped counts (map (record_told names texts) records)
 
--- and as many records as the dump has
-pub length-all_records : (names : List (List ℕ)) (records : List NodeRecord) (counts : List ℕ) → map (λ one. one.rev) records ≡ revisions_from 0 counts → length (all_records (history_shown (dump_of names records counts))) ≡ length records
-length-all_records names records counts revisions =
-    ap (λ history. length (all_records history)) (history_shown-told names records counts)
-    ∙ ap length (all_records-grouped counts (map (record_told names) records) (total-revisions records counts revisions ∙ sym (length-map records (record_told names))))
-    ∙ length-map records (record_told names)
+  -- and as many records as the dump has
+  pub length-all_records : map (λ one. one.rev) records ≡ revisions_from 0 counts → length (all_records (history_shown (dump_of names records counts texts))) ≡ length records
+  length-all_records revisions =
+      ap (λ history. length (all_records history)) (history_shown-told names records counts texts)
+      ∙ ap length (all_records-grouped counts (map (record_told names texts) records) (total-revisions records counts revisions ∙ sym (length-map records (record_told names texts))))
+      ∙ length-map records (record_told names texts)

@@ -2,8 +2,11 @@ mod Blocks
 mod Drafts
 mod Fields
 mod Lines
+mod Mergeinfos
 mod Nodes
+mod Pieces
 mod Reading
+mod TextTables
 pub mod Belows
 pub mod Entries
 pub mod Faults
@@ -14,4 +17,5 @@ pub mod Locations
 pub mod Origins
 pub mod Renaming
 pub mod Revisions
+pub mod Sections
 pub mod Trees

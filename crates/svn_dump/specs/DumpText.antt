@@ -1,9 +1,8 @@
--- A whole dump, as `svnadmin dump` writes it (Subversion's dump format notes, version 2); for now one whose records have
--- no properties and replace nothing.
-use Rattle.std.specs.Prelude.{◌≡◌, ◌≢◌, ℕ, ◌≤◌, List, [], ◌∷◌, ◌++◌, Some, codes, flat_map, length}
+-- A whole dump, as `svnadmin dump` writes it (Subversion's dump format notes, version 2).
+use Rattle.std.specs.Prelude.{◌≡◌, ◌≢◌, ℕ, ◌≤◌, List, [], ◌∷◌, ◌++◌, None, Some, codes, flat_map, length}
 use Rattle.svn_path.specs.Names.{with_names}
 use Rattle.svn_dump.specs.Block.{Block, AreBlocks}
-use Rattle.svn_dump.specs.History.{delete, change, add, copy}
+use Rattle.svn_dump.specs.History.{Setting, keep, put, delete, change, add, copy}
 use Rattle.svn_dump.specs.Record.{RecordOfBytes, ActionOfBytes, HistoryOfBytes, history_of}
 
 abbrev pub first_line : List ℕ
@@ -26,7 +25,23 @@ all_records history = flat_map (λ records. records) history
 abbrev pub names_of : HistoryOfBytes → List (List ℕ)
 names_of history = with_names [] (flat_map parts_of_record (all_records history))
 
--- how many names, records and revisions a dump has at most
+-- the mergeinfo text that a record gives
+abbrev pub texts_of_setting : Setting (List ℕ) → List (List ℕ)
+texts_of_setting keep = []
+texts_of_setting (put None) = []
+texts_of_setting (put (Some text)) = text ∷ []
+
+abbrev pub texts_of_action : ActionOfBytes → List (List ℕ)
+texts_of_action delete = []
+texts_of_action (change setting) = texts_of_setting setting
+texts_of_action (add replace kind setting) = texts_of_setting setting
+texts_of_action (copy replace from from_rev setting) = texts_of_setting setting
+
+-- the distinct mergeinfo texts of a history, as first seen
+abbrev pub values_of : HistoryOfBytes → List (List ℕ)
+values_of history = with_names [] (flat_map (λ each. texts_of_action each.action) (all_records history))
+
+-- how many names, records, revisions and texts a dump has at most
 abbrev pub most_numbered : ℕ
 most_numbered = 4294967294
 
@@ -34,8 +49,9 @@ pub record IsSmall (history : HistoryOfBytes) : Type 0 where
   pub names : length (names_of history) ≤ most_numbered
   pub records : length (all_records history) ≤ most_numbered
   pub revisions : length history ≤ most_numbered
+  pub values : length (values_of history) ≤ most_numbered
 
--- the bytes are a dump without property sections of nodes and without replacements, and tell this history
+-- the bytes are a dump, and tell this history
 pub record IsDumpText (bytes : List ℕ) (history : HistoryOfBytes) : Type 0 where
   pub rest : List ℕ
   pub blocks : List Block

@@ -11,6 +11,7 @@ pub mod History
 pub mod Line
 pub mod Location
 pub mod Number
+pub mod Property
 pub mod ReadError
 pub mod Record
 pub mod Said

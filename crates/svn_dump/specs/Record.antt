@@ -3,8 +3,9 @@ use Rattle.std.specs.Prelude.{ℕ, pred, ◌==◌, nat_lt, Bool, true, false, no
 use Rattle.std.specs.List.{list_any}
 use Rattle.svn_path.specs.Components.{parts_of, is_dot}
 use Rattle.svn_dump.specs.Block.{Block, field, properties_length}
-use Rattle.svn_dump.specs.History.{keep, Action, delete, change, add, copy, Record, History}
+use Rattle.svn_dump.specs.History.{Setting, Action, delete, change, add, copy, Record, History}
 use Rattle.svn_dump.specs.Number.{number_of, number_up_to, greatest_revision}
+use Rattle.svn_dump.specs.Property.{setting_of}
 use Rattle.svn_dump.specs.declared.kind.Kind.{Kind}
 use Rattle.svn_dump.specs.declared.kind.Kind.TheVariants.{File, Dir}
 
@@ -37,28 +38,29 @@ says_true (Some value) = bytes_eq value (codes "true")
 abbrev pub is_delta : List (List ℕ) → Bool
 is_delta lines = says_true (field (codes "Prop-delta") lines) || says_true (field (codes "Text-delta") lines)
 
-abbrev pub is_zero : Option ℕ → Bool
-is_zero None = false
-is_zero (Some n) = n == 0
-
 -- an addition in a revision, given its kind and its copy source where these headers are there
-abbrev pub addition : ℕ → Option (List ℕ) → Option (List ℕ) → Option (List ℕ) → Option ActionOfBytes
-addition rev kind None None = option_and_then (λ value. option_map (λ it. add false it keep) (kind_of value)) kind
-addition rev kind None (Some from) = None
-addition rev kind (Some from_rev) None = None
-addition rev kind (Some from_rev) (Some from) =
+abbrev pub addition : ℕ → Bool → Setting (List ℕ) → Option (List ℕ) → Option (List ℕ) → Option (List ℕ) → Option ActionOfBytes
+addition rev replace setting kind None None = option_and_then (λ value. option_map (λ it. add replace it setting) (kind_of value)) kind
+addition rev replace setting kind None (Some from) = None
+addition rev replace setting kind (Some from_rev) None = None
+addition rev replace setting kind (Some from_rev) (Some from) =
     option_and_then
-    (λ number. if nat_lt number rev then option_map (λ path. copy false path number keep) (path_of from) else None)
+    (λ number. if nat_lt number rev then option_map (λ path. copy replace path number setting) (path_of from) else None)
     (number_up_to greatest_revision from_rev)
 
--- what a node block of a revision does, without property sections and replacements
-unfoldable pub action_of : ℕ → List (List ℕ) → List ℕ → Option ActionOfBytes
-action_of rev lines value =
+-- the same by the lines of the block
+abbrev pub addition_of : ℕ → List (List ℕ) → Setting (List ℕ) → Bool → Option ActionOfBytes
+addition_of rev lines setting replace =
+    addition rev replace setting (field (codes "Node-kind") lines) (field (codes "Node-copyfrom-rev") lines) (field (codes "Node-copyfrom-path") lines)
+
+-- what a node block of a revision does, given what its section says of mergeinfo
+unfoldable pub action_of : ℕ → List (List ℕ) → Setting (List ℕ) → List ℕ → Option ActionOfBytes
+action_of rev lines setting value =
     if bytes_eq value (codes "delete") then Some delete
-    else (if bytes_eq value (codes "change") then Some (change keep)
-    else (if bytes_eq value (codes "add")
-    then addition rev (field (codes "Node-kind") lines) (field (codes "Node-copyfrom-rev") lines) (field (codes "Node-copyfrom-path") lines)
-    else None))
+    else (if bytes_eq value (codes "change") then Some (change setting)
+    else (if bytes_eq value (codes "add") then addition_of rev lines setting false
+    else (if bytes_eq value (codes "replace") then addition_of rev lines setting true
+    else None)))
 
 -- the root can only be changed
 abbrev pub spares_root : List (List ℕ) → ActionOfBytes → Bool
@@ -69,13 +71,15 @@ spares_root [] (copy replace from from_rev setting) = false
 spares_root (part ∷ parts) action = true
 
 -- the record of a node block in a revision above 0
-unfoldable pub record_of : ℕ → List (List ℕ) → List ℕ → Option RecordOfBytes
-record_of rev lines path =
+unfoldable pub record_of : ℕ → List (List ℕ) → List ℕ → List ℕ → Option RecordOfBytes
+record_of rev lines body path =
     option_and_then
+    (λ setting. option_and_then
     (λ parts. option_and_then
     (λ action. if spares_root parts action then Some (record { path = parts; action = action }) else None)
-    (option_and_then (action_of rev lines) (field (codes "Node-action") lines)))
-    (if nat_lt 0 rev && not (is_delta lines) && is_zero (properties_length lines) then path_of path else None)
+    (option_and_then (action_of rev lines setting) (field (codes "Node-action") lines)))
+    (if nat_lt 0 rev && not (is_delta lines) then path_of path else None))
+    (setting_of (properties_length lines) body)
 
 -- a history with one more record in its last revision
 abbrev pub with_record : HistoryOfBytes → RecordOfBytes → HistoryOfBytes
@@ -90,15 +94,15 @@ with_numbered history number =
 
 -- what a block adds, given its revision number, its path and its UUID where these headers are there: a revision, or
 -- a record of the revision before it; the repository's UUID adds nothing
-abbrev pub with_fields : HistoryOfBytes → List (List ℕ) → Option (List ℕ) → Option (List ℕ) → Option (List ℕ) → Option HistoryOfBytes
-with_fields history lines (Some number) path uuid = with_numbered history number
-with_fields history lines None (Some path) uuid = option_map (with_record history) (record_of (pred (length history)) lines path)
-with_fields history lines None None (Some uuid) = Some history
-with_fields history lines None None None = None
+abbrev pub with_fields : HistoryOfBytes → Block → Option (List ℕ) → Option (List ℕ) → Option (List ℕ) → Option HistoryOfBytes
+with_fields history block (Some number) path uuid = with_numbered history number
+with_fields history block None (Some path) uuid = option_map (with_record history) (record_of (pred (length history)) block.lines block.body path)
+with_fields history block None None (Some uuid) = Some history
+with_fields history block None None None = None
 
 unfoldable pub with_block : HistoryOfBytes → Block → Option HistoryOfBytes
 with_block history block =
-    with_fields history block.lines
+    with_fields history block
     (field (codes "Revision-number") block.lines) (field (codes "Node-path") block.lines) (field (codes "UUID") block.lines)
 
 -- the history that these blocks tell, one after another

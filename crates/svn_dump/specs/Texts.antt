@@ -1,6 +1,14 @@
--- The bytes of the texts that a set keeps.
-use Rattle.std.specs.Prelude.{ℕ, List, Vec, map}
+-- The table of mergeinfo texts: each once, numbered from 0 in the order in which they came.
+use Rattle.std.specs.Prelude.{ℕ, ◌≤◌, List, Vec, length, map, bytes_eq}
+use Rattle.std.specs.List.{IsDistinct}
 use Rattle.std.specs.declared.alloc.Global.{Global}
+use Rattle.svn_path.specs.Names.{most_names}
 
+-- the bytes of the texts that a set keeps
 abbrev pub texts : List (Vec ℕ Global) → List (List ℕ)
 texts kept = map (λ text. text.items) kept
+
+-- what every table keeps
+pub record IsTextTable (kept : List (List ℕ)) : Type 0 where
+  pub few : length kept ≤ most_names
+  pub distinct : IsDistinct bytes_eq kept

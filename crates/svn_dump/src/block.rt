@@ -3,7 +3,7 @@ ghost use Rattle.std.specs.Prelude.{◌≡◌, ℕ, ◌∷◌, ◌++◌, IsFalse
 ghost use Rattle.svn_dump.specs.Found.{BeginsWithBlock, BeginsWithLines, begins_with_newline};
 
 use crate::headers::Headers;
-use crate::length::body_length;
+use crate::length::lengths_of;
 use crate::line::{header_of, split_line};
 use crate::read_error::ReadError;
 
@@ -11,6 +11,8 @@ use crate::read_error::ReadError;
 #[derive(Drop)]
 pub(crate) struct Found<'a> {
     pub(crate) headers: Headers<'a>,
+    /// The property section at the front of the body, empty where there is none.
+    pub(crate) properties: &'a [u8],
     /// What follows the block.
     pub(crate) rest: &'a [u8],
 }
@@ -28,15 +30,15 @@ fn skip_empty_lines(bytes: &[u8]) -> &[u8]
 }
 
 /// The headers of a block, and what follows the empty line after them.
-fn headers_of(bytes: &[u8]) -> Result<Found<'_>, ReadError>
-    ensures { IfOk result (λ found. BeginsWithLines bytes.now found.headers (10 ∷ found.rest.now)) }
+fn headers_of(bytes: &[u8]) -> Result<(Headers<'_>, &[u8]), ReadError>
+    ensures { IfOk result (λ found. BeginsWithLines bytes.now found.0 (10 ∷ found.1.now)) }
 {
     let mut headers = Headers::new();
     let mut rest = bytes;
     while let Some((line, more)) = split_line(rest) {
         rest = more;
         if line.is_empty() {
-            return Ok(Found { headers, rest });
+            return Ok((headers, rest));
         }
         let Some((name, value)) = header_of(line) else {
             return Err(ReadError::Refused);
@@ -46,21 +48,26 @@ fn headers_of(bytes: &[u8]) -> Result<Found<'_>, ReadError>
     Err(ReadError::Refused)
 }
 
-/// The next block, if there is more than empty lines. Its body is passed over.
+/// The next block, if there is more than empty lines. The text of its body is passed over.
 pub(crate) fn next_block(bytes: &[u8]) -> Result<Option<Found<'_>>, ReadError>
     ensures { IfOk result (λ next. MatchOption next
         ((empty : ℕ) × (bytes.now ≡ replicate empty 10))
-        (λ found. BeginsWithBlock bytes.now found.headers found.rest.now)) }
+        (λ found. BeginsWithBlock bytes.now found.headers found.properties.now found.rest.now)) }
 {
     let bytes = skip_empty_lines(bytes);
     if bytes.is_empty() {
         return Ok(None);
     }
-    let Found { headers, rest } = headers_of(bytes)?;
-    match body_length(&headers) {
-        Some(length) if length <= rest.len() as u64 => {
-            let (_, rest) = rest.split_at(length as usize);
-            Ok(Some(Found { headers, rest }))
+    let (headers, rest) = headers_of(bytes)?;
+    match lengths_of(&headers) {
+        Some((section, whole)) if whole <= rest.len() as u64 => {
+            let (body, rest) = rest.split_at(whole as usize);
+            let (properties, _) = body.split_at(section as usize);
+            Ok(Some(Found {
+                headers,
+                properties,
+                rest,
+            }))
         }
         _ => Err(ReadError::Refused),
     }

@@ -3,7 +3,7 @@ ghost use Rattle.std.specs.Prelude.{◌≡◌, ◌<◌, Some, length, slice_get}
 ghost use Rattle.svn_dump.specs.Dump.{IsDump};
 
 use crate::record::{NodeRecord, ValueId};
-use indexmap::IndexSet;
+use crate::texts::Texts;
 use std::marker::Model;
 use svn_path::Names;
 
@@ -13,18 +13,17 @@ pub struct Dump {
     pub(crate) names: Names,
     pub(crate) records: Vec<NodeRecord>,
     pub(crate) counts: Vec<u32>,
-    pub(crate) mergeinfo: IndexSet<Vec<u8>>,
+    pub(crate) texts: Texts,
 }
 
 impl Model for Dump {
     ghost use Rattle.svn_dump.specs.Dump.{DumpValue, IsDump};
-    ghost use Rattle.svn_dump.specs.Texts.{texts};
 
     ghost Value = { DumpValue };
 
-    ghost view = { λ d. record { names = d.names; records = d.records.items; counts = d.counts.items; values = texts d.mergeinfo.keys } };
+    ghost view = { λ d. record { names = d.names; records = d.records.items; counts = d.counts.items; values = d.texts } };
 
-    ghost invariant = { λ d. IsDump (record { names = d.names; records = d.records.items; counts = d.counts.items; values = texts d.mergeinfo.keys }) };
+    ghost invariant = { λ d. IsDump (record { names = d.names; records = d.records.items; counts = d.counts.items; values = d.texts }) };
 }
 
 impl Dump {
@@ -57,7 +56,7 @@ impl Dump {
         ensures count { result ≡ length self.now.values }
         ensures kept { IsDump self.now }
     {
-        self.mergeinfo.len()
+        self.texts.len()
     }
 
     /// The mergeinfo text of a number. Numbers begin at 0, in the order in which texts were first seen.
@@ -65,6 +64,6 @@ impl Dump {
         requires { id.0 < length self.now.values }
         ensures { slice_get self.now.values id.0 ≡ Some result.now }
     {
-        self.mergeinfo[id.0 as usize].as_slice()
+        self.texts.text(id)
     }
 }

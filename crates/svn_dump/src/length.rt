@@ -1,18 +1,19 @@
-//! The length of a block's body.
-ghost use Rattle.std.specs.Prelude.{◌≡◌, ◌≤◌, option_copied};
+//! The lengths of a block's body and of its parts.
+ghost use Rattle.std.specs.Prelude.{◌≡◌, ◌+◌, ◌≤◌, Some, IfSome, option_copied, option_map};
 ghost use Rattle.svn_dump.specs.Block.{length_or_zero, whole_length};
 ghost use Rattle.svn_dump.specs.Number.{greatest_length};
-ghost use Rattle.svn_dump.specs.Said.{body_length_said};
+ghost use Rattle.svn_dump.specs.Said.{body_length_said, value_of};
+ghost use Rattle.svn_dump.specs.declared.field.Field.TheVariants.{PropertiesLength};
 
 use crate::field::Field;
 use crate::headers::Headers;
 use crate::number::number_up_to;
 
 /// The greatest length of a part of a block.
-const GREATEST_LENGTH: u64 = 9_223_372_036_854_775_807;
+pub(crate) const GREATEST_LENGTH: u64 = 9_223_372_036_854_775_807;
 
 /// A length, 0 where its header isn't there.
-pub(crate) fn length_or_zero(value: Option<&[u8]>) -> Option<u64>
+fn length_or_zero(value: Option<&[u8]>) -> Option<u64>
     ensures { result ≡ length_or_zero (option_copied value.entry) }
 {
     match value {
@@ -25,7 +26,8 @@ pub(crate) fn length_or_zero(value: Option<&[u8]>) -> Option<u64>
 fn whole_length(properties: u64, text: u64, value: Option<&[u8]>) -> Option<u64>
     requires properties { properties ≤ greatest_length }
     requires text { text ≤ greatest_length }
-    ensures { result ≡ whole_length properties text (option_copied value.entry) }
+    ensures value { result ≡ whole_length properties text (option_copied value.entry) }
+    ensures enough { IfSome result (λ whole. properties + text ≤ whole) }
 {
     let parts = properties + text;
     if parts > GREATEST_LENGTH {
@@ -37,11 +39,14 @@ fn whole_length(properties: u64, text: u64, value: Option<&[u8]>) -> Option<u64>
     }
 }
 
-/// How long the body of a block with these headers is.
-pub(crate) fn body_length(headers: &Headers) -> Option<u64>
-    ensures { result ≡ body_length_said headers.now }
+/// How long the property section and the whole body of a block with these headers are.
+pub(crate) fn lengths_of(headers: &Headers) -> Option<(u64, u64)>
+    ensures whole { option_map (λ lengths. lengths.1) result ≡ body_length_said headers.now }
+    ensures section { IfSome result (λ lengths. length_or_zero (value_of headers.now PropertiesLength) ≡ Some lengths.0) }
+    ensures within { IfSome result (λ lengths. lengths.0 ≤ lengths.1) }
 {
     let properties = length_or_zero(headers.get(Field::PropertiesLength))?;
     let text = length_or_zero(headers.get(Field::TextLength))?;
-    whole_length(properties, text, headers.get(Field::ContentLength))
+    let whole = whole_length(properties, text, headers.get(Field::ContentLength))?;
+    Some((properties, whole))
 }

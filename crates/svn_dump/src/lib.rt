@@ -10,11 +10,14 @@ mod headers;
 mod kind;
 mod length;
 mod line;
+mod mergeinfo;
 mod node;
 mod number;
 mod read_error;
 mod reader;
 mod record;
+mod section;
+mod texts;
 
 pub use dump::Dump;
 pub use error::DumpError;

@@ -1,18 +1,22 @@
 //! What a node block says: a record of its revision.
-ghost use Rattle.std.specs.Prelude.{◌≡◌, ◌≤◌, ℕ, List, Option, Some, option_copied, IfOk};
-ghost use Rattle.svn_dump.specs.Block.{length_or_zero};
-ghost use Rattle.svn_dump.specs.Draft.{Extends};
+ghost use Rattle.std.specs.Prelude.{◌≡◌, ◌≤◌, ℕ, List, Option, Some, length, option_copied, IfOk};
+ghost use Rattle.svn_path.specs.Names.{with_names};
+ghost use Rattle.svn_dump.specs.Draft.{Extends, action_told, setting_told};
+ghost use Rattle.svn_dump.specs.Dump.{SettingIsOf};
+ghost use Rattle.svn_dump.specs.DumpText.{texts_of_action};
 ghost use Rattle.svn_dump.specs.Record.{path_of, kind_of, says_true, addition};
-ghost use Rattle.svn_dump.specs.Said.{is_delta_said, lacks_properties_said, addition_said, action_said, record_said};
+ghost use Rattle.svn_dump.specs.Said.{is_delta_said, addition_said, action_said, record_said, setting_read};
 ghost use Rattle.svn_dump.specs.Told.{IsPathTold, IsActTold, IsRecordTold};
 
+use crate::block::Found;
 use crate::field::Field;
 use crate::headers::Headers;
 use crate::kind::Kind;
-use crate::length::length_or_zero;
+use crate::mergeinfo::Mergeinfo;
 use crate::number::number_up_to;
 use crate::read_error::ReadError;
 use crate::record::{Act, Mi, NodeRecord};
+use crate::texts::Texts;
 use std::alloc::Global;
 use svn_path::{Names, Path};
 
@@ -62,22 +66,18 @@ fn is_delta(headers: &Headers) -> bool
     says_true(headers.get(Field::PropertiesDelta)) || says_true(headers.get(Field::TextDelta))
 }
 
-/// Whether the block has no property section.
-fn lacks_properties(headers: &Headers) -> bool
-    ensures { result ≡ lacks_properties_said headers.now }
-{
-    length_or_zero(headers.get(Field::PropertiesLength)) == Some(0)
-}
-
 /// A copy of a path in an earlier revision.
 fn copy_of(
     alloc: Global,
     names: &mut Names,
     rev: u32,
+    replace: bool,
+    mi: Mi,
     from_rev: &[u8],
     from: &[u8],
 ) -> Result<Act, ReadError>
-    ensures told { (kind : Option (List ℕ)) → IfOk result (IsActTold (addition rev kind (Some from_rev.now) (Some from.now)) rev names.old names.new) }
+    ensures told { (texts : List (List ℕ)) (kind : Option (List ℕ)) → SettingIsOf (length texts) mi →
+        IfOk result (IsActTold (addition rev replace (setting_told texts mi) kind (Some from_rev.now) (Some from.now)) rev names.old names.new texts) }
     ensures grows { Extends names.old names.new }
 {
     let Some(from_rev) = number_up_to(GREATEST_REVISION, from_rev) else {
@@ -88,29 +88,33 @@ fn copy_of(
     }
     let from = path_of(alloc, names, from)?;
     Ok(Act::Copy {
-        replace: false,
+        replace,
         from,
         from_rev: from_rev as u32,
-        mi: Mi::Keep,
+        mi,
     })
 }
 
 /// What a block with these headers adds.
-fn addition(alloc: Global, names: &mut Names, rev: u32, headers: &Headers) -> Result<Act, ReadError>
-    ensures told { IfOk result (IsActTold (addition_said rev headers.now) rev names.old names.new) }
+fn addition(
+    alloc: Global,
+    names: &mut Names,
+    rev: u32,
+    headers: &Headers,
+    replace: bool,
+    mi: Mi,
+) -> Result<Act, ReadError>
+    ensures told { (texts : List (List ℕ)) → SettingIsOf (length texts) mi →
+        IfOk result (IsActTold (addition_said rev headers.now (setting_told texts mi) replace) rev names.old names.new texts) }
     ensures grows { Extends names.old names.new }
 {
     match (
         headers.get(Field::CopyfromRevision),
         headers.get(Field::CopyfromPath),
     ) {
-        (Some(from_rev), Some(from)) => copy_of(alloc, names, rev, from_rev, from),
+        (Some(from_rev), Some(from)) => copy_of(alloc, names, rev, replace, mi, from_rev, from),
         (None, None) => match headers.get(Field::NodeKind).and_then(kind_of) {
-            Some(kind) => Ok(Act::Add {
-                replace: false,
-                kind,
-                mi: Mi::Keep,
-            }),
+            Some(kind) => Ok(Act::Add { replace, kind, mi }),
             None => Err(ReadError::Refused),
         },
         _ => Err(ReadError::Refused),
@@ -118,19 +122,32 @@ fn addition(alloc: Global, names: &mut Names, rev: u32, headers: &Headers) -> Re
 }
 
 /// What a node block does in a revision.
-fn act_of(alloc: Global, names: &mut Names, rev: u32, headers: &Headers) -> Result<Act, ReadError>
-    ensures told { IfOk result (IsActTold (action_said rev headers.now) rev names.old names.new) }
+fn act_of(
+    alloc: Global,
+    names: &mut Names,
+    texts: &mut Texts,
+    rev: u32,
+    headers: &Headers,
+    mergeinfo: Mergeinfo,
+) -> Result<Act, ReadError>
+    ensures told { IfOk result (IsActTold (action_said rev headers.now (setting_read mergeinfo.entry)) rev names.old names.new texts.new) }
+    ensures texts { IfOk result (λ act. texts.new ≡ with_names texts.old (texts_of_action (action_told names.new texts.new act))) }
     ensures grows { Extends names.old names.new }
+    ensures texts_grow { Extends texts.old texts.new }
 {
     let Some(action) = headers.get(Field::NodeAction) else {
         return Err(ReadError::Refused);
     };
     if action == b"delete".as_slice() {
-        Ok(Act::Delete)
-    } else if action == b"change".as_slice() {
-        Ok(Act::Change { mi: Mi::Keep })
+        return Ok(Act::Delete);
+    }
+    let mi = mergeinfo.numbered(texts)?;
+    if action == b"change".as_slice() {
+        Ok(Act::Change { mi })
     } else if action == b"add".as_slice() {
-        addition(alloc, names, rev, headers)
+        addition(alloc, names, rev, headers, false, mi)
+    } else if action == b"replace".as_slice() {
+        addition(alloc, names, rev, headers, true, mi)
     } else {
         Err(ReadError::Refused)
     }
@@ -140,18 +157,23 @@ fn act_of(alloc: Global, names: &mut Names, rev: u32, headers: &Headers) -> Resu
 pub(crate) fn record_of(
     alloc: Global,
     names: &mut Names,
+    texts: &mut Texts,
     rev: u32,
-    headers: &Headers,
+    found: &Found,
     path: &[u8],
 ) -> Result<NodeRecord, ReadError>
-    ensures told { IfOk result (IsRecordTold (record_said rev headers.now path.now) rev names.old names.new) }
+    ensures told { IfOk result (IsRecordTold (record_said rev found.now.headers found.now.properties.now path.now) rev names.old names.new texts.old texts.new) }
     ensures grows { Extends names.old names.new }
+    ensures texts_grow { Extends texts.old texts.new }
 {
-    if rev == 0 || is_delta(headers) || !lacks_properties(headers) {
+    if rev == 0 || is_delta(&found.headers) {
         return Err(ReadError::Refused);
     }
+    let Some(mergeinfo) = Mergeinfo::of(found.properties) else {
+        return Err(ReadError::Refused);
+    };
     let path = path_of(alloc, names, path)?;
-    let act = act_of(alloc, names, rev, headers)?;
+    let act = act_of(alloc, names, texts, rev, &found.headers, mergeinfo)?;
     if path.is_empty() && !act.is_change() {
         return Err(ReadError::Refused);
     }

@@ -52,6 +52,22 @@ const GONE: &[u8] =
 const MERGED: &[u8] =
     b"SVN-fs-dump-format-version: 2\n\nRevision-number: 0\n\nRevision-number: 1\n\nNode-path: trunk\nNode-kind: dir\nNode-action: add\n\nNode-path: branches\nNode-kind: dir\nNode-action: add\n\nRevision-number: 2\n\nNode-path: trunk/f\nNode-kind: file\nNode-action: add\n\nRevision-number: 3\n\nNode-path: trunk/f\nNode-action: change\n\nRevision-number: 4\n\nNode-path: branches/b\nNode-action: add\nNode-copyfrom-rev: 2\nNode-copyfrom-path: trunk\n\nRevision-number: 5\n\nNode-path: branches/b/f\nNode-action: change\n\nRevision-number: 6\n\nNode-path: trunk/f\nNode-action: change\n\nRevision-number: 7\n\nNode-path: trunk\nNode-action: change\nProp-content-length: 48\nContent-length: 48\n\nK 13\nsvn:mergeinfo\nV 13\n/branches/b:5\nPROPS-END\nRevision-number: 8\n\nNode-path: trunk/f\nNode-action: delete\n\nRevision-number: 9\n\nNode-path: branches\nNode-action: change\nProp-content-length: 46\nContent-length: 46\n\nK 13\nsvn:mergeinfo\nV 11\n/trunk:3*,6\nPROPS-END\nRevision-number: 10\n\nNode-path: branches/b\nNode-action: change\nProp-content-length: 34\nContent-length: 34\n\nK 13\nsvn:mergeinfo\nV 0\n\nPROPS-END\n";
 
+const REPLACED: &[u8] =
+    b"SVN-fs-dump-format-version: 2\n\nRevision-number: 0\n\nRevision-number: 1\n\nNode-path: a\nNode-kind: dir\nNode-action: add\n\nNode-path: a/x\nNode-kind: file\nNode-action: add\n\nRevision-number: 2\n\nNode-path: a\nNode-action: replace\nNode-copyfrom-rev: 1\nNode-copyfrom-path: a\n\n";
+
+const REPLACES_NOTHING: &[u8] =
+    b"SVN-fs-dump-format-version: 2\n\nRevision-number: 0\n\nRevision-number: 1\n\nNode-path: a\nNode-kind: dir\nNode-action: replace\n\n";
+
+const REPLACED_BY_NOTHING: &[u8] =
+    b"SVN-fs-dump-format-version: 2\n\nRevision-number: 0\n\nRevision-number: 1\n\nNode-path: a\nNode-kind: dir\nNode-action: add\n\nRevision-number: 2\n\nNode-path: a\nNode-action: replace\nNode-copyfrom-rev: 1\nNode-copyfrom-path: b\n\n";
+
+// What `svnadmin dump` writes, where a path is replaced by a delete and an add, and the same with one record for it.
+const DUMPED: &[u8] =
+    b"SVN-fs-dump-format-version: 2\n\nUUID: 7bf7a5ef-cabf-0310-b7d4-93df341afa7e\n\nRevision-number: 0\nProp-content-length: 56\nContent-length: 56\n\nK 8\nsvn:date\nV 27\n2026-01-01T00:00:00.000000Z\nPROPS-END\n\nRevision-number: 1\nProp-content-length: 78\nContent-length: 78\n\nK 8\nsvn:date\nV 27\n2026-01-01T00:00:01.000000Z\nK 7\nsvn:log\nV 5\nfirst\nPROPS-END\n\nNode-path: trunk\nNode-kind: dir\nNode-action: add\nProp-content-length: 10\nContent-length: 10\n\nPROPS-END\n\n\nNode-path: trunk/f\nNode-kind: file\nNode-action: add\nProp-content-length: 10\nText-content-length: 6\nText-content-md5: b1946ac92492d2347c6235b4d2611184\nText-content-sha1: f572d396fae9206628714fb2ce00f72e94f2258f\nContent-length: 16\n\nPROPS-END\nhello\n\n\nRevision-number: 2\nProp-content-length: 56\nContent-length: 56\n\nK 8\nsvn:date\nV 27\n2026-01-01T00:00:02.000000Z\nPROPS-END\n\nNode-path: b\nNode-kind: dir\nNode-action: add\nNode-copyfrom-rev: 1\nNode-copyfrom-path: trunk\n\n\nRevision-number: 3\nProp-content-length: 56\nContent-length: 56\n\nK 8\nsvn:date\nV 27\n2026-01-01T00:00:03.000000Z\nPROPS-END\n\nNode-path: b\nNode-kind: dir\nNode-action: delete\n\nNode-path: b\nNode-kind: dir\nNode-action: add\nNode-copyfrom-rev: 2\nNode-copyfrom-path: trunk\n\n\n\n\n";
+
+const DUMPED_AS_ONE: &[u8] =
+    b"SVN-fs-dump-format-version: 2\n\nUUID: 7bf7a5ef-cabf-0310-b7d4-93df341afa7e\n\nRevision-number: 0\nProp-content-length: 56\nContent-length: 56\n\nK 8\nsvn:date\nV 27\n2026-01-01T00:00:00.000000Z\nPROPS-END\n\nRevision-number: 1\nProp-content-length: 78\nContent-length: 78\n\nK 8\nsvn:date\nV 27\n2026-01-01T00:00:01.000000Z\nK 7\nsvn:log\nV 5\nfirst\nPROPS-END\n\nNode-path: trunk\nNode-kind: dir\nNode-action: add\nProp-content-length: 10\nContent-length: 10\n\nPROPS-END\n\n\nNode-path: trunk/f\nNode-kind: file\nNode-action: add\nProp-content-length: 10\nText-content-length: 6\nText-content-md5: b1946ac92492d2347c6235b4d2611184\nText-content-sha1: f572d396fae9206628714fb2ce00f72e94f2258f\nContent-length: 16\n\nPROPS-END\nhello\n\n\nRevision-number: 2\nProp-content-length: 56\nContent-length: 56\n\nK 8\nsvn:date\nV 27\n2026-01-01T00:00:02.000000Z\nPROPS-END\n\nNode-path: b\nNode-kind: dir\nNode-action: add\nNode-copyfrom-rev: 1\nNode-copyfrom-path: trunk\n\n\nRevision-number: 3\nProp-content-length: 56\nContent-length: 56\n\nK 8\nsvn:date\nV 27\n2026-01-01T00:00:03.000000Z\nPROPS-END\n\nNode-path: b\nNode-kind: dir\nNode-action: replace\nNode-copyfrom-rev: 2\nNode-copyfrom-path: trunk\n\n\n\n\n";
+
 const EMPTY: &[u8] = b"SVN-fs-dump-format-version: 2\n\nRevision-number: 0\n\n";
 
 fn report_of<R: Threads + Wait + Sync>(
@@ -176,6 +192,26 @@ fn copies_what_was_deleted(rt: HostRuntime) -> Result<(), Fail> {
     Ok(())
 }
 
+#[test]
+fn answers_on_a_history_with_mergeinfo(rt: HostRuntime) -> Result<(), Fail> {
+    let queries =
+        b"locate\tbranches/b@8\t3\nlocate\tbranches/b@8\t2\nlocate\tbranches/b@8\t0\nlocate\tbranches/b@8\t9\nlocate\tbranches/b@8\t8\n";
+    let wanted = b"#1 ok\n-\n#2 ok\n/trunk\n#3 ok\n-\n#4 ok\n-\n#5 ok\n/branches/b\n";
+    assert!(rt; reports(&rt, rt.alloc(), MERGED, queries, wanted)?);
+    Ok(())
+}
+
+#[test]
+fn follows_a_replacement(rt: HostRuntime) -> Result<(), Fail> {
+    let queries = b"locate\ta/x@2\t1\n";
+    assert!(rt; reports(&rt, rt.alloc(), REPLACED, queries, b"#1 ok\n/a/x\n")?);
+    let queries = b"locate\tb@3\t3\nlocate\tb@3\t2\nlocate\tb@3\t1\nlocate\tb@3\t0\n";
+    let wanted = b"#1 ok\n/b\n#2 ok\n/trunk\n#3 ok\n/trunk\n#4 ok\n-\n";
+    assert!(rt; reports(&rt, rt.alloc(), DUMPED, queries, wanted)?);
+    assert!(rt; reports(&rt, rt.alloc(), DUMPED_AS_ONE, queries, wanted)?);
+    Ok(())
+}
+
 fn fault_of<R: Threads + Wait + Sync>(
     rt: &R,
     alloc: Global,
@@ -201,6 +237,8 @@ fn names_the_first_faulty_record(rt: HostRuntime) {
         (MISSING, 1, FaultKind::Missing),
         (NO_SOURCE, 1, FaultKind::NoSource),
         (NO_PARENT_OF_COPY, 1, FaultKind::NoParent),
+        (REPLACES_NOTHING, 1, FaultKind::Missing),
+        (REPLACED_BY_NOTHING, 2, FaultKind::NoSource),
     ] {
         assert_eq!(rt;
             fault_of(&rt, rt.alloc(), dump, &[], 1),

@@ -1,0 +1,44 @@
+//! What a node block says of the mergeinfo of its path.
+ghost use Rattle.std.specs.Prelude.{◌≡◌, IfOk, option_map};
+ghost use Rattle.svn_dump.specs.Draft.{Extends};
+ghost use Rattle.svn_dump.specs.Said.{setting_read, setting_said};
+ghost use Rattle.svn_dump.specs.Told.{IsSettingTold};
+
+use crate::read_error::ReadError;
+use crate::record::Mi;
+use crate::section::mergeinfo_of;
+use crate::texts::Texts;
+
+/// What a node block says of the mergeinfo of its path, lent by the dump.
+#[derive(Clone, Copy)]
+pub(crate) enum Mergeinfo<'a> {
+    Keep,
+    Put(Option<&'a [u8]>),
+}
+
+impl<'a> Mergeinfo<'a> {
+    /// What a property section says, which is empty where the block has none.
+    pub(crate) fn of(properties: &'a [u8]) -> Option<Self>
+        ensures { option_map setting_read result ≡ setting_said properties.now }
+    {
+        if properties.is_empty() {
+            return Some(Mergeinfo::Keep);
+        }
+        match mergeinfo_of(properties) {
+            None => None,
+            Some(value) => Some(Mergeinfo::Put(value)),
+        }
+    }
+
+    /// The same by the number of the text, which the table takes where it is new.
+    pub(crate) fn numbered(self, texts: &mut Texts) -> Result<Mi, ReadError>
+        ensures told { IfOk result (IsSettingTold (setting_read self.entry) texts.old texts.new) }
+        ensures grows { Extends texts.old texts.new }
+    {
+        Ok(match self {
+            Mergeinfo::Keep => Mi::Keep,
+            Mergeinfo::Put(None) => Mi::Put(None),
+            Mergeinfo::Put(Some(text)) => Mi::Put(Some(texts.add(text)?)),
+        })
+    }
+}
