@@ -8,4 +8,5 @@ mod path;
 mod tests;
 
 pub use names::{NameId, Names, NamesError};
+pub use parts::has_dot;
 pub use path::{Lookup, Path, PathError};

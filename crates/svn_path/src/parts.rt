@@ -18,8 +18,8 @@ pub(crate) fn next_part(bytes: &[u8]) -> Option<(&[u8], &[u8])>
     Some(rest.split_at(end))
 }
 
-/// Whether some part is `.` or `..`.
-pub(crate) fn has_dot(bytes: &[u8]) -> bool
+/// Whether some component that the bytes spell is `.` or `..`.
+pub fn has_dot(bytes: &[u8]) -> bool
     ensures { IsTrue result ↔ HasDot bytes.now }
 {
     let mut rest = bytes;

@@ -2,7 +2,7 @@
 ghost use Rattle.std.specs.Prelude.{IfOk};
 ghost use Rattle.svn_path.specs.Path.{IsOf};
 
-use crate::{Lookup, Names, Path, PathError};
+use crate::{Lookup, Names, Path, PathError, has_dot};
 use std::alloc::Global;
 use std::collections::BTreeMap;
 use std::test::Fail;
@@ -73,6 +73,18 @@ fn refuses_dots_before_it_adds_names(rt: HostRuntime) -> Result<(), Fail> {
     assert!(rt; matches!(refused, Err(PathError::Dot)));
     assert_eq!(rt; names.len(), 3);
     Ok(())
+}
+
+#[test]
+fn sees_dots(rt: HostRuntime) {
+    for (bytes, dots) in [
+        (b"a/./b".as_slice(), true),
+        (b"..".as_slice(), true),
+        (b"a/.../.b/c.".as_slice(), false),
+        (b"//".as_slice(), false),
+    ] {
+        assert_eq!(rt; has_dot(bytes), dots, "{bytes:?}");
+    }
 }
 
 #[test]
