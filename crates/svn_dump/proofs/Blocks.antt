@@ -1,26 +1,24 @@
--- Blocks at the front of the bytes.
-use Rattle.std.proofs.Common.{◌≡◌, ℕ, ◌+◌, ◌-◌, ◌≤◌, List, [], ◌∷◌, ◌++◌, length, get_or, take, drop, replicate, refl, sym, ap, ap₂, ◌∙◌, append_assoc, append-nil, arith}
-use Rattle.std.specs.Prelude.{Option, Some, IsFalse, flat_map}
-use Rattle.std.proofs.lemmas.Bool.{both_ways}
+-- Blocks at the front of the bytes, and what stands against them.
+use Rattle.std.proofs.Common.{◌≡◌, ℕ, ◌+◌, ◌<◌, ◌≤◌, Bool, true, false, List, [], ◌∷◌, ◌++◌, length, take, drop, refl, sym, ap, ap₂, ◌∙◌, inl, inr, append_assoc, append-nil, arith, lt-ltb, Bor}
+use Rattle.std.specs.Prelude.{Option, Some, None, IsFalse, count_by, flat_map, is_none, not, ◌||◌, nat_lt, unwrap_or, ◌==◌, MatchOption}
+use Rattle.std.specs.List.{list_any}
+use Rattle.std.proofs.lemmas.Bool.{both_ways, cases_Bool, cond-true, cond-false, or_parts}
 use Rattle.std.proofs.lemmas.Grind.{flat_map-append}
-use Rattle.std.proofs.lemmas.List.{drop_more, take_rest, replicate_more, take-append-drop, length-take-le}
+use Rattle.std.proofs.lemmas.List.{take-append-drop, length-take-le}
 use Rattle.std.proofs.lemmas.List.Elements.{All-push}
-use Rattle.svn_dump.specs.Block.{IsHeader, line_text, body_length, length_or_zero, properties_length}
+use Rattle.std.proofs.lemmas.List.Folds.{list_any-append}
+use Rattle.std.proofs.lemmas.List.Sums.{sum_by-append}
+use Rattle.svn_path.specs.Components.{is_not_empty}
+use Rattle.svn_dump.specs.Block.{IsHeader, body_length, header_name, is_colon, is_named, is_newline, length_or_zero, line_text, listed_names, properties_length}
 use Rattle.svn_dump.specs.Field.{fields_of}
-use Rattle.svn_dump.specs.Found.{BeginsWithLines, BeginsWithBlock, begins_with_newline}
-use Rattle.svn_dump.specs.Headers.{AreHeaders}
+use Rattle.svn_dump.specs.FirstRefusal.{after_lines, begins_with_newline, body_length_at, front_refusals, has_twice, header_lines, is_cut, is_no_header}
+use Rattle.svn_dump.specs.Found.{BeginsWithLines, BeginsWithBlock, IsUnfinished}
+use Rattle.svn_dump.specs.Headers.{AreHeaders, AreOnce}
+use Rattle.svn_dump.specs.Refusal.{first_holding}
 use Rattle.svn_dump.specs.Said.{body_length_said, value_of}
 use Rattle.svn_dump.specs.declared.field.Field.TheVariants.{PropertiesLength}
-
--- one more empty line
-pub with_empty_line : (bytes rest : List ℕ) (n : ℕ) → n ≡ length rest → 1 ≤ length rest → get_or rest 0 0 ≡ 10 → (empty : ℕ) × (bytes ≡ replicate empty 10 ++ rest) → (empty : ℕ) × (bytes ≡ replicate empty 10 ++ take (n - 1) (drop 1 rest))
-with_empty_line bytes rest n long some first before =
-    let newline : rest ≡ 10 ∷ drop 1 rest = drop_more rest 0 0 (omega arith) ∙ ap (λ byte. byte ∷ drop 1 rest) first in
-    let left : drop 1 rest ≡ take (n - 1) (drop 1 rest) = sym (ap (λ len. take (len - 1) (drop 1 rest)) long ∙ take_rest rest 1) in (
-      before.0 + 1,
-      before.1 ∙ ap (λ more. replicate before.0 10 ++ more) newline ∙ sym (append_assoc (replicate before.0 10) (10 ∷ []) (drop 1 rest))
-          ∙ ap₂ (λ front more. front ++ more) (replicate_more before.0 10) left,
-    )
+use Rattle.svn_dump.specs.declared.refusal.Refusal.TheVariants.{Header, Length, Truncated}
+use Rattle.svn_dump.proofs.Fronts.{after_lines-lines, has_twice-once, header_lines-empty, header_lines-line, header_lines-lines, header_lines-unfinished, list_any-no_header, once-has_twice}
 
 -- one more header line
 pub with_line : (bytes line more rest : List ℕ) (old new : List (Option (List ℕ))) → IsHeader line → rest ≡ line ++ 10 ∷ more → ((lines : List (List ℕ)) → AreHeaders old lines → AreHeaders new (lines ++ line ∷ [])) → BeginsWithLines bytes old rest → BeginsWithLines bytes new more
@@ -49,15 +47,14 @@ properties_length-said lines = refl
 
 -- a block, by its lines and the lengths of its body and of its property section
 pub with_body :
-    (bytes from : List ℕ) (values : List (Option (List ℕ))) (rest : List ℕ) (section whole : ℕ) →
-    (empty : ℕ) × (bytes ≡ replicate empty 10 ++ from) → IsFalse (begins_with_newline from) → BeginsWithLines from values (10 ∷ rest) →
+    (bytes : List ℕ) (values : List (Option (List ℕ))) (rest : List ℕ) (section whole : ℕ) →
+    IsFalse (begins_with_newline bytes) → BeginsWithLines bytes values (10 ∷ rest) →
     body_length_said values ≡ Some whole → length_or_zero (value_of values PropertiesLength) ≡ Some section → section ≤ whole → whole ≤ length rest →
     BeginsWithBlock bytes values (take section (take whole rest)) (drop whole rest)
-with_body bytes from values rest section n skipped other found said in_front inside within = record {
-  empty = skipped.0;
+with_body bytes values rest section n other found said in_front inside within = record {
   block = record { lines = found.lines; body = take n rest };
   is_block = record {
-    some_line = some_lines from rest found.lines found.whole other;
+    some_line = some_lines bytes rest found.lines found.whole other;
     headers = found.all;
     once = found.fields.once;
     whole = body_length-said found.lines ∙ ap body_length_said (sym found.fields.fields) ∙ said ∙ ap Some (sym (length-take-le n rest within));
@@ -67,12 +64,125 @@ with_body bytes from values rest section n skipped other found said in_front ins
       properties_length-said found.lines ∙ ap (λ all. length_or_zero (value_of all PropertiesLength)) (sym found.fields.fields) ∙ in_front ∙ ap Some (sym long);
   front = ap (λ k. take k (take n rest)) (sym long);
   whole =
-      let front = replicate skipped.0 10 in
       let lines = flat_map line_text found.lines in
-      skipped.1 ∙ ap (λ text. front ++ text) found.whole
-      ∙ sym (append_assoc front (lines ++ 10 ∷ take n rest) (drop n rest)
-      ∙ ap (λ text. front ++ text) (append_assoc lines (10 ∷ take n rest) (drop n rest) ∙ ap (λ body. lines ++ 10 ∷ body) (take-append-drop n rest)));
+      found.whole ∙ sym (append_assoc lines (10 ∷ take n rest) (drop n rest) ∙ ap (λ body. lines ++ 10 ∷ body) (take-append-drop n rest));
 }
   where
     long : length (take section (take n rest)) ≡ section
     long = length-take-le section (take n rest) (omega (arith, length-take-le n rest within))
+
+-- ---- what stands against the form
+
+no_newline : (rest : List ℕ) → IsFalse (list_any is_newline rest) → begins_with_newline rest ≡ false
+no_newline [] none = refl
+no_newline (byte ∷ rest) none = (or_parts (byte == 10) (list_any is_newline rest) none).0
+
+-- lines that are headers, each listed name once, and then something else
+module _ (bytes : List ℕ) (values : List (Option (List ℕ))) (rest : List ℕ) (found : BeginsWithLines bytes values rest) where
+  header_lines-found : header_lines bytes ≡ found.lines ++ header_lines rest
+  header_lines-found = ap header_lines found.whole ∙ header_lines-lines found.lines rest found.all
+
+  -- a line that is no header
+  no_header : (line : List ℕ) → IsFalse (list_any is_newline line) → (IsHeader line → ⊥) → is_no_header line ≡ true
+  no_header line whole not_header = by_colon (list_any is_colon line) refl (is_not_empty (header_name line)) refl
+    where
+      by_colon : (colon : Bool) → list_any is_colon line ≡ colon → (named : Bool) → is_not_empty (header_name line) ≡ named → is_no_header line ≡ true
+      by_colon true has true is = absurd (not_header (record { one_line = whole; colon = has; named = is }))
+      by_colon true has false is = ap₂ (λ a b. not a || not b) has is
+      by_colon false has named is = ap (λ a. not a || not (is_not_empty (header_name line))) has
+
+  header_holds : (list_any is_no_header (header_lines bytes) || has_twice (header_lines bytes)) ≡ true → first_holding (front_refusals bytes) ≡ Some Header
+  unfolding first_holding
+  header_holds holds = cond-true _ _ _ holds
+
+  module _ (line more : List ℕ) (some : is_not_empty line ≡ true) (one_line : IsFalse (list_any is_newline line)) (cut : rest ≡ line ++ 10 ∷ more) where
+    lines_are : header_lines bytes ≡ found.lines ++ line ∷ header_lines more
+    lines_are = header_lines-found ∙ ap (λ all. found.lines ++ all) (ap header_lines cut ∙ header_lines-line line more some one_line)
+
+    -- it is told against
+    pub refused-no_header : (IsHeader line → ⊥) → first_holding (front_refusals bytes) ≡ Some Header
+    refused-no_header not_header = header_holds (ap (λ any. any || has_twice (header_lines bytes)) any)
+      where
+        any : list_any is_no_header (header_lines bytes) ≡ true
+        any = ap (list_any is_no_header) lines_are ∙ list_any-append is_no_header found.lines (line ∷ header_lines more)
+            ∙ ap₂ (λ a b. a || (b || list_any is_no_header (header_lines more))) (list_any-no_header found.lines found.all) (no_header line one_line not_header)
+
+    counted : (name : List ℕ) → count_by (is_named name) (header_lines bytes) ≡ count_by (is_named name) (found.lines ++ line ∷ []) + count_by (is_named name) (header_lines more)
+    counted name =
+        ap (count_by (is_named name)) (lines_are ∙ sym (append_assoc found.lines (line ∷ []) (header_lines more)))
+        ∙ sum_by-append _ (found.lines ++ line ∷ []) (header_lines more)
+
+    -- and so is a listed name that stands again
+    pub refused-twice : (AreOnce (found.lines ++ line ∷ []) → ⊥) → first_holding (front_refusals bytes) ≡ Some Header
+    refused-twice again =
+        elim (cases_Bool (has_twice (header_lines bytes))) [
+          | inl twice ↦ header_holds (or_right (list_any is_no_header (header_lines bytes)) (has_twice (header_lines bytes)) twice)
+          | inr once ↦ absurd (again (λ k d h. omega (arith, counted (Rattle.std.specs.List.slice_index_or listed_names k d), once-has_twice (header_lines bytes) once k d h)))
+        ]
+      where
+        or_right : (a b : Bool) → b ≡ true → (a || b) ≡ true
+        or_right true b e = refl
+        or_right false b e = e
+
+  -- no line follows
+  module _ (last : header_lines rest ≡ []) where
+    lines_are_found : header_lines bytes ≡ found.lines
+    lines_are_found = header_lines-found ∙ ap (λ all. found.lines ++ all) last ∙ append-nil found.lines
+
+    length_is : body_length (header_lines bytes) ≡ body_length_said values
+    length_is = ap body_length lines_are_found ∙ body_length-said found.lines ∙ ap body_length_said (sym found.fields.fields)
+
+    no_header_holds : (list_any is_no_header (header_lines bytes) || has_twice (header_lines bytes)) ≡ false
+    no_header_holds =
+        ap₂ (λ a b. a || b) (ap (list_any is_no_header) lines_are_found ∙ list_any-no_header found.lines found.all)
+        (ap has_twice lines_are_found ∙ has_twice-once found.lines found.fields.once)
+
+    -- the lengths are told against
+    pub refused-length : body_length_said values ≡ None → first_holding (front_refusals bytes) ≡ Some Length
+    unfolding first_holding
+    refused-length none = cond-false _ _ _ no_header_holds ∙ cond-true _ _ _ (ap is_none (length_is ∙ none))
+
+    -- the bytes end too early
+    pub refused-cut : (whole : ℕ) → body_length_said values ≡ Some whole → is_cut bytes ≡ true → first_holding (front_refusals bytes) ≡ Some Truncated
+    unfolding first_holding
+    refused-cut whole said cut = cond-false _ _ _ no_header_holds ∙ cond-false _ _ _ (ap is_none (length_is ∙ said)) ∙ cond-true _ _ _ cut
+
+    rest_is : after_lines bytes ≡ rest
+    rest_is = ap after_lines found.whole ∙ after_lines-lines found.lines rest (ap header_lines (sym found.whole) ∙ lines_are_found)
+
+    -- before the empty line
+    pub is_cut-unfinished : IsFalse (list_any is_newline rest) → is_cut bytes ≡ true
+    is_cut-unfinished none =
+        ap (λ begins. not begins || nat_lt (length (drop 1 (after_lines bytes))) (body_length_at bytes))
+        (ap begins_with_newline rest_is ∙ no_newline rest none)
+
+    -- or in the body
+    pub is_cut-body : (body : List ℕ) (whole : ℕ) → rest ≡ 10 ∷ body → body_length_said values ≡ Some whole → length body < whole → is_cut bytes ≡ true
+    is_cut-body body whole same said short =
+        ap (λ after. not (begins_with_newline after) || nat_lt (length (drop 1 after)) (body_length_at bytes)) (rest_is ∙ same)
+        ∙ ap (λ told. nat_lt (length body) (unwrap_or told 0)) (length_is ∙ said) ∙ lt-ltb (length body) whole short
+
+-- ---- the same of what follows the headers
+
+module _ (bytes : List ℕ) (values : List (Option (List ℕ))) where
+  -- the bytes end before the empty line
+  pub refused-unfinished : (whole : ℕ) → IsUnfinished bytes values → body_length_said values ≡ Some whole → first_holding (front_refusals bytes) ≡ Some Truncated
+  refused-unfinished whole found said =
+      let last = header_lines-unfinished found.rest found.no_line in
+      refused-cut bytes values found.rest found.lines last whole said (is_cut-unfinished bytes values found.rest found.lines last found.no_line)
+
+  -- the bytes end in the body
+  pub refused-body : (rest : List ℕ) (whole : ℕ) → BeginsWithLines bytes values (10 ∷ rest) → body_length_said values ≡ Some whole → length rest < whole → first_holding (front_refusals bytes) ≡ Some Truncated
+  refused-body rest whole found said short =
+      let last = header_lines-empty rest in
+      refused-cut bytes values (10 ∷ rest) found last whole said (is_cut-body bytes values (10 ∷ rest) found last rest whole refl said short)
+
+  -- the lengths are told against, in both cases
+  pub refused-length_of : (rest : Option (Bor (List ℕ))) → MatchOption rest (IsUnfinished bytes values) (λ after. BeginsWithLines bytes values (10 ∷ after.now)) → body_length_said values ≡ None → first_holding (front_refusals bytes) ≡ Some Length
+  refused-length_of None found none = refused-length bytes values found.rest found.lines (header_lines-unfinished found.rest found.no_line) none
+  refused-length_of (Some rest) found none = refused-length bytes values (10 ∷ rest.now) found (header_lines-empty rest.now) none
+
+-- a line with a byte isn't empty
+pub not_empty : (line : List ℕ) → (length line == 0) ≡ false → is_not_empty line ≡ true
+not_empty [] some = absurd (cc)
+not_empty (byte ∷ line) some = refl

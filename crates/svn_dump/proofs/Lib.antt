@@ -1,11 +1,16 @@
 mod Blocks
 mod Drafts
 mod Fields
+mod FirstLines
+mod FirstRefusals
+mod Fronts
 mod Lines
 mod Mergeinfos
 mod Nodes
 mod Pieces
 mod Reading
+mod Refusals
+mod Sorts
 mod TextTables
 pub mod Belows
 pub mod Entries

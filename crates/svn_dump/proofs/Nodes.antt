@@ -1,110 +1,318 @@
--- The record of a node block, from its path and its action.
-use Rattle.std.proofs.Common.{◌≡◌, ℕ, ◌<◌, Bool, true, false, List, [], ◌∷◌, ◌++◌, refl, sym, ap, ap₂, ◌∙◌, lt-ltb}
-use Rattle.std.specs.Prelude.{Option, Some, None, Result, Ok, Err, IfOk, nat_lt, ◌&&◌, not, option_map, option_and_then, if◌then◌else◌}
-use Rattle.std.proofs.lemmas.Bool.{cond-true}
+-- What stands against a node block, and its record by the numbers of the tables.
+use Rattle.std.proofs.Common.{◌≡◌, ℕ, pred, ◌<◌, ◌≤◌, Bool, true, false, not, ◌&&◌, ◌||◌, List, [], ◌∷◌, ◌++◌, length, take, drop, refl, sym, ap, ap₂, ◌∙◌, subst, lt-ltb, eq-eqb, arith, inl, inr, take-append-drop}
+use Rattle.std.specs.Prelude.{Some, None, filter, is_none, nat_lt, ◌==◌, ◌⊎◌}
+use Rattle.std.specs.List.{list_all, list_any, slice_split, onto_first}
+use Rattle.std.proofs.lemmas.Bool.{cases_Bool, cond-true, cond-false, le-ltb, ltb-true, ne_eqb, not-false, or_parts}
 use Rattle.std.proofs.lemmas.Grind.{fold-append}
-use Rattle.std.proofs.lemmas.Option.{none-some, same_Some}
-use Rattle.svn_path.specs.Names.{with_name, with_names}
+use Rattle.svn_path.specs.Components.{is_not_empty, is_slash, parts_of}
+use Rattle.svn_path.specs.Names.{most_names, with_name, with_names}
 use Rattle.svn_path.specs.Path.{spelled}
 use Rattle.svn_path.specs.declared.names.NameId.{NameId}
-use Rattle.svn_dump.specs.Draft.{Extends, action_told, setting_told}
+use Rattle.svn_path.specs.declared.path.PathError.{PathError}
+use Rattle.svn_path.specs.declared.path.PathError.TheVariants as path
+use Rattle.svn_dump.specs.Draft.{Extends, action_told}
 use Rattle.svn_dump.specs.Dump.{IsChange}
-use Rattle.svn_dump.specs.History.{Setting, add, copy}
-use Rattle.svn_dump.specs.Number.{number_up_to, greatest_revision}
-use Rattle.svn_dump.specs.declared.field.Field.TheVariants.{NodeKind, CopyfromRevision, CopyfromPath}
-use Rattle.svn_dump.specs.declared.kind.Kind.{Kind}
-use Rattle.svn_dump.specs.DumpText.{parts_of_action, texts_of_action, texts_of_setting}
-use Rattle.svn_dump.specs.Record.{RecordOfBytes, ActionOfBytes, path_of, kind_of, addition, spares_root}
-use Rattle.svn_dump.specs.Said.{value_of, is_delta_said, setting_said, addition_said, action_said, record_said, is_change}
-use Rattle.svn_dump.specs.Told.{IsPathTold, IsSettingTold, IsActTold, IsRecordTold}
+use Rattle.svn_dump.specs.DumpText.{most_numbered, parts_of_action, parts_of_record, texts_of_action}
+use Rattle.svn_dump.specs.History.{Setting, delete, change, add, copy}
+use Rattle.svn_dump.specs.Node.{Node, NodeAction, adding, changing, copying, deleting, is_change}
+use Rattle.svn_dump.specs.Record.{ActionOfBytes, RecordOfBytes, action_of, has_dot, is_late, is_long, is_root, is_root_action, most_components, paths_read, record_by, record_of}
+use Rattle.svn_dump.specs.Refusal.{Judged, action_refusals, first_holding, judged, later_refusals, node_refusals, size_refusals}
+use Rattle.svn_dump.specs.ReadError.{stopped}
+use Rattle.svn_dump.specs.Told.{IsActTold, IsFirst, IsPathTold, IsRecordTold, IsTaken, IsTooLarge, is_full_with, is_path_large, is_record_large}
+use Rattle.svn_dump.specs.declared.read_error.ReadError.{ReadError}
+use Rattle.svn_dump.specs.declared.read_error.ReadError.TheVariants as read
 use Rattle.svn_dump.specs.declared.record.Act.{Act}
 use Rattle.svn_dump.specs.declared.record.Act.TheVariants as act
-use Rattle.svn_dump.specs.declared.record.Mi.{Mi}
-use Rattle.svn_dump.proofs.Growing.{IsOf-grows, spelled-grows}
+use Rattle.svn_dump.specs.declared.refusal.Refusal.{Refusal}
+use Rattle.svn_dump.specs.declared.refusal.Refusal.TheVariants.{BadPath, BadRecord, Delta, CopyRevision, Props, RootAction, RevisionZero, TooLarge}
+use Rattle.svn_dump.proofs.Growing.{Extends-with_names, IsOf-grows, length-Extends, spelled-grows}
+use Rattle.svn_dump.proofs.Refusals.{first_holding-front, first_holding-later, none_holds-parts, record_of-allowed}
 
-IsChange-is_change : (each : Act) → is_change each ≡ true → IsChange each
-IsChange-is_change act.Delete e = absurd (cc)
-IsChange-is_change (act.Change setting) e = tt
-IsChange-is_change (act.Add replace kind setting) e = absurd (cc)
-IsChange-is_change (act.Copy replace from from_rev setting) e = absurd (cc)
+or_right : (a b : Bool) → b ≡ true → (a || b) ≡ true
+or_right true b e = refl
+or_right false b e = e
 
-spares_root-nil : (names texts : List (List ℕ)) (each : Act) → is_change each ≡ true → spares_root [] (action_told names texts each) ≡ true
-spares_root-nil names texts act.Delete e = absurd (cc)
-spares_root-nil names texts (act.Change setting) e = refl
-spares_root-nil names texts (act.Add replace kind setting) e = absurd (cc)
-spares_root-nil names texts (act.Copy replace from from_rev setting) e = absurd (cc)
+pub or_true : (a : Bool) → (a || true) ≡ true
+or_true a = or_right a true refl
 
-spares_root-told : (names more texts : List (List ℕ)) (path : List NameId) (each : Act) → (path ≡ [] → is_change each ≡ true) → spares_root (spelled names path) (action_told more texts each) ≡ true
-spares_root-told names more texts [] each spares = spares_root-nil more texts each (spares refl)
-spares_root-told names more texts (name ∷ path) each spares = refl
+or_either : (a b : Bool) → (a || b) ≡ true → (a ≡ true) ⊎ (b ≡ true)
+or_either true b e = inl refl
+or_either false b e = inr e
 
--- ---- what an action gives of texts
+-- ---- the root
 
-addition-texts : (rev : ℕ) (replace : Bool) (setting : Setting (List ℕ)) (kind from_rev from : Option (List ℕ)) (action : ActionOfBytes) → addition rev replace setting kind from_rev from ≡ Some action → texts_of_action action ≡ texts_of_setting setting
-addition-texts rev replace setting None None None action told = absurd (none-some action told)
-addition-texts rev replace setting (Some value) None None action told = by_kind (kind_of value) told
+-- a path of slashes alone has no component
+pub is_root-slashes : (path : List ℕ) → list_all is_slash path ≡ is_root path
+is_root-slashes [] = refl
+is_root-slashes (byte ∷ path) =
+    elim (cases_Bool (is_slash byte)) [
+      | inl slash ↦ rw slash (is_root-slashes path)
+      | inr other ↦ rw other (some_part (slice_split is_slash path))
+    ]
   where
-    by_kind : (o : Option Kind) → option_map (λ it. add replace it setting) o ≡ Some action → texts_of_action action ≡ texts_of_setting setting
-    by_kind None e = absurd (none-some action e)
-    by_kind (Some it) e = ap texts_of_action (sym (same_Some _ action e))
-addition-texts rev replace setting kind None (Some from) action told = absurd (none-some action told)
-addition-texts rev replace setting kind (Some from_rev) None action told = absurd (none-some action told)
-addition-texts rev replace setting kind (Some from_rev) (Some from) action told = by_number (number_up_to greatest_revision from_rev) told
-  where
-    by_path : (number : ℕ) (o : Option (List (List ℕ))) → option_map (λ path. copy replace path number setting) o ≡ Some action → texts_of_action action ≡ texts_of_setting setting
-    by_path number None e = absurd (none-some action e)
-    by_path number (Some path) e = ap texts_of_action (sym (same_Some _ action e))
+    some_part : (parts : List (List ℕ)) → false ≡ (length (filter is_not_empty (onto_first byte parts)) == 0)
+    some_part [] = refl
+    some_part (part ∷ parts) = sym (ne_eqb (length (filter is_not_empty (onto_first byte (part ∷ parts)))) 0 (λ none. omega (arith, none)))
 
-    by_test : (number : ℕ) (b : Bool) → (if b then option_map (λ path. copy replace path number setting) (path_of from) else None) ≡ Some action → texts_of_action action ≡ texts_of_setting setting
-    by_test number true e = by_path number (path_of from) e
-    by_test number false e = absurd (none-some action e)
+-- ---- what stands against what it does
 
-    by_number : (o : Option ℕ) → option_and_then (λ number. if nat_lt number rev then option_map (λ path. copy replace path number setting) (path_of from) else None) o ≡ Some action → texts_of_action action ≡ texts_of_setting setting
-    by_number None e = absurd (none-some action e)
-    by_number (Some number) e = by_test number (nat_lt number rev) e
+-- the first of these that holds
+abbrev action_judged : (dot delta late root zero : Bool) → List Judged
+action_judged dot delta late root zero =
+    judged BadPath dot ∷ judged Delta delta ∷ judged CopyRevision late ∷ judged RootAction root ∷ judged RevisionZero zero ∷ []
 
--- what an addition gives is what its setting gave
-pub IfOk-addition-texts :
-    {E : Type 0} (rev : ℕ) (values : List (Option (List ℕ))) (replace : Bool) (said : Setting (List ℕ)) (old new : List (List ℕ)) (mi : Mi) (old_names new_names : List (List ℕ)) (result : Result Act E) →
-    IsSettingTold said old new mi → IfOk result (IsActTold (addition_said rev values (setting_told new mi) replace) rev old_names new_names new) →
-    IfOk result (λ act. new ≡ with_names old (texts_of_action (action_told new_names new act)))
-IfOk-addition-texts rev values replace said old new mi old_names new_names (Ok act) settled told =
-    settled.table
-    ∙ ap (λ setting. with_names old (texts_of_setting setting)) (sym settled.same)
-    ∙ ap (with_names old) (sym (addition-texts rev replace (setting_told new mi) (value_of values NodeKind) (value_of values CopyfromRevision) (value_of values CopyfromPath) (action_told new_names new act) told.same))
-IfOk-addition-texts rev values replace said old new mi old_names new_names (Err e) settled told = tt
+module _ (rev : ℕ) (node : Node) (action : NodeAction) where
+  abbrev dot : Bool
+  dot = list_any has_dot (paths_read node.path action)
+
+  against : (a b c d e : Bool) → dot ≡ a → node.is_delta ≡ b → is_late rev action ≡ c → is_root_action node.path action ≡ d → not (nat_lt 0 rev) ≡ e → first_holding (action_judged a b c d e) ≡ first_holding (action_refusals rev node action)
+  against a b c d e h i j k l =
+      ap₂ (λ x y. first_holding (action_judged x y c d e)) (sym h) (sym i) ∙ ap₂ (λ x y. first_holding (action_judged dot node.is_delta x y e)) (sym j) (sym k)
+      ∙ ap (λ x. first_holding (action_judged dot node.is_delta (is_late rev action) (is_root_action node.path action) x)) (sym l)
+
+  pub against_dot : dot ≡ true → Some BadPath ≡ first_holding (action_refusals rev node action)
+  unfolding first_holding
+  against_dot h = against true _ _ _ _ h refl refl refl refl
+
+  pub against_delta : dot ≡ false → node.is_delta ≡ true → Some Delta ≡ first_holding (action_refusals rev node action)
+  unfolding first_holding
+  against_delta h i = against false true _ _ _ h i refl refl refl
+
+  pub against_late : dot ≡ false → node.is_delta ≡ false → is_late rev action ≡ true → Some CopyRevision ≡ first_holding (action_refusals rev node action)
+  unfolding first_holding
+  against_late h i j = against false false true _ _ h i j refl refl
+
+  pub against_root : dot ≡ false → node.is_delta ≡ false → is_late rev action ≡ false → is_root_action node.path action ≡ true → Some RootAction ≡ first_holding (action_refusals rev node action)
+  unfolding first_holding
+  against_root h i j k = against false false false true _ h i j k refl
+
+  pub against_zero : dot ≡ false → node.is_delta ≡ false → is_late rev action ≡ false → is_root_action node.path action ≡ false → rev ≡ 0 → Some RevisionZero ≡ first_holding (action_refusals rev node action)
+  unfolding first_holding
+  against_zero h i j k l = against false false false false true h i j k (ap (λ n. not (nat_lt 0 n)) l)
+
+  pub against_nothing : dot ≡ false → node.is_delta ≡ false → is_late rev action ≡ false → is_root_action node.path action ≡ false → 0 < rev → None ≡ first_holding (action_refusals rev node action)
+  unfolding first_holding
+  against_nothing h i j k l = against false false false false false h i j k (ap not (lt-ltb 0 rev l))
+
+-- ---- paths
+
+-- a table with the first of these names has no more than one with all
+pub length-with_names-take : (names added : List (List ℕ)) (n : ℕ) → length (with_names names (take n added)) ≤ length (with_names names added)
+length-with_names-take names added n =
+    let all : with_names names added ≡ with_names (with_names names (take n added)) (drop n added) =
+    ap (with_names names) (sym (take-append-drop n added)) ∙ fold-append with_name names (take n added) (drop n added) in
+    omega (arith, ap length all, length-Extends _ _ (Extends-with_names (with_names names (take n added)) (drop n added)))
+
+-- a path without `.` and `..` is not read only where it has too many names, or memory runs out
+pub path_error : (names new : List (List ℕ)) (bytes : List ℕ) (e : PathError) → (e ≡ path.Dot → ⊥) → (e ≡ path.Full → length new ≡ most_names) → (n : ℕ) → new ≡ with_names names (take n (parts_of bytes)) → IsTooLarge (is_path_large names bytes) (stopped e)
+path_error names new bytes path.Dot no_dot full n left = absurd (no_dot refl)
+path_error names new bytes path.Full no_dot full n left = (refl, or_right (is_long bytes) _ (lt-ltb _ _ (omega (arith, full refl, ap length left, length-with_names-take names (parts_of bytes) n))))
+path_error names new bytes path.Memory no_dot full n left = tt
+
+-- a path of at most so many components isn't long
+pub is_long-short : (bytes : List ℕ) (n : ℕ) → length (parts_of bytes) ≡ n → n ≤ most_components → is_long bytes ≡ false
+is_long-short bytes n long short = le-ltb most_components (length (parts_of bytes)) (omega (arith, long, short))
+
+-- ---- the paths of an action
+
+-- the path itself, and the others
+paths_read-split : (test : List ℕ → Bool) (path : List ℕ) (action : NodeAction) → test [] ≡ false → list_any test (paths_read path action) ≡ (test path || list_any test (paths_read [] action))
+paths_read-split test path deleting none = ap (λ b. test path || (b || false)) (sym none)
+paths_read-split test path changing none = ap (λ b. test path || (b || false)) (sym none)
+paths_read-split test path (adding replace kind) none = ap (λ b. test path || (b || false)) (sym none)
+paths_read-split test path (copying replace from_rev from) none = ap (λ b. test path || (b || (test from || false))) (sym none)
+
+pub has_dot-parts : (path : List ℕ) (action : NodeAction) → list_any has_dot (paths_read path action) ≡ false → (has_dot path ≡ false) × (list_any has_dot (paths_read [] action) ≡ false)
+has_dot-parts path action none = or_parts (has_dot path) _ (sym (paths_read-split has_dot path action refl) ∙ none)
+
+-- that of a copy's source
+pub has_dot-from : (action : NodeAction) (replace : Bool) (from_rev : ℕ) (from : List ℕ) → action ≡ copying replace from_rev from → list_any has_dot (paths_read [] action) ≡ false → has_dot from ≡ false
+has_dot-from action replace from_rev from same none = (or_parts (has_dot from) false (sym (ap (λ each. list_any has_dot (paths_read [] each)) same) ∙ none)).0
+
+-- ---- what stands against a node block
+
+module _ (rev : ℕ) (node : Node) (action : NodeAction) (none : first_holding (action_refusals rev node action) ≡ None) where
+  no_dot : (list_any has_dot (paths_read node.path action) ≡ false) × (first_holding (judged Delta node.is_delta ∷ judged CopyRevision (is_late rev action) ∷ judged RootAction (is_root_action node.path action) ∷ judged RevisionZero (not (nat_lt 0 rev)) ∷ []) ≡ None)
+  no_dot = none_holds-parts BadPath _ _ none
+
+  no_delta : (node.is_delta ≡ false) × (first_holding (judged CopyRevision (is_late rev action) ∷ judged RootAction (is_root_action node.path action) ∷ judged RevisionZero (not (nat_lt 0 rev)) ∷ []) ≡ None)
+  no_delta = none_holds-parts Delta _ _ no_dot.1
+
+  no_late : (is_late rev action ≡ false) × (first_holding (judged RootAction (is_root_action node.path action) ∷ judged RevisionZero (not (nat_lt 0 rev)) ∷ []) ≡ None)
+  no_late = none_holds-parts CopyRevision _ _ no_delta.1
+
+  no_root : (is_root_action node.path action ≡ false) × (first_holding (judged RevisionZero (not (nat_lt 0 rev)) ∷ []) ≡ None)
+  no_root = none_holds-parts RootAction _ _ no_late.1
+
+  pub dotless : (has_dot node.path ≡ false) × (list_any has_dot (paths_read [] action) ≡ false)
+  dotless = has_dot-parts node.path action no_dot.0
+
+  pub not_late : is_late rev action ≡ false
+  not_late = no_late.0
+
+  pub above_zero : 0 < rev
+  above_zero = ltb-true _ _ (not-false (nat_lt 0 rev) (none_holds-parts RevisionZero _ _ no_root.1).0)
+
+  pub root_changed : length (parts_of node.path) ≡ 0 → is_change action ≡ true
+  root_changed none = not-false (is_change action) (sym (ap (λ root. root && not (is_change action)) (eq-eqb (length (parts_of node.path)) 0 none)) ∙ no_root.0)
+
+module _ (revisions : ℕ) (node : Node) (large : Bool) where
+  pub refused_section : node.setting ≡ None → first_holding (node_refusals revisions node large) ≡ Some Props
+  unfolding first_holding node_refusals
+  refused_section e = cond-true _ _ _ (ap is_none e)
+
+  module _ (setting : Setting (List ℕ)) (settled : node.setting ≡ Some setting) where
+    pub refused_record : (revisions == 0 || is_none node.action) ≡ true → first_holding (node_refusals revisions node large) ≡ Some BadRecord
+    unfolding first_holding node_refusals
+    refused_record holds = cond-false _ _ _ (ap is_none settled) ∙ cond-true _ _ _ holds
+
+    module _ (action : NodeAction) (does : node.action ≡ Some action) (some : 0 < revisions) where
+      by_action : first_holding (node_refusals revisions node large) ≡ first_holding (action_refusals (pred revisions) node action ++ size_refusals node action large)
+      unfolding first_holding node_refusals
+      by_action =
+          cond-false _ _ _ (ap is_none settled) ∙ cond-false _ _ _ (ap₂ (λ a o. a || is_none o) (ne_eqb revisions 0 (λ e. omega (arith, e))) does)
+          ∙ ap (λ o. first_holding (later_refusals (pred revisions) node large o)) does
+
+      pub refused_action : (refusal : Refusal) → first_holding (action_refusals (pred revisions) node action) ≡ Some refusal → first_holding (node_refusals revisions node large) ≡ Some refusal
+      refused_action refusal first = by_action ∙ first_holding-front (action_refusals (pred revisions) node action) (size_refusals node action large) refusal first
+
+      refused_size : first_holding (action_refusals (pred revisions) node action) ≡ None → (list_any is_long (paths_read node.path action) || large) ≡ true → first_holding (node_refusals revisions node large) ≡ Some TooLarge
+      unfolding first_holding
+      refused_size none holds = by_action ∙ first_holding-later (action_refusals (pred revisions) node action) (size_refusals node action large) none ∙ cond-true _ _ _ holds
+
+      -- too large, or out of memory
+      pub IsFirst-size : (e : ReadError) (told : Bool) → first_holding (action_refusals (pred revisions) node action) ≡ None → (told ≡ true → (list_any is_long (paths_read node.path action) || large) ≡ true) → IsTooLarge told e → IsFirst (node_refusals revisions node large) e
+      IsFirst-size (read.Refused refusal) told none holds is = refused_size none (holds is.1) ∙ ap Some (sym is.0)
+      IsFirst-size read.Memory told none holds is = tt
+
+-- ---- the sizes
+
+is_full_with-more : (table added more : List (List ℕ)) → is_full_with table added ≡ true → is_full_with table (added ++ more) ≡ true
+is_full_with-more table added more full =
+    let grown = fold-append with_name table added more in
+    lt-ltb _ _ (omega (arith, ltb-true _ _ full, ap length grown, length-Extends _ _ (Extends-with_names (with_names table added) more)))
+
+is_full_with-append : (table added more : List (List ℕ)) → is_full_with (with_names table added) more ≡ is_full_with table (added ++ more)
+is_full_with-append table added more = ap (λ all. nat_lt most_numbered (length all)) (sym (fold-append with_name table added more))
+
+module _ (rev : ℕ) (node : Node) (setting : Setting (List ℕ)) (action : NodeAction) (settled : node.setting ≡ Some setting) (does : node.action ≡ Some action) (none : first_holding (action_refusals rev node action) ≡ None) (names texts : List (List ℕ)) where
+  abbrev told_record : RecordOfBytes
+  told_record = record_by node.path setting action
+
+  -- a record whose paths aren't long is too large where its names or its texts are
+  by_record : (is_full_with names (parts_of_record told_record) || is_full_with texts (texts_of_action told_record.action)) ≡ true → (list_any is_long (paths_read node.path action) || is_record_large names texts (record_of rev node)) ≡ true
+  by_record full =
+      elim (cases_Bool (list_any is_long (paths_read node.path action))) [
+        | inl long ↦ ap (λ b. b || is_record_large names texts (record_of rev node)) long
+        | inr short ↦
+            ap₂ (λ b told. b || is_record_large names texts told) short (record_of-allowed rev node setting action settled does none short) ∙ full
+      ]
+
+  -- by its path
+  pub large_path : is_path_large names node.path ≡ true → (list_any is_long (paths_read node.path action) || is_record_large names texts (record_of rev node)) ≡ true
+  large_path large =
+      elim (or_either (is_long node.path) (is_full_with names (parts_of node.path)) large) [
+        | inl long ↦ ap (λ b. b || is_record_large names texts (record_of rev node)) (paths_read-split is_long node.path action refl ∙ ap (λ b. b || list_any is_long (paths_read [] action)) long)
+        | inr full ↦
+            by_record (ap (λ b. b || is_full_with texts (texts_of_action told_record.action)) (is_full_with-more names (parts_of node.path) (parts_of_action (action_of setting action)) full))
+      ]
+
+  -- by what it does
+  pub large_action : (mid : List (List ℕ)) → mid ≡ with_names names (parts_of node.path) →
+      (list_any is_long (paths_read [] action) || is_full_with mid (parts_of_action (action_of setting action)) || is_full_with texts (texts_of_action (action_of setting action))) ≡ true →
+      (list_any is_long (paths_read node.path action) || is_record_large names texts (record_of rev node)) ≡ true
+  large_action mid table large = by_cases (list_any is_long (paths_read [] action)) refl (is_full_with mid (parts_of_action (action_of setting action))) refl large
+    where
+      names_full : is_full_with names (parts_of_record told_record) ≡ is_full_with mid (parts_of_action (action_of setting action))
+      names_full =
+          sym (is_full_with-append names (parts_of node.path) (parts_of_action (action_of setting action)))
+          ∙ ap (λ known. is_full_with known (parts_of_action (action_of setting action))) (sym table)
+
+      by_cases : (long : Bool) → list_any is_long (paths_read [] action) ≡ long → (full : Bool) → is_full_with mid (parts_of_action (action_of setting action)) ≡ full → (long || full || is_full_with texts (texts_of_action (action_of setting action))) ≡ true →
+          (list_any is_long (paths_read node.path action) || is_record_large names texts (record_of rev node)) ≡ true
+      by_cases true is full has e =
+          ap (λ b. b || is_record_large names texts (record_of rev node))
+          (paths_read-split is_long node.path action refl ∙ ap (λ b. is_long node.path || b) is ∙ or_true (is_long node.path))
+      by_cases false is full has e =
+          by_record (ap (λ b. b || is_full_with texts (texts_of_action told_record.action)) (names_full ∙ has) ∙ e)
 
 -- ---- the record
 
-module _ (rev : ℕ) (values : List (Option (List ℕ))) (properties bytes : List ℕ) (setting : Setting (List ℕ)) (old mid new old_texts new_texts : List (List ℕ)) (path : List NameId) (each : Act) where
-  said : 0 < rev → is_delta_said values ≡ false → setting_said properties ≡ Some setting → path_of bytes ≡ Some (spelled mid path) → action_said rev values setting ≡ Some (action_told new new_texts each) → spares_root (spelled mid path) (action_told new new_texts each) ≡ true → record_said rev values properties bytes ≡ Some (record { path = spelled mid path; action = action_told new new_texts each })
-  unfolding record_said
-  said above whole settled told does spares =
-      let record_by : List (List ℕ) → ActionOfBytes → Option RecordOfBytes =
-      λ parts action. if spares_root parts action then Some (record { path = parts; action = action }) else None in
-      let tests : (nat_lt 0 rev && not (is_delta_said values)) ≡ true = ap₂ (λ a b. a && not b) (lt-ltb 0 rev above) whole in
-      ap (option_and_then (λ given. option_and_then (λ parts. option_and_then (record_by parts) (action_said rev values given)) (if nat_lt 0 rev && not (is_delta_said values) then path_of bytes else None))) settled
-      ∙ ap (option_and_then (λ parts. option_and_then (record_by parts) (action_said rev values setting))) (cond-true _ _ _ tests ∙ told)
-      ∙ ap (option_and_then (record_by (spelled mid path))) does
-      ∙ cond-true _ _ _ spares
+-- a change in bytes
+abbrev changes : ActionOfBytes → Bool
+changes delete = false
+changes (change given) = true
+changes (add replace kind given) = false
+changes (copy replace from from_rev given) = false
 
+IsChange-changes : (names texts : List (List ℕ)) (each : Act) → changes (action_told names texts each) ≡ true → IsChange each
+IsChange-changes names texts act.Delete e = absurd (cc)
+IsChange-changes names texts (act.Change given) e = tt
+IsChange-changes names texts (act.Add replace kind given) e = absurd (cc)
+IsChange-changes names texts (act.Copy replace from from_rev given) e = absurd (cc)
+
+changes-action_of : (setting : Setting (List ℕ)) (action : NodeAction) → changes (action_of setting action) ≡ is_change action
+changes-action_of setting deleting = refl
+changes-action_of setting changing = refl
+changes-action_of setting (adding replace kind) = refl
+changes-action_of setting (copying replace from_rev from) = refl
+
+IsChange-told : (names texts : List (List ℕ)) (each : Act) (setting : Setting (List ℕ)) (action : NodeAction) → action_told names texts each ≡ action_of setting action → is_change action ≡ true → IsChange each
+IsChange-told names texts each setting action same e = IsChange-changes names texts each (ap changes same ∙ changes-action_of setting action ∙ e)
+
+module _ (rev : ℕ) (node : Node) (setting : Setting (List ℕ)) (action : NodeAction) (settled : node.setting ≡ Some setting) (does : node.action ≡ Some action) (none : first_holding (action_refusals rev node action) ≡ None) where
   pub record_told_of :
-      0 < rev → is_delta_said values ≡ false → setting_said properties ≡ Some setting → IsPathTold (path_of bytes) old mid path →
-      IsActTold (action_said rev values setting) rev mid new new_texts each → new_texts ≡ with_names old_texts (texts_of_action (action_told new new_texts each)) →
-      Extends mid new → (path ≡ [] → is_change each ≡ true) →
-      IsRecordTold (record_said rev values properties bytes) rev old new old_texts new_texts (record { rev = rev; path = path; act = each })
-  record_told_of above whole settled told does texts grows spares =
-      let parts = spelled-grows mid new path grows told.of_table in record {
-        same = said above whole settled told.same does.same (spares_root-told mid new new_texts path each spares) ∙ ap (λ all. let one : RecordOfBytes = record { path = all; action = action_told new new_texts each } in Some one) (sym parts);
+      (old mid new old_texts new_texts : List (List ℕ)) (path : List NameId) (each : Act) →
+      IsPathTold node.path old mid path → is_long node.path ≡ false → IsActTold (action_of setting action) rev mid new new_texts each → list_any is_long (paths_read [] action) ≡ false →
+      new_texts ≡ with_names old_texts (texts_of_action (action_of setting action)) → Extends mid new →
+      IsRecordTold (record_of rev node) rev old new old_texts new_texts (record { rev = rev; path = path; act = each })
+  record_told_of old mid new old_texts new_texts path each told short acts short_from texts grows =
+      let spells : spelled new path ≡ parts_of node.path = spelled-grows mid new path grows told.of_table ∙ told.same in
+      let is_short : list_any is_long (paths_read node.path action) ≡ false = paths_read-split is_long node.path action refl ∙ ap₂ (λ a b. a || b) short short_from in record {
+        same = record_of-allowed rev node setting action settled does none is_short
+            ∙ ap₂ (λ parts action. let one : RecordOfBytes = record { path = parts; action = action } in Some one) (sym spells) (sym acts.same);
         of_table = record {
           path = IsOf-grows mid new path grows told.of_table;
           length = told.short;
-          act = does.of_table;
-          above_zero = above;
-          root = λ root. IsChange-is_change each (spares root);
+          act = acts.of_table;
+          above_zero = above_zero rev node action none;
+          root = λ root. IsChange-told new new_texts each setting action acts.same (root_changed rev node action none (sym (ap length spells) ∙ ap (λ parts. length (spelled new parts)) root));
         };
         revision = refl;
-        table = does.table ∙ ap (λ names. with_names names (parts_of_action (action_told new new_texts each))) told.table ∙ sym (fold-append with_name old (spelled mid path) (parts_of_action (action_told new new_texts each)))
-            ∙ ap (λ all. with_names old (all ++ parts_of_action (action_told new new_texts each))) (sym parts);
-        texts = texts;
+        table = acts.table ∙ ap₂ (λ names more. with_names names (parts_of_action more)) told.table (sym acts.same) ∙ sym (fold-append with_name old (parts_of node.path) (parts_of_action (action_told new new_texts each)))
+            ∙ ap (λ all. with_names old (all ++ parts_of_action (action_told new new_texts each))) (sym spells);
+        texts = texts ∙ ap (λ action. with_names old_texts (texts_of_action action)) (sym acts.same);
       }
+
+-- ---- a node block that is taken
+
+module _ (revisions : ℕ) (node : Node) (rev : ℕ) (action : NodeAction) (setting : Setting (List ℕ)) (taken : IsTaken revisions node rev action setting) where
+  none_at : first_holding (action_refusals (pred revisions) node action) ≡ None
+  none_at = ap (λ n. first_holding (action_refusals n node action)) (sym taken.revision) ∙ taken.none
+
+  pub dotless-taken : (has_dot node.path ≡ false) × (list_any has_dot (paths_read [] action) ≡ false)
+  dotless-taken = dotless (pred revisions) node action none_at
+
+  -- its path is too large, or memory has run out
+  pub IsFirst-path : (names texts : List (List ℕ)) (e : ReadError) → IsTooLarge (is_path_large names node.path) e → IsFirst (node_refusals revisions node (is_record_large names texts (record_of (pred revisions) node))) e
+  IsFirst-path names texts e is =
+      IsFirst-size revisions node (is_record_large names texts (record_of (pred revisions) node)) setting taken.settled action taken.does taken.some_revision e (is_path_large names node.path) none_at
+      (large_path (pred revisions) node setting action taken.settled taken.does none_at names texts) is
+
+  -- the same of what it does
+  pub IsFirst-action : (names mid texts : List (List ℕ)) (e : ReadError) → mid ≡ with_names names (parts_of node.path) →
+      IsTooLarge (list_any is_long (paths_read [] action) || is_full_with mid (parts_of_action (action_of setting action)) || is_full_with texts (texts_of_action (action_of setting action))) e →
+      IsFirst (node_refusals revisions node (is_record_large names texts (record_of (pred revisions) node))) e
+  IsFirst-action names mid texts e table is =
+      IsFirst-size revisions node (is_record_large names texts (record_of (pred revisions) node)) setting taken.settled action taken.does taken.some_revision e _ none_at
+      (large_action (pred revisions) node setting action taken.settled taken.does none_at names texts mid table) is
+
+  -- its record
+  pub IsRecordTold-taken :
+      (old mid new old_texts new_texts : List (List ℕ)) (path : List NameId) (each : Act) →
+      IsPathTold node.path old mid path → is_long node.path ≡ false → (is_late (pred revisions) action ≡ false → IsActTold (action_of setting action) (pred revisions) mid new new_texts each) → list_any is_long (paths_read [] action) ≡ false →
+      new_texts ≡ with_names old_texts (texts_of_action (action_of setting action)) → Extends mid new →
+      IsRecordTold (record_of (pred revisions) node) (pred revisions) old new old_texts new_texts (record { rev = rev; path = path; act = each })
+  IsRecordTold-taken old mid new old_texts new_texts path each told short acts short_from texts grows =
+      subst (λ n. IsRecordTold (record_of (pred revisions) node) (pred revisions) old new old_texts new_texts (record { rev = n; path = path; act = each })) (sym taken.revision)
+      (record_told_of (pred revisions) node setting action taken.settled taken.does none_at old mid new old_texts new_texts path each told short (acts (not_late (pred revisions) node action none_at)) short_from texts grows)

@@ -1,124 +1,201 @@
 -- A dump, block by block.
-use Rattle.std.proofs.Common.{◌≡◌, ◌≢◌, ℕ, ◌+◌, ◌≤◌, All, IsTrue, List, [], ◌∷◌, ◌++◌, length, replicate, take, refl, sym, ap, ◌∙◌, subst, append_assoc, append-nil, arith}
-use Rattle.std.specs.Prelude.{Option, Some, None, Result, Ok, Err, IfOk, option_map, option_and_then, codes, nat_lt, not, ◌&&◌, if◌then◌else◌}
+use Rattle.std.proofs.Common.{◌≡◌, ℕ, suc, ◌-◌, ◌<◌, ◌≤◌, true, List, [], ◌∷◌, ◌++◌, length, replicate, refl, sym, ap, ◌∙◌, subst, append_assoc, append-nil, length-append, arith}
+use Rattle.std.specs.Prelude.{Option, Some, Result, Ok, Err, IfErr, IfOk, cond, option_and_then}
+use Rattle.std.specs.List.{after_first}
+use Rattle.std.specs.Option.{option_or}
+use Rattle.std.proofs.lemmas.Bool.{cond-true}
 use Rattle.std.proofs.lemmas.Grind.{fold-append}
-use Rattle.std.proofs.lemmas.List.{nil_from_length, get_or_default}
-use Rattle.std.proofs.lemmas.List.Elements.{All-from_get_or}
-use Rattle.svn_path.specs.Names.{has_name}
-use Rattle.svn_path.proofs.Tables.{has_name-name_of}
-use Rattle.svn_dump.specs.Block.{Block, AreBlocks, field, properties_length}
-use Rattle.svn_dump.specs.Draft.{dump_of, IsNamed, IsValued}
+use Rattle.std.proofs.lemmas.List.{nil_from_length}
+use Rattle.svn_path.specs.Components.{is_not_empty}
+use Rattle.svn_dump.specs.Block.{AreBlocks, Block, block_text, is_newline}
+use Rattle.svn_dump.specs.Draft.{dump_of, IsWhole}
 use Rattle.svn_dump.specs.Dump.{DumpValue, IsDump, history_shown}
-use Rattle.svn_dump.specs.DumpText.{IsDumpText, IsSmall, first_line, most_numbered, names_of}
-use Rattle.svn_dump.specs.Field.{fields_of}
-use Rattle.svn_dump.specs.Found.{BeginsWithBlock}
-use Rattle.svn_dump.specs.Record.{HistoryOfBytes, with_record, with_fields, with_block, record_of, action_of, history_of, path_of, is_delta, spares_root}
-use Rattle.svn_dump.specs.History.{put}
-use Rattle.svn_dump.specs.Property.{setting_of, section_of, last_value, mergeinfo_name}
-use Rattle.svn_dump.specs.Said.{with_said, with_values, record_said, setting_said}
-use Rattle.svn_dump.proofs.Histories.{length-history_shown, length-all_records}
+use Rattle.svn_dump.specs.DumpError.{IsRefusal}
+use Rattle.svn_dump.specs.DumpText.{IsDumpText, IsSmall, first_line, names_of, values_of}
+use Rattle.svn_dump.specs.FirstRefusal.{after_block, block_at, block_refusal, end_refusal, first_refusal, front_refusals, line_refusals, refusal_from, refused_or, without_empty_lines}
+use Rattle.svn_dump.specs.Found.{AddsBlock, BeginsWithBlock, IsBlockRefusal}
+use Rattle.svn_dump.specs.ReadError.{told_at}
+use Rattle.svn_dump.specs.Record.{HistoryOfBytes, history_of, sort_of, with_block, with_sort}
+use Rattle.svn_dump.specs.Refusal.{first_holding, sort_refusals}
+use Rattle.svn_dump.specs.Said.{sort_said}
+use Rattle.svn_dump.specs.Told.{IsFirst}
+use Rattle.svn_dump.specs.declared.error.DumpError.{DumpError}
+use Rattle.svn_dump.specs.declared.error.DumpError.TheVariants as dump
+use Rattle.svn_dump.specs.declared.read_error.ReadError.{ReadError}
+use Rattle.svn_dump.specs.declared.read_error.ReadError.TheVariants as read
+use Rattle.svn_dump.specs.declared.refusal.Refusal.{Refusal}
+use Rattle.svn_dump.specs.declared.refusal.Refusal.TheVariants.{Revision}
+use Rattle.svn_dump.proofs.FirstRefusals.{after_first_line, first_line_taken, length-after_line, length-block, no_first, refusal_at-block, refusal_from-at}
+use Rattle.svn_dump.proofs.Drafts.{IsWhole-none}
+use Rattle.svn_dump.proofs.Fronts.{front-block, without_empty_lines-front}
+use Rattle.svn_dump.proofs.Histories.{length-history_shown}
+use Rattle.svn_dump.proofs.Refusals.{first_holding-append, first_holding-front}
+use Rattle.svn_dump.proofs.Sorts.{sort_said-block}
 
--- ---- what a block says, by the values of its headers
+-- ---- one block
 
-setting_of-front : (section : Option ℕ) (properties body : List ℕ) → section ≡ Some (length properties) → properties ≡ take (length properties) body → setting_said properties ≡ setting_of section body
-setting_of-front section [] body long front = ap (λ n. setting_of n body) (sym long)
-setting_of-front section (byte ∷ properties) body long front =
-    ap (λ all. option_map (λ given. put (last_value mergeinfo_name given)) (section_of all)) front ∙ ap (λ n. setting_of n body) (sym long)
+-- a found block, and what it adds
+pub AddsBlock-found :
+    (bytes rest : List ℕ) (values : List (Option (List ℕ))) (properties : List ℕ) (old new : HistoryOfBytes) →
+    BeginsWithBlock bytes values properties rest → with_sort old (sort_said values properties) ≡ Some new → AddsBlock bytes rest old new
+AddsBlock-found bytes rest values properties old new found told = record {
+  block = found.block;
+  is_block = found.is_block;
+  whole = found.whole;
+  told = ap (with_sort old) (sym (sort_said-block bytes rest values properties found)) ∙ told;
+}
 
-record_said-fields_of : (rev : ℕ) (lines : List (List ℕ)) (properties body path : List ℕ) → setting_said properties ≡ setting_of (properties_length lines) body → record_said rev (fields_of lines) properties path ≡ record_of rev lines body path
-unfolding record_said record_of action_of
-record_said-fields_of rev lines properties body path settled =
-    ap (option_and_then (λ setting. option_and_then (λ parts. option_and_then (λ action. if spares_root parts action then Some (record { path = parts; action = action }) else None) (option_and_then (action_of rev lines setting) (field (codes "Node-action") lines))) (if nat_lt 0 rev && not (is_delta lines) then path_of path else None))) settled
+-- a block whose form is told against
+pub block_refusal-front : (history : HistoryOfBytes) (bytes : List ℕ) (refusal : Refusal) → first_holding (front_refusals bytes) ≡ Some refusal → block_refusal history bytes ≡ Some refusal
+unfolding block_refusal
+block_refusal-front history bytes refusal first = first_holding-front (front_refusals bytes) (sort_refusals history (sort_of (block_at bytes))) refusal first
 
-with_values-fields_of : (history : HistoryOfBytes) (block : Block) (properties : List ℕ) (number path uuid : Option (List ℕ)) → setting_said properties ≡ setting_of (properties_length block.lines) block.body → with_values history (fields_of block.lines) properties number path uuid ≡ with_fields history block number path uuid
-with_values-fields_of history block properties (Some number) path uuid settled = refl
-with_values-fields_of history block properties None (Some path) uuid settled = ap (option_map (with_record history)) (record_said-fields_of _ block.lines properties block.body path settled)
-with_values-fields_of history block properties None None (Some uuid) settled = refl
-with_values-fields_of history block properties None None None settled = refl
-
-with_said-block : (history : HistoryOfBytes) (bytes rest : List ℕ) (values : List (Option (List ℕ))) (properties : List ℕ) (found : BeginsWithBlock bytes values properties rest) → with_said history values properties ≡ with_block history found.block
-unfolding with_block
-with_said-block history bytes rest values properties found =
-    let lines = found.block.lines in
-    ap (λ all. with_said history all properties) found.fields
-    ∙ with_values-fields_of history found.block properties (field (codes "Revision-number") lines) (field (codes "Node-path") lines) (field (codes "UUID") lines)
-    (setting_of-front (properties_length lines) properties found.block.body found.section found.front)
+-- a found block that is told against
+pub IsBlockRefusal-found :
+    (history : HistoryOfBytes) (bytes rest : List ℕ) (values : List (Option (List ℕ))) (properties : List ℕ) (e : ReadError) →
+    BeginsWithBlock bytes values properties rest → IsFirst (sort_refusals history (sort_said values properties)) e → IsBlockRefusal history bytes e
+unfolding block_refusal
+IsBlockRefusal-found history bytes rest values properties (read.Refused refusal) found is =
+    let front = front-block bytes rest found.block found.is_block found.whole in
+    first_holding-append (front_refusals bytes) (sort_refusals history (sort_of (block_at bytes)))
+    ∙ ap (λ first. option_or first (first_holding (sort_refusals history (sort_of (block_at bytes))))) front.0
+    ∙ ap (λ block. first_holding (sort_refusals history (sort_of block))) front.1
+    ∙ ap (λ sort. first_holding (sort_refusals history sort)) (sym (sort_said-block bytes rest values properties found)) ∙ is
+IsBlockRefusal-found history bytes rest values properties read.Memory found is = tt
 
 -- ---- the blocks so far
 
--- some blocks were read from the bytes, the rest is left, and the draft has what they tell
+-- some blocks were read from what follows the first line, the rest is left, and the draft has what they tell; what stands
+-- against the bytes stands in the rest
 pub record IsRead (bytes rest : List ℕ) (draft : DumpValue) : Type 0 where
   pub done : List Block
-  pub goes_on : (more : List Block) → AreBlocks rest more → AreBlocks bytes (done ++ more)
+  pub begins : (more : List Block) → AreBlocks rest more → (after : List ℕ) × (bytes ≡ first_line ++ after) × AreBlocks after (done ++ more)
   pub tells : history_of done ≡ Some (history_shown draft)
-  pub named : IsNamed draft
-  pub valued : IsValued draft
+  pub whole : IsWhole draft
+  pub within : length rest ≤ length bytes
+  pub most : ℕ
+  pub enough : length rest < suc most
+  pub refusal : first_refusal bytes ≡ refusal_from (suc most) (length bytes) (history_shown draft) rest
 
-pub IsRead-none : (bytes : List ℕ) → IsRead bytes bytes (dump_of [] [] [] [])
-IsRead-none bytes = record { done = []; goes_on = λ more blocks. blocks; tells = refl; named = refl; valued = refl }
+first_refusal-line : (bytes rest : List ℕ) → bytes ≡ first_line ++ rest → first_refusal bytes ≡ refusal_from (length bytes) (length bytes) [] rest
+unfolding first_refusal
+first_refusal-line bytes rest begins =
+    no_first (first_holding (line_refusals bytes)) 0 _ (ap (λ all. first_holding (line_refusals all)) begins ∙ first_line_taken rest)
+    ∙ ap (refusal_from (length bytes) (length bytes) []) (ap (after_first is_newline) begins ∙ after_first_line rest)
 
-pub IsRead-more :
-    (bytes rest left : List ℕ) (old new : DumpValue) (values : List (Option (List ℕ))) (properties : List ℕ) →
-    IsRead bytes rest old → BeginsWithBlock rest values properties left → with_said (history_shown old) values properties ≡ Some (history_shown new) →
-    (IsNamed old → IsNamed new) → (IsValued old → IsValued new) → IsRead bytes left new
-IsRead-more bytes rest left old new values properties before found told named valued = record {
-  done = before.done ++ found.block ∷ [];
-  goes_on = λ more blocks. subst (AreBlocks bytes) (sym (append_assoc before.done (found.block ∷ []) more))
-      (before.goes_on (found.block ∷ more) (found.empty, left, found.is_block, found.whole, blocks));
-  tells =
-      fold-append (λ so_far block. option_and_then (λ history. with_block history block) so_far) (Some []) before.done (found.block ∷ [])
-      ∙ ap (option_and_then (λ history. with_block history found.block)) before.tells
-      ∙ sym (with_said-block (history_shown old) rest left values properties found) ∙ told;
-  named = named before.named;
-  valued = valued before.valued;
+pub IsRead-none : (bytes rest : List ℕ) → bytes ≡ first_line ++ rest → IsRead bytes rest (dump_of [] [] [] [])
+IsRead-none bytes rest begins = record {
+  done = [];
+  begins = λ more blocks. (rest, begins, blocks);
+  tells = refl;
+  whole = IsWhole-none;
+  within = omega (arith, length-after_line bytes rest begins);
+  most = length bytes - 1;
+  enough = omega (arith, length-after_line bytes rest begins);
+  refusal =
+      let long : length bytes ≡ suc (length bytes - 1) = omega (arith, length-after_line bytes rest begins) in
+      first_refusal-line bytes rest begins ∙ ap (λ n. refusal_from n (length bytes) [] rest) long;
 }
+
+-- a block of the rest is no longer than that, and what follows it is shorter
+pub length-skipped : (rest block : List ℕ) → block ≡ without_empty_lines rest → length block ≤ length rest
+length-skipped rest block front =
+    let skipped = without_empty_lines-front rest in
+    omega (arith, ap length skipped.1, length-append (replicate skipped.0 10) (without_empty_lines rest), ap length front)
+
+pub length-added : (rest block after : List ℕ) (old new : HistoryOfBytes) → block ≡ without_empty_lines rest → AddsBlock block after old new → length after < length rest
+length-added rest block after old new front added = omega (arith, length-skipped rest block front, length-block [] added.block after block added.whole)
+
+module _ (bytes rest block : List ℕ) (old : DumpValue) (before : IsRead bytes rest old) (front : block ≡ without_empty_lines rest) where
+  -- what stands against the bytes stands against this block or what follows it
+  from_block : first_refusal bytes ≡ cond (is_not_empty block) (refused_or (block_refusal (history_shown old) block) (length bytes - length block) (option_and_then (λ after. refusal_from before.most (length bytes) after (after_block block)) (with_block (history_shown old) (block_at block)))) (end_refusal (length bytes) (history_shown old))
+  from_block = before.refusal ∙ refusal_from-at before.most (length bytes) (history_shown old) rest block (sym front)
+
+  pub IsRead-more : (after : List ℕ) (new : DumpValue) → AddsBlock block after (history_shown old) (history_shown new) → (IsWhole old → IsWhole new) → IsRead bytes after new
+  IsRead-more after new added keeps =
+      let whole = keeps before.whole in
+      let skipped = without_empty_lines-front rest in
+      let cut : rest ≡ replicate skipped.0 10 ++ block_text added.block ++ after =
+      skipped.1 ∙ ap (λ text. replicate skipped.0 10 ++ text) (sym front ∙ added.whole) ∙ sym (append_assoc (replicate skipped.0 10) (block_text added.block) after) in
+      let shorter = length-block (replicate skipped.0 10) added.block after rest cut in record {
+        done = before.done ++ added.block ∷ [];
+        begins = λ more blocks.
+            let (from, begins, all) = before.begins (added.block ∷ more) (skipped.0, after, added.is_block, cut, blocks) in
+            (from, begins, subst (AreBlocks from) (sym (append_assoc before.done (added.block ∷ []) more)) all);
+        tells =
+            fold-append (λ so_far block. option_and_then (λ history. with_block history block) so_far) (Some []) before.done (added.block ∷ [])
+            ∙ ap (option_and_then (λ history. with_block history added.block)) before.tells ∙ added.told;
+        whole = whole;
+        within = omega (arith, shorter, before.within);
+        most = before.most - 1;
+        enough = omega (arith, shorter, before.enough);
+        refusal =
+            let long : before.most ≡ suc (before.most - 1) = omega (arith, shorter, before.enough) in
+            from_block ∙ refusal_at-block (history_shown old) (history_shown new) block after added.block added.is_block added.whole added.told before.most (length bytes) whole.small
+            ∙ ap (λ n. refusal_from n (length bytes) (history_shown new) after) long;
+      }
+
+  -- a refusal of the block is that of the bytes
+  pub IsRefusal-block : (e : ReadError) → is_not_empty block ≡ true → (IsWhole old → IsBlockRefusal (history_shown old) block e) → IsRefusal bytes (told_at (length bytes - length block) e)
+  IsRefusal-block (read.Refused refusal) some is = record {
+    refusal = refusal;
+    first = from_block ∙ cond-true _ _ _ some
+        ∙ ap (λ first. refused_or first (length bytes - length block) (option_and_then (λ after. refusal_from before.most (length bytes) after (after_block block)) (with_block (history_shown old) (block_at block)))) (is before.whole);
+    numbered = refl;
+  }
+  IsRefusal-block read.Memory some is = tt
 
 -- ---- the whole dump
 
-module _ (dump : DumpValue) (kept : IsDump dump) where
-  is_small : IsNamed dump → IsValued dump → IsSmall (history_shown dump)
-  is_small named valued = record {
-    names = subst (λ all. length all ≤ most_numbered) named kept.few_names;
-    records = omega (arith, length-all_records dump.names dump.records dump.counts dump.values kept.revisions, kept.few_records);
-    revisions = omega (arith, length-history_shown dump.names dump.records dump.counts dump.values, kept.few_revisions);
-    values = subst (λ all. length all ≤ most_numbered) valued kept.few_values;
-  }
+-- a refusal of the first line
+pub IsRefusal-line : (bytes : List ℕ) (refusal : Refusal) → first_holding (line_refusals bytes) ≡ Some refusal → IsRefusal bytes (told_at 0 (read.Refused refusal))
+unfolding first_refusal
+IsRefusal-line bytes refusal first = record {
+  refusal = refusal;
+  first = ap (λ o. refused_or o 0 (refusal_from (length bytes) (length bytes) [] (after_first is_newline bytes))) first;
+  numbered = refl;
+}
 
-  some_revision : history_shown dump ≢ []
-  some_revision none = kept.some_revision (nil_from_length dump.counts (sym (length-history_shown dump.names dump.records dump.counts dump.values) ∙ ap length none))
+module _ (bytes rest : List ℕ) (draft : DumpValue) (read : IsRead bytes rest draft) (ends : without_empty_lines rest ≡ []) where
+  only_empty : (empty : ℕ) × (rest ≡ replicate empty 10)
+  only_empty =
+      let skipped = without_empty_lines-front rest in
+      (skipped.0, skipped.1 ∙ ap (λ more. replicate skipped.0 10 ++ more) ends ∙ append-nil (replicate skipped.0 10))
 
-  IsDumpText-read : (bytes rest left : List ℕ) → bytes ≡ first_line ++ rest → IsRead rest left dump → (empty : ℕ) × (left ≡ replicate empty 10) → IsDumpText bytes (history_shown dump)
-  IsDumpText-read bytes rest left begins read ends = record {
-    rest = rest;
-    blocks = read.done;
-    begins = begins;
-    follows = subst (AreBlocks rest) (append-nil read.done) (read.goes_on [] ends);
-    tells = read.tells;
-    some_revision = some_revision;
-    small = is_small read.named read.valued;
-  }
+  IsDumpText-read : (dump : DumpValue) → dump ≡ draft → IsDump dump → IsDumpText bytes (history_shown dump)
+  IsDumpText-read dump same kept =
+      let (after, begins, blocks) = read.begins [] only_empty in record {
+        rest = after;
+        blocks = read.done;
+        begins = begins;
+        follows = subst (AreBlocks after) (append-nil read.done) blocks;
+        tells = read.tells ∙ ap (λ one. Some (history_shown one)) (sym same);
+        some_revision = λ none. kept.some_revision (nil_from_length dump.counts (sym (length-history_shown dump.names dump.records dump.counts dump.values) ∙ ap length none));
+        small = subst (λ one. IsSmall (history_shown one)) (sym same) read.whole.small;
+      }
 
--- the same of what finishing the draft gave
-pub IfOk-read : {E : Type 0} (bytes rest left : List ℕ) (draft : DumpValue) (result : Result DumpValue E) → bytes ≡ first_line ++ rest → IsRead rest left draft → (empty : ℕ) × (left ≡ replicate empty 10) → IfOk result (λ dump. dump ≡ draft) → IfOk result IsDump → IfOk result (λ dump. IsDumpText bytes (history_shown dump))
-IfOk-read bytes rest left draft (Ok dump) begins read ends same kept =
-    IsDumpText-read dump kept bytes rest left begins (subst (IsRead rest left) (sym same) read) ends
-IfOk-read bytes rest left draft (Err e) begins read ends same kept = tt
+  -- what finishing the draft gave
+  pub IfOk-read : (result : Result DumpValue DumpError) → IfOk result (λ dump. dump ≡ draft) → IfOk result IsDump → IfOk result (λ dump. IsDumpText bytes (history_shown dump))
+  IfOk-read (Ok dump) same kept = IsDumpText-read dump same kept
+  IfOk-read (Err e) same kept = tt
 
--- its texts are those of its history
-pub IfOk-valued : {E : Type 0} (rest left : List ℕ) (draft : DumpValue) (result : Result DumpValue E) → IsRead rest left draft → IfOk result (λ dump. dump ≡ draft) → IfOk result IsValued
-IfOk-valued rest left draft (Ok dump) read same = subst IsValued (sym same) read.valued
-IfOk-valued rest left draft (Err e) read same = tt
+  pub IfOk-named : (result : Result DumpValue DumpError) → IfOk result (λ dump. dump ≡ draft) → IfOk result (λ dump. dump.names ≡ names_of (history_shown dump))
+  IfOk-named (Ok dump) same = subst (λ one. one.names ≡ names_of (history_shown one)) (sym same) read.whole.named
+  IfOk-named (Err e) same = tt
 
--- ---- its names
+  pub IfOk-valued : (result : Result DumpValue DumpError) → IfOk result (λ dump. dump ≡ draft) → IfOk result (λ dump. dump.values ≡ values_of (history_shown dump))
+  IfOk-valued (Ok dump) same = subst (λ one. one.values ≡ values_of (history_shown one)) (sym same) read.whole.valued
+  IfOk-valued (Err e) same = tt
 
-names_known : (names : List (List ℕ)) → All (λ name. IsTrue (has_name names name)) names
-names_known names =
-    All-from_get_or (λ name. IsTrue (has_name names name)) names [] (λ number below.
-    subst (λ name. IsTrue (has_name names name)) (get_or_default names number (replicate (number + 1) 47) [] below) (has_name-name_of names number below))
+  -- the bytes end without a revision
+  IsRefusal-end : draft.counts ≡ [] → IsRefusal bytes (dump.Refused 8 (length bytes))
+  IsRefusal-end none =
+      let nothing : history_shown draft ≡ [] = nil_from_length (history_shown draft) (length-history_shown draft.names draft.records draft.counts draft.values ∙ ap length none) in record {
+        refusal = Revision;
+        first = read.refusal ∙ refusal_from-at read.most (length bytes) (history_shown draft) rest [] ends ∙ ap (end_refusal (length bytes)) nothing;
+        numbered = refl;
+      }
 
--- each name of what was read is a name of its history
-pub IfOk-named : {E : Type 0} (rest left : List ℕ) (draft : DumpValue) (result : Result DumpValue E) → IsRead rest left draft → IfOk result (λ dump. dump ≡ draft) → IfOk result (λ dump. All (λ name. IsTrue (has_name (names_of (history_shown dump)) name)) dump.names)
-IfOk-named rest left draft (Ok dump) read same =
-    let named : IsNamed dump = subst IsNamed (sym same) read.named in
-    subst (λ names. All (λ name. IsTrue (has_name names name)) dump.names) named (names_known dump.names)
-IfOk-named rest left draft (Err e) read same = tt
+  pub IfErr-read : (result : Result DumpValue DumpError) → IfErr result (λ e. (e ≡ dump.Refused 8 (length bytes)) × (draft.counts ≡ [])) → IfErr result (IsRefusal bytes)
+  IfErr-read (Ok dump) refused = tt
+  IfErr-read (Err e) refused = subst (IsRefusal bytes) (sym refused.0) (IsRefusal-end refused.1)

@@ -1,7 +1,7 @@
 -- The form of a property section and its reading: bytes are a section of these properties exactly where they are read as
 -- one, and a section has one list of properties.
 use Rattle.std.proofs.Common.{◌≡◌, ℕ, zero, suc, ◌+◌, ◌<◌, false, inl, inr, List, [], ◌∷◌, ◌++◌, length, refl, sym, ap, subst, ◌∙◌, append_assoc, arith, length-append}
-use Rattle.std.specs.Prelude.{Option, Some, None, bytes_eq}
+use Rattle.std.specs.Prelude.{Option, Some, None, bytes_eq, ◌↔◌}
 use Rattle.std.proofs.lemmas.Bool.{cases_Bool}
 use Rattle.std.proofs.lemmas.Option.{none-some, same_Some}
 use Rattle.std.proofs.lemmas.Slice.Eq.{bytes_eq-Decides}
@@ -105,3 +105,7 @@ IsSection-section_of bytes properties e = IsSection-section_up_to (length bytes)
 -- a section has one list of properties
 pub IsSection-same : (bytes : List ℕ) (a b : List Property) → IsSection bytes a → IsSection bytes b → a ≡ b
 IsSection-same bytes a b is_a is_b = same_Some a b (sym (section_of-IsSection bytes a is_a) ∙ section_of-IsSection bytes b is_b)
+
+-- a section is read as its form says
+pub section_of-both : (bytes : List ℕ) (properties : List Property) → (section_of bytes ≡ Some properties) ↔ IsSection bytes properties
+section_of-both bytes properties = (IsSection-section_of bytes properties, section_of-IsSection bytes properties)

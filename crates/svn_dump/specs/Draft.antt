@@ -1,8 +1,9 @@
 -- A dump that is being read: what it keeps between two blocks.
-use Rattle.std.specs.Prelude.{◌≡◌, ℕ, ◌≤◌, List, [], ◌++◌, All, length, map}
-use Rattle.svn_path.specs.Names.{name_of}
+use Rattle.std.specs.Prelude.{◌≡◌, ℕ, ◌≤◌, nat_le, nat_lt, Bool, ◌||◌, List, [], ◌++◌, All, bytes_eq, length, map}
+use Rattle.std.specs.List.{IsDistinct}
+use Rattle.svn_path.specs.Names.{IsTable, name_of}
 use Rattle.svn_dump.specs.Dump.{DumpValue, RecordIsOf, action_shown, record_shown, revisions_from, history_shown, setting_of, text_of}
-use Rattle.svn_dump.specs.DumpText.{names_of, values_of, most_numbered}
+use Rattle.svn_dump.specs.DumpText.{IsSmall, names_of, values_of, most_numbered}
 use Rattle.svn_dump.specs.History.{Setting, rename_action, rename_record, rename_setting}
 use Rattle.svn_dump.specs.Record.{ActionOfBytes, RecordOfBytes}
 use Rattle.svn_dump.specs.declared.record.Act.{Act}
@@ -44,3 +45,16 @@ IsNamed dump = dump.names ≡ names_of (history_shown dump)
 -- and so are the texts
 abbrev pub IsValued : DumpValue → Type 0
 IsValued dump = dump.values ≡ values_of (history_shown dump)
+
+-- nothing but that history is kept, and it isn't too large
+pub record IsWhole (dump : DumpValue) : Type 0 where
+  pub named : IsNamed dump
+  pub valued : IsValued dump
+  pub names : IsTable dump.names
+  pub texts : IsDistinct bytes_eq dump.values
+  pub small : IsSmall (history_shown dump)
+
+-- there are too many names or texts, or as many records as there may be
+abbrev pub is_full : DumpValue → Bool
+is_full dump =
+    nat_lt most_numbered (length dump.names) || nat_lt most_numbered (length dump.values) || nat_le most_numbered (length dump.records)

@@ -1,8 +1,18 @@
 -- Which refusals the reader gives.
-use Rattle.std.specs.Prelude.{◌≡◌}
+use Rattle.std.specs.Prelude.{◌≡◌, ℕ, List, Some}
+use Rattle.svn_dump.specs.FirstRefusal.{first_refusal}
+use Rattle.svn_dump.specs.Refusal.{number_of_refusal}
 use Rattle.svn_dump.specs.declared.error.DumpError.{DumpError}
 use Rattle.svn_dump.specs.declared.error.DumpError.TheVariants.{Refused, Memory}
+use Rattle.svn_dump.specs.declared.refusal.Refusal.{Refusal}
 
-abbrev pub IsRefusal : DumpError → Type 0
-IsRefusal (Refused number at) = (number ≡ 7) × (at ≡ 0)
-IsRefusal Memory = Unit {0}
+-- the first reason against the bytes has this number, and stands against a block that begins there
+pub record IsFirstAt (bytes : List ℕ) (number at : ℕ) : Type 0 where
+  pub refusal : Refusal
+  pub first : first_refusal bytes ≡ Some (record { refusal = refusal; at = at })
+  pub numbered : number ≡ number_of_refusal refusal
+
+-- the error is the first reason against the bytes, or want of memory
+abbrev pub IsRefusal : List ℕ → DumpError → Type 0
+IsRefusal bytes (Refused number at) = IsFirstAt bytes number at
+IsRefusal bytes Memory = Unit {0}

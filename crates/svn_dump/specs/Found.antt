@@ -1,12 +1,13 @@
 -- What the reader finds at the front of the bytes.
-use Rattle.std.specs.Prelude.{◌≡◌, ℕ, ◌==◌, Bool, false, List, [], ◌∷◌, ◌++◌, Option, Some, All, flat_map, length, replicate, take}
-use Rattle.svn_dump.specs.Block.{Block, IsBlock, IsHeader, block_text, line_text, properties_length}
+use Rattle.std.specs.Prelude.{◌≡◌, ℕ, List, ◌++◌, Option, Some, All, IsFalse, flat_map, length, take}
+use Rattle.std.specs.List.{list_any}
+use Rattle.svn_dump.specs.Block.{Block, IsBlock, IsHeader, block_text, is_newline, line_text, properties_length}
 use Rattle.svn_dump.specs.Field.{fields_of}
+use Rattle.svn_dump.specs.FirstRefusal.{block_refusal}
 use Rattle.svn_dump.specs.Headers.{AreHeaders}
-
-abbrev pub begins_with_newline : List ℕ → Bool
-begins_with_newline [] = false
-begins_with_newline (byte ∷ bytes) = byte == 10
+use Rattle.svn_dump.specs.Record.{HistoryOfBytes, with_block}
+use Rattle.svn_dump.specs.declared.read_error.ReadError.{ReadError}
+use Rattle.svn_dump.specs.declared.read_error.ReadError.TheVariants as read
 
 -- the bytes begin with header lines of these values, and the rest follows
 pub record BeginsWithLines (bytes : List ℕ) (values : List (Option (List ℕ))) (rest : List ℕ) : Type 0 where
@@ -15,12 +16,31 @@ pub record BeginsWithLines (bytes : List ℕ) (values : List (Option (List ℕ))
   pub fields : AreHeaders values lines
   pub whole : bytes ≡ flat_map line_text lines ++ rest
 
--- the bytes begin with empty lines and a block, whose body begins with its property section, and the rest follows
+-- what follows is no whole line
+pub record IsUnfinished (bytes : List ℕ) (values : List (Option (List ℕ))) : Type 0 where
+  pub rest : List ℕ
+  pub lines : BeginsWithLines bytes values rest
+  pub no_line : IsFalse (list_any is_newline rest)
+
+-- the bytes are a block, whose body begins with its property section, and the rest follows
 pub record BeginsWithBlock (bytes : List ℕ) (values : List (Option (List ℕ))) (properties rest : List ℕ) : Type 0 where
-  pub empty : ℕ
   pub block : Block
   pub is_block : IsBlock block
   pub fields : values ≡ fields_of block.lines
   pub section : properties_length block.lines ≡ Some (length properties)
   pub front : properties ≡ take (length properties) block.body
-  pub whole : bytes ≡ replicate empty 10 ++ block_text block ++ rest
+  pub whole : bytes ≡ block_text block ++ rest
+
+-- ---- what it makes of a history
+
+-- the bytes begin with a block, and the rest follows; the block makes the new history of the old one
+pub record AddsBlock (bytes rest : List ℕ) (old new : HistoryOfBytes) : Type 0 where
+  pub block : Block
+  pub is_block : IsBlock block
+  pub whole : bytes ≡ block_text block ++ rest
+  pub told : with_block old block ≡ Some new
+
+-- the error is the first reason against the block that the bytes begin with, or want of memory
+abbrev pub IsBlockRefusal : HistoryOfBytes → List ℕ → ReadError → Type 0
+IsBlockRefusal history bytes (read.Refused refusal) = block_refusal history bytes ≡ Some refusal
+IsBlockRefusal history bytes read.Memory = Unit {0}

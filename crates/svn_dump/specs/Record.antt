@@ -1,13 +1,12 @@
 -- What the blocks of a dump say of the history: revisions, and records of paths (Subversion's dump format notes).
-use Rattle.std.specs.Prelude.{ℕ, pred, ◌==◌, nat_lt, Bool, true, false, not, ◌&&◌, ◌||◌, List, [], ◌∷◌, ◌++◌, Option, Some, None, fold, length, codes, bytes_eq, option_map, option_and_then, if◌then◌else◌}
-use Rattle.std.specs.List.{list_any}
+use Rattle.std.specs.Prelude.{ℕ, pred, ◌==◌, nat_le, nat_lt, Bool, false, not, ◌&&◌, ◌||◌, List, [], ◌∷◌, ◌++◌, Option, Some, None, fold, length, codes, bytes_eq, option_map, option_and_then, if◌then◌else◌}
+use Rattle.std.specs.List.{list_all, list_any}
 use Rattle.svn_path.specs.Components.{parts_of, is_dot}
 use Rattle.svn_dump.specs.Block.{Block, field, properties_length}
 use Rattle.svn_dump.specs.History.{Setting, Action, delete, change, add, copy, Record, History}
-use Rattle.svn_dump.specs.Number.{number_of, number_up_to, greatest_revision}
+use Rattle.svn_dump.specs.Node.{BlockSort, Node, NodeAction, action_named, adding, changing, copying, deleting, is_change, node_block, other_block, revision_block, sorted, uuid_block}
+use Rattle.svn_dump.specs.Number.{number_of}
 use Rattle.svn_dump.specs.Property.{setting_of}
-use Rattle.svn_dump.specs.declared.kind.Kind.{Kind}
-use Rattle.svn_dump.specs.declared.kind.Kind.TheVariants.{File, Dir}
 
 -- components and mergeinfo texts as bytes
 abbrev pub RecordOfBytes : Type 0
@@ -19,16 +18,68 @@ ActionOfBytes = Action (List ℕ) (List ℕ)
 abbrev pub HistoryOfBytes : Type 0
 HistoryOfBytes = History (List ℕ) (List ℕ)
 
+-- ---- what a node block may say
+
 abbrev pub most_components : ℕ
 most_components = 1024
 
--- the components of a path that is read: none of them `.` or `..`, and not too many
-abbrev pub path_of : List ℕ → Option (List (List ℕ))
-path_of bytes =
-    if list_any is_dot (parts_of bytes) || nat_lt most_components (length (parts_of bytes)) then None else Some (parts_of bytes)
+-- a component `.` or `..`
+abbrev pub has_dot : List ℕ → Bool
+has_dot path = list_any is_dot (parts_of path)
 
-abbrev pub kind_of : List ℕ → Option Kind
-kind_of value = if bytes_eq value (codes "file") then Some File else (if bytes_eq value (codes "dir") then Some Dir else None)
+abbrev pub is_long : List ℕ → Bool
+is_long path = nat_lt most_components (length (parts_of path))
+
+-- no component
+abbrev pub is_root : List ℕ → Bool
+is_root path = length (parts_of path) == 0
+
+-- the paths that are read: the node's own, and that of a copy's source
+abbrev pub paths_read : List ℕ → NodeAction → List (List ℕ)
+paths_read path deleting = path ∷ []
+paths_read path changing = path ∷ []
+paths_read path (adding replace kind) = path ∷ []
+paths_read path (copying replace from_rev from) = path ∷ from ∷ []
+
+-- a copy from the block's own revision, or a later one
+abbrev pub is_late : ℕ → NodeAction → Bool
+is_late rev deleting = false
+is_late rev changing = false
+is_late rev (adding replace kind) = false
+is_late rev (copying replace from_rev from) = nat_le rev from_rev
+
+-- the root can only be changed
+abbrev pub is_root_action : List ℕ → NodeAction → Bool
+is_root_action path action = is_root path && not (is_change action)
+
+-- every path is one, and not too long; sections and texts are whole; a copy is of an earlier revision; and nothing
+-- happens to the root but changes, and nothing in revision 0
+abbrev pub is_allowed : ℕ → List ℕ → Bool → NodeAction → Bool
+is_allowed rev path is_delta action =
+    list_all (λ each. not (has_dot each) && not (is_long each)) (paths_read path action)
+    && not is_delta && not (is_late rev action) && not (is_root_action path action) && nat_lt 0 rev
+
+-- ---- the record of a node block
+
+abbrev pub action_of : Setting (List ℕ) → NodeAction → ActionOfBytes
+action_of setting deleting = delete
+action_of setting changing = change setting
+action_of setting (adding replace kind) = add replace kind setting
+action_of setting (copying replace from_rev from) = copy replace (parts_of from) from_rev setting
+
+abbrev pub record_by : List ℕ → Setting (List ℕ) → NodeAction → RecordOfBytes
+record_by path setting action = record { path = parts_of path; action = action_of setting action }
+
+-- the record of a node block of that revision
+unfoldable pub record_of : ℕ → Node → Option RecordOfBytes
+record_of rev node =
+    option_and_then
+    (λ setting. option_and_then
+    (λ action. if is_allowed rev node.path node.is_delta action then Some (record_by node.path setting action) else None)
+    node.action)
+    node.setting
+
+-- ---- blocks
 
 abbrev pub says_true : Option (List ℕ) → Bool
 says_true None = false
@@ -38,48 +89,26 @@ says_true (Some value) = bytes_eq value (codes "true")
 abbrev pub is_delta : List (List ℕ) → Bool
 is_delta lines = says_true (field (codes "Prop-delta") lines) || says_true (field (codes "Text-delta") lines)
 
--- an addition in a revision, given its kind and its copy source where these headers are there
-abbrev pub addition : ℕ → Bool → Setting (List ℕ) → Option (List ℕ) → Option (List ℕ) → Option (List ℕ) → Option ActionOfBytes
-addition rev replace setting kind None None = option_and_then (λ value. option_map (λ it. add replace it setting) (kind_of value)) kind
-addition rev replace setting kind None (Some from) = None
-addition rev replace setting kind (Some from_rev) None = None
-addition rev replace setting kind (Some from_rev) (Some from) =
+abbrev pub node_action_of : List (List ℕ) → Option NodeAction
+node_action_of lines =
     option_and_then
-    (λ number. if nat_lt number rev then option_map (λ path. copy replace path number setting) (path_of from) else None)
-    (number_up_to greatest_revision from_rev)
+    (action_named (field (codes "Node-kind") lines) (field (codes "Node-copyfrom-rev") lines) (field (codes "Node-copyfrom-path") lines))
+    (field (codes "Node-action") lines)
 
--- the same by the lines of the block
-abbrev pub addition_of : ℕ → List (List ℕ) → Setting (List ℕ) → Bool → Option ActionOfBytes
-addition_of rev lines setting replace =
-    addition rev replace setting (field (codes "Node-kind") lines) (field (codes "Node-copyfrom-rev") lines) (field (codes "Node-copyfrom-path") lines)
+abbrev pub node_of : Block → List ℕ → Node
+node_of block path = record {
+  path = path;
+  action = node_action_of block.lines;
+  is_delta = is_delta block.lines;
+  setting = setting_of (properties_length block.lines) block.body;
+}
 
--- what a node block of a revision does, given what its section says of mergeinfo
-unfoldable pub action_of : ℕ → List (List ℕ) → Setting (List ℕ) → List ℕ → Option ActionOfBytes
-action_of rev lines setting value =
-    if bytes_eq value (codes "delete") then Some delete
-    else (if bytes_eq value (codes "change") then Some (change setting)
-    else (if bytes_eq value (codes "add") then addition_of rev lines setting false
-    else (if bytes_eq value (codes "replace") then addition_of rev lines setting true
-    else None)))
+unfoldable pub sort_of : Block → BlockSort
+sort_of block =
+    sorted (field (codes "Revision-number") block.lines) (option_map (node_of block) (field (codes "Node-path") block.lines))
+    (field (codes "UUID") block.lines)
 
--- the root can only be changed
-abbrev pub spares_root : List (List ℕ) → ActionOfBytes → Bool
-spares_root [] (change setting) = true
-spares_root [] delete = false
-spares_root [] (add replace kind setting) = false
-spares_root [] (copy replace from from_rev setting) = false
-spares_root (part ∷ parts) action = true
-
--- the record of a node block in a revision above 0
-unfoldable pub record_of : ℕ → List (List ℕ) → List ℕ → List ℕ → Option RecordOfBytes
-record_of rev lines body path =
-    option_and_then
-    (λ setting. option_and_then
-    (λ parts. option_and_then
-    (λ action. if spares_root parts action then Some (record { path = parts; action = action }) else None)
-    (option_and_then (action_of rev lines setting) (field (codes "Node-action") lines)))
-    (if nat_lt 0 rev && not (is_delta lines) then path_of path else None))
-    (setting_of (properties_length lines) body)
+-- ---- the history
 
 -- a history with one more record in its last revision
 abbrev pub with_record : HistoryOfBytes → RecordOfBytes → HistoryOfBytes
@@ -92,18 +121,15 @@ abbrev pub with_numbered : HistoryOfBytes → List ℕ → Option HistoryOfBytes
 with_numbered history number =
     option_and_then (λ value. if value == length history then Some (history ++ [] ∷ []) else None) (number_of number)
 
--- what a block adds, given its revision number, its path and its UUID where these headers are there: a revision, or
--- a record of the revision before it; the repository's UUID adds nothing
-abbrev pub with_fields : HistoryOfBytes → Block → Option (List ℕ) → Option (List ℕ) → Option (List ℕ) → Option HistoryOfBytes
-with_fields history block (Some number) path uuid = with_numbered history number
-with_fields history block None (Some path) uuid = option_map (with_record history) (record_of (pred (length history)) block.lines block.body path)
-with_fields history block None None (Some uuid) = Some history
-with_fields history block None None None = None
+-- what a block adds: a revision, or a record of the revision before it; the repository's UUID adds nothing
+unfoldable pub with_sort : HistoryOfBytes → BlockSort → Option HistoryOfBytes
+with_sort history (revision_block number) = with_numbered history number
+with_sort history (node_block node) = option_map (with_record history) (record_of (pred (length history)) node)
+with_sort history uuid_block = Some history
+with_sort history other_block = None
 
-unfoldable pub with_block : HistoryOfBytes → Block → Option HistoryOfBytes
-with_block history block =
-    with_fields history block
-    (field (codes "Revision-number") block.lines) (field (codes "Node-path") block.lines) (field (codes "UUID") block.lines)
+abbrev pub with_block : HistoryOfBytes → Block → Option HistoryOfBytes
+with_block history block = with_sort history (sort_of block)
 
 -- the history that these blocks tell, one after another
 abbrev pub history_of : List Block → Option HistoryOfBytes

@@ -1,11 +1,14 @@
 //! The blocks of a dump.
-ghost use Rattle.std.specs.Prelude.{◌≡◌, ℕ, ◌∷◌, ◌++◌, IsFalse, IfOk, MatchOption, replicate};
-ghost use Rattle.svn_dump.specs.Found.{BeginsWithBlock, BeginsWithLines, begins_with_newline};
+ghost use Rattle.std.specs.Prelude.{◌≡◌, ℕ, ◌∷◌, ◌++◌, IsFalse, IsTrue, IfErr, IfOk, IfSome, MatchOption, Some, []};
+ghost use Rattle.svn_dump.specs.FirstRefusal.{begins_with_newline, front_refusals, without_empty_lines};
+ghost use Rattle.svn_dump.specs.Found.{BeginsWithBlock, BeginsWithLines, IsUnfinished};
+ghost use Rattle.svn_dump.specs.Refusal.{first_holding};
+ghost use Rattle.svn_path.specs.Components.{is_not_empty};
 
 use crate::headers::Headers;
 use crate::length::lengths_of;
 use crate::line::{header_of, split_line};
-use crate::read_error::ReadError;
+use crate::refusal::Refusal;
 
 /// A block at the front of the bytes.
 #[derive(Drop)]
@@ -17,58 +20,60 @@ pub(crate) struct Found<'a> {
     pub(crate) rest: &'a [u8],
 }
 
-/// The bytes without the empty lines at their front.
-fn skip_empty_lines(bytes: &[u8]) -> &[u8]
-    ensures skipped { (empty : ℕ) × (bytes.now ≡ replicate empty 10 ++ result.now) }
-    ensures all { IsFalse (begins_with_newline result.now) }
+/// The bytes without the empty lines at their front, if there is more than these.
+pub(crate) fn skip_empty_lines(bytes: &[u8]) -> Option<&[u8]>
+    ensures same { MatchOption result (without_empty_lines bytes.now ≡ []) (λ rest. rest.now ≡ without_empty_lines bytes.now) }
+    ensures some { IfSome result (λ rest. IsTrue (is_not_empty rest.now)) }
+    ensures all { IfSome result (λ rest. IsFalse (begins_with_newline rest.now)) }
 {
     let mut rest = bytes;
     while let [b'\n', more @ ..] = rest {
         rest = more;
     }
-    rest
+    (!rest.is_empty()).then_some(rest)
 }
 
-/// The headers of a block, and what follows the empty line after them.
-fn headers_of(bytes: &[u8]) -> Result<(Headers<'_>, &[u8]), ReadError>
-    ensures { IfOk result (λ found. BeginsWithLines bytes.now found.0 (10 ∷ found.1.now)) }
+/// The headers of a block, and what follows the empty line after them, if the bytes do not end before it.
+fn headers_of(bytes: &[u8]) -> Result<(Headers<'_>, Option<&[u8]>), Refusal>
+    ensures whole { IfOk result (λ found. MatchOption found.1 (IsUnfinished bytes.now found.0) (λ rest. BeginsWithLines bytes.now found.0 (10 ∷ rest.now))) }
+    ensures refused { IfErr result (λ refusal. first_holding (front_refusals bytes.now) ≡ Some refusal) }
 {
     let mut headers = Headers::new();
     let mut rest = bytes;
     while let Some((line, more)) = split_line(rest) {
-        rest = more;
         if line.is_empty() {
-            return Ok((headers, rest));
+            return Ok((headers, Some(more)));
         }
         let Some((name, value)) = header_of(line) else {
-            return Err(ReadError::Refused);
+            return Err(Refusal::Header);
         };
         headers.add(name, value)?;
+        rest = more;
     }
-    Err(ReadError::Refused)
+    Ok((headers, None))
 }
 
-/// The next block, if there is more than empty lines. The text of its body is passed over.
-pub(crate) fn next_block(bytes: &[u8]) -> Result<Option<Found<'_>>, ReadError>
-    ensures { IfOk result (λ next. MatchOption next
-        ((empty : ℕ) × (bytes.now ≡ replicate empty 10))
-        (λ found. BeginsWithBlock bytes.now found.headers found.properties.now found.rest.now)) }
+/// The block that the bytes begin with. The text of its body is passed over.
+pub(crate) fn first_block(bytes: &[u8]) -> Result<Found<'_>, Refusal>
+    requires some { IsTrue (is_not_empty bytes.now) }
+    requires not_empty_line { IsFalse (begins_with_newline bytes.now) }
+    ensures found { IfOk result (λ found. BeginsWithBlock bytes.now found.headers found.properties.now found.rest.now) }
+    ensures refused { IfErr result (λ refusal. first_holding (front_refusals bytes.now) ≡ Some refusal) }
 {
-    let bytes = skip_empty_lines(bytes);
-    if bytes.is_empty() {
-        return Ok(None);
-    }
     let (headers, rest) = headers_of(bytes)?;
-    match lengths_of(&headers) {
-        Some((section, whole)) if whole <= rest.len() as u64 => {
+    let Some((section, whole)) = lengths_of(&headers) else {
+        return Err(Refusal::Length);
+    };
+    match rest {
+        Some(rest) if whole <= rest.len() as u64 => {
             let (body, rest) = rest.split_at(whole as usize);
             let (properties, _) = body.split_at(section as usize);
-            Ok(Some(Found {
+            Ok(Found {
                 headers,
                 properties,
                 rest,
-            }))
+            })
         }
-        _ => Err(ReadError::Refused),
+        _ => Err(Refusal::Truncated),
     }
 }

@@ -1,17 +1,24 @@
 //! A dump that is being read.
-ghost use Rattle.std.specs.Prelude.{◌≡◌, pred, [], Some, option_map, length, OnOk, IfOk};
+ghost use Rattle.std.specs.Prelude.{◌≡◌, [], Some, bytes_eq, IsFalse, OnOk, IfErr, IfOk};
+ghost use Rattle.std.specs.List.{IsDistinct};
+ghost use Rattle.svn_path.specs.Names.{IsTable};
 ghost use Rattle.svn_dump.specs.Dump.{IsDump, history_shown};
-ghost use Rattle.svn_dump.specs.Draft.{dump_of, IsNamed, IsValued};
-ghost use Rattle.svn_dump.specs.Record.{with_numbered, with_record};
-ghost use Rattle.svn_dump.specs.Said.{record_said, with_said};
+ghost use Rattle.svn_dump.specs.Draft.{dump_of, is_full, IsWhole};
+ghost use Rattle.svn_dump.specs.Node.{node_block, revision_block};
+ghost use Rattle.svn_dump.specs.Record.{with_sort};
+ghost use Rattle.svn_dump.specs.Refusal.{sort_refusals};
+ghost use Rattle.svn_dump.specs.Said.{node_said, sort_said};
+ghost use Rattle.svn_dump.specs.Told.{IsFirst};
 
 use crate::block::Found;
 use crate::dump::Dump;
+use crate::error::DumpError;
 use crate::field::Field;
 use crate::node::record_of;
 use crate::number::number_up_to;
 use crate::read_error::ReadError;
 use crate::record::NodeRecord;
+use crate::refusal::Refusal;
 use crate::texts::Texts;
 use std::alloc::Global;
 use std::marker::Model;
@@ -56,9 +63,9 @@ impl Draft {
 
     /// Adds what a block says.
     pub(crate) fn add(&mut self, alloc: Global, found: &Found) -> Result<(), ReadError>
-        ensures told { OnOk result (with_said (history_shown self.old) found.now.headers found.now.properties.now ≡ Some (history_shown self.new)) }
-        ensures named { OnOk result (IsNamed self.old → IsNamed self.new) }
-        ensures valued { OnOk result (IsValued self.old → IsValued self.new) }
+        ensures told { OnOk result (with_sort (history_shown self.old) (sort_said found.now.headers found.now.properties.now) ≡ Some (history_shown self.new)) }
+        ensures keeps { OnOk result (IsWhole self.old → IsWhole self.new) }
+        ensures refused { IfErr result (λ e. IsWhole self.old → IsFirst (sort_refusals (history_shown self.old) (sort_said found.now.headers found.now.properties.now)) e) }
     {
         if let Some(number) = found.headers.get(Field::RevisionNumber) {
             self.add_revision(number)
@@ -67,22 +74,22 @@ impl Draft {
         } else if found.headers.get(Field::Uuid).is_some() {
             Ok(())
         } else {
-            Err(ReadError::Refused)
+            Err(ReadError::Refused(Refusal::BadRecord))
         }
     }
 
     /// Adds a revision, whose number is to be the next.
     fn add_revision(&mut self, number: &[u8]) -> Result<(), ReadError>
-        ensures told { OnOk result (with_numbered (history_shown self.old) number.now ≡ Some (history_shown self.new)) }
-        ensures named { OnOk result (IsNamed self.old → IsNamed self.new) }
-        ensures valued { OnOk result (IsValued self.old → IsValued self.new) }
+        ensures told { OnOk result (with_sort (history_shown self.old) (revision_block number.now) ≡ Some (history_shown self.new)) }
+        ensures keeps { OnOk result (IsWhole self.old → IsWhole self.new) }
+        ensures refused { IfErr result (λ e. IsWhole self.old → IsFirst (sort_refusals (history_shown self.old) (revision_block number.now)) e) }
     {
         let next = self.counts.len();
-        if next >= MOST_NUMBERED {
-            return Err(ReadError::Refused);
-        }
         if number_up_to(next as u64, number) != Some(next as u64) {
-            return Err(ReadError::Refused);
+            return Err(ReadError::Refused(Refusal::Revision));
+        }
+        if next >= MOST_NUMBERED {
+            return Err(ReadError::Refused(Refusal::TooLarge));
         }
         self.counts.push(0)?;
         Ok(())
@@ -90,31 +97,44 @@ impl Draft {
 
     /// Adds a record of the last revision, given the value of its path.
     fn add_record(&mut self, alloc: Global, found: &Found, path: &[u8]) -> Result<(), ReadError>
-        ensures told { OnOk result (option_map (with_record (history_shown self.old)) (record_said (pred (length (history_shown self.old))) found.now.headers found.now.properties.now path.now) ≡ Some (history_shown self.new)) }
-        ensures named { OnOk result (IsNamed self.old → IsNamed self.new) }
-        ensures valued { OnOk result (IsValued self.old → IsValued self.new) }
+        ensures told { OnOk result (with_sort (history_shown self.old) (node_block (node_said found.now.headers found.now.properties.now path.now)) ≡ Some (history_shown self.new)) }
+        ensures keeps { OnOk result (IsWhole self.old → IsWhole self.new) }
+        ensures refused { IfErr result (λ e. IsWhole self.old → IsFirst (sort_refusals (history_shown self.old) (node_block (node_said found.now.headers found.now.properties.now path.now))) e) }
     {
-        let last = self.counts.len().saturating_sub(1);
+        let revisions = self.counts.len();
         let record = record_of(
             alloc,
             &mut self.names,
             &mut self.texts,
-            last as u32,
+            revisions as u32,
             found,
             path,
         )?;
-        if self.records.len() >= MOST_NUMBERED {
-            return Err(ReadError::Refused);
+        if self.is_full() {
+            return Err(ReadError::Refused(Refusal::TooLarge));
         }
         self.records.push(record)?;
-        self.counts[last] += 1;
+        self.counts[revisions - 1] += 1;
         Ok(())
     }
 
-    /// The dump, if it has a revision and not too many names and texts.
-    pub(crate) fn finish(self) -> Result<Dump, ReadError>
+    /// Whether there are too many names or texts, or as many records as there may be.
+    fn is_full(&self) -> bool
+        ensures full { result ≡ is_full self.now }
+        ensures names { IsFalse result → IsTable self.now.names }
+        ensures texts { IsFalse result → IsDistinct bytes_eq self.now.values }
+    {
+        self.names.len() > MOST_NUMBERED
+            || self.texts.len() > MOST_NUMBERED
+            || self.records.len() >= MOST_NUMBERED
+    }
+
+    /// The dump of so many bytes, if it has a revision.
+    pub(crate) fn finish(self, end: u64) -> Result<Dump, DumpError>
+        requires { IsWhole self }
         ensures same { IfOk result (λ dump. dump ≡ self) }
         ensures kept { IfOk result IsDump }
+        ensures refused { IfErr result (λ e. (e ≡ DumpError.Refused 8 end) × (self.counts ≡ [])) }
     {
         let Draft {
             names,
@@ -122,8 +142,8 @@ impl Draft {
             counts,
             texts,
         } = self;
-        if counts.is_empty() || names.len() > MOST_NUMBERED || texts.len() > MOST_NUMBERED {
-            return Err(ReadError::Refused);
+        if counts.is_empty() {
+            return Err(ReadError::Refused(Refusal::Revision).at(end));
         }
         Ok(Dump {
             names,

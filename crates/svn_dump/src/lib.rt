@@ -12,10 +12,12 @@ mod length;
 mod line;
 mod mergeinfo;
 mod node;
+mod node_action;
 mod number;
 mod read_error;
 mod reader;
 mod record;
+mod refusal;
 mod section;
 mod texts;
 

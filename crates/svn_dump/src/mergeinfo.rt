@@ -1,8 +1,9 @@
 //! What a node block says of the mergeinfo of its path.
-ghost use Rattle.std.specs.Prelude.{◌≡◌, IfOk, option_map};
+ghost use Rattle.std.specs.Prelude.{◌≡◌, IfErr, IfOk, option_map};
 ghost use Rattle.svn_dump.specs.Draft.{Extends};
 ghost use Rattle.svn_dump.specs.Said.{setting_read, setting_said};
-ghost use Rattle.svn_dump.specs.Told.{IsSettingTold};
+ghost use Rattle.svn_dump.specs.DumpText.{texts_of_setting};
+ghost use Rattle.svn_dump.specs.Told.{IsSettingTold, IsTooLarge, is_full_with};
 
 use crate::read_error::ReadError;
 use crate::record::Mi;
@@ -33,6 +34,7 @@ impl<'a> Mergeinfo<'a> {
     /// The same by the number of the text, which the table takes where it is new.
     pub(crate) fn numbered(self, texts: &mut Texts) -> Result<Mi, ReadError>
         ensures told { IfOk result (IsSettingTold (setting_read self.entry) texts.old texts.new) }
+        ensures refused { IfErr result (IsTooLarge (is_full_with texts.old (texts_of_setting (setting_read self.entry)))) }
         ensures grows { Extends texts.old texts.new }
     {
         Ok(match self {

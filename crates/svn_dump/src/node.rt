@@ -1,53 +1,42 @@
 //! What a node block says: a record of its revision.
-ghost use Rattle.std.specs.Prelude.{◌≡◌, ◌≤◌, ℕ, List, Option, Some, length, option_copied, IfOk};
+ghost use Rattle.std.specs.Prelude.{◌≡◌, ℕ, [], pred, ◌||◌, Bool, IsFalse, Some, option_copied, IfErr, IfOk};
+ghost use Rattle.std.specs.List.{list_all, list_any};
+ghost use Rattle.svn_path.specs.Components.{is_slash, parts_of};
 ghost use Rattle.svn_path.specs.Names.{with_names};
-ghost use Rattle.svn_dump.specs.Draft.{Extends, action_told, setting_told};
-ghost use Rattle.svn_dump.specs.Dump.{SettingIsOf};
-ghost use Rattle.svn_dump.specs.DumpText.{texts_of_action};
-ghost use Rattle.svn_dump.specs.Record.{path_of, kind_of, says_true, addition};
-ghost use Rattle.svn_dump.specs.Said.{is_delta_said, addition_said, action_said, record_said, setting_read};
-ghost use Rattle.svn_dump.specs.Told.{IsPathTold, IsActTold, IsRecordTold};
+ghost use Rattle.svn_dump.specs.Draft.{Extends};
+ghost use Rattle.svn_dump.specs.DumpText.{parts_of_action, texts_of_action};
+ghost use Rattle.svn_dump.specs.Record.{action_of, has_dot, is_late, is_long, is_root_action, paths_read, record_of, says_true};
+ghost use Rattle.svn_dump.specs.Refusal.{action_refusals, first_holding, node_refusals};
+ghost use Rattle.svn_dump.specs.Said.{action_read, is_delta_said, node_said, setting_read};
+ghost use Rattle.svn_dump.specs.Told.{IsActTold, IsFirst, IsPathTold, IsRecordTold, IsTaken, IsTooLarge, is_full_with, is_path_large, is_record_large};
 
 use crate::block::Found;
 use crate::field::Field;
 use crate::headers::Headers;
-use crate::kind::Kind;
 use crate::mergeinfo::Mergeinfo;
-use crate::number::number_up_to;
+use crate::node_action::NodeAction;
 use crate::read_error::ReadError;
-use crate::record::{Act, Mi, NodeRecord};
+use crate::record::{Act, NodeRecord};
+use crate::refusal::Refusal;
 use crate::texts::Texts;
 use std::alloc::Global;
-use svn_path::{Names, Path};
+use svn_path::{Names, Path, has_dot};
 
 /// How many components a path has at most.
 const MOST_COMPONENTS: usize = 1024;
 
-/// The greatest revision that a copy may name.
-const GREATEST_REVISION: u64 = 2_147_483_647;
-
-/// The path that the bytes tell.
-fn path_of(alloc: Global, names: &mut Names, bytes: &[u8]) -> Result<Path, ReadError>
-    ensures told { IfOk result (IsPathTold (path_of bytes.now) names.old names.new) }
-    ensures grows { Extends names.old names.new }
+/// Whether the path has no component.
+fn is_root(path: &[u8]) -> bool
+    ensures { result ≡ list_all is_slash path.now }
 {
-    let path = Path::read(alloc, names, bytes)?;
-    if path.len() > MOST_COMPONENTS {
-        return Err(ReadError::Refused);
-    }
-    Ok(path)
+    path.iter().all(|byte| *byte == b'/')
 }
 
-fn kind_of(value: &[u8]) -> Option<Kind>
-    ensures { result ≡ kind_of value.now }
+/// Whether the path is the root, and something else than changed.
+fn is_root_action(path: &[u8], action: NodeAction) -> bool
+    ensures { result ≡ is_root_action path.now (action_read action.entry) }
 {
-    if value == b"file".as_slice() {
-        Some(Kind::File)
-    } else if value == b"dir".as_slice() {
-        Some(Kind::Dir)
-    } else {
-        None
-    }
+    is_root(path) && !action.is_change()
 }
 
 fn says_true(value: Option<&[u8]>) -> bool
@@ -66,116 +55,132 @@ fn is_delta(headers: &Headers) -> bool
     says_true(headers.get(Field::PropertiesDelta)) || says_true(headers.get(Field::TextDelta))
 }
 
-/// A copy of a path in an earlier revision.
-fn copy_of(
-    alloc: Global,
-    names: &mut Names,
-    rev: u32,
-    replace: bool,
-    mi: Mi,
-    from_rev: &[u8],
-    from: &[u8],
-) -> Result<Act, ReadError>
-    ensures told { (texts : List (List ℕ)) (kind : Option (List ℕ)) → SettingIsOf (length texts) mi →
-        IfOk result (IsActTold (addition rev replace (setting_told texts mi) kind (Some from_rev.now) (Some from.now)) rev names.old names.new texts) }
-    ensures grows { Extends names.old names.new }
+/// Whether a path that is read has a component `.` or `..`.
+fn names_dot(path: &[u8], action: NodeAction) -> bool
+    ensures { result ≡ list_any has_dot (paths_read path.now (action_read action.entry)) }
 {
-    let Some(from_rev) = number_up_to(GREATEST_REVISION, from_rev) else {
-        return Err(ReadError::Refused);
-    };
-    if from_rev >= u64::from(rev) {
-        return Err(ReadError::Refused);
-    }
-    let from = path_of(alloc, names, from)?;
-    Ok(Act::Copy {
-        replace,
-        from,
-        from_rev: from_rev as u32,
-        mi,
-    })
-}
-
-/// What a block with these headers adds.
-fn addition(
-    alloc: Global,
-    names: &mut Names,
-    rev: u32,
-    headers: &Headers,
-    replace: bool,
-    mi: Mi,
-) -> Result<Act, ReadError>
-    ensures told { (texts : List (List ℕ)) → SettingIsOf (length texts) mi →
-        IfOk result (IsActTold (addition_said rev headers.now (setting_told texts mi) replace) rev names.old names.new texts) }
-    ensures grows { Extends names.old names.new }
-{
-    match (
-        headers.get(Field::CopyfromRevision),
-        headers.get(Field::CopyfromPath),
-    ) {
-        (Some(from_rev), Some(from)) => copy_of(alloc, names, rev, replace, mi, from_rev, from),
-        (None, None) => match headers.get(Field::NodeKind).and_then(kind_of) {
-            Some(kind) => Ok(Act::Add { replace, kind, mi }),
-            None => Err(ReadError::Refused),
-        },
-        _ => Err(ReadError::Refused),
+    match action {
+        NodeAction::Copy { from, .. } => has_dot(path) || has_dot(from),
+        _ => has_dot(path),
     }
 }
 
-/// What a node block does in a revision.
+/// The first reason against what a node block of a revision does.
+fn refusal_of(rev: u32, found: &Found, path: &[u8], action: NodeAction) -> Option<Refusal>
+    ensures { result ≡ first_holding (action_refusals rev (node_said found.now.headers found.now.properties.now path.now) (action_read action.entry)) }
+{
+    if names_dot(path, action) {
+        Some(Refusal::BadPath)
+    } else if is_delta(&found.headers) {
+        Some(Refusal::Delta)
+    } else if action.is_late(rev) {
+        Some(Refusal::CopyRevision)
+    } else if is_root_action(path, action) {
+        Some(Refusal::RootAction)
+    } else if rev == 0 {
+        Some(Refusal::RevisionZero)
+    } else {
+        None
+    }
+}
+
+/// The path that the bytes tell.
+fn path_of(alloc: Global, names: &mut Names, bytes: &[u8]) -> Result<Path, ReadError>
+    requires { IsFalse (has_dot bytes.now) }
+    ensures told { IfOk result (IsPathTold bytes.now names.old names.new) }
+    ensures short { IfOk result (λ _. IsFalse (is_long bytes.now)) }
+    ensures refused { IfErr result (IsTooLarge (is_path_large names.old bytes.now)) }
+    ensures grows { Extends names.old names.new }
+{
+    let path = Path::read(alloc, names, bytes)?;
+    if path.len() > MOST_COMPONENTS {
+        return Err(ReadError::Refused(Refusal::TooLarge));
+    }
+    Ok(path)
+}
+
+/// What a node block does, by the numbers of the tables.
 fn act_of(
     alloc: Global,
     names: &mut Names,
     texts: &mut Texts,
-    rev: u32,
-    headers: &Headers,
+    action: NodeAction,
     mergeinfo: Mergeinfo,
 ) -> Result<Act, ReadError>
-    ensures told { IfOk result (IsActTold (action_said rev headers.now (setting_read mergeinfo.entry)) rev names.old names.new texts.new) }
-    ensures texts { IfOk result (λ act. texts.new ≡ with_names texts.old (texts_of_action (action_told names.new texts.new act))) }
+    requires { IsFalse (list_any has_dot (paths_read [] (action_read action))) }
+    ensures told { IfOk result (λ act. (rev : ℕ) → IsFalse (is_late rev (action_read action.entry)) →
+        IsActTold (action_of (setting_read mergeinfo.entry) (action_read action.entry)) rev names.old names.new texts.new act) }
+    ensures texts { IfOk result (λ _. texts.new ≡ with_names texts.old (texts_of_action (action_of (setting_read mergeinfo.entry) (action_read action.entry)))) }
+    ensures short { IfOk result (λ _. IsFalse (list_any is_long (paths_read [] (action_read action.entry)))) }
+    ensures refused { IfErr result (IsTooLarge (list_any is_long (paths_read [] (action_read action.entry))
+        || is_full_with names.old (parts_of_action (action_of (setting_read mergeinfo.entry) (action_read action.entry)))
+        || is_full_with texts.old (texts_of_action (action_of (setting_read mergeinfo.entry) (action_read action.entry))))) }
     ensures grows { Extends names.old names.new }
     ensures texts_grow { Extends texts.old texts.new }
 {
-    let Some(action) = headers.get(Field::NodeAction) else {
-        return Err(ReadError::Refused);
+    Ok(match action {
+        NodeAction::Delete => Act::Delete,
+        NodeAction::Change => Act::Change {
+            mi: mergeinfo.numbered(texts)?,
+        },
+        NodeAction::Add { replace, kind } => Act::Add {
+            replace,
+            kind,
+            mi: mergeinfo.numbered(texts)?,
+        },
+        NodeAction::Copy {
+            replace,
+            from_rev,
+            from,
+        } => Act::Copy {
+            replace,
+            from: path_of(alloc, names, from)?,
+            from_rev,
+            mi: mergeinfo.numbered(texts)?,
+        },
+    })
+}
+
+/// The revision, the action and the mergeinfo of a node block after so many revisions. Nothing stands against it then
+/// but perhaps its size.
+fn judge<'a>(
+    revisions: u32,
+    found: &Found<'a>,
+    path: &[u8],
+) -> Result<(u32, NodeAction<'a>, Mergeinfo<'a>), Refusal>
+    ensures ok { IfOk result (λ read. IsTaken revisions (node_said found.now.headers found.now.properties.now path.now) read.0 (action_read read.1) (setting_read read.2)) }
+    ensures refused { IfErr result (λ refusal. (large : Bool) → first_holding (node_refusals revisions (node_said found.now.headers found.now.properties.now path.now) large) ≡ Some refusal) }
+{
+    let Some(mergeinfo) = Mergeinfo::of(found.properties) else {
+        return Err(Refusal::Props);
     };
-    if action == b"delete".as_slice() {
-        return Ok(Act::Delete);
-    }
-    let mi = mergeinfo.numbered(texts)?;
-    if action == b"change".as_slice() {
-        Ok(Act::Change { mi })
-    } else if action == b"add".as_slice() {
-        addition(alloc, names, rev, headers, false, mi)
-    } else if action == b"replace".as_slice() {
-        addition(alloc, names, rev, headers, true, mi)
-    } else {
-        Err(ReadError::Refused)
+    let (Some(rev), Some(action)) = (revisions.checked_sub(1), NodeAction::of(&found.headers))
+    else {
+        return Err(Refusal::BadRecord);
+    };
+    match refusal_of(rev, found, path, action) {
+        None => Ok((rev, action, mergeinfo)),
+        Some(refusal) => Err(refusal),
     }
 }
 
-/// The record of a node block in a revision, given the value of its path.
+/// The record of a node block after so many revisions, given the value of its path.
 pub(crate) fn record_of(
     alloc: Global,
     names: &mut Names,
     texts: &mut Texts,
-    rev: u32,
+    revisions: u32,
     found: &Found,
     path: &[u8],
 ) -> Result<NodeRecord, ReadError>
-    ensures told { IfOk result (IsRecordTold (record_said rev found.now.headers found.now.properties.now path.now) rev names.old names.new texts.old texts.new) }
+    ensures told { IfOk result (IsRecordTold (record_of (pred revisions) (node_said found.now.headers found.now.properties.now path.now)) (pred revisions) names.old names.new texts.old texts.new) }
+    ensures refused { IfErr result (IsFirst (node_refusals revisions (node_said found.now.headers found.now.properties.now path.now)
+        (is_record_large names.old texts.old (record_of (pred revisions) (node_said found.now.headers found.now.properties.now path.now))))) }
     ensures grows { Extends names.old names.new }
     ensures texts_grow { Extends texts.old texts.new }
 {
-    if rev == 0 || is_delta(&found.headers) {
-        return Err(ReadError::Refused);
-    }
-    let Some(mergeinfo) = Mergeinfo::of(found.properties) else {
-        return Err(ReadError::Refused);
-    };
+    let (rev, action, mergeinfo) = judge(revisions, found, path)?;
     let path = path_of(alloc, names, path)?;
-    let act = act_of(alloc, names, texts, rev, &found.headers, mergeinfo)?;
-    if path.is_empty() && !act.is_change() {
-        return Err(ReadError::Refused);
-    }
+    let act = act_of(alloc, names, texts, action, mergeinfo)?;
     Ok(NodeRecord { rev, path, act })
 }

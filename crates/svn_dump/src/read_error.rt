@@ -1,28 +1,43 @@
 //! Why reading stopped.
+ghost use Rattle.std.specs.Prelude.{◌≡◌};
+ghost use Rattle.svn_dump.specs.ReadError.{told_at};
 
 use crate::error::DumpError;
+use crate::refusal::Refusal;
 use std::alloc::{AllocError, AllocFailed};
 use svn_path::PathError;
 
 /// Why reading stopped.
 #[derive(Debug, Drop)]
 pub(crate) enum ReadError {
-    /// The bytes are no dump that is read.
-    Refused,
+    /// The bytes are no dump.
+    Refused(Refusal),
     Memory,
 }
 
-impl From<ReadError> for DumpError {
-    ghost use Rattle.std.specs.Prelude.{◌≡◌};
-    ghost use Rattle.svn_dump.specs.ReadError.{told};
-
-    ghost from_gives = { λ e d. d ≡ told e };
-
-    fn from(e: ReadError) -> DumpError {
-        match e {
-            ReadError::Refused => DumpError::Refused { number: 7, at: 0 },
+impl ReadError {
+    /// The same of a block that begins there.
+    pub(crate) fn at(self, at: u64) -> DumpError
+        ensures { result ≡ told_at at self }
+    {
+        match self {
+            ReadError::Refused(refusal) => DumpError::Refused {
+                number: refusal.number(),
+                at,
+            },
             ReadError::Memory => DumpError::Memory,
         }
+    }
+}
+
+impl From<Refusal> for ReadError {
+    ghost use Rattle.std.specs.Prelude.{◌≡◌};
+    ghost use Rattle.svn_dump.specs.declared.read_error.ReadError.TheVariants.{Refused};
+
+    ghost from_gives = { λ refusal e. e ≡ Refused refusal };
+
+    fn from(refusal: Refusal) -> ReadError {
+        ReadError::Refused(refusal)
     }
 }
 
@@ -34,7 +49,8 @@ impl From<PathError> for ReadError {
 
     fn from(e: PathError) -> ReadError {
         match e {
-            PathError::Dot | PathError::Full => ReadError::Refused,
+            PathError::Dot => ReadError::Refused(Refusal::BadPath),
+            PathError::Full => ReadError::Refused(Refusal::TooLarge),
             PathError::Memory => ReadError::Memory,
         }
     }

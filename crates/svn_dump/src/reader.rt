@@ -1,48 +1,79 @@
 //! Reading a dump.
-ghost use Rattle.std.specs.Prelude.{◌≡◌, ◌≢◌, ◌++◌, ℕ, List, [], MatchOption, All, IsTrue, IfOk, IfErr};
-ghost use Rattle.svn_path.specs.Names.{has_name};
+ghost use Rattle.std.specs.Prelude.{◌≡◌, ℕ, List, ◌++◌, ◌↔◌, None, IsFalse, IsTrue, IfErr, IfOk, OnOk, Some};
+ghost use Rattle.svn_path.specs.Components.{is_not_empty};
+ghost use Rattle.svn_dump.specs.Draft.{IsWhole};
 ghost use Rattle.svn_dump.specs.Dump.{history_shown};
 ghost use Rattle.svn_dump.specs.DumpText.{IsDumpText, first_line, names_of, values_of};
 ghost use Rattle.svn_dump.specs.DumpError.{IsRefusal};
+ghost use Rattle.svn_dump.specs.FirstRefusal.{begins_with_newline, first_refusal, line_refusals};
+ghost use Rattle.svn_dump.specs.Found.{AddsBlock, IsBlockRefusal};
+ghost use Rattle.svn_dump.specs.Property.{IsSection, Property, section_of};
+ghost use Rattle.svn_dump.specs.Record.{HistoryOfBytes};
+ghost use Rattle.svn_dump.specs.Refusal.{first_holding};
 
-use crate::block::next_block;
+use crate::block::{first_block, skip_empty_lines};
 use crate::draft::Draft;
 use crate::dump::Dump;
 use crate::error::DumpError;
+use crate::line::split_line;
 use crate::read_error::ReadError;
+use crate::refusal::Refusal;
 use std::alloc::Global;
 
 /// The dump that the bytes are. Nothing is copied but names and mergeinfo texts.
 ///
-/// Every refusal is told as number 7 at byte 0.
+/// A refusal tells the number of the first reason against the first faulty block, and where that block begins.
 pub fn read(alloc: Global, bytes: &[u8]) -> Result<Dump, DumpError>
+    // The bytes are a dump exactly where there is no reason against them, and then of one history.
+    ensures exactly { (first_refusal bytes.now ≡ None) ↔ ((history : HistoryOfBytes) × IsDumpText bytes.now history) }
+    ensures one { (a b : HistoryOfBytes) → IsDumpText bytes.now a → IsDumpText bytes.now b → a ≡ b }
+
+    // A property section is read as its form says.
+    ensures sections { (section : List ℕ) (properties : List Property) → (section_of section ≡ Some properties) ↔ IsSection section properties }
+
     ensures ok { IfOk result (λ dump. IsDumpText bytes.now (history_shown dump)) }
+    ensures names { IfOk result (λ dump. dump.names ≡ names_of (history_shown dump)) }
     ensures values { IfOk result (λ dump. dump.values ≡ values_of (history_shown dump)) }
-    ensures named { IfOk result (λ dump. All (λ name. IsTrue (has_name (names_of (history_shown dump)) name)) dump.names) }
-    ensures refused { IfErr result IsRefusal }
+    ensures refused { IfErr result (IsRefusal bytes.now) }
 {
-    Ok(read_blocks(alloc, bytes)?)
+    let mut rest = match after_first_line(bytes) {
+        Ok(rest) => rest,
+        Err(refusal) => return Err(ReadError::Refused(refusal).at(0)),
+    };
+    let mut draft = Draft::new(alloc);
+    while let Some(block) = skip_empty_lines(rest) {
+        rest = match add_block(alloc, &mut draft, block) {
+            Ok(rest) => rest,
+            Err(e) => return Err(e.at((bytes.len() - block.len()) as u64)),
+        };
+    }
+    draft.finish(bytes.len() as u64)
 }
 
 /// What follows the first line of a dump.
-fn after_first_line(bytes: &[u8]) -> Option<&[u8]>
-    ensures { MatchOption result ((rest : List ℕ) → bytes.now ≢ first_line ++ rest) (λ rest. bytes.now ≡ first_line ++ rest.now) }
+fn after_first_line(bytes: &[u8]) -> Result<&[u8], Refusal>
+    ensures ok { IfOk result (λ rest. bytes.now ≡ first_line ++ rest.now) }
+    ensures refused { IfErr result (λ refusal. first_holding (line_refusals bytes.now) ≡ Some refusal) }
 {
-    bytes.strip_prefix(b"SVN-fs-dump-format-version: 2\n")
+    let Some(rest) = bytes.strip_prefix(b"SVN-fs-dump-format-version: ") else {
+        return Err(Refusal::Magic);
+    };
+    match split_line(rest) {
+        None => Err(Refusal::Truncated),
+        Some((version, rest)) if version == b"2".as_slice() => Ok(rest),
+        Some(_) => Err(Refusal::Version),
+    }
 }
 
-fn read_blocks(alloc: Global, bytes: &[u8]) -> Result<Dump, ReadError>
-    ensures ok { IfOk result (λ dump. IsDumpText bytes.now (history_shown dump)) }
-    ensures values { IfOk result (λ dump. dump.values ≡ values_of (history_shown dump)) }
-    ensures named { IfOk result (λ dump. All (λ name. IsTrue (has_name (names_of (history_shown dump)) name)) dump.names) }
+/// Adds the block that the bytes begin with, and answers what follows it.
+fn add_block<'a>(alloc: Global, draft: &mut Draft, bytes: &'a [u8]) -> Result<&'a [u8], ReadError>
+    requires some { IsTrue (is_not_empty bytes.now) }
+    requires not_empty_line { IsFalse (begins_with_newline bytes.now) }
+    ensures added { IfOk result (λ rest. AddsBlock bytes.now rest.now (history_shown draft.old) (history_shown draft.new)) }
+    ensures keeps { OnOk result (IsWhole draft.old → IsWhole draft.new) }
+    ensures refused { IfErr result (λ e. IsWhole draft.old → IsBlockRefusal (history_shown draft.old) bytes.now e) }
 {
-    let Some(mut rest) = after_first_line(bytes) else {
-        return Err(ReadError::Refused);
-    };
-    let mut draft = Draft::new(alloc);
-    while let Some(found) = next_block(rest)? {
-        draft.add(alloc, &found)?;
-        rest = found.rest;
-    }
-    draft.finish()
+    let found = first_block(bytes)?;
+    draft.add(alloc, &found)?;
+    Ok(found.rest)
 }

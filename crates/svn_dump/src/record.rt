@@ -47,14 +47,6 @@ pub struct NodeRecord {
 }
 
 impl Act {
-    ghost use Rattle.svn_dump.specs.Said.{is_change};
-
-    pub(crate) fn is_change(&self) -> bool
-        ensures { result ≡ is_change self.now }
-    {
-        matches!(self, Act::Change { .. })
-    }
-
     fn dup(&self) -> Result<Self, AllocError>
         ensures { IfOk result (λ same. same ≡ self.now) }
     {

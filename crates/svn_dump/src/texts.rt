@@ -1,10 +1,12 @@
 //! The table of mergeinfo texts.
-ghost use Rattle.std.specs.Prelude.{◌≡◌, ◌<◌, ◌≤◌, [], Some, bytes_eq, length, slice_get, IfOk, OnErr};
+ghost use Rattle.std.specs.Prelude.{◌≡◌, ◌<◌, ◌≤◌, [], Some, bytes_eq, length, slice_get, ◌∷◌, IfErr, IfOk, OnErr};
 ghost use Rattle.std.specs.List.{IsDistinct};
 ghost use Rattle.svn_path.specs.Names.{most_names, with_name};
+ghost use Rattle.svn_dump.specs.Told.{IsTooLarge, is_full_with};
 
 use crate::read_error::ReadError;
 use crate::record::ValueId;
+use crate::refusal::Refusal;
 use indexmap::IndexSet;
 use std::alloc::Global;
 use std::marker::Model;
@@ -40,6 +42,7 @@ impl Texts {
     pub(crate) fn add(&mut self, text: &[u8]) -> Result<ValueId, ReadError>
         ensures number { IfOk result (λ id. slice_get self.new id.0 ≡ Some text.now) }
         ensures table { IfOk result (λ _. self.new ≡ with_name self.old text.now) }
+        ensures refused { IfErr result (IsTooLarge (is_full_with self.old (text.now ∷ []))) }
         ensures err { OnErr result (self.new ≡ self.old) }
     {
         if let Some(index) = self.known.get_index_of(text) {
@@ -47,7 +50,7 @@ impl Texts {
         }
         let index = self.known.len();
         if index == u32::MAX as usize {
-            return Err(ReadError::Refused);
+            return Err(ReadError::Refused(Refusal::TooLarge));
         }
         self.known
             .insert(Vec::from_slice(*self.known.allocator(), text)?)?;

@@ -1,5 +1,6 @@
 -- Why there is no report on a dump.
 use Rattle.std.specs.Prelude.{◌≡◌, ℕ, ◌<◌, List, Some, length, bytes_eq}
+use Rattle.svn_dump.specs.DumpError.{IsFirstAt}
 use Rattle.svn_dump.specs.DumpText.{IsDumpText}
 use Rattle.svn_dump.specs.Fault.{first_fault}
 use Rattle.svn_dump.specs.Record.{HistoryOfBytes}
@@ -20,15 +21,15 @@ pub record IsFirstFault (dump : List ℕ) (fault : Fault) : Type 0 where
   pub read : IsDumpText dump history
   pub first : first_fault bytes_eq history ≡ Some (fault.number, kind_shown fault.kind)
 
--- a refusal of the dump itself; running out of memory is told as such
-abbrev pub IsRefused : DumpError → Type 0
-IsRefused (refusal.Refused number at) = (number ≡ 7) × (at ≡ 0)
-IsRefused refusal.Memory = ⊥
+-- the first reason against the bytes as a dump; running out of memory is told as such
+abbrev pub IsRefused : List ℕ → DumpError → Type 0
+IsRefused dump (refusal.Refused number at) = IsFirstAt dump number at
+IsRefused dump refusal.Memory = ⊥
 
 -- an error that there is for this dump and these queries
 abbrev pub IsRunError : List ℕ → List ℕ → RunError → Type 0
 IsRunError dump queries run.TooMany = most_queries < length (query_lines queries)
-IsRunError dump queries (run.Dump refused) = IsRefused refused
+IsRunError dump queries (run.Dump refused) = IsRefused dump refused
 IsRunError dump queries (run.Fault fault) = IsFirstFault dump fault
 IsRunError dump queries (run.Read source) = ⊥
 IsRunError dump queries run.Memory = Unit {0}

@@ -278,14 +278,26 @@ fn answers_a_million_queries(rt: HostRuntime) -> Result<(), Fail> {
 }
 
 #[test]
-fn refuses_what_is_no_dump(rt: HostRuntime) {
-    let refused = report_of(&rt, rt.alloc(), b"x", b"");
-    assert!(rt;
-        matches!(
-            refused,
-            Err(RunError::Dump(DumpError::Refused { number: 7, at: 0 }))
-        )
-    );
+fn refuses_what_is_no_dump(rt: HostRuntime) -> Result<(), Fail> {
+    let skipping = b"SVN-fs-dump-format-version: 2\n\nRevision-number: 0\n\nRevision-number: 2\n\n";
+    for (dump, wanted) in [
+        (
+            b"x".as_slice(),
+            "abcsvnhist: dump refused: 1 Magic at byte 0\n",
+        ),
+        (
+            skipping,
+            "abcsvnhist: dump refused: 8 Revision at byte 51\n",
+        ),
+    ] {
+        let Err(error) = report_of(&rt, rt.alloc(), dump, b"") else {
+            return Err("a report")?;
+        };
+        assert_eq!(rt; error.status(), 1);
+        let line = error_line(rt.alloc(), &error)?;
+        assert_eq!(rt; line.as_slice(), wanted.as_bytes());
+    }
+    Ok(())
 }
 
 #[test]

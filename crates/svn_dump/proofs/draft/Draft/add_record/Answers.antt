@@ -1,63 +1,96 @@
-use Rattle.std.proofs.Common.{◌≡◌, ◌+◌, ◌-◌, ◌<◌, pred, sub-one, length, set, sym, ap, ◌∙◌, arith}
+use Rattle.std.proofs.Common.{◌≡◌, ℕ, ◌+◌, ◌-◌, ◌<◌, pred, sub-one, length, set, sym, ap, ◌∙◌, subst, arith}
 use Rattle.std.proofs.lemmas.List.{get_or_read}
+use Rattle.std.proofs.lemmas.Result.{err_from_is_err_and}
+use Rattle.svn_dump.specs.Draft.{dump_of}
 use Rattle.svn_dump.specs.Dump.{history_shown}
-use Rattle.svn_dump.proofs.Drafts.{IsDraft-grows, count-le, IsDraft-with_record, with_record-told, IsNamed-with_record, IsValued-with_record}
+use Rattle.svn_dump.specs.Record.{record_of, with_sort}
+use Rattle.svn_dump.specs.Refusal.{node_refusals}
+use Rattle.svn_dump.specs.Said.{node_said}
+use Rattle.svn_dump.specs.Told.{IsFirst, is_record_large}
+use Rattle.svn_dump.proofs.Drafts.{room_left, IsDraft-grows, count-le, IsDraft-with_record, with_record-told, IsWhole-with_record, refused-full, refused-record}
 use Rattle.svn_dump.proofs.Grouped.{with_more, set_last_read}
 use Rattle.svn_dump.proofs.Histories.{length-history_shown}
 use Rattle.svn_dump.proofs.draft.Draft.add_record.Goals as goal
+
+pub invariant_of-self : goal.invariant_of-self
+invariant_of-self c =
+    let inside = c.self.inside in
+    IsDraft-grows inside.names inside.records.items inside.counts.items inside.texts c.self.invariant c.record_of.new.names c.record_of.new.texts c.record_of.ensures.grows c.record_of.ensures.texts_grow
+
+pub invariant_of-self-2 : goal.invariant_of-self-2
+invariant_of-self-2 c =
+    let inside = c.self.inside in
+    IsDraft-grows inside.names inside.records.items inside.counts.items inside.texts c.self.invariant c.record_of.new.names c.record_of.new.texts c.record_of.ensures.grows c.record_of.ensures.texts_grow
 
 pub invariant_of-self-in_err-push : goal.invariant_of-self-in_err-push
 invariant_of-self-in_err-push c =
     let inside = c.self.inside in
     rw c.in_err-push.ensures.items (IsDraft-grows inside.names inside.records.items inside.counts.items inside.texts c.self.invariant c.record_of.new.names c.record_of.new.texts c.record_of.ensures.grows c.record_of.ensures.texts_grow)
 
-pub invariant_of-self-then-len-ge-MOST_NUMBERED : goal.invariant_of-self-then-len-ge-MOST_NUMBERED
-invariant_of-self-then-len-ge-MOST_NUMBERED c =
+pub invariant_of-self-then-is_full : goal.invariant_of-self-then-is_full
+invariant_of-self-then-is_full c =
     let inside = c.self.inside in
     IsDraft-grows inside.names inside.records.items inside.counts.items inside.texts c.self.invariant c.record_of.new.names c.record_of.new.texts c.record_of.ensures.grows c.record_of.ensures.texts_grow
+
+pub returns-in_err-record-clause-refused : goal.returns-in_err-record-clause-refused
+returns-in_err-record-clause-refused c =
+    let (error, errs, same) = err_from_is_err_and c.from_residual.result c.from_residual.ensures.1 in
+    let inside = c.self.inside in
+    let long : c.len-revisions.result ≡ length inside.counts.items = omega arith in
+    rw (errs, same, ← c.self.view_is) (refused-record inside.names inside.records.items inside.counts.items inside.texts c.self.invariant (node_said c.args.found.now.headers c.args.found.now.properties.now c.args.path.now) c.in_err-record.field-0.0
+    (subst (λ revisions. IsFirst (node_refusals revisions (node_said c.args.found.now.headers c.args.found.now.properties.now c.args.path.now) (is_record_large inside.names inside.texts (record_of (pred revisions) (node_said c.args.found.now.headers c.args.found.now.properties.now c.args.path.now)))) c.in_err-record.field-0.0) long c.in_err-record.ensures.refused))
+
+pub returns-then-is_full-clause-refused : goal.returns-then-is_full-clause-refused
+returns-then-is_full-clause-refused c =
+    let inside = c.self.inside in
+    let long : c.len-revisions.result ≡ length inside.counts.items = omega arith in
+    rw (← c.self.view_is)
+    (refused-full inside.names inside.records.items inside.counts.items inside.texts c.self.invariant c.record_of.new.names c.record_of.new.texts _ (pred c.len-revisions.result) c.in_ok-record.record c.in_ok-record.ensures.told (ap pred long ∙ sym (sub-one (length inside.counts.items))) (node_said c.args.found.now.headers c.args.found.now.properties.now c.args.path.now)
+    (ap (λ revisions. record_of (pred revisions) (node_said c.args.found.now.headers c.args.found.now.properties.now c.args.path.now)) (long ∙ sym (length-history_shown inside.names inside.records.items inside.counts.items inside.texts))) (sym c.is_full.ensures.full ∙ c.if-is_full.true))
 
 pub overflow_add-index_mut : goal.overflow_add-index_mut
 overflow_add-index_mut c =
     let inside = c.self.inside in
     let told = c.in_ok-record.ensures.told in
-    let last = c.saturating_sub-last.result in
-    let within : last < length inside.counts.items = omega (arith, inside.counts.ok.0, told.of_table.above_zero, told.revision) in
+    let last : ℕ = c.len-revisions.result - 1 in
+    let within : last < length inside.counts.items = omega (arith, inside.counts.ok.0, told.of_table.above_zero, told.revision, sub-one c.len-revisions.result) in
     let read = get_or_read inside.counts.items last c.index_mut.result.now within c.index_mut.ensures.value 0 in
     omega (arith, read, count-le inside.names inside.records.items inside.counts.items inside.texts c.self.invariant last, inside.records.ok.0)
 
-last_is : (c : goal.After-self-1) → c.saturating_sub-last.result ≡ length c.self.inside.counts.items - 1
-last_is c = omega (arith, c.self.inside.counts.ok.0)
-
-counts_are : (c : goal.After-self-1) → set c.self.inside.counts.items c.saturating_sub-last.result (c.index_mut.result.now + 1) ≡ with_more c.self.inside.counts.items
-counts_are c =
-    let told = c.in_ok-record.ensures.told in
-    set_last_read c.self.inside.counts.items c.saturating_sub-last.result c.index_mut.result.now (last_is c)
-    (omega (arith, c.self.inside.counts.ok.0, told.of_table.above_zero, told.revision)) c.index_mut.ensures.value
-
-pub invariant_of-self-2 : goal.invariant_of-self-2
-invariant_of-self-2 c =
+pub invariant_of-self-3 : goal.invariant_of-self-3
+invariant_of-self-3 c =
     let inside = c.self.inside in
-    rw (c.in_ok-push.ensures.items, counts_are c)
-    (IsDraft-with_record inside.names inside.records.items inside.counts.items inside.texts c.self.invariant c.record_of.new.names c.record_of.new.texts _ c.saturating_sub-last.result c.in_ok-record.record c.in_ok-record.ensures.told (last_is c) (omega (arith, inside.records.ok.0)))
+    let told = c.in_ok-record.ensures.told in
+    let long : c.len-revisions.result ≡ length inside.counts.items = omega arith in
+    let last : pred c.len-revisions.result ≡ length inside.counts.items - 1 = ap pred long ∙ sym (sub-one (length inside.counts.items)) in
+    let counts_are : set inside.counts.items (c.len-revisions.result - 1) (c.index_mut.result.now + 1) ≡ with_more inside.counts.items =
+    set_last_read inside.counts.items (c.len-revisions.result - 1) c.index_mut.result.now (ap (λ n. n - 1) long)
+    (omega (arith, long, told.of_table.above_zero, told.revision, sub-one c.len-revisions.result)) c.index_mut.ensures.value in
+    rw (c.in_ok-push.ensures.items, counts_are) (IsDraft-with_record inside.names inside.records.items inside.counts.items inside.texts c.self.invariant c.record_of.new.names c.record_of.new.texts _ (pred c.len-revisions.result) c.in_ok-record.record c.in_ok-record.ensures.told last (room_left (dump_of c.record_of.new.names inside.records.items inside.counts.items c.record_of.new.texts) (sym c.is_full.ensures.full ∙ c.if-is_full.false)))
 
 pub returns-clause-told : goal.returns-clause-told
+unfolding with_sort
 returns-clause-told c =
     let inside = c.self.inside in
-    let history = history_shown c.args.self.now in
-    let rev : pred (length history) ≡ c.saturating_sub-last.result =
-    ap (λ dump. pred (length (history_shown dump))) (sym c.self.view_is)
-    ∙ ap pred (length-history_shown inside.names inside.records.items inside.counts.items inside.texts) ∙ sym (sub-one (length inside.counts.items)) ∙ sym (last_is c) in
-    rw (rev, c.in_ok-push.ensures.items, counts_are c, ← c.self.view_is)
-    (with_record-told inside.names inside.records.items inside.counts.items inside.texts c.self.invariant c.record_of.new.names c.record_of.new.texts _ c.saturating_sub-last.result c.in_ok-record.record c.in_ok-record.ensures.told (last_is c))
+    let told = c.in_ok-record.ensures.told in
+    let long : c.len-revisions.result ≡ length inside.counts.items = omega arith in
+    let last : pred c.len-revisions.result ≡ length inside.counts.items - 1 = ap pred long ∙ sym (sub-one (length inside.counts.items)) in
+    let counts_are : set inside.counts.items (c.len-revisions.result - 1) (c.index_mut.result.now + 1) ≡ with_more inside.counts.items =
+    set_last_read inside.counts.items (c.len-revisions.result - 1) c.index_mut.result.now (ap (λ n. n - 1) long)
+    (omega (arith, long, told.of_table.above_zero, told.revision, sub-one c.len-revisions.result)) c.index_mut.ensures.value in
+    let revisions : pred (length (history_shown c.args.self.now)) ≡ pred c.len-revisions.result =
+    ap (λ dump. pred (length (history_shown dump))) (sym c.self.view_is) ∙ ap pred (length-history_shown inside.names inside.records.items inside.counts.items inside.texts ∙ sym long) in
+    rw (revisions, c.in_ok-push.ensures.items, counts_are, ← c.self.view_is) (with_record-told inside.names inside.records.items inside.counts.items inside.texts c.self.invariant c.record_of.new.names c.record_of.new.texts _ (pred c.len-revisions.result) c.in_ok-record.record c.in_ok-record.ensures.told last)
 
-pub returns-clause-named : goal.returns-clause-named
-returns-clause-named c =
+pub returns-clause-keeps : goal.returns-clause-keeps
+returns-clause-keeps c =
     let inside = c.self.inside in
-    rw (c.in_ok-push.ensures.items, counts_are c, ← c.self.view_is)
-    (IsNamed-with_record inside.names inside.records.items inside.counts.items inside.texts c.self.invariant c.record_of.new.names c.record_of.new.texts _ c.saturating_sub-last.result c.in_ok-record.record c.in_ok-record.ensures.told (last_is c))
-
-pub returns-clause-valued : goal.returns-clause-valued
-returns-clause-valued c =
-    let inside = c.self.inside in
-    rw (c.in_ok-push.ensures.items, counts_are c, ← c.self.view_is)
-    (IsValued-with_record inside.names inside.records.items inside.counts.items inside.texts c.self.invariant c.record_of.new.names c.record_of.new.texts _ c.saturating_sub-last.result c.in_ok-record.record c.in_ok-record.ensures.told (last_is c))
+    let told = c.in_ok-record.ensures.told in
+    let long : c.len-revisions.result ≡ length inside.counts.items = omega arith in
+    let last : pred c.len-revisions.result ≡ length inside.counts.items - 1 = ap pred long ∙ sym (sub-one (length inside.counts.items)) in
+    let counts_are : set inside.counts.items (c.len-revisions.result - 1) (c.index_mut.result.now + 1) ≡ with_more inside.counts.items =
+    set_last_read inside.counts.items (c.len-revisions.result - 1) c.index_mut.result.now (ap (λ n. n - 1) long)
+    (omega (arith, long, told.of_table.above_zero, told.revision, sub-one c.len-revisions.result)) c.index_mut.ensures.value in
+    let room = sym c.is_full.ensures.full ∙ c.if-is_full.false in
+    rw (c.in_ok-push.ensures.items, counts_are, ← c.self.view_is)
+    (IsWhole-with_record inside.names inside.records.items inside.counts.items inside.texts c.self.invariant c.record_of.new.names c.record_of.new.texts _ (pred c.len-revisions.result) c.in_ok-record.record c.in_ok-record.ensures.told last room (c.is_full.ensures.names c.if-is_full.false) (c.is_full.ensures.texts c.if-is_full.false))

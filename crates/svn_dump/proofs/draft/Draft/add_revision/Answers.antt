@@ -1,5 +1,8 @@
-use Rattle.std.proofs.Common.{arith, rules}
-use Rattle.svn_dump.proofs.Drafts.{IsDraft-with_revision, with_numbered-told, IsNamed-with_revision, IsValued-with_revision}
+use Rattle.std.proofs.Common.{◌≡◌, length, sym, ap, ◌∙◌, arith, rules}
+use Rattle.std.specs.Prelude.{Some}
+use Rattle.svn_dump.specs.Number.{number_up_to}
+use Rattle.svn_dump.specs.Record.{with_sort}
+use Rattle.svn_dump.proofs.Drafts.{not_same, IsDraft-with_revision, with_numbered-told, IsWhole-with_revision, refused-number, refused-revision}
 use Rattle.svn_dump.proofs.draft.Draft.add_revision.Goals as goal
 
 pub invariant_of-self-2 : goal.invariant_of-self-2
@@ -8,16 +11,25 @@ invariant_of-self-2 c =
     rw c.in_ok-push.ensures.items (IsDraft-with_revision inside.names inside.records.items inside.counts.items inside.texts c.self.invariant (omega arith))
 
 pub returns-clause-told : goal.returns-clause-told
+unfolding with_sort
 returns-clause-told c =
     let inside = c.self.inside in
     rw (c.in_ok-push.ensures.items, ← c.self.view_is) (with_numbered-told inside.names inside.records.items inside.counts.items inside.texts c.self.invariant c.args.number.now (search rules))
 
-pub returns-clause-named : goal.returns-clause-named
-returns-clause-named c =
+pub returns-clause-keeps : goal.returns-clause-keeps
+returns-clause-keeps c =
     let inside = c.self.inside in
-    rw (c.in_ok-push.ensures.items, ← c.self.view_is) (IsNamed-with_revision inside.names inside.records.items inside.counts.items inside.texts c.self.invariant)
+    rw (c.in_ok-push.ensures.items, ← c.self.view_is) (IsWhole-with_revision inside.names inside.records.items inside.counts.items inside.texts c.self.invariant (omega arith))
 
-pub returns-clause-valued : goal.returns-clause-valued
-returns-clause-valued c =
+pub returns-then-ne-clause-refused : goal.returns-then-ne-clause-refused
+returns-then-ne-clause-refused c = λ whole.
     let inside = c.self.inside in
-    rw (c.in_ok-push.ensures.items, ← c.self.view_is) (IsValued-with_revision inside.names inside.records.items inside.counts.items inside.texts c.self.invariant)
+    let long : c.len-next.result ≡ length inside.counts.items = omega arith in
+    rw (← c.self.view_is) (refused-number inside.names inside.records.items inside.counts.items inside.texts c.self.invariant c.args.number.now
+    (λ same. not_same c.number_up_to.result c.len-next.result c.if-ne.ensures
+    (c.number_up_to.ensures ∙ ap (λ n. number_up_to n c.args.number.now) long ∙ same ∙ ap Some (sym long))))
+
+pub returns-then-next-ge-MOST_NUMBERED-clause-refused : goal.returns-then-next-ge-MOST_NUMBERED-clause-refused
+returns-then-next-ge-MOST_NUMBERED-clause-refused c = λ whole.
+    let inside = c.self.inside in
+    rw (← c.self.view_is) (refused-revision inside.names inside.records.items inside.counts.items inside.texts c.self.invariant c.args.number.now (search rules) (omega arith))

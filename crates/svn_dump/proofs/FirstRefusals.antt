@@ -1,0 +1,366 @@
+-- No reason is told against bytes exactly where they are a dump, and a dump tells one history.
+use Rattle.std.proofs.Common.{◌≡◌, ◌≢◌, ◌↔◌, ℕ, zero, suc, ◌+◌, ◌-◌, ◌<◌, ◌≤◌, Bool, true, false, cond, not, ◌&&◌, ⊎_elim, List, [], ◌∷◌, ◌++◌, length, take, drop, replicate, refl, sym, ap, ap₂, subst, ◌∙◌, append_assoc, append-nil, arith, take-append-drop, length-append, length-drop}
+use Rattle.std.specs.Prelude.{Option, Some, None, All, bytes_eq, codes, flat_map, fold, nat_eq, option_and_then}
+use Rattle.std.specs.List.{after_first, before_first, list_any, position_or_len, starts_with}
+use Rattle.std.specs.Option.{option_or}
+use Rattle.std.proofs.lemmas.Bool.{both_ways, cases_lt, eq-eqb, eqb-true, not-false, or_parts}
+use Rattle.std.proofs.lemmas.List.{take-append-le}
+use Rattle.std.proofs.lemmas.List.Elements.{All-head}
+use Rattle.std.proofs.lemmas.List.Folds.{fold_stays, list_any_none}
+use Rattle.std.proofs.lemmas.List.Sums.{fails_before_first, passes_at_first, split_at_first}
+use Rattle.std.proofs.lemmas.Option.{none-some, same_Some}
+use Rattle.std.proofs.lemmas.Slice.Eq.{bytes_eq-Decides, slice_eq-Decides}
+use Rattle.svn_path.specs.Components.{is_not_empty}
+use Rattle.svn_dump.specs.Block.{AreBlocks, Block, IsBlock, IsHeader, block_text, is_newline, line_text}
+use Rattle.svn_dump.specs.DumpText.{IsDumpText, IsSmall, first_line}
+use Rattle.svn_dump.specs.FirstRefusal.{Refused, after_block, begins_with_newline, block_at, block_refusal, end_refusal, first_refusal, front_refusals, line_refusals, magic, refusal_from, refused_or, without_empty_lines}
+use Rattle.svn_dump.specs.Record.{HistoryOfBytes, history_of, sort_of, with_block}
+use Rattle.svn_dump.specs.Refusal.{first_holding, sort_refusals}
+use Rattle.svn_dump.specs.declared.refusal.Refusal.{Refusal}
+use Rattle.svn_dump.specs.declared.refusal.Refusal.TheVariants.{Magic, Truncated, Version}
+use Rattle.svn_dump.proofs.Fronts.{block-front, front-block, three_none, without_empty_lines-front, without_empty_lines-other, without_empty_lines-skip}
+use Rattle.svn_dump.proofs.Refusals.{IsSmall-before, first_holding-append, no_refusal, refusal_none}
+
+-- ---- one refusal or another
+
+pub no_first : (o : Option Refusal) (at : ℕ) (later : Option Refused) → o ≡ None → refused_or o at later ≡ later
+no_first o at later e = ap (λ first. refused_or first at later) e
+
+neither : (o : Option Refusal) (at : ℕ) (later : Option Refused) → refused_or o at later ≡ None → (o ≡ None) × (later ≡ None)
+neither None at later e = (refl, e)
+neither (Some refusal) at later e = absurd (none-some _ (sym e))
+
+neither_holds : (first later : Option Refusal) → option_or first later ≡ None → (first ≡ None) × (later ≡ None)
+neither_holds None later e = (refl, e)
+neither_holds (Some refusal) later e = absurd (none-some refusal (sym e))
+
+and_true : (x y : Bool) → x ≡ true → (x && y) ≡ false → y ≡ false
+and_true true y e none = none
+and_true false y e none = absurd (both_ways _ refl e)
+
+-- ---- the histories of blocks
+
+abbrev told_by : Option HistoryOfBytes → Block → Option HistoryOfBytes
+told_by so_far block = option_and_then (λ history. with_block history block) so_far
+
+-- the first of some blocks leaves a history, and the others go on with it
+after_first_block :
+    (o : Option HistoryOfBytes) (blocks : List Block) (last : HistoryOfBytes) → fold told_by o blocks ≡ Some last →
+    (after : HistoryOfBytes) × (o ≡ Some after) × (fold told_by (Some after) blocks ≡ Some last)
+after_first_block None blocks last tells = absurd (none-some last (sym (fold_stays told_by None (λ block. refl) blocks) ∙ tells))
+after_first_block (Some after) blocks last tells = (after, refl, tells)
+
+-- a history is small if what it becomes is
+IsSmall-before_blocks : (history : HistoryOfBytes) (blocks : List Block) (last : HistoryOfBytes) → fold told_by (Some history) blocks ≡ Some last → IsSmall last → IsSmall history
+IsSmall-before_blocks history [] last tells small = subst IsSmall (sym (same_Some history last tells)) small
+IsSmall-before_blocks history (block ∷ blocks) last tells small =
+    let (after, told, later) = after_first_block (with_block history block) blocks last tells in
+    IsSmall-before history after (sort_of block) told (IsSmall-before_blocks after blocks last later small)
+
+-- ---- the front of blocks
+
+-- a block begins with a byte, which is no newline
+line_first : (line more : List ℕ) → IsHeader line → (is_not_empty (line ++ more) ≡ true) × (begins_with_newline (line ++ more) ≡ false)
+line_first [] more header = absurd (both_ways _ refl header.colon)
+line_first (byte ∷ line) more header = (refl, (or_parts _ _ header.one_line).0)
+
+lines_first :
+    (lines : List (List ℕ)) (more : List ℕ) → (length lines ≡ 0 → ⊥) → All IsHeader lines →
+    (is_not_empty (flat_map line_text lines ++ more) ≡ true) × (begins_with_newline (flat_map line_text lines ++ more) ≡ false)
+lines_first [] more some all = absurd (some refl)
+lines_first (line ∷ lines) more some all =
+    subst (λ text. (is_not_empty text ≡ true) × (begins_with_newline text ≡ false))
+    (sym (append_assoc (line_text line) (flat_map line_text lines) more ∙ append_assoc line (10 ∷ []) (flat_map line_text lines ++ more)))
+    (line_first line (10 ∷ (flat_map line_text lines ++ more)) (All-head IsHeader line lines all))
+
+block_first : (block : Block) (rest : List ℕ) → IsBlock block → (is_not_empty (block_text block ++ rest) ≡ true) × (begins_with_newline (block_text block ++ rest) ≡ false)
+block_first block rest is =
+    subst (λ text. (is_not_empty text ≡ true) × (begins_with_newline text ≡ false))
+    (sym (append_assoc (flat_map line_text block.lines) (10 ∷ block.body) rest))
+    (lines_first block.lines (10 ∷ (block.body ++ rest)) is.some_line is.headers)
+
+-- bytes that begin with no newline have no empty lines in front
+without_empty_lines-none : (bytes : List ℕ) → begins_with_newline bytes ≡ false → without_empty_lines bytes ≡ bytes
+without_empty_lines-none [] other = refl
+without_empty_lines-none (byte ∷ bytes) other = ap (λ b. cond b (without_empty_lines bytes) (byte ∷ bytes)) other
+
+without_empty_lines-end : (empty : ℕ) (rest : List ℕ) → rest ≡ replicate empty 10 → without_empty_lines rest ≡ []
+without_empty_lines-end empty rest whole = ap without_empty_lines (whole ∙ sym (append-nil (replicate empty 10))) ∙ without_empty_lines-skip empty []
+
+without_empty_lines-block :
+    (empty : ℕ) (block : Block) (rest bytes : List ℕ) → IsBlock block →
+    bytes ≡ replicate empty 10 ++ block_text block ++ rest → without_empty_lines bytes ≡ block_text block ++ rest
+without_empty_lines-block empty block rest bytes is whole =
+    ap without_empty_lines (whole ∙ append_assoc (replicate empty 10) (block_text block) rest) ∙ without_empty_lines-skip empty (block_text block ++ rest)
+    ∙ without_empty_lines-none (block_text block ++ rest) (block_first block rest is).1
+
+-- a block takes bytes
+pub length-block : (front : List ℕ) (block : Block) (rest bytes : List ℕ) → bytes ≡ front ++ block_text block ++ rest → length rest < length bytes
+length-block front block rest bytes whole =
+    let long : length bytes ≡ length front + (length (flat_map line_text block.lines) + suc (length block.body)) + length rest =
+    ap length whole ∙ length-append (front ++ block_text block) rest
+    ∙ ap (λ n. n + length rest) (length-append front (block_text block) ∙ ap (λ n. length front + n) (length-append (flat_map line_text block.lines) (10 ∷ block.body))) in
+    omega (arith, long)
+
+-- ---- one step
+
+-- what is told against the blocks after the first
+abbrev later_refusal : ℕ → ℕ → HistoryOfBytes → List ℕ → Option Refused
+later_refusal most total history bytes = option_and_then (λ after. refusal_from most total after (after_block bytes)) (with_block history (block_at bytes))
+
+abbrev refusal_at : ℕ → ℕ → HistoryOfBytes → List ℕ → Option Refused
+refusal_at most total history bytes =
+    cond (is_not_empty bytes) (refused_or (block_refusal history bytes) (total - length bytes) (later_refusal most total history bytes)) (end_refusal total history)
+
+pub refusal_from-at :
+    (most total : ℕ) (history : HistoryOfBytes) (rest bytes : List ℕ) → without_empty_lines rest ≡ bytes →
+    refusal_from (suc most) total history rest ≡ refusal_at most total history bytes
+unfolding refusal_from
+refusal_from-at most total history rest bytes e = ap (refusal_at most total history) e
+
+-- the end of a history with a revision
+end_refusal-none : (total : ℕ) (history : HistoryOfBytes) → history ≢ [] → end_refusal total history ≡ None
+end_refusal-none total [] some = absurd (some refl)
+end_refusal-none total (records ∷ history) some = refl
+
+none-end_refusal : (total : ℕ) (history : HistoryOfBytes) → end_refusal total history ≡ None → history ≢ []
+none-end_refusal total [] none e = absurd (none-some _ (sym none))
+none-end_refusal total (records ∷ history) none e = absurd (omega (arith, ap length e))
+
+module _
+    (history after : HistoryOfBytes) (bytes rest : List ℕ) (block : Block) (is : IsBlock block)
+    (whole : bytes ≡ block_text block ++ rest) (told : with_block history block ≡ Some after) where
+  block_refusal-none : IsSmall after → block_refusal history bytes ≡ None
+  unfolding block_refusal
+  block_refusal-none small =
+      let found = front-block bytes rest block is whole in
+      first_holding-append (front_refusals bytes) (sort_refusals history (sort_of (block_at bytes)))
+      ∙ ap₂ option_or found.0 (ap (λ each. first_holding (sort_refusals history (sort_of each))) found.1 ∙ no_refusal history after (sort_of block) told small)
+
+  later_refusal-after : (most total : ℕ) → later_refusal most total history bytes ≡ refusal_from most total after rest
+  later_refusal-after most total =
+      let found = front-block bytes rest block is whole in
+      ap (λ each. option_and_then (λ next. refusal_from most total next (after_block bytes)) (with_block history each)) found.1
+      ∙ ap (option_and_then (λ next. refusal_from most total next (after_block bytes))) told ∙ ap (refusal_from most total after) found.2
+
+  pub refusal_at-block : (most total : ℕ) → IsSmall after → refusal_at most total history bytes ≡ refusal_from most total after rest
+  refusal_at-block most total small =
+      ap (λ b. cond b (refused_or (block_refusal history bytes) (total - length bytes) (later_refusal most total history bytes)) (end_refusal total history))
+      (ap is_not_empty whole ∙ (block_first block rest is).0)
+      ∙ no_first (block_refusal history bytes) (total - length bytes) (later_refusal most total history bytes) (block_refusal-none small)
+      ∙ later_refusal-after most total
+
+-- ---- from the form to the judgement
+
+-- nothing is told against blocks that tell a small history
+refusal_from-blocks :
+    (most total : ℕ) (history last : HistoryOfBytes) (rest : List ℕ) (blocks : List Block) → AreBlocks rest blocks → fold told_by (Some history) blocks ≡ Some last →
+    last ≢ [] → IsSmall last → length rest < most → refusal_from most total history rest ≡ None
+refusal_from-blocks zero total history last rest blocks are tells some small enough = absurd (omega arith)
+refusal_from-blocks (suc most) total history last rest [] are tells some small enough =
+    refusal_from-at most total history rest [] (without_empty_lines-end are.0 rest are.1)
+    ∙ end_refusal-none total history (subst (λ all. all ≢ []) (sym (same_Some history last tells)) some)
+refusal_from-blocks (suc most) total history last rest (block ∷ blocks) are tells some small enough =
+    let (empty, next, is, whole, more) = are in
+    let (after, told, later) = after_first_block (with_block history block) blocks last tells in
+    refusal_from-at most total history rest (block_text block ++ next) (without_empty_lines-block empty block next rest is whole)
+    ∙ refusal_at-block history after (block_text block ++ next) next block is refl told most total (IsSmall-before_blocks after blocks last later small)
+    ∙ refusal_from-blocks most total after last next blocks more later some small (omega (arith, length-block (replicate empty 10) block next rest whole))
+
+-- ---- and back
+
+-- the rest is blocks that make a small history, with a revision, of this one
+record Continues (history : HistoryOfBytes) (rest : List ℕ) : Type 0 where
+  last : HistoryOfBytes
+  blocks : List Block
+  follows : AreBlocks rest blocks
+  tells : fold told_by (Some history) blocks ≡ Some last
+  some_revision : last ≢ []
+  small : IsSmall last
+
+-- a block against which nothing is told
+module _ (history : HistoryOfBytes) (small : IsSmall history) (rest bytes : List ℕ) (at : without_empty_lines rest ≡ bytes) where
+  block_parts : block_refusal history bytes ≡ None → (first_holding (front_refusals bytes) ≡ None) × (first_holding (sort_refusals history (sort_of (block_at bytes))) ≡ None)
+  unfolding block_refusal
+  block_parts none = neither_holds _ _ (sym (first_holding-append (front_refusals bytes) (sort_refusals history (sort_of (block_at bytes)))) ∙ none)
+
+  skipped : (empty : ℕ) × (rest ≡ replicate empty 10 ++ bytes)
+  skipped =
+      let front = without_empty_lines-front rest in
+      (front.0, front.1 ∙ ap (λ all. replicate front.0 10 ++ all) at)
+
+  with_first_block :
+      (most total : ℕ) → is_not_empty bytes ≡ true → block_refusal history bytes ≡ None → later_refusal most total history bytes ≡ None →
+      ((after : HistoryOfBytes) (next : List ℕ) → IsSmall after → length next < length rest → refusal_from most total after next ≡ None → Continues after next) →
+      Continues history rest
+  with_first_block most total some none later onward =
+      let parts = block_parts none in
+      let (is, whole) = block-front bytes some (sym (ap begins_with_newline at) ∙ without_empty_lines-other rest) parts.0 in
+      let (after, told, few) = refusal_none history (sort_of (block_at bytes)) small parts.1 in
+      let front = replicate skipped.0 10 in
+      let from : rest ≡ front ++ block_text (block_at bytes) ++ after_block bytes =
+      skipped.1 ∙ ap (λ all. front ++ all) whole ∙ sym (append_assoc front (block_text (block_at bytes)) (after_block bytes)) in
+      let more = onward after (after_block bytes) few (length-block front (block_at bytes) (after_block bytes) rest from)
+      (sym (ap (option_and_then (λ next. refusal_from most total next (after_block bytes))) told) ∙ later) in
+      record {
+        last = more.last;
+        blocks = block_at bytes ∷ more.blocks;
+        follows = (skipped.0, after_block bytes, is, from, more.follows);
+        tells = ap (λ o. fold told_by o more.blocks) told ∙ more.tells;
+        some_revision = more.some_revision;
+        small = more.small;
+      }
+
+  with_no_block : (total : ℕ) → bytes ≡ [] → end_refusal total history ≡ None → Continues history rest
+  with_no_block total nothing none = record {
+    last = history;
+    blocks = [];
+    follows = (skipped.0, skipped.1 ∙ ap (λ all. replicate skipped.0 10 ++ all) nothing ∙ append-nil (replicate skipped.0 10));
+    tells = refl;
+    some_revision = none-end_refusal total history none;
+    small = small;
+  }
+
+by_front :
+    (most total : ℕ) (history : HistoryOfBytes) (rest bytes : List ℕ) → IsSmall history → without_empty_lines rest ≡ bytes → refusal_at most total history bytes ≡ None →
+    ((after : HistoryOfBytes) (next : List ℕ) → IsSmall after → length next < length rest → refusal_from most total after next ≡ None → Continues after next) →
+    Continues history rest
+by_front most total history rest [] small at none onward = with_no_block history small rest [] at total refl none
+by_front most total history rest (byte ∷ bytes) small at none onward =
+    let parts = neither (block_refusal history (byte ∷ bytes)) _ (later_refusal most total history (byte ∷ bytes)) none in
+    with_first_block history small rest (byte ∷ bytes) at most total refl parts.0 parts.1 onward
+
+Continues-refusal_from : (most total : ℕ) (history : HistoryOfBytes) (rest : List ℕ) → IsSmall history → length rest < most → refusal_from most total history rest ≡ None → Continues history rest
+Continues-refusal_from zero total history rest small enough none = absurd (omega arith)
+Continues-refusal_from (suc most) total history rest small enough none =
+    by_front most total history rest (without_empty_lines rest) small refl (sym (refusal_from-at most total history rest (without_empty_lines rest) refl) ∙ none)
+    (λ after next few shorter later. Continues-refusal_from most total after next few (omega arith) later)
+
+-- ---- the blocks of bytes
+
+not_both : (bytes rest : List ℕ) (block : Block) → IsBlock block → bytes ≡ block_text block ++ rest → bytes ≡ [] → ⊥
+not_both bytes rest block is whole nothing = both_ways _ (ap is_not_empty nothing) (ap is_not_empty whole ∙ (block_first block rest is).0)
+
+same_front :
+    (bytes : List ℕ) (x y : Block) (after_x after_y : List ℕ) → IsBlock x → IsBlock y →
+    bytes ≡ block_text x ++ after_x → bytes ≡ block_text y ++ after_y → (x ≡ y) × (after_x ≡ after_y)
+same_front bytes x y after_x after_y is_x is_y from_x from_y =
+    let found_x = front-block bytes after_x x is_x from_x in
+    let found_y = front-block bytes after_y y is_y from_y in
+    (sym found_x.1 ∙ found_y.1, sym found_x.2 ∙ found_y.2)
+
+-- bytes are blocks in one way
+AreBlocks-same : (bytes : List ℕ) (xs ys : List Block) → AreBlocks bytes xs → AreBlocks bytes ys → xs ≡ ys
+AreBlocks-same bytes [] [] are_x are_y = refl
+AreBlocks-same bytes [] (y ∷ ys) are_x are_y =
+    let (empty, rest, is, whole, more) = are_y in
+    absurd (not_both (without_empty_lines bytes) rest y is (without_empty_lines-block empty y rest bytes is whole) (without_empty_lines-end are_x.0 bytes are_x.1))
+AreBlocks-same bytes (x ∷ xs) [] are_x are_y =
+    let (empty, rest, is, whole, more) = are_x in
+    absurd (not_both (without_empty_lines bytes) rest x is (without_empty_lines-block empty x rest bytes is whole) (without_empty_lines-end are_y.0 bytes are_y.1))
+AreBlocks-same bytes (x ∷ xs) (y ∷ ys) are_x are_y =
+    let (empty_x, rest_x, is_x, whole_x, more_x) = are_x in
+    let (empty_y, rest_y, is_y, whole_y, more_y) = are_y in
+    let same = same_front (without_empty_lines bytes) x y rest_x rest_y is_x is_y
+    (without_empty_lines-block empty_x x rest_x bytes is_x whole_x) (without_empty_lines-block empty_y y rest_y bytes is_y whole_y) in
+    ap₂ (λ first others. first ∷ others) same.0 (AreBlocks-same rest_x xs ys more_x (subst (λ rest. AreBlocks rest ys) (sym same.1) more_y))
+
+-- ---- the first line
+
+pub first_line_taken : (rest : List ℕ) → first_holding (line_refusals (first_line ++ rest)) ≡ None
+unfolding first_holding
+first_line_taken rest = refl
+
+pub after_first_line : (rest : List ℕ) → after_first is_newline (first_line ++ rest) ≡ rest
+after_first_line rest = refl
+
+-- some byte is a newline, so there is a first
+first_newline : (bytes : List ℕ) → list_any is_newline bytes ≡ true → position_or_len is_newline bytes < length bytes
+first_newline bytes some =
+    ⊎_elim (λ within. within) (λ past. absurd (both_ways _ (list_any_none is_newline bytes (λ k d h. fails_before_first is_newline bytes k d (omega arith))) some))
+    (cases_lt (position_or_len is_newline bytes) (length bytes))
+
+-- a line that goes on behind n bytes has as many
+long_enough : (line : List ℕ) (n : ℕ) (last : List ℕ) → length last ≡ 1 → drop n line ≡ last → n ≤ length line
+long_enough line n last one e = omega (arith, length-drop n line, ap length e)
+
+-- bytes against whose first line nothing is told begin with it
+first_line_there : (bytes : List ℕ) → first_holding (line_refusals bytes) ≡ None → bytes ≡ first_line ++ after_first is_newline bytes
+first_line_there bytes none = whole ∙ ap (λ front. front ++ 10 ∷ after_first is_newline bytes) spelled
+  where
+    parts :
+        (not (starts_with nat_eq bytes magic) ≡ false)
+        × ((list_any is_newline bytes && not (bytes_eq (drop (length magic) (before_first is_newline bytes)) (codes "2"))) ≡ false)
+        × (not (list_any is_newline bytes) ≡ false)
+    parts = three_none Magic Version Truncated _ _ _ none
+
+    line : List ℕ
+    line = before_first is_newline bytes
+
+    within : position_or_len is_newline bytes < length bytes
+    within = first_newline bytes (not-false _ parts.2)
+
+    whole : bytes ≡ line ++ 10 ∷ after_first is_newline bytes
+    whole =
+        split_at_first is_newline bytes 0 within
+        ∙ ap (λ byte. line ++ byte ∷ after_first is_newline bytes) (eqb-true _ 10 (passes_at_first is_newline bytes 0 within))
+
+    version : drop (length magic) line ≡ codes "2"
+    version = (bytes_eq-Decides (drop (length magic) line) (codes "2")).0 (not-false _ (and_true _ _ (not-false _ parts.2) parts.1))
+
+    named : take (length magic) line ≡ magic
+    named =
+        sym (ap (take (length magic)) whole ∙ take-append-le (length magic) line (10 ∷ after_first is_newline bytes) (long_enough line (length magic) (codes "2") refl version))
+        ∙ sym ((slice_eq-Decides (λ a b. (eqb-true a b, eq-eqb a b)) magic (take (length magic) bytes) (starts_with nat_eq bytes magic) refl).0 (not-false _ parts.0))
+
+    spelled : line ≡ magic ++ codes "2"
+    spelled = sym (take-append-drop (length magic) line) ∙ ap₂ (λ front last. front ++ last) named version
+
+-- ---- whole dumps
+
+pub small_nothing : IsSmall []
+small_nothing = record { names = omega arith; records = omega arith; revisions = omega arith; values = omega arith }
+
+pub length-after_line : (bytes rest : List ℕ) → bytes ≡ first_line ++ rest → length rest < length bytes
+length-after_line bytes rest begins = omega (arith, ap length begins)
+
+-- nothing is told against a dump
+first_refusal-dump : (bytes : List ℕ) (history : HistoryOfBytes) → IsDumpText bytes history → first_refusal bytes ≡ None
+unfolding first_refusal
+first_refusal-dump bytes history is =
+    no_first (first_holding (line_refusals bytes)) 0 _ (ap (λ all. first_holding (line_refusals all)) is.begins ∙ first_line_taken is.rest)
+    ∙ ap (refusal_from (length bytes) (length bytes) []) (ap (after_first is_newline) is.begins ∙ after_first_line is.rest)
+    ∙ refusal_from-blocks (length bytes) (length bytes) [] history is.rest is.blocks is.follows is.tells is.some_revision is.small (length-after_line bytes is.rest is.begins)
+
+dump_there : (bytes : List ℕ) → bytes ≡ first_line ++ after_first is_newline bytes → Continues [] (after_first is_newline bytes) → (history : HistoryOfBytes) × IsDumpText bytes history
+dump_there bytes begins more = (
+  more.last,
+  record {
+    rest = after_first is_newline bytes;
+    blocks = more.blocks;
+    begins = begins;
+    follows = more.follows;
+    tells = more.tells;
+    some_revision = more.some_revision;
+    small = more.small;
+  },
+)
+
+dump-first_refusal : (bytes : List ℕ) → first_refusal bytes ≡ None → (history : HistoryOfBytes) × IsDumpText bytes history
+unfolding first_refusal
+dump-first_refusal bytes none =
+    let parts = neither (first_holding (line_refusals bytes)) 0 (refusal_from (length bytes) (length bytes) [] (after_first is_newline bytes)) none in
+    let begins = first_line_there bytes parts.0 in
+    dump_there bytes begins
+    (Continues-refusal_from (length bytes) (length bytes) [] (after_first is_newline bytes) small_nothing (length-after_line bytes (after_first is_newline bytes) begins) parts.1)
+
+pub exactly : (bytes : List ℕ) → (first_refusal bytes ≡ None) ↔ ((history : HistoryOfBytes) × IsDumpText bytes history)
+exactly bytes = (dump-first_refusal bytes, λ dump. first_refusal-dump bytes dump.0 dump.1)
+
+-- a dump tells one history
+pub one_history : (bytes : List ℕ) (a b : HistoryOfBytes) → IsDumpText bytes a → IsDumpText bytes b → a ≡ b
+one_history bytes a b is_a is_b =
+    let rest : is_b.rest ≡ is_a.rest =
+    sym (ap (after_first is_newline) is_b.begins ∙ after_first_line is_b.rest) ∙ ap (after_first is_newline) is_a.begins ∙ after_first_line is_a.rest in
+    let blocks = AreBlocks-same is_a.rest is_a.blocks is_b.blocks is_a.follows (subst (λ all. AreBlocks all is_b.blocks) rest is_b.follows) in
+    same_Some a b (sym is_a.tells ∙ ap history_of blocks ∙ is_b.tells)

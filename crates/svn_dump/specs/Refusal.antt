@@ -1,0 +1,90 @@
+-- Why a block is refused, in the order in which the reasons against one block are told.
+use Rattle.std.specs.Prelude.{ℕ, pred, ◌==◌, nat_lt, Bool, true, false, not, ◌||◌, List, [], ◌∷◌, ◌++◌, Option, Some, None, is_none, length, if◌then◌else◌}
+use Rattle.std.specs.List.{list_any}
+use Rattle.svn_dump.specs.DumpText.{all_records, most_numbered, names_of, values_of}
+use Rattle.svn_dump.specs.Node.{BlockSort, Node, NodeAction, node_block, other_block, revision_block, uuid_block}
+use Rattle.svn_dump.specs.Record.{HistoryOfBytes, has_dot, is_late, is_long, is_root_action, paths_read, with_sort}
+use Rattle.svn_dump.specs.declared.refusal.Refusal.{Refusal}
+use Rattle.svn_dump.specs.declared.refusal.Refusal.TheVariants.{Magic, Version, Header, Length, Truncated, Props, BadRecord, Revision, BadPath, Delta, CopyRevision, RootAction, RevisionZero, TooLarge}
+
+abbrev pub number_of_refusal : Refusal → ℕ
+number_of_refusal Magic = 1
+number_of_refusal Version = 2
+number_of_refusal Header = 3
+number_of_refusal Length = 4
+number_of_refusal Truncated = 5
+number_of_refusal Props = 6
+number_of_refusal BadRecord = 7
+number_of_refusal Revision = 8
+number_of_refusal BadPath = 9
+number_of_refusal Delta = 10
+number_of_refusal CopyRevision = 11
+number_of_refusal RootAction = 12
+number_of_refusal RevisionZero = 13
+number_of_refusal TooLarge = 14
+
+-- a reason, and whether it holds
+pub record Judged : Type 0 where
+  pub refusal : Refusal
+  pub holds : Bool
+
+abbrev pub judged : Refusal → Bool → Judged
+judged refusal holds = record { refusal = refusal; holds = holds }
+
+-- the first that holds
+unfoldable pub first_holding : List Judged → Option Refusal
+first_holding [] = None
+first_holding (each ∷ more) = if each.holds then Some each.refusal else first_holding more
+
+-- ---- whole blocks
+
+-- more names, records, revisions or mergeinfo texts than can be numbered
+abbrev pub is_large : HistoryOfBytes → Bool
+is_large history =
+    nat_lt most_numbered (length (names_of history)) || nat_lt most_numbered (length (all_records history))
+    || nat_lt most_numbered (length history) || nat_lt most_numbered (length (values_of history))
+
+-- the same of what a block makes of a history, if it makes one
+abbrev pub grows_large : Option HistoryOfBytes → Bool
+grows_large None = false
+grows_large (Some history) = is_large history
+
+-- against what a node block of a revision does
+abbrev pub action_refusals : ℕ → Node → NodeAction → List Judged
+action_refusals rev node action =
+    judged BadPath (list_any has_dot (paths_read node.path action))
+    ∷ judged Delta node.is_delta
+    ∷ judged CopyRevision (is_late rev action)
+    ∷ judged RootAction (is_root_action node.path action)
+    ∷ judged RevisionZero (not (nat_lt 0 rev))
+    ∷ []
+
+-- against its size, given whether the history grows too large by it
+abbrev pub size_refusals : Node → NodeAction → Bool → List Judged
+size_refusals node action large = judged TooLarge (list_any is_long (paths_read node.path action) || large) ∷ []
+
+abbrev pub later_refusals : ℕ → Node → Bool → Option NodeAction → List Judged
+later_refusals rev node large None = []
+later_refusals rev node large (Some action) = action_refusals rev node action ++ size_refusals node action large
+
+-- against a node block after so many revisions, of which it needs one
+unfoldable pub node_refusals : ℕ → Node → Bool → List Judged
+node_refusals revisions node large =
+    judged Props (is_none node.setting)
+    ∷ judged BadRecord (revisions == 0 || is_none node.action)
+    ∷ later_refusals (pred revisions) node large node.action
+
+-- a revision block has the number of the revision blocks before it
+abbrev pub revision_refusals : Option HistoryOfBytes → List Judged
+revision_refusals after = judged Revision (is_none after) ∷ judged TooLarge (grows_large after) ∷ []
+
+-- given what the block makes of the history
+unfoldable pub refusals_by : HistoryOfBytes → Option HistoryOfBytes → BlockSort → List Judged
+refusals_by history after (revision_block number) = revision_refusals after
+refusals_by history after (node_block node) = node_refusals (length history) node (grows_large after)
+refusals_by history after uuid_block = []
+refusals_by history after other_block = judged BadRecord true ∷ []
+
+-- against a whole block after a history
+abbrev pub sort_refusals : HistoryOfBytes → BlockSort → List Judged
+sort_refusals history sort = refusals_by history (with_sort history sort) sort
