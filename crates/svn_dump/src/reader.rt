@@ -1,5 +1,5 @@
 //! Reading a dump.
-ghost use Rattle.std.specs.Prelude.{◌≡◌, ℕ, List, ◌++◌, ◌↔◌, None, IsFalse, IsTrue, IfErr, IfOk, OnOk, Some};
+ghost use Rattle.std.specs.Prelude.{◌≡◌, ℕ, List, ◌++◌, ◌↔◌, None, IsFalse, IsTrue, IfErr, IfOk, IsErrOf, OnOk, Some};
 ghost use Rattle.svn_path.specs.Components.{is_not_empty};
 ghost use Rattle.svn_dump.specs.Draft.{IsWhole};
 ghost use Rattle.svn_dump.specs.Dump.{history_shown};
@@ -10,6 +10,7 @@ ghost use Rattle.svn_dump.specs.Found.{AddsBlock, IsBlockRefusal};
 ghost use Rattle.svn_dump.specs.Property.{IsSection, Property, section_of};
 ghost use Rattle.svn_dump.specs.Record.{HistoryOfBytes};
 ghost use Rattle.svn_dump.specs.Refusal.{first_holding};
+ghost use Rattle.svn_dump.specs.declared.error.DumpError.{DumpError};
 
 use crate::block::{first_block, skip_empty_lines};
 use crate::draft::Draft;
@@ -35,6 +36,9 @@ pub fn read(alloc: Global, bytes: &[u8]) -> Result<Dump, DumpError>
     ensures names { IfOk result (λ dump. dump.names ≡ names_of (history_shown dump)) }
     ensures values { IfOk result (λ dump. dump.values ≡ values_of (history_shown dump)) }
     ensures refused { IfErr result (IsRefusal bytes.now) }
+
+    // A faulty first line is told without taking any memory.
+    ensures memory { IsErrOf result DumpError.Memory → first_holding (line_refusals bytes.now) ≡ None }
 {
     let mut rest = match after_first_line(bytes) {
         Ok(rest) => rest,

@@ -1,5 +1,7 @@
-use Rattle.std.proofs.Common.{arith}
-use Rattle.svn_dump.proofs.FirstRefusals.{exactly, one_history}
+use Rattle.std.proofs.Common.{ap, arith, ◌∙◌}
+use Rattle.svn_dump.specs.FirstRefusal.{line_refusals}
+use Rattle.svn_dump.specs.Refusal.{first_holding}
+use Rattle.svn_dump.proofs.FirstRefusals.{exactly, first_line_taken, one_history}
 use Rattle.svn_dump.proofs.Reading.{IsRead-none, IsRead-more, IsRefusal-line, IsRefusal-block, IfOk-read, IfOk-named, IfOk-valued, IfErr-read, length-skipped, length-added}
 use Rattle.svn_dump.proofs.Sections.{section_of-both}
 use Rattle.svn_dump.proofs.reader.read.Goals as goal
@@ -36,6 +38,9 @@ returns-in-Err-add_block-clause-refused c =
     rw c.at-in-Err-add_block.ensures
     (IsRefusal-block c.args.bytes.now c.loop-block.rest.now c.in-Some.block.now c.loop-block.draft c.loop-block.invariant c.in-Some.ensures.same c.in-Err-add_block.e c.in-Some.ensures.some c.in-Err-add_block.ensures.refused)
 
+pub returns-in-Err-add_block-clause-memory : goal.returns-in-Err-add_block-clause-memory
+returns-in-Err-add_block-clause-memory c _ = ap (λ all. first_holding (line_refusals all)) c.in-Ok.ensures.ok ∙ first_line_taken c.in-Ok.rest.now
+
 pub loop-block-smaller : goal.loop-block-smaller
 loop-block-smaller c = length-added c.loop-block.rest.now c.in-Some.block.now c.in-Ok-add_block.rest.now _ _ c.in-Some.ensures.same c.in-Ok-add_block.ensures.added
 
@@ -68,3 +73,6 @@ returns-clause-sections c = section_of-both
 pub returns-clause-refused : goal.returns-clause-refused
 returns-clause-refused c =
     IfErr-read c.args.bytes.now c.loop-block.rest.now c.loop-block.draft c.loop-block.invariant c.in_default.ensures.same c.finish.result c.finish.ensures.refused
+
+pub returns-clause-memory : goal.returns-clause-memory
+returns-clause-memory c _ = ap (λ all. first_holding (line_refusals all)) c.in-Ok.ensures.ok ∙ first_line_taken c.in-Ok.rest.now
