@@ -1,0 +1,129 @@
+-- The segments and the operative revisions in a renamed history.
+use Rattle.std.proofs.Common.{◌≡◌, ℕ, zero, suc, ◌+◌, ◌-◌, ◌==◌, nat_lt, Bool, true, false, not, ◌&&◌, ◌||◌, if◌then◌else◌, List, [], ◌∷◌, ◌++◌, Option, None, Some, option_map, map, refl, ap, ◌∙◌}
+use Rattle.std.proofs.lemmas.List.Elements.{filter_agree}
+use Rattle.svn_dump.specs.History.{Record, History, rename_record, rename_history}
+use Rattle.svn_dump.specs.Location.{origin_of, location}
+use Rattle.svn_dump.specs.Tree.{Tree, is_there, tree_of, rename_tree}
+use Rattle.svn_dump.proofs.Renaming.Locations.{origin_of-rename, location-rename}
+use Rattle.svn_dump.proofs.Renaming.Paths.{KeepsSame, is_below-rename, same_path-rename}
+use Rattle.svn_dump.proofs.Renaming.Trees.{rename_origin, tree_of-rename, is_there-rename}
+use Rattle.path_index.specs.Operative.{names_below, came_from_itself, records_in, is_operative, down_from, operative_in, operative_from, operative_of}
+use Rattle.path_index.specs.Segment.{Run, rename_run, same_place, with_place, runs_up_to, segments_of}
+
+-- the records of a revision are renamed
+pub records_in-rename : {C D M N : Type 0} (name : C → D) (text : M → N) (history : History C M) (rev : ℕ)
+    → records_in (rename_history name text history) rev ≡ map (rename_record name text) (records_in history rev)
+records_in-rename name text [] rev = refl
+records_in-rename name text (records ∷ history) zero = refl
+records_in-rename name text (records ∷ history) (suc rev) = records_in-rename name text history rev
+
+module _ {C D : Type 0} (name : C → D) (sameC : C → C → Bool) (sameD : D → D → Bool) (alike : KeepsSame name sameC sameD) where
+  -- ---- runs
+
+  -- renamed places are the same where the places were
+  pub same_place-rename : (a b : Option (List C)) → same_place sameD (option_map (map name) a) (option_map (map name) b) ≡ same_place sameC a b
+  same_place-rename None None = refl
+  same_place-rename None (Some q) = refl
+  same_place-rename (Some p) None = refl
+  same_place-rename (Some p) (Some q) = same_path-rename name sameC sameD alike p q
+
+  joined-rename : (b : Bool) (rev : ℕ) (place : Option (List C)) (run : Run C) (runs : List (Run C))
+      → (if b then record (rename_run name run) { hi = rev } ∷ map (rename_run name) runs
+      else record { lo = rev; hi = rev; path = option_map (map name) place } ∷ rename_run name run ∷ map (rename_run name) runs)
+      ≡ map (rename_run name) (if b then record run { hi = rev } ∷ runs else record { lo = rev; hi = rev; path = place } ∷ run ∷ runs)
+  joined-rename true rev place run runs = refl
+  joined-rename false rev place run runs = refl
+
+  -- one more revision goes before or after renaming
+  pub with_place-rename : (rev : ℕ) (place : Option (List C)) (runs : List (Run C))
+      → with_place sameD rev (option_map (map name) place) (map (rename_run name) runs) ≡ map (rename_run name) (with_place sameC rev place runs)
+  unfolding with_place
+  with_place-rename rev None [] = refl
+  with_place-rename rev (Some path) [] = refl
+  with_place-rename rev None (run ∷ runs) =
+      ap (λ b. if b then record (rename_run name run) { hi = rev } ∷ map (rename_run name) runs
+      else record { lo = rev; hi = rev; path = None } ∷ rename_run name run ∷ map (rename_run name) runs) (same_place-rename None run.path)
+      ∙ joined-rename (same_place sameC None run.path) rev None run runs
+  with_place-rename rev (Some path) (run ∷ runs) =
+      ap (λ b. if b then record (rename_run name run) { hi = rev } ∷ map (rename_run name) runs
+      else record { lo = rev; hi = rev; path = Some (map name path) } ∷ rename_run name run ∷ map (rename_run name) runs) (same_place-rename (Some path) run.path)
+      ∙ joined-rename (same_place sameC (Some path) run.path) rev (Some path) run runs
+
+  -- so do the revisions up to one
+  pub runs_up_to-rename : (placeC : ℕ → Option (List C)) (placeD : ℕ → Option (List D)) → ((rev : ℕ) → placeD rev ≡ option_map (map name) (placeC rev))
+      → (top : ℕ) → runs_up_to sameD placeD top ≡ map (rename_run name) (runs_up_to sameC placeC top)
+  unfolding runs_up_to
+  runs_up_to-rename placeC placeD renamed zero =
+      ap (λ place. with_place sameD zero place []) (renamed zero) ∙ with_place-rename zero (placeC zero) []
+  runs_up_to-rename placeC placeD renamed (suc rev) =
+      (λ i. with_place sameD (suc rev) (renamed (suc rev) i) (runs_up_to-rename placeC placeD renamed rev i))
+      ∙ with_place-rename (suc rev) (placeC (suc rev)) (runs_up_to sameC placeC rev)
+
+  -- ---- records and origins
+
+  -- renamed records name a renamed path where the records named it
+  pub names_below-rename : {M N : Type 0} (text : M → N) (path : List C) (records : List (Record C M))
+      → names_below sameD (map name path) (map (rename_record name text) records) ≡ names_below sameC path records
+  names_below-rename text path [] = refl
+  names_below-rename text path (each ∷ records) =
+      λ i. is_below-rename name sameC sameD alike path each.path i || names_below-rename text path records i
+
+  -- a renamed path came from itself where the path did
+  pub came_from_itself-rename : (path : List C) (rev : ℕ) (origin : Option (List C × ℕ))
+      → came_from_itself sameD (map name path) rev (option_map (rename_origin name) origin) ≡ came_from_itself sameC path rev origin
+  came_from_itself-rename path rev None = refl
+  came_from_itself-rename path rev (Some from) = ap (λ b. b && from.1 + 1 == rev) (same_path-rename name sameC sameD alike from.0 path)
+
+module _ {C D M N : Type 0} (name : C → D) (text : M → N) (sameC : C → C → Bool) (sameD : D → D → Bool) (alike : KeepsSame name sameC sameD) where
+  -- the segments of a renamed path are the renamed ones
+  pub segments_of-rename : (trees : List (Tree C M)) (path : List C) (peg : ℕ)
+      → segments_of sameD (map (rename_tree name text) trees) (map name path) peg ≡ map (rename_run name) (segments_of sameC trees path peg)
+  segments_of-rename trees path peg =
+      runs_up_to-rename name sameC sameD alike (λ rev. location sameC trees path peg rev)
+      (λ rev. location sameD (map (rename_tree name text) trees) (map name path) peg rev)
+      (λ rev. location-rename name text sameC sameD alike trees path peg rev) peg
+
+  -- ---- operative revisions
+
+  module _ (history : History C M) (trees : List (Tree C M)) where
+    -- a revision touched a renamed path where it touched the path
+    pub is_operative-rename : (path : List C) (rev : ℕ)
+        → is_operative sameD (rename_history name text history) (map (rename_tree name text) trees) (map name path) rev
+        ≡ is_operative sameC history trees path rev
+    unfolding is_operative
+    is_operative-rename path rev =
+        let there = ap (λ tree. is_there sameD tree (map name path)) (tree_of-rename name text trees rev)
+        ∙ is_there-rename name text sameC sameD alike (tree_of trees rev) path in
+        let named = ap (names_below sameD (map name path)) (records_in-rename name text history rev)
+        ∙ names_below-rename name sameC sameD alike text path (records_in history rev) in
+        let came = ap (came_from_itself sameD (map name path) rev) (origin_of-rename name text sameC sameD alike trees path rev)
+        ∙ came_from_itself-rename name sameC sameD alike path rev (origin_of sameC trees path rev) in
+        λ i. nat_lt 0 rev && there i && (named i || not (came i))
+
+    operative_at-rename : (run : Run C) (path : Option (List C))
+        → operative_in sameD (rename_history name text history) (map (rename_tree name text) trees) (rename_run name run) (option_map (map name) path)
+        ≡ operative_in sameC history trees run path
+    operative_at-rename run None = refl
+    operative_at-rename run (Some path) =
+        filter_agree (is_operative sameD (rename_history name text history) (map (rename_tree name text) trees) (map name path))
+        (is_operative sameC history trees path) (is_operative-rename path) (down_from (run.hi + 1 - run.lo) run.hi)
+
+    -- the same revisions touched the path of a renamed run
+    pub operative_in-rename : (run : Run C)
+        → operative_in sameD (rename_history name text history) (map (rename_tree name text) trees) (rename_run name run) (rename_run name run).path
+        ≡ operative_in sameC history trees run run.path
+    operative_in-rename run = operative_at-rename run run.path
+
+    operative_from-rename : (place : ℕ) (runs : List (Run C))
+        → operative_from sameD (rename_history name text history) (map (rename_tree name text) trees) place (map (rename_run name) runs)
+        ≡ operative_from sameC history trees place runs
+    unfolding operative_from
+    operative_from-rename place [] = refl
+    operative_from-rename place (run ∷ runs) =
+        λ i. map (λ rev. (rev, place)) (operative_in-rename run i) ++ operative_from-rename (place + 1) runs i
+
+    -- and of renamed runs
+    pub operative_of-rename : (runs : List (Run C))
+        → operative_of sameD (rename_history name text history) (map (rename_tree name text) trees) (map (rename_run name) runs)
+        ≡ operative_of sameC history trees runs
+    operative_of-rename runs = operative_from-rename 0 runs

@@ -1,0 +1,37 @@
+use Rattle.std.proofs.Common.{Some, IfSome, refl, sym, ap, subst, ◌∙◌}
+use Rattle.path_index.specs.Shown.{IndexValue, IsThere}
+use Rattle.path_index.specs.declared.origin.Origin.{Origin}
+use Rattle.path_index.proofs.Traces.{IsTraced-whole, location_past, led_to, led_to-Some}
+use Rattle.path_index.proofs.index.Index.locate.Goals as goal
+
+pub loop-at-init : goal.loop-at-init
+loop-at-init c =
+    IsTraced-whole c.args.rev c.args.self.now.records c.as_slice-records.result.now c.args.path.now c.in_ok-place.place c.args.peg
+    (c.as_slice-records.ensures.value ∙ ap (λ (index : IndexValue). index.records) c.self.view_is) c.in_ok-place.ensures c.requires.whole.rising c.requires.there
+
+pub up_to-requires-clause-rising : goal.up_to-requires-clause-rising
+up_to-requires-clause-rising c = c.loop-at.invariant.rising
+
+pub up_to-requires-clause-there : goal.up_to-requires-clause-there
+up_to-requires-clause-there c = c.loop-at.invariant.there
+
+pub returns-then-lo-rev : goal.returns-then-lo-rev
+returns-then-lo-rev c =
+    ap Some refl ∙ sym (c.in_ok-lo.ensures.stays c.args.rev c.if-lo-rev.true c.loop-at-test.true) ∙ c.loop-at.invariant.finds
+
+pub returns-in_default : goal.returns-in_default
+returns-in_default c =
+    sym (c.in_ok-lo.ensures.back c.args.rev c.if-lo-rev.false ∙ ap (led_to c.in_ok-lo.field-0.before.now c.args.rev) c.in_default.is) ∙ c.loop-at.invariant.finds
+
+pub loop-at-preserved : goal.loop-at-preserved
+loop-at-preserved c =
+    let before = c.in_ok-lo.field-0.before.now in
+    record {
+      rising = c.in_ok-lo.ensures.before;
+      there = subst (λ o. IfSome o (λ (origin : Origin). IsThere before origin.path origin.rev)) c.in-Some.is c.in_ok-lo.ensures.origin;
+      finds = sym (c.in_ok-lo.ensures.back c.args.rev c.if-lo-rev.false ∙ led_to-Some before c.args.rev c.in_ok-lo.field-0.origin c.in-Some.origin c.in-Some.is) ∙ c.loop-at.invariant.finds;
+    }
+
+pub returns : goal.returns
+returns c =
+    sym (location_past c.loop-at.records.now c.loop-at.place c.loop-at.at c.args.rev c.loop-at-test.false) ∙ c.loop-at.invariant.finds

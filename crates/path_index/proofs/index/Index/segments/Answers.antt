@@ -1,0 +1,94 @@
+use Rattle.std.proofs.Common.{◌≡◌, ◌≢◌, ℕ, ◌+◌, ◌<◌, List, None, Some, IfSome, [], ◌∷◌, ◌++◌, ◌⊎◌, inl, inr, map, refl, sym, ap, subst, ◌∙◌, arith, true≢false, Bool, true, false, not, nat_lt, if◌then◌else◌, ◌-◌}
+use Rattle.std.proofs.lemmas.List.{map-append}
+use Rattle.std.specs.Cmp.Lexicographic.{pointwise}
+use Rattle.svn_dump.specs.Location.{location}
+use Rattle.svn_path.specs.Path.{same_name}
+use Rattle.svn_path.specs.declared.names.NameId.{NameId}
+use Rattle.svn_path.proofs.Orders.{paths_eq-Decides}
+use Rattle.path_index.specs.History.{trees_to}
+use Rattle.path_index.specs.Segment.{Run}
+use Rattle.path_index.specs.Shown.{IndexValue, IsThere, segment_shown}
+use Rattle.path_index.specs.declared.origin.Origin.{Origin}
+use Rattle.path_index.proofs.Traces.{IsGathered, IsGathered-none, IsGathered-all, IsGathered-on, IsGathered_push, led_to}
+use Rattle.path_index.proofs.index.Index.segments.Goals as goal
+use Rattle.path_index.proofs.index.Index.segments.Goals.{then-ne-via-then-ne, then-ne-via-else-ne+then-at-lo}
+
+-- what `!=` says of two paths
+other_by_ne : (p q : List NameId) → true ≡ not (pointwise same_name p q) → p ≢ q
+other_by_ne p q e is = true≢false (e ∙ ap not ((paths_eq-Decides p q).1 is))
+
+same_by_ne : (p q : List NameId) → false ≡ not (pointwise same_name p q) → p ≡ q
+same_by_ne p q e = (paths_eq-Decides p q).0 (by (pointwise same_name p q) e)
+  where
+    by : (b : Bool) → false ≡ not b → b ≡ true
+    by true e = refl
+    by false e = absurd (true≢false (sym e))
+
+pub loop-place-init : goal.loop-place-init
+loop-place-init c =
+    let all = c.args.self.now.records in
+    let place_in = λ (rev : ℕ). location same_name (trees_to all c.args.rev) c.args.path.now c.args.rev rev in
+    subst (λ items. IsGathered place_in c.args.rev (map segment_shown items) c.args.rev c.as_slice-records.result.now c.in_ok-place.place c.args.rev) (sym c.new-segments.ensures.items)
+    (IsGathered-none all c.as_slice-records.result.now c.args.path.now c.in_ok-place.place c.args.rev
+    (c.as_slice-records.ensures.value ∙ ap (λ (index : IndexValue). index.records) c.self.view_is) c.in_ok-place.ensures c.requires.whole.rising c.requires.there)
+
+pub up_to-requires-clause-rising : goal.up_to-requires-clause-rising
+up_to-requires-clause-rising c = c.loop-place.invariant.rising
+
+pub up_to-requires-clause-there : goal.up_to-requires-clause-there
+up_to-requires-clause-there c = c.loop-place.invariant.there
+
+pub returns-in_default : goal.returns-in_default
+returns-in_default c =
+    let all = c.args.self.now.records in
+    let place_in = λ (rev : ℕ). location same_name (trees_to all c.args.rev) c.args.path.now c.args.rev rev in
+    let lo = c.in_ok-lo.field-0.lo in
+    ap (map segment_shown) c.in_ok-push.ensures.items
+    ∙ map-append segment_shown c.loop-place.segments.items (record { lo = lo; hi = c.loop-place.hi; path = Some c.loop-place.place } ∷ [])
+    ∙ IsGathered-all place_in c.args.rev (map segment_shown c.loop-place.segments.items) c.loop-place.hi c.loop-place.records.now c.loop-place.place c.loop-place.at
+    c.loop-place.invariant lo c.in_ok-lo.ensures.within c.in_ok-lo.ensures.stays
+    (λ rev past. c.in_ok-lo.ensures.back rev past ∙ ap (led_to c.in_ok-lo.field-0.before.now rev) c.in_default.is)
+
+pub loop-place-smaller-in-loop-place : goal.loop-place-smaller-in-loop-place
+loop-place-smaller-in-loop-place c =
+    let earlier = subst (λ o. IfSome o (λ (origin : Origin). origin.rev < c.in_ok-lo.field-0.lo)) c.in-Some.is c.in_ok-lo.ensures.earlier in
+    omega (arith, earlier, c.in_ok-lo.ensures.within)
+
+pub loop-place-preserved-in-loop-place : goal.loop-place-preserved-in-loop-place
+loop-place-preserved-in-loop-place c =
+    let all = c.args.self.now.records in
+    let place_in = λ (rev : ℕ). location same_name (trees_to all c.args.rev) c.args.path.now c.args.rev rev in
+    let lo = c.in_ok-lo.field-0.lo in
+    let before = c.in_ok-lo.field-0.before.now in
+    let origin = c.in-Some.origin in
+    let there = subst (λ o. IfSome o (λ (o : Origin). IsThere before o.path o.rev)) c.in-Some.is c.in_ok-lo.ensures.origin in
+    let earlier = subst (λ o. IfSome o (λ (o : Origin). o.rev < lo)) c.in-Some.is c.in_ok-lo.ensures.earlier in
+    let ends : (origin.path ≢ c.loop-place.place) ⊎ (origin.rev + 1 < lo) = elim c.then-ne.branch [
+      | then-ne-via-then-ne w ↦ inl (other_by_ne origin.path c.loop-place.place w.if-ne.ensures)
+      | then-ne-via-else-ne+then-at-lo w ↦ inr w.if-at-lo.true
+    ] in
+    let pushed = ap (map segment_shown) c.in_ok-push-2.ensures.items
+    ∙ map-append segment_shown c.loop-place.segments.items (record { lo = lo; hi = c.loop-place.hi; path = Some c.loop-place.place } ∷ []) in
+    let gap : List (Run NameId) = if nat_lt (origin.rev + 1) lo then record { lo = origin.rev + 1; hi = lo - 1; path = None } ∷ [] else [] in
+    subst (λ runs. IsGathered place_in c.args.rev runs origin.rev before origin.path origin.rev) (sym (c.in_ok-push_gap.ensures ∙ ap (λ front. front ++ gap) pushed))
+    (IsGathered_push place_in c.args.rev (map segment_shown c.loop-place.segments.items) c.loop-place.hi c.loop-place.records.now c.loop-place.place c.loop-place.at
+    c.loop-place.invariant lo c.in_ok-lo.ensures.within c.in_ok-lo.ensures.stays before origin c.in_ok-lo.ensures.before there earlier
+    (λ rev past. c.in_ok-lo.ensures.back rev past ∙ ap (led_to before rev) c.in-Some.is) ends)
+
+pub loop-place-smaller : goal.loop-place-smaller
+loop-place-smaller c =
+    let earlier = subst (λ o. IfSome o (λ (origin : Origin). origin.rev < c.in_ok-lo.field-0.lo)) c.in-Some.is c.in_ok-lo.ensures.earlier in
+    omega (arith, earlier, c.in_ok-lo.ensures.within)
+
+pub loop-place-preserved : goal.loop-place-preserved
+loop-place-preserved c =
+    let all = c.args.self.now.records in
+    let place_in = λ (rev : ℕ). location same_name (trees_to all c.args.rev) c.args.path.now c.args.rev rev in
+    let lo = c.in_ok-lo.field-0.lo in
+    let before = c.in_ok-lo.field-0.before.now in
+    let origin = c.in-Some.origin in
+    let there = subst (λ o. IfSome o (λ (o : Origin). IsThere before o.path o.rev)) c.in-Some.is c.in_ok-lo.ensures.origin in
+    let earlier = subst (λ o. IfSome o (λ (o : Origin). o.rev < lo)) c.in-Some.is c.in_ok-lo.ensures.earlier in
+    IsGathered-on place_in c.args.rev (map segment_shown c.loop-place.segments.items) c.loop-place.hi c.loop-place.records.now c.loop-place.place c.loop-place.at
+    c.loop-place.invariant lo c.in_ok-lo.ensures.within c.in_ok-lo.ensures.stays before origin c.in_ok-lo.ensures.before there earlier
+    (λ rev past. c.in_ok-lo.ensures.back rev past ∙ ap (led_to before rev) c.in-Some.is) (same_by_ne origin.path c.loop-place.place c.if-ne.ensures) c.if-at-lo.false

@@ -1,0 +1,32 @@
+use Rattle.std.proofs.Common.{◌≡◌, refl, sym, subst, ◌∙◌, [], ◌∷◌, false, List}
+use Rattle.svn_path.specs.declared.names.NameId.{NameId}
+use Rattle.svn_dump.specs.declared.kind.Kind.{Kind}
+use Rattle.svn_dump.specs.declared.record.Act.{Act}
+use Rattle.svn_dump.specs.declared.record.Mi.{Mi}
+use Rattle.svn_dump.specs.declared.record.NodeRecord.{NodeRecord}
+use Rattle.svn_dump.specs.Tree.{apply_action, entry_at, opening, trees_of}
+use Rattle.path_index.specs.History.{history_to}
+use Rattle.path_index.specs.Shown.{IsThere}
+use Rattle.path_index.proofs.tests.index_of_copy.Goals as goal
+
+abbrev the_records : List NameId → List NameId → List NameId → List NodeRecord
+the_records added source top =
+    record { rev = 1; path = added; act = Act.Add false Kind.Dir Mi.Keep } ∷ record { rev = 2; path = top; act = Act.Copy false source 1 Mi.Keep } ∷ []
+
+abbrev a : List NameId
+a = record { 0 = 0 } ∷ []
+
+abbrev b : List NameId
+b = record { 0 = 1 } ∷ []
+
+there : (added source top : List NameId) → added ≡ a → source ≡ a → top ≡ b → IsThere (the_records added source top) b 2
+unfolding entry_at trees_of history_to apply_action opening
+there added source top is-added is-source is-top =
+    subst (λ each. IsThere (the_records each source top) b 2) (sym is-added)
+    (subst (λ each. IsThere (the_records a each top) b 2) (sym is-source)
+    (subst (λ each. IsThere (the_records a a each) b 2) (sym is-top) refl))
+
+-- src/tests.rt:17:1
+pub returns-clause-there : goal.returns-clause-there
+returns-clause-there c = subst (λ records. IsThere records b 2) (sym (c.in_ok-build.ensures.records ∙ c.as_slice.ensures))
+    (there _ _ _ (c.in_ok-dup.ensures ∙ c.in_ok-a.ensures) c.in_ok-a.ensures c.in_ok-path_of.ensures)

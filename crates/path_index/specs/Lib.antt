@@ -1,0 +1,4 @@
+pub mod History
+pub mod Operative
+pub mod Segment
+pub mod Shown

@@ -1,0 +1,11 @@
+//! A run of revisions in which a path stood at one place.
+
+use svn_path::Path;
+
+/// A run of neighbouring revisions, from `lo` to `hi`, in which a path stood at one place, or nowhere.
+#[derive(Drop)]
+pub struct Segment {
+    pub lo: u32,
+    pub hi: u32,
+    pub path: Option<Path>,
+}
