@@ -4,7 +4,6 @@ pub mod Cuts
 pub mod Queries
 pub mod Reports
 pub mod Shown
-pub mod Traces
 pub mod TreePaths
 pub mod TreeReads
 pub mod TreeSame

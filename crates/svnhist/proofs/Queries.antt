@@ -1,10 +1,10 @@
 -- Lines of a list of queries.
-use Rattle.std.proofs.Common.{◌≡◌, ◌≢◌, ℕ, ◌==◌, Bool, List, [], ◌∷◌, Option, None, option_map, length, false, true≢false, arith, refl, sym, ap, inl, inr}
+use Rattle.std.proofs.Common.{◌≡◌, ℕ, ◌==◌, Bool, List, [], ◌∷◌, Option, None, option_map, length, false, true≢false, refl, sym, ap, ◌∙◌, inl, inr}
 use Rattle.std.proofs.lemmas.Bool.{cases_Bool}
 use Rattle.std.specs.List.{slice_split}
 use Rattle.svn_dump.specs.Number.{number_up_to, greatest_revision}
 use Rattle.svnhist.specs.Cut.{CutsFirst, CutsLast, Lacks}
-use Rattle.svnhist.specs.Query.{without_last_empty, query_lines, query_of_fields, bad}
+use Rattle.svnhist.specs.Query.{bad, query_of, query_of_fields, query_of_peg, query_of_revision, without_last_empty, query_lines}
 use Rattle.svnhist.specs.QueryShown.{read_peg}
 use Rattle.svnhist.proofs.Cuts.{slice_split-cut, slice_split-uncut, list_any-cut, list_any-uncut, before_last-cut, after_last-cut}
 
@@ -43,26 +43,22 @@ read_peg-uncut field none = sym (rw (list_any-uncut 64 field none) refl)
 two_fields : (line first rest : List ℕ) → CutsFirst 9 line first rest → Lacks 9 rest → slice_split (λ each. each == 9) line ≡ first ∷ rest ∷ []
 two_fields line first rest cut none = rw (slice_split-cut 9 line first rest cut, slice_split-uncut 9 rest none) refl
 
-pub three_fields : (line first rest second third : List ℕ) → CutsFirst 9 line first rest → CutsFirst 9 rest second third → Lacks 9 third → slice_split (λ each. each == 9) line ≡ first ∷ second ∷ third ∷ []
-three_fields line first rest second third cut again none = rw (slice_split-cut 9 line first rest cut, two_fields rest second third again none) refl
+-- a line without a tab
+pub query_of-uncut : (line : List ℕ) → Lacks 9 line → query_of line ≡ bad
+query_of-uncut line none = ap query_of_fields (slice_split-uncut 9 line none)
 
-pub not_three-uncut : (line : List ℕ) → Lacks 9 line → length (slice_split (λ each. each == 9) line) ≢ 3
-not_three-uncut line none three = let one = slice_split-uncut 9 line none in absurd (omega (arith, ap length one))
+-- a line with one
+pub query_of-two : (line verb peg : List ℕ) → CutsFirst 9 line verb peg → Lacks 9 peg → query_of line ≡ query_of_peg verb peg
+query_of-two line verb peg cut none = ap query_of_fields (two_fields line verb peg cut none)
 
-pub not_three-cut_once : (line first rest : List ℕ) → CutsFirst 9 line first rest → Lacks 9 rest → length (slice_split (λ each. each == 9) line) ≢ 3
-not_three-cut_once line first rest cut none three = absurd (omega (arith, ap length (two_fields line first rest cut none)))
+-- a line with two
+pub query_of-three : (line verb rest peg rev : List ℕ) → CutsFirst 9 line verb rest → CutsFirst 9 rest peg rev → Lacks 9 rev → query_of line ≡ query_of_revision verb peg rev
+query_of-three line verb rest peg rev cut again none =
+    ap query_of_fields (slice_split-cut 9 line verb rest cut ∙ ap (λ more. verb ∷ more) (two_fields rest peg rev again none))
 
-pub not_three-cut_thrice : (line first rest second third fourth fifth : List ℕ) → CutsFirst 9 line first rest → CutsFirst 9 rest second third → CutsFirst 9 third fourth fifth → length (slice_split (λ each. each == 9) line) ≢ 3
-not_three-cut_thrice line first rest second third fourth fifth cut again more three =
-    let (next, others, same) = slice_split-some (λ each. each == 9) fifth in
-    let all : slice_split (λ each. each == 9) line ≡ first ∷ second ∷ fourth ∷ next ∷ others =
-    rw (slice_split-cut 9 line first rest cut, slice_split-cut 9 rest second third again, slice_split-cut 9 third fourth fifth more, same) refl in
-    absurd (omega (arith, ap length all))
-
--- what is asked by other than three fields
-pub query_of_fields-other : (fields : List (List ℕ)) → length fields ≢ 3 → query_of_fields fields ≡ bad
-query_of_fields-other [] other = refl
-query_of_fields-other (verb ∷ []) other = refl
-query_of_fields-other (verb ∷ peg ∷ []) other = refl
-query_of_fields-other (verb ∷ peg ∷ rev ∷ []) other = absurd (other refl)
-query_of_fields-other (verb ∷ peg ∷ rev ∷ more ∷ fields) other = refl
+-- a line with more
+pub query_of-four : (line verb rest peg more rev last : List ℕ) → CutsFirst 9 line verb rest → CutsFirst 9 rest peg more → CutsFirst 9 more rev last → query_of line ≡ bad
+query_of-four line verb rest peg more rev last cut again third =
+    let (next, others, same) = slice_split-some (λ each. each == 9) last in
+    ap query_of_fields (slice_split-cut 9 line verb rest cut ∙ ap (λ fields. verb ∷ fields) (slice_split-cut 9 rest peg more again
+    ∙ ap (λ fields. peg ∷ fields) (slice_split-cut 9 more rev last third ∙ ap (λ fields. rev ∷ fields) same)))

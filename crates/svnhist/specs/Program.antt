@@ -1,5 +1,5 @@
 -- What the program answers to its input, and what its status tells.
-use Rattle.std.specs.Prelude.{◌≡◌, ℕ, ◌⊎◌, List, Option, Some, None, Vec}
+use Rattle.std.specs.Prelude.{ℕ, List, Option, Some, None, Vec}
 use Rattle.std.specs.Io.KnownBytes.{Appends, Consumes, IsAtEnd}
 use Rattle.std.specs.declared.alloc.Global.{Global}
 use Rattle.svnhist.specs.Bundle.{BundleValue, IsBundle}

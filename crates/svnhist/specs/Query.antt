@@ -30,6 +30,8 @@ pub record Peg : Type 0 where
 pub data Query : Type 0 where
   bad : Query
   locate : Peg → ℕ → Query
+  segments : Peg → Query
+  log : Peg → Query
 
 -- the components of a queried path, none of them `.` or `..`
 abbrev pub queried_path : List ℕ → Option (List (List ℕ))
@@ -47,15 +49,26 @@ abbrev pub asked : Option Query → Query
 asked None = bad
 asked (Some query) = query
 
+-- a verb and a peg
+abbrev pub query_of_peg : List ℕ → List ℕ → Query
+query_of_peg verb peg =
+    if bytes_eq verb (codes "segments") then asked (option_map segments (peg_of peg))
+    else (if bytes_eq verb (codes "log") then asked (option_map log (peg_of peg))
+    else bad)
+
+-- a verb, a peg and a revision
+abbrev pub query_of_revision : List ℕ → List ℕ → List ℕ → Query
+query_of_revision verb peg rev =
+    if bytes_eq verb (codes "locate")
+    then asked (option_and_then (λ of. option_map (locate of) (number_up_to greatest_revision rev)) (peg_of peg))
+    else bad
+
 -- a verb and its fields
 abbrev pub query_of_fields : List (List ℕ) → Query
 query_of_fields [] = bad
 query_of_fields (verb ∷ []) = bad
-query_of_fields (verb ∷ peg ∷ []) = bad
-query_of_fields (verb ∷ peg ∷ rev ∷ []) =
-    if bytes_eq verb (codes "locate")
-    then asked (option_and_then (λ of. option_map (locate of) (number_up_to greatest_revision rev)) (peg_of peg))
-    else bad
+query_of_fields (verb ∷ peg ∷ []) = query_of_peg verb peg
+query_of_fields (verb ∷ peg ∷ rev ∷ []) = query_of_revision verb peg rev
 query_of_fields (verb ∷ peg ∷ rev ∷ more ∷ fields) = bad
 
 -- what a line asks: fields with one tab between them

@@ -1,5 +1,7 @@
 -- The report on a history: an answer for each query line, in the order of the lines.
-use Rattle.std.specs.Prelude.{◌≡◌, ℕ, ◌+◌, nat_le, List, [], ◌∷◌, ◌++◌, Option, Some, None, codes, decimal, flat_map, length, bytes_eq, if◌then◌else◌}
+use Rattle.std.specs.Prelude.{◌≡◌, ℕ, ◌+◌, nat_le, List, [], ◌∷◌, ◌++◌, Option, Some, None, codes, decimal, flat_map, length, map, bytes_eq, option_and_then, slice_get, if◌then◌else◌}
+use Rattle.path_index.specs.Operative.{Touch, operative_of}
+use Rattle.path_index.specs.Segment.{Run, segments_of}
 use Rattle.svn_path.specs.Components.{printed}
 use Rattle.svn_dump.specs.Block.{line_text}
 use Rattle.svn_dump.specs.DumpText.{IsDumpText}
@@ -7,7 +9,7 @@ use Rattle.svn_dump.specs.Fault.{first_fault}
 use Rattle.svn_dump.specs.Location.{location}
 use Rattle.svn_dump.specs.Record.{HistoryOfBytes}
 use Rattle.svn_dump.specs.Tree.{Tree, tree_of, trees_of, is_there}
-use Rattle.svnhist.specs.Query.{Peg, Query, bad, locate, query_of, query_lines}
+use Rattle.svnhist.specs.Query.{Peg, Query, bad, locate, log, segments, query_of, query_lines}
 
 abbrev pub TreesOfBytes : Type 0
 TreesOfBytes = List (Tree (List ℕ) (List ℕ))
@@ -51,10 +53,35 @@ abbrev pub location_line : Option (List (List ℕ)) → List ℕ
 location_line None = codes "-"
 location_line (Some path) = printed path
 
-unfoldable pub answer_of : TreesOfBytes → Query → Answer
-answer_of trees bad = refused bad_query
-answer_of trees (locate peg rev) =
-    answer_if_ok (peg_status trees peg) (location_line (location bytes_eq trees peg.path peg.rev rev) ∷ [])
+-- the revisions and the path of a run
+abbrev pub segment_line : Run (List ℕ) → List ℕ
+segment_line run = decimal run.lo ++ codes "-" ++ decimal run.hi ++ codes " " ++ location_line run.path
+
+-- a revision, and the path of its run
+abbrev pub touch_line : List (Run (List ℕ)) → Touch → List ℕ
+touch_line runs touch = codes "r" ++ decimal touch.0 ++ codes " " ++ location_line (option_and_then (λ run. run.path) (slice_get runs touch.1))
+
+-- the result lines of the queries
+abbrev pub locate_lines : TreesOfBytes → ℕ → Peg → List (List ℕ)
+locate_lines trees rev peg = location_line (location bytes_eq trees peg.path peg.rev rev) ∷ []
+
+abbrev pub segments_lines : TreesOfBytes → Peg → List (List ℕ)
+segments_lines trees peg = map segment_line (segments_of bytes_eq trees peg.path peg.rev)
+
+abbrev pub log_lines : HistoryOfBytes → TreesOfBytes → Peg → List (List ℕ)
+log_lines history trees peg =
+    let runs = segments_of bytes_eq trees peg.path peg.rev in
+    map (touch_line runs) (operative_of bytes_eq history trees runs)
+
+-- the answer about a peg, given its result lines
+abbrev pub answer_at : TreesOfBytes → Peg → List (List ℕ) → Answer
+answer_at trees peg lines = answer_if_ok (peg_status trees peg) lines
+
+unfoldable pub answer_of : HistoryOfBytes → TreesOfBytes → Query → Answer
+answer_of history trees bad = refused bad_query
+answer_of history trees (locate peg rev) = answer_at trees peg (locate_lines trees rev peg)
+answer_of history trees (segments peg) = answer_at trees peg (segments_lines trees peg)
+answer_of history trees (log peg) = answer_at trees peg (log_lines history trees peg)
 
 -- `#`, the number of the line, and the status
 abbrev pub answer_head : ℕ → Status → List ℕ
@@ -69,14 +96,14 @@ answer_text number answer = answer_head number answer.status ++ flat_map line_te
 abbrev pub most_queries : ℕ
 most_queries = 1000000
 
-unfoldable pub answers_from : ℕ → TreesOfBytes → List (List ℕ) → List ℕ
-answers_from number trees [] = []
-answers_from number trees (line ∷ lines) =
-    answer_text number (answer_of trees (query_of line)) ++ answers_from (number + 1) trees lines
+unfoldable pub answers_from : ℕ → HistoryOfBytes → TreesOfBytes → List (List ℕ) → List ℕ
+answers_from number history trees [] = []
+answers_from number history trees (line ∷ lines) =
+    answer_text number (answer_of history trees (query_of line)) ++ answers_from (number + 1) history trees lines
 
 -- the answers to all queries on a history, joined
 abbrev pub answers : HistoryOfBytes → List ℕ → List ℕ
-answers history queries = answers_from 1 (trees_of bytes_eq history) (query_lines queries)
+answers history queries = answers_from 1 history (trees_of bytes_eq history) (query_lines queries)
 
 -- the bytes are a dump of a lawful history, and these are its answers
 pub record IsReport (dump queries report : List ℕ) : Type 0 where

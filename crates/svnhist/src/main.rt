@@ -14,6 +14,7 @@ mod gate;
 mod load;
 mod program;
 mod query;
+mod repo;
 mod report;
 mod run_error;
 mod send;

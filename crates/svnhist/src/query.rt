@@ -1,7 +1,6 @@
 //! Query lines.
-ghost use Rattle.std.specs.Prelude.{◌≡◌, ◌≢◌, ◌<◌, ◌∷◌, [], length, IfNone, IfSome, IsTrue, option_map};
-ghost use Rattle.std.specs.List.{slice_split};
-ghost use Rattle.svnhist.specs.Query.{is_tab, query_lines, query_of};
+ghost use Rattle.std.specs.Prelude.{◌≡◌, ◌<◌, ◌∷◌, [], length, IfNone, IfSome, option_map};
+ghost use Rattle.svnhist.specs.Query.{query_lines, query_of, query_of_peg, query_of_revision};
 ghost use Rattle.svnhist.specs.QueryShown.{peg_shown, read_peg, query_shown};
 
 use crate::cut::{cut_first, cut_last};
@@ -23,6 +22,10 @@ pub(crate) enum Query<'a> {
     Bad,
     /// Where the path stood in a revision.
     Locate { of: Peg<'a>, rev: u32 },
+    /// Where it stood in all revisions.
+    Segments { of: Peg<'a> },
+    /// Which revisions touched it.
+    Log { of: Peg<'a> },
 }
 
 impl<'a> Peg<'a> {
@@ -41,9 +44,38 @@ impl<'a> Query<'a> {
     pub(crate) fn read(line: &'a [u8]) -> Self
         ensures { query_shown result ≡ query_of line.now }
     {
-        let Some((verb, peg, rev)) = three_fields(line) else {
+        let Some((verb, rest)) = cut_first(line, b'\t') else {
             return Query::Bad;
         };
+        let Some((peg, rest)) = cut_first(rest, b'\t') else {
+            return Query::of_peg(verb, rest);
+        };
+        match cut_first(rest, b'\t') {
+            None => Query::of_revision(verb, peg, rest),
+            Some(_) => Query::Bad,
+        }
+    }
+
+    // What a verb and a peg ask.
+    fn of_peg(verb: &[u8], peg: &'a [u8]) -> Self
+        ensures { query_shown result ≡ query_of_peg verb.now peg.now }
+    {
+        let Some(of) = Peg::read(peg) else {
+            return Query::Bad;
+        };
+        if verb == b"segments".as_slice() {
+            Query::Segments { of }
+        } else if verb == b"log".as_slice() {
+            Query::Log { of }
+        } else {
+            Query::Bad
+        }
+    }
+
+    // What a verb, a peg and a revision ask.
+    fn of_revision(verb: &[u8], peg: &'a [u8], rev: &[u8]) -> Self
+        ensures { query_shown result ≡ query_of_revision verb.now peg.now rev.now }
+    {
         if verb != b"locate".as_slice() {
             return Query::Bad;
         }
@@ -54,19 +86,6 @@ impl<'a> Query<'a> {
             },
             _ => Query::Bad,
         }
-    }
-}
-
-// The fields of a line that has three.
-fn three_fields(line: &[u8]) -> Option<(&[u8], &[u8], &[u8])>
-    ensures three { IfSome result (λ fields. slice_split is_tab line.now ≡ fields.0.now ∷ fields.1.now ∷ fields.2.now ∷ []) }
-    ensures other { IfNone result (length (slice_split is_tab line.now) ≢ 3) }
-{
-    let (first, rest) = cut_first(line, b'\t')?;
-    let (second, third) = cut_first(rest, b'\t')?;
-    match cut_first(third, b'\t') {
-        None => Some((first, second, third)),
-        Some(_) => None,
     }
 }
 

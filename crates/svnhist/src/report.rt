@@ -7,8 +7,10 @@ ghost use Rattle.svnhist.specs.RunFault.{IsRunError};
 use crate::answer::write_answers;
 use crate::gate::Gate;
 use crate::query::count_lines;
+use crate::repo::Repo;
 use crate::run_error::RunError;
 use crate::trees::Trees;
+use path_index::Index;
 use std::alloc::Global;
 use std::sync::Wait;
 use std::thread::Threads;
@@ -47,5 +49,11 @@ pub fn report<R: Threads + Wait + Sync, G: Gate>(
     }
     let dump = read(alloc, dump)?;
     let trees = Trees::build(alloc, &dump)?;
-    Ok(write_answers(alloc, dump.names(), &trees, queries, gate)?)
+    let index = Index::build(alloc, dump.records(), 0)?;
+    let repo = Repo {
+        names: dump.names(),
+        trees: &trees,
+        index: &index,
+    };
+    Ok(write_answers(alloc, &repo, queries, gate)?)
 }

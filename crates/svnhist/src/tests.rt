@@ -212,6 +212,95 @@ fn follows_a_replacement(rt: HostRuntime) -> Result<(), Fail> {
     Ok(())
 }
 
+#[test]
+fn tells_where_paths_stood(rt: HostRuntime) -> Result<(), Fail> {
+    for (dump, queries, wanted) in [
+        (
+            MERGED,
+            b"segments\t/branches/b@8\n".as_slice(),
+            b"#1 ok\n4-8 /branches/b\n3-3 -\n1-2 /trunk\n".as_slice(),
+        ),
+        (MOVES, b"segments\t/A/b@2", b"#1 ok\n2-2 /A/b\n1-1 /T/b\n"),
+        (REPLACED, b"segments\t/a/x@2", b"#1 ok\n1-2 /a/x\n"),
+        (
+            NESTED,
+            b"segments\t/n/q/s@3\nsegments\t/m/q/s@3",
+            b"#1 ok\n3-3 /n/q/s\n2-2 /p/q/s\n1-1 /z/s\n#2 no-such-path\n",
+        ),
+        (EMPTY, b"segments\t/@0", b"#1 ok\n0-0 /\n"),
+        (DUMPED, b"segments\tb@3", b"#1 ok\n3-3 /b\n1-2 /trunk\n"),
+        (
+            DUMPED_AS_ONE,
+            b"segments\tb@3",
+            b"#1 ok\n3-3 /b\n1-2 /trunk\n",
+        ),
+    ] {
+        assert!(rt;
+            reports(&rt, rt.alloc(), dump, queries, wanted)?,
+            "{queries:?}"
+        );
+    }
+    Ok(())
+}
+
+#[test]
+fn tells_which_revisions_touched_paths(rt: HostRuntime) -> Result<(), Fail> {
+    for (dump, queries, wanted) in [
+        (
+            MERGED,
+            b"log\t/branches/b@8\n".as_slice(),
+            b"#1 ok\nr5 /branches/b\nr4 /branches/b\nr2 /trunk\nr1 /trunk\n".as_slice(),
+        ),
+        (
+            MERGED,
+            b"log\t/@10\n",
+            b"#1 ok\nr10 /\nr9 /\nr8 /\nr7 /\nr6 /\nr5 /\nr4 /\nr3 /\nr2 /\nr1 /\n",
+        ),
+        (
+            MERGED,
+            b"log\t/trunk@8\n",
+            b"#1 ok\nr8 /trunk\nr7 /trunk\nr6 /trunk\nr3 /trunk\nr2 /trunk\nr1 /trunk\n",
+        ),
+        (
+            REPLACED,
+            b"log\t/a/x@2\nlog\t/a@2",
+            b"#1 ok\nr1 /a/x\n#2 ok\nr2 /a\nr1 /a\n",
+        ),
+        (EMPTY, b"log\t/@0", b"#1 ok\n"),
+        (DUMPED, b"log\tb@3", b"#1 ok\nr3 /b\nr1 /trunk\n"),
+        (DUMPED_AS_ONE, b"log\tb@3", b"#1 ok\nr3 /b\nr1 /trunk\n"),
+    ] {
+        assert!(rt;
+            reports(&rt, rt.alloc(), dump, queries, wanted)?,
+            "{queries:?}"
+        );
+    }
+    Ok(())
+}
+
+#[test]
+fn tells_wrong_pegs_of_each_verb(rt: HostRuntime) -> Result<(), Fail> {
+    let queries =
+        b"\nblame\t/trunk@8\nlog\ttrunk\nlog\ttrunk@\nlocate\ttrunk@8\nlog\ta/../b@8\nlog\ttrunk@11\nlog\tnope@8\nsegments\t/trunk@8\t1\nsegments";
+    let wanted =
+        b"#1 bad-query\n#2 bad-query\n#3 bad-query\n#4 bad-query\n#5 bad-query\n#6 bad-query\n#7 no-such-revision\n#8 no-such-path\n#9 bad-query\n#10 bad-query\n";
+    assert!(rt; reports(&rt, rt.alloc(), MERGED, queries, wanted)?);
+    Ok(())
+}
+
+#[test]
+fn reports_alike_for_every_cutting(rt: HostRuntime) -> Result<(), Fail> {
+    let queries = b"segments\t/n/q/s@3\nlog\t/n/q/s@3\nlocate\t/n/q/s@3\t1\n";
+    let wanted = report_of(&rt, rt.alloc(), NESTED, queries)?;
+    for cuts in [[2, 1].as_slice(), &[1], &[3]] {
+        for workers in [1, 2, 8] {
+            let found = report(&rt, rt.alloc(), NESTED, queries, cuts, workers, &NoGate)?;
+            assert!(rt; found == wanted, "{cuts:?}");
+        }
+    }
+    Ok(())
+}
+
 fn fault_of<R: Threads + Wait + Sync>(
     rt: &R,
     alloc: Global,

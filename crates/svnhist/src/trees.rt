@@ -3,13 +3,12 @@ ghost use Rattle.std.specs.Prelude.{◌≡◌, ◌+◌, ◌^◌, ◌<◌, ◌↔
 ghost use Rattle.svn_path.specs.Path.{same_name};
 ghost use Rattle.svn_dump.specs.Dump.{history_by_number, record_shown};
 ghost use Rattle.svn_dump.specs.Fault.{fault_of, fault_if_missing as missing_fault, fault_of_target as target_fault, fault_of_source as source_fault, has_parent as parent_is_there, first_fault, first_fault_in};
-ghost use Rattle.svn_dump.specs.Location.{location, origin_of};
 ghost use Rattle.svn_dump.specs.Tree.{entry_at, is_there, tree_of, trees_of, opening, closing};
 ghost use Rattle.svnhist.specs.FaultShown.{kind_shown};
 ghost use Rattle.svnhist.specs.TreeShown.{FallingOrigins, SameTree, SameTrees, entry_shown, origin_shown};
 ghost use Rattle.svnhist.specs.TreesFault.{IsFaultOf, IsFaultIn};
 
-use crate::entry::{Entry, Origin};
+use crate::entry::Entry;
 use crate::fault::{Fault, FaultKind};
 use crate::tree::Tree;
 use std::alloc::{AllocError, AllocFailed, Global};
@@ -98,38 +97,6 @@ impl Trees {
         ensures { IsTrue result ↔ IsTrue (is_there same_name (tree_of self.now rev) path.now) }
     {
         entry_of(self.revisions.as_slice(), rev, path).is_some()
-    }
-
-    /// Where the path of one revision stood in another.
-    pub(crate) fn locate<'a>(&'a self, path: &'a Path, peg: u32, rev: u32) -> Option<&'a Path>
-        ensures { option_map (λ found. found.now) result ≡ location same_name self.now path.now peg rev }
-    {
-        trace(self.revisions.as_slice(), path, peg, rev)
-    }
-}
-
-// Follows origins from the path of one revision back to another.
-fn trace<'a>(trees: &'a [Tree], path: &'a Path, peg: u32, rev: u32) -> Option<&'a Path>
-    requires { FallingOrigins trees.now }
-    ensures { option_map (λ found. found.now) result ≡ location same_name trees.now path.now peg rev }
-{
-    let mut path = path;
-    let mut at = peg;
-    while at > rev {
-        let origin = origin_at(trees, path, at)?;
-        path = &origin.path;
-        at = origin.rev;
-    }
-    if at == rev { Some(path) } else { None }
-}
-
-// What the path of a revision came from.
-fn origin_at<'a>(trees: &'a [Tree], path: &Path, rev: u32) -> Option<&'a Origin>
-    ensures { option_map (λ origin. origin_shown origin.now) result ≡ origin_of same_name trees.now path.now rev }
-{
-    match entry_of(trees, rev, path) {
-        Some(entry) => entry.origin.as_ref(),
-        None => None,
     }
 }
 

@@ -8,11 +8,11 @@ lines-preserved g c =
     let line = c.in-Some.ensures.line in
     record {
       counted = omega (arith, c.lines.invariant.counted, ap length line);
-      answered = λ shown shows.
-          answers_from-more shown c.lines.place _ _ _ _ _
-          (c.in_ok-written.ensures shown shows ∙ ap (λ query. c.lines.out.items ++ answer_text (c.lines.place + 1) (answer_of shown query)) c.read.ensures)
-          (rw line at (c.lines.invariant.answered shown shows));
+      answered = λ history shown shows.
+          answers_from-more history shown c.lines.place _ _ _ _ _
+          (c.in_ok-written.ensures history shown shows ∙ ap (λ query. c.lines.out.items ++ answer_text (c.lines.place + 1) (answer_of history shown query)) c.read.ensures)
+          (rw line at (c.lines.invariant.answered history shown shows));
     }
 
 pub returns : goal.returns
-returns g c = λ shown shows. answers_from-all shown c.lines.place _ _ _ c.in_default.ensures.none (c.lines.invariant.answered shown shows)
+returns g c = λ history shown shows. answers_from-all history shown c.lines.place _ _ _ c.in_default.ensures.none (c.lines.invariant.answered history shown shows)
