@@ -1,5 +1,6 @@
 //! Long paths and long numbers.
 
+use crate::number_up_to;
 use crate::tests::dumps::{CHANGE, ONE, ZERO, accepts_with, refuses_with};
 use std::test::Fail;
 
@@ -74,4 +75,11 @@ fn reads_numbers_with_a_thousand_zeros(rt: HostRuntime) -> Result<(), Fail> {
     accepts_with(rt.alloc(), zeros.as_str(), 2, 1, records.as_slice())?;
     let revision = ["Revision-number: *2\n\n"];
     accepts_with(rt.alloc(), zeros.as_str(), 3, 0, revision.as_slice())
+}
+
+#[test]
+fn tells_numbers_up_to_the_greatest(rt: HostRuntime) {
+    assert_eq!(rt; number_up_to(9, b"009".as_slice()), Some(9));
+    assert!(rt; number_up_to(9, b"10".as_slice()).is_none());
+    assert!(rt; number_up_to(9, b"".as_slice()).is_none());
 }
