@@ -1,8 +1,7 @@
 -- The operative revisions of a path's runs, by the records that name the path.
-use Rattle.std.proofs.Common.{◌≡◌, ℕ, zero, suc, pred, ◌+◌, ◌-◌, ◌<◌, ◌≤◌, nat_lt, Bool, true, false, not, ◌&&◌, ◌||◌, if◌then◌else◌, List, [], ◌∷◌, ◌++◌, Option, None, Some, map, filter, refl, sym, ap, subst, ◌∙◌, arith}
+use Rattle.std.proofs.Common.{◌≡◌, ℕ, zero, suc, pred, ◌+◌, ◌-◌, ◌<◌, ◌≤◌, nat_lt, Bool, true, false, not, ◌&&◌, ◌||◌, if◌then◌else◌, List, [], ◌∷◌, ◌++◌, Option, None, Some, map, filter, refl, sym, ap, ◌∙◌, arith}
 use Rattle.std.proofs.lemmas.Bool.{false_from_ne_true, lt-ltb, or_right}
 use Rattle.std.proofs.lemmas.List.Elements.{filter-append}
-use Rattle.svn_path.proofs.Belows.{IsSame-same_name}
 use Rattle.svn_path.specs.Path.{same_name}
 use Rattle.svn_path.specs.declared.names.NameId.{NameId}
 use Rattle.svn_dump.specs.History.{History}
@@ -15,13 +14,14 @@ use Rattle.svn_dump.proofs.Locations.{location_is_there}
 use Rattle.svn_dump.proofs.Origins.{OriginsFall, OriginsAreThere, OriginsFall-trees_of, OriginsAreThere-trees_of}
 use Rattle.path_index.specs.History.{history_to, records_of, trees_to}
 use Rattle.path_index.specs.Operative.{names_below, came_from_itself, records_in, is_operative, down_from, operative_in, operative_from, operative_of, Touch}
-use Rattle.path_index.specs.Segment.{Run, segments_of}
+use Rattle.path_index.specs.Segment.{AreRuns, IsRun, Run, segments_of}
 use Rattle.path_index.specs.Shown.{IsThere}
 use Rattle.path_index.proofs.HistoryTo.{records_in-history_to}
 use Rattle.path_index.proofs.Places.{location_through, came-from_location, location-from_came}
 use Rattle.path_index.proofs.Pushed.{placed}
 use Rattle.path_index.proofs.Rising.{up_to, records_of-up_to}
-use Rattle.path_index.proofs.Runs.{IsRun, AreRuns, AreRuns-runs_up_to}
+use Rattle.path_index.proofs.Runs.{AreRuns-segments_of}
+use Rattle.path_index.proofs.Stretches.{names_are_same}
 use Rattle.path_index.proofs.Touched.{is_named, touched, or_false, filter_down-same}
 
 -- one number more, at the end
@@ -160,9 +160,6 @@ module _ (is : IsSame same_name) (history : History NameId ValueId) (trees : Lis
 
 -- ---- at the trees of a list of records
 
-names_same : IsSame same_name
-names_same = record { true_is = IsSame-same_name.true_is; itself = IsSame-same_name.itself }
-
 -- the touched revisions of a path's runs are the operative ones
 pub touched_from-operative_of : (records : List NodeRecord) (path : List NameId) (rev : ℕ) → IsThere records path rev → (runs : List (Run NameId))
     → runs ≡ segments_of same_name (trees_to records rev) path rev
@@ -170,8 +167,7 @@ pub touched_from-operative_of : (records : List NodeRecord) (path : List NameId)
 touched_from-operative_of records path rev there runs so =
     let history = history_to records rev in
     let trees = trees_to records rev in
-    let place = λ (k : ℕ). location same_name trees path rev k in
-    from_runs names_same history trees (OriginsFall-trees_of same_name history) (OriginsAreThere-trees_of same_name names_same history) path rev there records
+    from_runs names_are_same history trees (OriginsFall-trees_of same_name history) (OriginsAreThere-trees_of same_name names_are_same history) path rev there records
     (records_in-history_to records rev) 0 (rev + 1) runs records
-    (subst (AreRuns place (rev + 1)) (sym so) (AreRuns-runs_up_to same_name names_same place rev (rev + 1) (omega arith)))
+    (AreRuns-segments_of records path rev runs so)
     (omega arith) (λ k before. refl)

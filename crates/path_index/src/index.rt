@@ -5,7 +5,7 @@ ghost use Rattle.svn_path.specs.declared.names.NameId.{NameId};
 ghost use Rattle.svn_dump.specs.Location.{location};
 ghost use Rattle.path_index.specs.History.{AreRising, history_to, records_of, trees_to};
 ghost use Rattle.path_index.specs.Operative.{down_from, names_below, operative_of};
-ghost use Rattle.path_index.specs.Segment.{segments_of};
+ghost use Rattle.path_index.specs.Segment.{AreRuns, segments_of};
 ghost use Rattle.path_index.specs.Shown.{IsThere, IsWhole, hit_shown, segment_shown};
 
 use crate::hit::Hit;
@@ -52,7 +52,8 @@ impl Index {
     pub fn segments(&self, path: &Path, rev: u32) -> Result<Vec<Segment>, AllocError>
         requires whole { IsWhole self.now }
         requires there { IsThere self.now.records path.now rev }
-        ensures { IfOk result (λ segments. map segment_shown segments.items ≡ segments_of same_name (trees_to self.now.records rev) path.now rev) }
+        ensures exact { IfOk result (λ segments. map segment_shown segments.items ≡ segments_of same_name (trees_to self.now.records rev) path.now rev) }
+        ensures maximal { IfOk result (λ segments. AreRuns (location same_name (trees_to self.now.records rev) path.now rev) (rev + 1) (map segment_shown segments.items)) }
     {
         let mut segments = Vec::new(*self.records.allocator());
         let mut records = self.records.as_slice();

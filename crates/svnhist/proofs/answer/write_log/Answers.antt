@@ -20,7 +20,7 @@ returns-in-Refused c =
 pub write_hits-requires : goal.write_hits-requires
 write_hits-requires c =
     let found : IsFound c.args.repo.now.names.now c.args.repo.now.trees.now c.args.repo.now.index.now c.args.peg.path.now c.args.peg.rev (At c.in-At.path) = rw c.in-At.is at c.in_ok-status.ensures in
-    rw c.as_slice-in-At.ensures.value (All-segments c.args.repo.now.names.now c.in_ok-segments-in-At.segments.items _ c.in_ok-segments-in-At.ensures
+    rw c.as_slice-in-At.ensures.value (All-segments c.args.repo.now.names.now c.in_ok-segments-in-At.segments.items _ c.in_ok-segments-in-At.ensures.exact
     (c.requires.finds.runs c.in-At.path c.args.peg.rev found.0 found.1))
 
 pub returns-in_ok-write_head-in-At : goal.returns-in_ok-write_head-in-At
@@ -31,7 +31,7 @@ returns-in_ok-write_head-in-At c =
     let names = c.args.repo.now.names.now in
     let segments = c.in_ok-segments-in-At.segments.items in
     let index = c.args.repo.now.index.now in
-    let by_number = c.in_ok-segments-in-At.ensures in
+    let by_number = c.in_ok-segments-in-At.ensures.exact in
     let runs = runs_in_bytes names segments _ by_number ∙ sym (shows.runs c.in-At.path c.args.peg.rev found.0 found.1) in
     let there = c.requires.finds.there c.in-At.path c.args.peg.rev found.1 found.2 in
     let kept : c.as_slice.result.now ≡ segments = c.as_slice.ensures.value in

@@ -6,9 +6,10 @@ use Rattle.svn_path.specs.Path.{same_name}
 use Rattle.svn_path.specs.declared.names.NameId.{NameId}
 use Rattle.svn_path.proofs.Orders.{paths_eq-Decides}
 use Rattle.path_index.specs.History.{trees_to}
-use Rattle.path_index.specs.Segment.{Run}
+use Rattle.path_index.specs.Segment.{Run, segments_of}
 use Rattle.path_index.specs.Shown.{IndexValue, IsThere, segment_shown}
 use Rattle.path_index.specs.declared.origin.Origin.{Origin}
+use Rattle.path_index.proofs.Runs.{AreRuns-segments_of}
 use Rattle.path_index.proofs.Traces.{IsGathered, IsGathered-none, IsGathered-all, IsGathered-on, IsGathered_push, led_to}
 use Rattle.path_index.proofs.index.Index.segments.Goals as goal
 use Rattle.path_index.proofs.index.Index.segments.Goals.{then-ne-via-then-ne, then-ne-via-else-ne+then-at-lo}
@@ -38,8 +39,8 @@ up_to-requires-clause-rising c = c.loop-place.invariant.rising
 pub up_to-requires-clause-there : goal.up_to-requires-clause-there
 up_to-requires-clause-there c = c.loop-place.invariant.there
 
-pub returns-in_default : goal.returns-in_default
-returns-in_default c =
+all_gathered : (c : goal.In_ok-push) → map segment_shown c.push.new.self.items ≡ segments_of same_name (trees_to c.args.self.now.records c.args.rev) c.args.path.now c.args.rev
+all_gathered c =
     let all = c.args.self.now.records in
     let place_in = λ (rev : ℕ). location same_name (trees_to all c.args.rev) c.args.path.now c.args.rev rev in
     let lo = c.in_ok-lo.field-0.lo in
@@ -48,6 +49,12 @@ returns-in_default c =
     ∙ IsGathered-all place_in c.args.rev (map segment_shown c.loop-place.segments.items) c.loop-place.hi c.loop-place.records.now c.loop-place.place c.loop-place.at
     c.loop-place.invariant lo c.in_ok-lo.ensures.within c.in_ok-lo.ensures.stays
     (λ rev past. c.in_ok-lo.ensures.back rev past ∙ ap (led_to c.in_ok-lo.field-0.before.now rev) c.in_default.is)
+
+pub returns-in_default-clause-exact : goal.returns-in_default-clause-exact
+returns-in_default-clause-exact c = all_gathered c
+
+pub returns-in_default-clause-maximal : goal.returns-in_default-clause-maximal
+returns-in_default-clause-maximal c = AreRuns-segments_of c.args.self.now.records c.args.path.now c.args.rev (map segment_shown c.push.new.self.items) (all_gathered c)
 
 pub loop-place-smaller-in-loop-place : goal.loop-place-smaller-in-loop-place
 loop-place-smaller-in-loop-place c =
