@@ -11,7 +11,6 @@ use Rattle.svn_dump.specs.declared.record.Act.TheVariants as act
 use Rattle.svn_dump.specs.declared.record.Mi.{Mi}
 use Rattle.svn_dump.specs.declared.record.NodeRecord.{NodeRecord}
 use Rattle.path_index.proofs.Steps.{Leaves, Brings, Leaves-delete, Leaves-change, Leaves-add, Brings-add, Leaves-copy, Brings-copy}
-use Rattle.path_index.proofs.Stretches.{names_are_same}
 
 module _ (each : NodeRecord) (path : List NameId) where
   leaves_as : (a : Act) → each.act ≡ a → Leaves same_name path (record { path = each.path; action = action_shown a }) → Leaves same_name path (record_shown each)
@@ -26,26 +25,26 @@ module _ (each : NodeRecord) (path : List NameId) where
   Leaves-other no_add no_copy = by each.act refl
     where
       by : (a : Act) → each.act ≡ a → Leaves same_name path (record_shown each)
-      by act.Delete is = leaves_as act.Delete is (Leaves-delete same_name names_are_same path each.path)
-      by (act.Change mi) is = leaves_as (act.Change mi) is (Leaves-change same_name names_are_same path each.path (setting_of mi))
+      by act.Delete is = leaves_as act.Delete is (Leaves-delete same_name IsSame-same_name path each.path)
+      by (act.Change mi) is = leaves_as (act.Change mi) is (Leaves-change same_name IsSame-same_name path each.path (setting_of mi))
       by (act.Add replace kind mi) is = absurd (no_add replace kind mi is)
       by (act.Copy replace from from_rev mi) is = absurd (no_copy replace from from_rev mi is)
 
   -- an addition elsewhere leaves it
   pub Leaves-Add : (replace : Bool) (kind : Kind) (mi : Mi) → each.act ≡ act.Add replace kind mi → each.path ≢ path → Leaves same_name path (record_shown each)
   Leaves-Add replace kind mi is other =
-      leaves_as (act.Add replace kind mi) is (Leaves-add same_name names_are_same path each.path replace kind (setting_of mi) (λ here. other (sym here)))
+      leaves_as (act.Add replace kind mi) is (Leaves-add same_name IsSame-same_name path each.path replace kind (setting_of mi) (λ here. other (sym here)))
 
   -- and one of the path begins it
   pub Brings-Add : (replace : Bool) (kind : Kind) (mi : Mi) → each.act ≡ act.Add replace kind mi → each.path ≡ path → Brings same_name path None (record_shown each)
   Brings-Add replace kind mi is here =
-      brings_as None (act.Add replace kind mi) is (Brings-add same_name names_are_same path each.path replace kind (setting_of mi) (sym here))
+      brings_as None (act.Add replace kind mi) is (Brings-add same_name IsSame-same_name path each.path replace kind (setting_of mi) (sym here))
 
   module _ (replace : Bool) (from : List NameId) (from_rev : ℕ) (mi : Mi) (is : each.act ≡ act.Copy replace from from_rev mi) where
     -- a copy to elsewhere leaves it
     pub Leaves-Copy : (is_below same_name each.path path ≡ true → ⊥) → Leaves same_name path (record_shown each)
     Leaves-Copy other =
-        leaves_as (act.Copy replace from from_rev mi) is (Leaves-copy same_name names_are_same path each.path replace from from_rev (setting_of mi) other)
+        leaves_as (act.Copy replace from from_rev mi) is (Leaves-copy same_name IsSame-same_name path each.path replace from from_rev (setting_of mi) other)
 
     -- the path comes from as far below the source as it stands below the copy
     pub Brings-Copy : (source : List NameId) → is_below same_name each.path path ≡ true → source ≡ from ++ drop (length each.path) path
@@ -58,4 +57,4 @@ module _ (each : NodeRecord) (path : List NameId) where
             subst (λ p. Brings same_name path (Some (p, from_rev)) (record_shown each))
             (sym (at ∙ ap (λ more. from ++ more) (drop-from_below IsSame-same_name each.path path rest left)))
             (brings_as (Some (from ++ rest, from_rev)) (act.Copy replace from from_rev mi) is
-            (Brings-copy same_name names_are_same path each.path replace from from_rev (setting_of mi) rest left))
+            (Brings-copy same_name IsSame-same_name path each.path replace from from_rev (setting_of mi) rest left))

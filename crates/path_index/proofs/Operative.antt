@@ -2,14 +2,15 @@
 use Rattle.std.proofs.Common.{◌≡◌, ℕ, zero, suc, pred, ◌+◌, ◌-◌, ◌<◌, ◌≤◌, nat_lt, Bool, true, false, not, ◌&&◌, ◌||◌, if◌then◌else◌, List, [], ◌∷◌, ◌++◌, Option, None, Some, map, filter, refl, sym, ap, ◌∙◌, arith}
 use Rattle.std.proofs.lemmas.Bool.{false_from_ne_true, lt-ltb, or_right}
 use Rattle.std.proofs.lemmas.List.Elements.{filter-append}
+use Rattle.svn_path.specs.Below.{IsSame}
 use Rattle.svn_path.specs.Path.{same_name}
 use Rattle.svn_path.specs.declared.names.NameId.{NameId}
+use Rattle.svn_path.proofs.Belows.{IsSame-same_name}
 use Rattle.svn_dump.specs.History.{History}
 use Rattle.svn_dump.specs.Location.{origin_of, location}
 use Rattle.svn_dump.specs.Tree.{Tree, is_there, tree_of}
 use Rattle.svn_dump.specs.declared.record.NodeRecord.{NodeRecord}
 use Rattle.svn_dump.specs.declared.record.ValueId.{ValueId}
-use Rattle.svn_dump.proofs.Belows.{IsSame}
 use Rattle.svn_dump.proofs.Locations.{location_is_there}
 use Rattle.svn_dump.proofs.Origins.{OriginsFall, OriginsAreThere, OriginsFall-trees_of, OriginsAreThere-trees_of}
 use Rattle.path_index.specs.History.{history_to, records_of, trees_to}
@@ -21,7 +22,6 @@ use Rattle.path_index.proofs.Places.{location_through, came-from_location, locat
 use Rattle.path_index.proofs.Pushed.{placed}
 use Rattle.path_index.proofs.Rising.{up_to, records_of-up_to}
 use Rattle.path_index.proofs.Runs.{AreRuns-segments_of}
-use Rattle.path_index.proofs.Stretches.{names_are_same}
 use Rattle.path_index.proofs.Touched.{is_named, touched, or_false, filter_down-same}
 
 -- one number more, at the end
@@ -167,7 +167,7 @@ pub touched_from-operative_of : (records : List NodeRecord) (path : List NameId)
 touched_from-operative_of records path rev there runs so =
     let history = history_to records rev in
     let trees = trees_to records rev in
-    from_runs names_are_same history trees (OriginsFall-trees_of same_name history) (OriginsAreThere-trees_of same_name names_are_same history) path rev there records
+    from_runs IsSame-same_name history trees (OriginsFall-trees_of same_name history) (OriginsAreThere-trees_of same_name IsSame-same_name history) path rev there records
     (records_in-history_to records rev) 0 (rev + 1) runs records
     (AreRuns-segments_of records path rev runs so)
     (omega arith) (λ k before. refl)

@@ -2,10 +2,10 @@
 use Rattle.std.proofs.Common.{◌≡◌, ℕ, zero, suc, ◌+◌, ◌<◌, ◌≤◌, ◌==◌, nat_lt, Bool, true, false, if◌then◌else◌, List, Option, None, Some, option_and_then, inl, inr, refl, sym, ap, ◌∙◌, arith, true≢false}
 use Rattle.std.proofs.lemmas.Bool.{cases_order, ne_eqb, eqb-true, le-ltb, ltb-false, and_parts, and_from, eq-eqb}
 use Rattle.std.proofs.lemmas.Option.{none-some, same_Some, option_and_then_some}
-use Rattle.svn_path.specs.Below.{same_path}
+use Rattle.svn_path.specs.Below.{IsSame, same_path}
 use Rattle.svn_dump.specs.Location.{origin_of, location}
 use Rattle.svn_dump.specs.Tree.{Tree}
-use Rattle.svn_dump.proofs.Belows.{IsSame, path_from_same, same_path-itself}
+use Rattle.svn_path.proofs.Belows.{IsSame-same_path, same_path-is}
 use Rattle.svn_dump.proofs.Locations.{location_step, location_here, location_later}
 use Rattle.svn_dump.proofs.Origins.{OriginsFall}
 use Rattle.path_index.specs.Operative.{came_from_itself}
@@ -82,7 +82,7 @@ module _ {C M : Type 0} (same : C → C → Bool) (trees : List (Tree C M)) (fal
         → came_from_itself same path (suc rev) (origin_of same trees path (suc rev)) ≡ true
     came-from_location path rev stood =
         ap (came_from_itself same path (suc rev)) (origin_stays path rev stood)
-        ∙ and_from (same_path same path path) (rev + 1 == suc rev) (same_path-itself same is path) (eq-eqb (rev + 1) (suc rev) (omega arith))
+        ∙ and_from (same_path same path path) (rev + 1 == suc rev) ((IsSame-same_path is).itself path) (eq-eqb (rev + 1) (suc rev) (omega arith))
 
     pub location-from_came : (path : List C) (rev : ℕ) → came_from_itself same path (suc rev) (origin_of same trees path (suc rev)) ≡ true
         → location same trees path (suc rev) rev ≡ Some path
@@ -93,7 +93,7 @@ module _ {C M : Type 0} (same : C → C → Bool) (trees : List (Tree C M)) (fal
         by_origin None at came = absurd (true≢false (sym came))
         by_origin (Some from) at came =
             let (itself, before) = and_parts (same_path same from.0 path) (from.1 + 1 == suc rev) came in
-            let there : from.0 ≡ path = path_from_same same is from.0 path itself in
+            let there : from.0 ≡ path = (same_path-is is from.0 path).0 itself in
             let before_it : from.1 ≡ rev = let e : from.1 + 1 ≡ suc rev = eqb-true (from.1 + 1) (suc rev) before in omega arith in
             location_back path (suc rev) rev from.0 from.1 (omega arith) (omega arith) at
             ∙ (λ i. location same trees (there i) (before_it i) rev)

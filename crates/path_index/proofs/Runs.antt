@@ -1,26 +1,17 @@
 -- What the runs of a path are: each just below the one before, the path at one place in it, and at another before it.
 use Rattle.std.proofs.Common.{◌≡◌, ◌≢◌, ℕ, zero, suc, ◌+◌, ◌<◌, Bool, true, false, if◌then◌else◌, List, [], ◌∷◌, Option, None, Some, inl, inr, refl, sym, ap, subst, ◌∙◌, arith, true≢false}
 use Rattle.std.proofs.lemmas.Bool.{cases_order}
+use Rattle.svn_path.specs.Below.{IsSame}
 use Rattle.svn_path.specs.Path.{same_name}
-use Rattle.svn_dump.proofs.Belows.{IsSame, path_from_same, same_path-itself}
-use Rattle.svn_dump.specs.Location.{location}
 use Rattle.svn_path.specs.declared.names.NameId.{NameId}
-use Rattle.path_index.specs.History.{trees_to}
+use Rattle.svn_path.proofs.Belows.{IsSame-same_name}
+use Rattle.svn_dump.specs.Location.{location}
 use Rattle.svn_dump.specs.declared.record.NodeRecord.{NodeRecord}
-use Rattle.path_index.proofs.Stretches.{names_are_same}
+use Rattle.path_index.specs.History.{trees_to}
 use Rattle.path_index.specs.Segment.{AreRuns, IsRun, Run, same_place, segments_of, with_place, runs_up_to}
+use Rattle.path_index.proofs.RunsUpTo.{place_from_same, same_place-itself}
 
 module _ {C : Type 0} (same : C → C → Bool) (is : IsSame same) where
-  place_from_same : (a b : Option (List C)) → same_place same a b ≡ true → a ≡ b
-  place_from_same None None e = refl
-  place_from_same None (Some q) e = absurd (true≢false (sym e))
-  place_from_same (Some p) None e = absurd (true≢false (sym e))
-  place_from_same (Some p) (Some q) e = ap (λ path. Some path) (path_from_same same is p q e)
-
-  same_place-itself : (a : Option (List C)) → same_place same a a ≡ true
-  same_place-itself None = refl
-  same_place-itself (Some p) = same_path-itself same is p
-
   module _ (place : ℕ → Option (List C)) where
     -- a run of one revision
     one_run : (rev : ℕ) (o : Option (List C)) → place rev ≡ o → ((k : ℕ) → rev ≡ suc k → place k ≢ o) → (o ≡ None → 0 < rev)
@@ -50,13 +41,13 @@ module _ {C : Type 0} (same : C → C → Bool) (is : IsSame same) where
         → (b : Bool) → same_place same o run.path ≡ b
         → AreRuns place (suc rev + 1) (if b then record run { hi = suc rev } ∷ runs else record { lo = suc rev; hi = suc rev; path = o } ∷ run ∷ runs)
     by_test rev o at run runs so true same_as =
-        (refl, longer_run run rev so.1 (omega (arith, so.0)) (at ∙ place_from_same o run.path same_as), so.2)
+        (refl, longer_run run rev so.1 (omega (arith, so.0)) (at ∙ place_from_same same is o run.path same_as), so.2)
     by_test rev o at run runs so false differs =
         let starts : (k : ℕ) → suc rev ≡ suc k → place k ≢ o = λ k e stood.
         let here : k ≡ rev = omega arith in
         let ran : place rev ≡ run.path = so.1.stays rev (omega (arith, so.1.ordered, so.0)) (omega (arith, so.0)) in
         let joined : o ≡ run.path = sym stood ∙ ap place here ∙ ran in
-        true≢false (sym (ap (same_place same o) (sym joined) ∙ same_place-itself o) ∙ differs) in
+        true≢false (sym (ap (same_place same o) (sym joined) ∙ same_place-itself same is o) ∙ differs) in
         (refl, one_run (suc rev) o at starts (λ none. omega arith), (omega (arith, so.0), so.1, so.2))
 
     by_place : (rev : ℕ) (o : Option (List C)) → place (suc rev) ≡ o → (runs : List (Run C)) → AreRuns place (rev + 1) runs
@@ -93,4 +84,4 @@ pub AreRuns-segments_of : (records : List NodeRecord) (path : List NameId) (rev 
     → AreRuns (location same_name (trees_to records rev) path rev) (rev + 1) runs
 AreRuns-segments_of records path rev runs so =
     let place = location same_name (trees_to records rev) path rev in
-    subst (AreRuns place (rev + 1)) (sym so) (AreRuns-runs_up_to same_name names_are_same place rev)
+    subst (AreRuns place (rev + 1)) (sym so) (AreRuns-runs_up_to same_name IsSame-same_name place rev)

@@ -1,7 +1,8 @@
 -- The runs of the places in some revisions.
 use Rattle.std.proofs.Common.{◌≡◌, ◌≢◌, ℕ, zero, suc, ◌<◌, ◌≤◌, Bool, true, false, if◌then◌else◌, List, [], ◌∷◌, Option, None, Some, refl, sym, ap, ◌∙◌, arith, true≢false, inl, inr}
 use Rattle.std.proofs.lemmas.Bool.{cases_lt, cond_both}
-use Rattle.svn_dump.proofs.Belows.{IsSame, path_from_same, same_path-itself}
+use Rattle.svn_path.specs.Below.{IsSame}
+use Rattle.svn_path.proofs.Belows.{IsSame-same_path, same_path-is}
 use Rattle.path_index.specs.Segment.{Run, same_place, with_place, runs_up_to}
 
 abbrev run_of : {C : Type 0} → ℕ → ℕ → Option (List C) → Run C
@@ -10,15 +11,15 @@ run_of lo hi place = record { lo = lo; hi = hi; path = place }
 module _ {C : Type 0} (same : C → C → Bool) (is : IsSame same) where
   -- ---- one more revision
 
-  place_from_same : (v w : Option (List C)) → same_place same v w ≡ true → v ≡ w
+  pub place_from_same : (v w : Option (List C)) → same_place same v w ≡ true → v ≡ w
   place_from_same None None e = refl
   place_from_same None (Some q) e = absurd (true≢false (sym e))
   place_from_same (Some p) None e = absurd (true≢false (sym e))
-  place_from_same (Some p) (Some q) e = ap Some (path_from_same same is p q e)
+  place_from_same (Some p) (Some q) e = ap Some ((same_path-is is p q).0 e)
 
-  same_place-itself : (v : Option (List C)) → same_place same v v ≡ true
+  pub same_place-itself : (v : Option (List C)) → same_place same v v ≡ true
   same_place-itself None = refl
-  same_place-itself (Some p) = same_path-itself same is p
+  same_place-itself (Some p) = (IsSame-same_path is).itself p
 
   other_place : (v w : Option (List C)) → v ≢ w → same_place same v w ≡ false
   other_place v w other = by (same_place same v w) refl

@@ -2,11 +2,12 @@
 use Rattle.std.proofs.Common.{◌≡◌, ℕ, Bool, true, List, [], ◌∷◌, ◌++◌, Option, None, Some, All, is_some, option_map, option_and_then, fold, refl, ap, ◌∙◌, true≢false, sym, subst}
 use Rattle.std.proofs.lemmas.List.Elements.{All-head, All-tail}
 use Rattle.std.proofs.lemmas.List.Sums.{fold-append}
-use Rattle.svn_path.specs.Below.{below, is_below}
+use Rattle.svn_path.specs.Below.{IsSame, below, is_below}
 use Rattle.svn_dump.specs.History.{Setting, delete, change, add, copy, Record}
 use Rattle.svn_dump.specs.Tree.{Tree, Entry, entry_at, is_there, tree_of, apply}
 use Rattle.svn_dump.specs.declared.kind.Kind.{Kind}
-use Rattle.svn_dump.proofs.Belows.{IsSame, below-itself, path_from_below}
+use Rattle.svn_path.proofs.Belows.{below-itself}
+use Rattle.svn_dump.proofs.Belows.{path_from_below}
 use Rattle.svn_dump.proofs.Trees.{entry_at-elsewhere, entry_at-under, entry_left, settled_entry_at, entry_from}
 
 -- where an entry came from
@@ -89,7 +90,7 @@ module _ {C M : Type 0} (same : C → C → Bool) (is : IsSame same) (path : Lis
   pub Brings-add : (at : List C) (replace : Bool) (kind : Kind) (setting : Setting M) → path ≡ at → Brings same path None (record { path = at; action = add replace kind setting })
   Brings-add at replace kind setting here = record {
     came = λ trees tree there.
-        let under : below same at path ≡ Some [] = ap (below same at) here ∙ below-itself same is at in
+        let under : below same at path ≡ Some [] = ap (below same at) here ∙ below-itself is at in
         ap came (entry_at-under same is trees at (add replace kind setting) tree path [] under);
   }
 

@@ -12,7 +12,6 @@ use Rattle.svn_dump.specs.Location.{origin_of, location}
 use Rattle.svn_dump.specs.Tree.{Entry, entry_at, is_there, tree_of, closing, opening}
 use Rattle.svn_dump.specs.declared.record.NodeRecord.{NodeRecord}
 use Rattle.svn_dump.specs.declared.record.ValueId.{ValueId}
-use Rattle.svn_dump.proofs.Belows.{IsSame}
 use Rattle.svn_dump.proofs.Origins.{OriginsFall, OriginsFall-trees_of, OriginsAreThere-trees_of}
 use Rattle.svn_dump.proofs.Trees.{entry_from, entry_at-carried, entry_at-first_tree}
 use Rattle.path_index.specs.History.{records_of, history_to, trees_to, AreRising}
@@ -20,10 +19,6 @@ use Rattle.path_index.specs.Shown.{IsThere}
 use Rattle.path_index.proofs.Locations.{back_to, back_to-same, location-back, location-stays, location-within, location-agree}
 use Rattle.path_index.proofs.Prefixes.{trees_before, tree_of-last, tree_of-earlier, opening-first, opening-suc, All-records_of, records_of-back, records_of-among, trees_to-front, rising-front, rising-before, rising-behind}
 use Rattle.path_index.proofs.Steps.{came, Leaves, Brings, came-left, came-brought}
-
--- names are told apart by their numbers
-pub names_are_same : IsSame same_name
-names_are_same = record { true_is = IsSame-same_name.true_is; itself = IsSame-same_name.itself }
 
 -- where the path of a revision came from
 abbrev pub came_in : List NodeRecord → List NameId → ℕ → Option (List NameId × ℕ)
@@ -56,7 +51,7 @@ module _ (records : List NodeRecord) (path : List NameId) where
       → IsThere records path rev × (came_in records path (suc rev) ≡ Some (path, rev))
   came_in-idle rev there idle =
       let (before, so) = left_in (suc rev) there idle in
-      let at = ap (λ tree. entry_at same_name tree path) (opening-suc records rev) ∙ entry_at-carried same_name names_are_same rev (tree_of (trees_to records rev) rev) path in
+      let at = ap (λ tree. entry_at same_name tree path) (opening-suc records rev) ∙ entry_at-carried same_name IsSame-same_name rev (tree_of (trees_to records rev) rev) path in
       let (old, origin) = carried_came path rev (entry_at same_name (tree_of (trees_to records rev) rev) path) (ap is_some (sym at) ∙ before) in
       (old, so ∙ ap came at ∙ origin)
 
@@ -140,7 +135,7 @@ module _ (records : List NodeRecord) (path : List NameId) (peg lo : ℕ) (there 
             (λ from is. let lower = fell from is in
             ap (λ ts. is_there same_name (tree_of ts from.1) from.0) (sym (fewer from.1 lower))
             ∙ ap (λ tree. is_there same_name tree from.0) (sym (tree_of-earlier records from.1 peg (omega arith)))
-            ∙ (OriginsAreThere-trees_of same_name names_are_same (history_to records peg)).there path lo from.0 from.1 (came_from ∙ is));
+            ∙ (OriginsAreThere-trees_of same_name IsSame-same_name (history_to records peg)).there path lo from.0 from.1 (came_from ∙ is));
         rising = rising;
       }
     where

@@ -4,6 +4,7 @@ use Rattle.std.proofs.lemmas.Bool.{cases_lt, lt-ltb, le-ltb}
 use Rattle.std.proofs.lemmas.Option.{none-some, same_Some}
 use Rattle.svn_path.specs.Path.{same_name}
 use Rattle.svn_path.specs.declared.names.NameId.{NameId}
+use Rattle.svn_path.proofs.Belows.{IsSame-same_name}
 use Rattle.svn_dump.specs.Location.{location}
 use Rattle.svn_dump.specs.declared.record.NodeRecord.{NodeRecord}
 use Rattle.svn_dump.proofs.Locations.{location_here, location_later}
@@ -13,7 +14,6 @@ use Rattle.path_index.specs.Segment.{Run, runs_up_to}
 use Rattle.path_index.specs.Shown.{IsThere}
 use Rattle.path_index.specs.declared.origin.Origin.{Origin}
 use Rattle.path_index.proofs.RunsUpTo.{runs_up_to-next, runs_up_to-first}
-use Rattle.path_index.proofs.Stretches.{names_are_same}
 
 -- an earlier place stood nowhere later
 pub location_past : (records : List NodeRecord) (path : List NameId) (at wanted : ℕ) → at < wanted → location same_name (trees_to records at) path at wanted ≡ None
@@ -96,7 +96,7 @@ module _ (place_in : ℕ → Option (List NameId)) (peg : ℕ) (runs : List (Run
       → runs ++ record { lo = lo; hi = hi; path = Some place } ∷ [] ≡ runs_up_to same_name place_in peg
   IsGathered-all none =
       ap (λ more. runs ++ more)
-      (sym (runs_up_to-first same_name names_are_same place_in lo hi place (let high = so_far.high in omega arith) in_run
+      (sym (runs_up_to-first same_name IsSame-same_name place_in lo hi place (let high = so_far.high in omega arith) in_run
       (λ rev past. so_far.traced rev (omega arith) ∙ none rev past)))
       ∙ so_far.gathered
 
@@ -145,7 +145,7 @@ module _ (place_in : ℕ → Option (List NameId)) (peg : ℕ) (runs : List (Run
         let here : suc origin.rev ≡ lo = omega arith in
         next (record { lo = lo; hi = hi; path = Some place } ∷ [])
         (ap (λ more. runs ++ more)
-        (sym (runs_up_to-next same_name names_are_same place_in origin.rev hi (Some place) (let high = so_far.high in omega arith)
+        (sym (runs_up_to-next same_name IsSame-same_name place_in origin.rev hi (Some place) (let high = so_far.high in omega arith)
         (λ rev past to. in_run rev (omega arith) to) (λ e. let is : Some place ≡ Some origin.path = e ∙ at_origin in other (sym (same_Some place origin.path is)))
         ∙ ap (λ n. record { lo = n; hi = hi; path = Some place } ∷ runs_up_to same_name place_in origin.rev) here))
         ∙ so_far.gathered)
@@ -158,9 +158,9 @@ module _ (place_in : ℕ → Option (List NameId)) (peg : ℕ) (runs : List (Run
         let first : suc origin.rev ≡ origin.rev + 1 = omega arith in
         let none = in_gap (lo - 1) (omega arith) (omega arith) in
         let old = runs_up_to same_name place_in origin.rev in
-        let gap = runs_up_to-next same_name names_are_same place_in origin.rev (lo - 1) None (omega arith) (λ rev past to. in_gap rev past (omega arith))
+        let gap = runs_up_to-next same_name IsSame-same_name place_in origin.rev (lo - 1) None (omega arith) (λ rev past to. in_gap rev past (omega arith))
         (λ e. let never : None ≡ Some origin.path = e ∙ at_origin in absurd (none-some origin.path never)) in
-        let run = runs_up_to-next same_name names_are_same place_in (lo - 1) hi (Some place) (let high = so_far.high in omega arith)
+        let run = runs_up_to-next same_name IsSame-same_name place_in (lo - 1) hi (Some place) (let high = so_far.high in omega arith)
         (λ rev past to. in_run rev (omega arith) to) (λ e. none-some place (sym (e ∙ none))) in
         next (record { lo = lo; hi = hi; path = Some place } ∷ record { lo = origin.rev + 1; hi = lo - 1; path = None } ∷ [])
         (ap (λ more. runs ++ more)

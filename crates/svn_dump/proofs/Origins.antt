@@ -3,11 +3,11 @@ use Rattle.std.proofs.Common.{◌≡◌, ℕ, ◌<◌, ⊎_elim, Bool, true, fal
 use Rattle.std.proofs.lemmas.Bool.{cases_lt}
 use Rattle.std.proofs.lemmas.List.Elements.{All-nil, All-cons, All-weaker}
 use Rattle.std.proofs.lemmas.Option.{IfSome_then}
-use Rattle.svn_path.specs.Below.{same_path}
+use Rattle.svn_path.specs.Below.{IsSame, same_path}
 use Rattle.svn_dump.specs.History.{History}
 use Rattle.svn_dump.specs.Location.{origin_of}
 use Rattle.svn_dump.specs.Tree.{Tree, Entry, entry_at, is_there, tree_of, closing, with_revision, trees_of}
-use Rattle.svn_dump.proofs.Belows.{IsSame, same_path-itself}
+use Rattle.svn_path.proofs.Belows.{IsSame-same_path}
 use Rattle.svn_dump.proofs.Entries.{AllEntries, AllEntries-entry_at, IsKept, AllEntries-closing}
 use Rattle.svn_dump.proofs.Revisions.{tree_of-append, tree_of_past, each_tree_push}
 use Rattle.svn_dump.proofs.Trees.{entry_from}
@@ -86,7 +86,7 @@ module _ {C M : Type 0} (same : C → C → Bool) (is : IsSame same) where
   all_there [] = All-nil (λ (each : List C × Entry C M). is_there {C = C} {M = M} same [] each.0 ≡ true)
   all_there (each ∷ tree) =
       let P = λ (other : List C × Entry C M). is_there same (each ∷ tree) other.0 ≡ true in
-      All-cons P each tree (ap (λ b. is_some (if b then Some each.1 else entry_at same tree each.0)) (same_path-itself same is each.0))
+      All-cons P each tree (ap (λ b. is_some (if b then Some each.1 else entry_at same tree each.0)) ((IsSame-same_path is).itself each.0))
       (All-weaker (λ other. is_there same tree other.0 ≡ true) P
       (λ other there. there_still (same_path same each.0 other.0) each.1 (entry_at same tree other.0) there) tree (all_there tree))
 

@@ -1,12 +1,13 @@
 -- What a tree has at one path, after each operation on trees and after each action of a record.
 use Rattle.std.proofs.Common.{◌≡◌, ℕ, Bool, false, not, if◌then◌else◌, List, [], ◌∷◌, ◌++◌, Option, None, Some, is_some, option_map, option_and_then, filter, filter_map, refl, ap, ◌∙◌, arith}
 use Rattle.std.specs.Option.{option_or, option_map_or}
-use Rattle.svn_path.specs.Below.{below, is_below, same_path}
+use Rattle.svn_path.specs.Below.{IsSame, below, is_below, same_path}
 use Rattle.svn_dump.specs.History.{Setting, Action, delete, change, add, copy}
 use Rattle.svn_dump.specs.Tree.{Tree, Entry, entry_at, settled, without, changed, moved, tree_of, apply_action, first_tree, carried}
 use Rattle.svn_dump.specs.declared.kind.Kind.{Kind}
 use Rattle.svn_dump.specs.declared.kind.Kind.TheVariants.{Dir}
-use Rattle.svn_dump.proofs.Belows.{IsSame, path_from_same, is_below-itself, same_path_front, same_path_by_below, same_path_comm, same_path_moved, other_from_below, apart_from_below}
+use Rattle.svn_path.proofs.Belows.{below-itself, same_path-is}
+use Rattle.svn_dump.proofs.Belows.{same_path_front, same_path_by_below, same_path_comm, same_path_moved, other_from_below, apart_from_below}
 
 -- the entry with the mergeinfo that a record leaves
 abbrev pub settled_entry : {C M : Type 0} → Setting M → Entry C M → Entry C M
@@ -96,7 +97,7 @@ module _ {C M : Type 0} (same : C → C → Bool) (is : IsSame same) where
       → entry_at same (filter (λ each. test each.0) tree) at ≡ (if test at then entry_at same tree at else None)
   unfolding entry_at
   entry_at-filter test [] at = grind arith
-  entry_at-filter test (each ∷ tree) at = grind (arith, path_from_same same is each.0 at, entry_at-filter test tree at)
+  entry_at-filter test (each ∷ tree) at = grind (arith, (same_path-is is each.0 at).0, entry_at-filter test tree at)
 
   -- a path taken out, with all below it
   pub entry_at-without : (path : List C) (tree : Tree C M) (at : List C)
@@ -110,14 +111,14 @@ module _ {C M : Type 0} (same : C → C → Bool) (is : IsSame same) where
       ≡ (if same_path same at path then option_map (settled_entry setting) (entry_at same tree at) else entry_at same tree at)
   unfolding entry_at
   entry_at-changed path setting [] at = grind arith
-  entry_at-changed path setting (each ∷ tree) at = grind (arith, path_from_same same is each.0 at, entry_at-changed path setting tree at)
+  entry_at-changed path setting (each ∷ tree) at = grind (arith, (same_path-is is each.0 at).0, entry_at-changed path setting tree at)
 
   -- each entry come from itself in the revision before
   pub entry_at-carried : (rev : ℕ) (tree : Tree C M) (at : List C)
       → entry_at same (carried rev tree) at ≡ option_map (entry_from at rev) (entry_at same tree at)
   unfolding entry_at
   entry_at-carried rev [] at = refl
-  entry_at-carried rev (each ∷ tree) at = grind (arith, path_from_same same is each.0 at, entry_at-carried rev tree at)
+  entry_at-carried rev (each ∷ tree) at = grind (arith, (same_path-is is each.0 at).0, entry_at-carried rev tree at)
 
   -- the copied subtree has nothing that is not under the copy's path
   pub entry_at-moved_apart : (from : List C) (from_rev : ℕ) (path : List C) (tree : Tree C M) (at : List C) → below same path at ≡ None
@@ -135,7 +136,7 @@ module _ {C M : Type 0} (same : C → C → Bool) (is : IsSame same) where
   entry_at-moved_under from from_rev path [] at rest under = refl
   entry_at-moved_under from from_rev path (each ∷ tree) at rest under =
       let more = entry_at-moved_under from from_rev path tree at rest under in
-      let found = path_from_same same is each.0 (from ++ rest) in
+      let found = (same_path-is is each.0 (from ++ rest)).0 in
       grind (arith, same_path_moved same is from path each.0 at, apart_from_below same is from each.0 rest, found, more)
 
   -- both, by what is left of the path
@@ -169,7 +170,7 @@ module _ {C M : Type 0} (same : C → C → Bool) (is : IsSame same) where
     unfolding apply_action entry_at
     entry_at-add replace kind setting tree at =
         let both = entry_at-append same (without same path tree) ((path, new_entry kind setting) ∷ []) at in
-        grind (arith, both, entry_at-without path tree at, path_from_same same is path at, is_below-itself same is path)
+        grind (arith, both, entry_at-without path tree at, (same_path-is is path at).0, ap is_some (below-itself is path))
 
     copied_under : (source : Tree C M) (from : List C) (from_rev : ℕ) (setting : Setting M) (at rest : List C) → below same path at ≡ Some rest
         → entry_at same (changed same path setting (filter_map (moved same from from_rev path) source)) at

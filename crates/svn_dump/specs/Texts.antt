@@ -1,12 +1,7 @@
 -- The table of mergeinfo texts: each once, numbered from 0 in the order in which they came.
-use Rattle.std.specs.Prelude.{ℕ, ◌≤◌, List, Vec, length, map, bytes_eq}
+use Rattle.std.specs.Prelude.{ℕ, ◌≤◌, List, length, bytes_eq}
 use Rattle.std.specs.List.{IsDistinct}
-use Rattle.std.specs.declared.alloc.Global.{Global}
 use Rattle.svn_path.specs.Names.{most_names}
-
--- the bytes of the texts that a set keeps
-abbrev pub texts : List (Vec ℕ Global) → List (List ℕ)
-texts kept = map (λ text. text.items) kept
 
 -- what every table keeps
 pub record IsTextTable (kept : List (List ℕ)) : Type 0 where

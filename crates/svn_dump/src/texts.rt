@@ -19,7 +19,8 @@ pub(crate) struct Texts {
 
 impl Model for Texts {
     ghost use Rattle.std.specs.Prelude.{ℕ, List};
-    ghost use Rattle.svn_dump.specs.Texts.{IsTextTable, texts};
+    ghost use Rattle.svn_path.specs.Names.{texts};
+    ghost use Rattle.svn_dump.specs.Texts.{IsTextTable};
 
     ghost Value = { List (List ℕ) };
 

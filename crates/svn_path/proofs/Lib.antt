@@ -1,8 +1,8 @@
 pub mod Belows
 pub mod Components
+pub mod Keys
 pub mod Orders
 pub mod Tables
 mod Exits
-mod Keys
 mod Printed
 mod Reading

@@ -9,14 +9,14 @@ use Rattle.svn_dump.specs.Location.{origin_of, traced, location}
 use Rattle.svn_dump.specs.Tree.{Tree, Entry, entry_at, is_there, tree_of, without, changed, moved, apply_action, apply, carried, opening, closing, with_revision, trees_of}
 use Rattle.svn_dump.specs.declared.record.Act.{Act}
 use Rattle.svn_dump.specs.declared.record.Act.TheVariants as act
-use Rattle.svn_dump.proofs.Belows.{IsSame, path_from_same}
 use Rattle.svn_dump.proofs.Revisions.{each_tree_push}
 use Rattle.svn_dump.proofs.Trees.{entry_from, settled_entry}
-use Rattle.svn_path.specs.Below.{below, same_path}
+use Rattle.svn_path.specs.Below.{IsSame, below, same_path}
 use Rattle.svn_path.specs.Path.{same_name, IsOf}
 use Rattle.svn_path.specs.declared.names.NameId.{NameId}
+use Rattle.svn_path.proofs.Belows.{IsSame-same_name, same_path-is}
 use Rattle.svnhist.specs.TreeShown.{TreeOfNumbers, SameTrees}
-use Rattle.svnhist.proofs.TreeReads.{All-filter_map, names_are_same}
+use Rattle.svnhist.proofs.TreeReads.{All-filter_map}
 use Rattle.svnhist.proofs.TreeSame.{location-same}
 
 -- the components of the source have it
@@ -115,7 +115,7 @@ module _ {C M : Type 0} (same : C → C → Bool) (P : C → Type 0) where
         by : (b : Bool) → same_path same each.0 path ≡ b → (if b then Some each.1 else entry_at same tree path) ≡ Some entry → EntryHas each
             → (entry_at same tree path ≡ Some entry → EntryHas (path, entry)) → EntryHas (path, entry)
         by true at found here later =
-            subst (λ e. EntryHas (path, e)) (same_Some each.1 entry found) (subst (λ p. EntryHas (p, each.1)) (path_from_same same is each.0 path at) here)
+            subst (λ e. EntryHas (path, e)) (same_Some each.1 entry found) (subst (λ p. EntryHas (p, each.1)) ((same_path-is is each.0 path).0 at) here)
         by false at found here later = later found
 
     module _ (history : History C M) (each : HistoryHas P history) where
@@ -182,12 +182,12 @@ HistoryHas-names dump is =
 module _ (dump : DumpValue) (is : IsDump dump) where
   -- a path that is there
   pub IsOf-there : (path : List NameId) (rev : ℕ) → is_there same_name (tree_of (trees_of same_name (history_by_number dump)) rev) path ≡ true → IsOf dump.names path
-  IsOf-there path rev there = path_has same_name (IsNamed dump) names_are_same (history_by_number dump) (HistoryHas-names dump is) path rev there
+  IsOf-there path rev there = path_has same_name (IsNamed dump) IsSame-same_name (history_by_number dump) (HistoryHas-names dump is) path rev there
 
   -- what a location finds
   pub IsOf-location : (path : List NameId) (peg rev : ℕ) (found : List NameId) → IsOf dump.names path
       → location same_name (trees_of same_name (history_by_number dump)) path peg rev ≡ Some found → IsOf dump.names found
-  IsOf-location path peg rev found of at = location_has same_name (IsNamed dump) names_are_same (history_by_number dump) (HistoryHas-names dump is) path peg rev found of at
+  IsOf-location path peg rev found of at = location_has same_name (IsNamed dump) IsSame-same_name (history_by_number dump) (HistoryHas-names dump is) path peg rev found of at
 
   -- both in trees that show the same
   module _ (trees : List TreeOfNumbers) (same : SameTrees trees (trees_of same_name (history_by_number dump))) where

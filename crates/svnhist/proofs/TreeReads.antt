@@ -7,13 +7,13 @@ use Rattle.std.specs.BTreeMap.{BTreeMap, get, is_at, Updates, IsOrdered}
 use Rattle.std.specs.Cmp.Lexicographic.{slice_cmp}
 use Rattle.std.specs.List.{cons_option}
 use Rattle.std.specs.Map.{lookup}
-use Rattle.svn_dump.proofs.Belows.{IsSame, same_path_comm, path_from_same, same_path-itself, same_path_apart, below-append, append_from_below}
+use Rattle.svn_dump.proofs.Belows.{same_path_comm, same_path_apart}
 use Rattle.svn_dump.proofs.Trees.{settled_entry, entry_at-nil, entry_at-cons, entry_at-append, entry_at-changed, entry_at-without, entry_at-add, entry_at-carried, entry_at-moved_apart, entry_at-moved_under, new_entry, entry_from}
 use Rattle.svn_dump.specs.History.{Setting, keep}
 use Rattle.svn_dump.specs.Tree.{entry_at, changed, without, moved, carried, tree_of, apply_action}
 use Rattle.svn_dump.specs.declared.kind.Kind.{Kind}
 use Rattle.svn_dump.specs.declared.record.ValueId.{ValueId}
-use Rattle.svn_path.proofs.Belows.{IsSame-same_name, drop-from_below}
+use Rattle.svn_path.proofs.Belows.{IsSame-same_name, IsSame-same_path, append-from_below, below-append, drop-from_below, same_path-is}
 use Rattle.svn_path.proofs.Orders.{pointwise-same_path}
 use Rattle.svn_path.specs.Below.{below, is_below, same_path}
 use Rattle.svn_path.specs.Path.{same_name}
@@ -22,16 +22,12 @@ use Rattle.svn_path.specs.declared.names.NameId.{NameId}
 use Rattle.svnhist.specs.TreeShown.{EntryOfNumbers, TreeOfNumbers, IsFound, SameTree, entry_shown, shown_at, added, copied}
 use Rattle.svnhist.specs.declared.entry.Entry.{Entry}
 
--- names are told apart by their numbers
-pub names_are_same : IsSame same_name
-names_are_same = record { true_is = IsSame-same_name.true_is; itself = IsSame-same_name.itself }
-
 abbrev MapOfEntries : Type 0
 MapOfEntries = BTreeMap (List NameId) Entry
 
 -- the map finds a key where the tree has the path
 pub is_at-same_path : (at key : List NameId) → is_at (slice_cmp name_cmp at) key ≡ same_path same_name key at
-is_at-same_path at key = sym (paths_ties at key) ∙ pointwise-same_path same_name at key ∙ same_path_comm same_name names_are_same at key
+is_at-same_path at key = sym (paths_ties at key) ∙ pointwise-same_path same_name at key ∙ same_path_comm same_name IsSame-same_name at key
 
 -- what a look-up finds is what the tree shows
 pub entry_at-shown : (entries : List (List NameId × Entry)) (at : List NameId)
@@ -50,7 +46,7 @@ pub entry_at-updates : (m n : MapOfEntries) (path : List NameId) (entry : Entry)
     → entry_at same_name (map shown_at n.entries) at
     ≡ (if same_path same_name path at then Some (entry_shown entry) else entry_at same_name (map shown_at m.entries) at)
 entry_at-updates m n path entry updates at =
-    let test = is_at-same_path path at ∙ same_path_comm same_name names_are_same at path in
+    let test = is_at-same_path path at ∙ same_path_comm same_name IsSame-same_name at path in
     grind (arith, entry_at-get m at, entry_at-get n at, updates.0 at, test)
 
 -- so the new entry is as if it stood first
@@ -61,7 +57,7 @@ entry_at-inserted m n path entry updates at =
 
 -- a mergeinfo left as it was
 pub changed-keep : (path : List NameId) (tree : TreeOfNumbers) (at : List NameId) → entry_at same_name (changed same_name path keep tree) at ≡ entry_at same_name tree at
-changed-keep path tree at = entry_at-changed same_name names_are_same path keep tree at ∙ by (same_path same_name at path) (entry_at same_name tree at)
+changed-keep path tree at = entry_at-changed same_name IsSame-same_name path keep tree at ∙ by (same_path same_name at path) (entry_at same_name tree at)
   where
     by : (b : Bool) (old : Option EntryOfNumbers) → (if b then option_map (settled_entry keep) old else old) ≡ old
     by true None = refl
@@ -72,7 +68,7 @@ changed-keep path tree at = entry_at-changed same_name names_are_same path keep 
 pub changed-absent : (path : List NameId) (setting : Setting ValueId) (tree : TreeOfNumbers) → entry_at same_name tree path ≡ None → (at : List NameId)
     → entry_at same_name (changed same_name path setting tree) at ≡ entry_at same_name tree at
 changed-absent path setting tree absent at =
-    grind (arith, entry_at-changed same_name names_are_same path setting tree at, path_from_same same_name names_are_same at path)
+    grind (arith, entry_at-changed same_name IsSame-same_name path setting tree at, (same_path-is IsSame-same_name at path).0)
 
 -- or put at one that is
 pub entry_at-written : (m n : MapOfEntries) (path : List NameId) (setting : Setting ValueId) (entry new : Entry) → get (slice_cmp name_cmp) m path ≡ Some entry
@@ -81,7 +77,7 @@ pub entry_at-written : (m n : MapOfEntries) (path : List NameId) (setting : Sett
 entry_at-written m n path setting entry new found settles updates at =
     let old = map shown_at m.entries in
     let here = entry_at-get m path ∙ ap (option_map entry_shown) found in
-    grind (arith, here, settles, entry_at-updates m n path new updates at, entry_at-changed same_name names_are_same path setting old at, path_from_same same_name names_are_same at path, same_path_comm same_name names_are_same at path)
+    grind (arith, here, settles, entry_at-updates m n path new updates at, entry_at-changed same_name IsSame-same_name path setting old at, (same_path-is IsSame-same_name at path).0, same_path_comm same_name IsSame-same_name at path)
 
 -- entries that pass a test of their paths
 pub map_shown-filter : (test : List NameId → Bool) (entries : List (List NameId × Entry))
@@ -106,7 +102,7 @@ put_next done rest old tree next path entry found before put_in at =
     let more = entry_at-append same_name (done ++ (path, entry) ∷ []) old at in
     let here = entry_at-append same_name done ((path, entry) ∷ rest) path in
     let last = entry_at-append same_name done ((path, entry) ∷ []) at in
-    grind (arith, found, before at, put_in at, over, more, here, last, path_from_same same_name names_are_same path at, same_path-itself same_name names_are_same path, entry_at-cons same_name path entry tree at, entry_at-cons same_name path entry rest path, entry_at-cons same_name path entry [] at, entry_at-nil {M = ValueId} same_name at)
+    grind (arith, found, before at, put_in at, over, more, here, last, (same_path-is IsSame-same_name path at).0, (IsSame-same_path IsSame-same_name).itself path, entry_at-cons same_name path entry tree at, entry_at-cons same_name path entry rest path, entry_at-cons same_name path entry [] at, entry_at-nil {M = ValueId} same_name at)
 
 in_middle : {X : Type 0} (P : X → Type 0) (xs : List X) (y : X) (ys : List X) → All P (xs ++ y ∷ ys) → P y
 in_middle P [] y ys each = All-head P y ys each
@@ -136,7 +132,7 @@ pub entry_at-added : (old cleared next : TreeOfNumbers) (path : List NameId) (ki
     → SameTree cleared (without same_name path old) → entry ≡ new_entry kind setting → SameTree next ((path, entry) ∷ cleared)
     → SameTree next (added path kind setting old)
 entry_at-added old cleared next path kind setting entry clear new put_in at =
-    grind (arith, new, clear at, put_in at, entry_at-cons same_name path entry cleared at, entry_at-without same_name names_are_same path old at, entry_at-add same_name names_are_same [] path false kind setting old at)
+    grind (arith, new, clear at, put_in at, entry_at-cons same_name path entry cleared at, entry_at-without same_name IsSame-same_name path old at, entry_at-add same_name IsSame-same_name [] path false kind setting old at)
 
 -- the copied entries, put in where the path was cleared, and settled
 pub entry_at-copied : (trees : List TreeOfNumbers) (old cleared full : TreeOfNumbers) (from : List NameId) (from_rev : ℕ) (path : List NameId) (setting : Setting ValueId)
@@ -147,13 +143,13 @@ entry_at-copied trees old cleared full from from_rev path setting clear put_in a
     let source = tree_of trees from_rev in
     let copies = filter_map (moved same_name from from_rev path) source in
     let settled_copies = changed same_name path setting copies in
-    let left = entry_at-changed same_name names_are_same path setting full at in
+    let left = entry_at-changed same_name IsSame-same_name path setting full at in
     let right = entry_at-append same_name (without same_name path old) settled_copies at in
-    let under = entry_at-changed same_name names_are_same path setting copies at in
+    let under = entry_at-changed same_name IsSame-same_name path setting copies at in
     let over = entry_at-append same_name copies cleared at in
-    let away = entry_at-without same_name names_are_same path old at in
-    let apart = entry_at-moved_apart same_name names_are_same from from_rev path source at in
-    let front = same_path_apart same_name names_are_same path at in
+    let away = entry_at-without same_name IsSame-same_name path old at in
+    let apart = entry_at-moved_apart same_name IsSame-same_name from from_rev path source at in
+    let front = same_path_apart same_name IsSame-same_name path at in
     grind (arith, left, right, under, over, away, apart, front, clear at, put_in at)
 
 -- entries that go from one place to another are at their new paths
@@ -166,8 +162,8 @@ found_moved from from_rev path tree each found = by (below same_name from each.0
         → IfSome {T = List NameId × EntryOfNumbers} (option_map (λ rest. (path ++ rest, entry_from each.0 from_rev each.1)) b) (λ other. entry_at same_name (filter_map (moved same_name from from_rev path) tree) other.0 ≡ Some other.1)
     by None left = tt
     by (Some rest) left =
-        let source = append_from_below same_name names_are_same from each.0 rest left in
-        entry_at-moved_under same_name names_are_same from from_rev path tree (path ++ rest) rest (below-append same_name names_are_same path rest)
+        let source = append-from_below IsSame-same_name from each.0 rest left in
+        entry_at-moved_under same_name IsSame-same_name from from_rev path tree (path ++ rest) rest (below-append IsSame-same_name path rest)
         ∙ ap (λ at. option_map (entry_from at from_rev) (entry_at same_name tree at)) (sym source)
         ∙ ap (option_map (entry_from each.0 from_rev)) found
 
@@ -205,7 +201,7 @@ pub IsFound-carried : (rev : ℕ) (tree : TreeOfNumbers) → IsFound tree → Is
 IsFound-carried rev tree found =
     All-map (λ each. entry_at same_name (carried rev tree) each.0 ≡ Some each.1) (λ each. (each.0, entry_from each.0 rev each.1)) tree
     (All-weaker (λ each. entry_at same_name tree each.0 ≡ Some each.1) _
-    (λ each here. entry_at-carried same_name names_are_same rev tree each.0 ∙ ap (option_map (entry_from each.0 rev)) here) tree found)
+    (λ each here. entry_at-carried same_name IsSame-same_name rev tree each.0 ∙ ap (option_map (entry_from each.0 rev)) here) tree found)
 
 -- the next of the entries that a revision begins with
 pub put_next_carried : (rev : ℕ) (done rest tree next : TreeOfNumbers) (each : List NameId × EntryOfNumbers) → IsFound (done ++ each ∷ rest)

@@ -13,8 +13,8 @@ use Rattle.svn_dump.proofs.Trees.{entry_from, entry_left, entry_at-apply_action,
 use Rattle.svn_path.specs.Below.{below, parent_of}
 use Rattle.svn_path.specs.Path.{same_name}
 use Rattle.svn_path.specs.declared.names.NameId.{NameId}
+use Rattle.svn_path.proofs.Belows.{IsSame-same_name}
 use Rattle.svnhist.specs.TreeShown.{EntryOfNumbers, TreeOfNumbers, SameTree, SameTrees}
-use Rattle.svnhist.proofs.TreeReads.{names_are_same}
 
 -- ---- lists of trees
 
@@ -51,7 +51,7 @@ SameTrees_push some others tree other same last =
 -- a tree carried on
 pub SameTree-carried : (tree other : TreeOfNumbers) → SameTree tree other → (rev : ℕ) → SameTree (carried rev tree) (carried rev other)
 SameTree-carried tree other same rev at =
-    entry_at-carried same_name names_are_same rev tree at ∙ ap (option_map (entry_from at rev)) (same at) ∙ sym (entry_at-carried same_name names_are_same rev other at)
+    entry_at-carried same_name IsSame-same_name rev tree at ∙ ap (option_map (entry_from at rev)) (same at) ∙ sym (entry_at-carried same_name IsSame-same_name rev other at)
 
 -- the tree that the next revision begins with
 pub SameTree-opening : (some others : List TreeOfNumbers) → SameTrees some others → SameTree (opening some) (opening others)
@@ -79,10 +79,10 @@ module _ (some others : List TreeOfNumbers) (all : SameTrees some others) where
   pub SameTree-apply_action : (path : List NameId) (action : Action NameId ValueId) (tree other : TreeOfNumbers) → SameTree tree other
       → SameTree (apply_action same_name some path action tree) (apply_action same_name others path action other)
   SameTree-apply_action path action tree other same at =
-      entry_at-apply_action same_name names_are_same some path action tree at
+      entry_at-apply_action same_name IsSame-same_name some path action tree at
       ∙ ap (λ o. option_map_or (entry_left same_name some action o) (below same_name path at) o) (same at)
       ∙ by (below same_name path at) (entry_at same_name other at)
-      ∙ sym (entry_at-apply_action same_name names_are_same others path action other at)
+      ∙ sym (entry_at-apply_action same_name IsSame-same_name others path action other at)
     where
       by : (b : Option (List NameId)) (old : Option EntryOfNumbers) → option_map_or (entry_left same_name some action old) b old ≡ option_map_or (entry_left same_name others action old) b old
       by None old = refl

@@ -1,9 +1,10 @@
 use Rattle.std.proofs.Common.{◌≡◌, ◌≤◌, true, false, Some, length, slice_get, arith, sym, subst, ◌∙◌, ap}
 use Rattle.std.proofs.lemmas.List.{length-map, length_push}
-use Rattle.svn_path.specs.Names.{has_name, with_name, most_names}
+use Rattle.svn_path.specs.Names.{has_name, with_name, most_names, texts}
 use Rattle.svn_path.proofs.Tables.{with_name-known, with_name-new}
-use Rattle.svn_dump.specs.Texts.{IsTextTable, texts}
-use Rattle.svn_dump.proofs.TextTables.{list_any-texts, slice_get-position, slice_get_push, texts-inserted, IsTextTable-with_name}
+use Rattle.svn_dump.specs.Texts.{IsTextTable}
+use Rattle.svn_path.proofs.Keys.{list_any-texts, slice_get-position, slice_get_push, texts-inserted}
+use Rattle.svn_dump.proofs.TextTables.{IsTextTable-with_name}
 use Rattle.svn_dump.proofs.texts.Texts.add.Goals as goal
 
 pub returns-in-Some-clause-number : goal.returns-in-Some-clause-number

@@ -1,6 +1,7 @@
 use Rattle.std.proofs.Common.{◌≡◌, [], sym, subst}
 use Rattle.std.proofs.lemmas.List.{nil_from_length}
-use Rattle.svn_dump.specs.Texts.{IsTextTable, texts}
+use Rattle.svn_path.specs.Names.{texts}
+use Rattle.svn_dump.specs.Texts.{IsTextTable}
 use Rattle.svn_dump.proofs.TextTables.{IsTextTable-nil}
 use Rattle.svn_dump.proofs.texts.Texts.new.Goals as goal
 
