@@ -4,6 +4,7 @@ pub mod Cuts
 pub mod Queries
 pub mod Reports
 pub mod Shown
+pub mod Statuses
 pub mod TreePaths
 pub mod TreeReads
 pub mod TreeSame

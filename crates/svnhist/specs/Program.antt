@@ -1,11 +1,14 @@
 -- What the program answers to its input, and what its status tells.
-use Rattle.std.specs.Prelude.{ℕ, List, Option, Some, None, Vec}
+use Rattle.std.specs.Prelude.{◌≡◌, ◌⊎◌, ℕ, List, Option, Some, None, Vec}
 use Rattle.std.specs.Io.KnownBytes.{Appends, Consumes, IsAtEnd}
 use Rattle.std.specs.declared.alloc.Global.{Global}
 use Rattle.svnhist.specs.Bundle.{BundleValue, IsBundle}
+use Rattle.svnhist.specs.Load.{IsLoadError}
 use Rattle.svnhist.specs.Report.{IsReport}
+use Rattle.svnhist.specs.RunError.{status_of}
 use Rattle.svnhist.specs.RunFault.{IsRunError}
 use Rattle.svnhist.specs.declared.run_error.RunError.{RunError}
+use Rattle.svnhist.specs.declared.run_error.Source.TheVariants.{Input}
 
 -- the report on the bundle that the bytes are, or none where they are no bundle
 abbrev pub IsBundleAnswer : List ℕ → Option (Vec ℕ Global) → Type 0
@@ -19,6 +22,10 @@ IsBundleError bytes error = (value : BundleValue) × IsBundle bytes value × IsR
 -- all of an input was read, and what it is as a bundle is answered
 abbrev pub IsInputAnswer : Option (List ℕ) → Option (List ℕ) → Option (Vec ℕ Global) → Type 0
 IsInputAnswer old new answer = (bytes : List ℕ) × Consumes old new bytes × IsAtEnd new × IsBundleAnswer bytes answer
+
+-- all of an input was read, and there is no report on it for this reason; or it was not read
+abbrev pub IsInputError : Option (List ℕ) → Option (List ℕ) → RunError → Type 0
+IsInputError old new error = IsLoadError Input error ⊎ ((bytes : List ℕ) × Consumes old new bytes × IsAtEnd new × IsBundleError bytes error)
 
 -- a report went out whole
 pub record IsSent (old new : Option (List ℕ)) (dump queries : List ℕ) : Type 0 where
@@ -34,3 +41,16 @@ pub record IsRun (left_old left_new gone_old gone_new : Option (List ℕ)) : Typ
   pub end : IsAtEnd left_new
   pub bundle : IsBundle bytes value
   pub sent : IsSent gone_old gone_new value.dump value.queries
+
+-- all of an input was read, and it is no bundle
+abbrev pub IsNoBundle : Option (List ℕ) → Option (List ℕ) → Type 0
+IsNoBundle old new = (bytes : List ℕ) × Consumes old new bytes × IsAtEnd new × IsBundleAnswer bytes None
+
+-- all of an input was read, it is a bundle, and its queries or its dump are refused
+pub record IsRefusedRun (old new : Option (List ℕ)) : Type 0 where
+  pub bytes : List ℕ
+  pub error : RunError
+  pub read : Consumes old new bytes
+  pub end : IsAtEnd new
+  pub refused : IsBundleError bytes error
+  pub status : status_of error ≡ 1

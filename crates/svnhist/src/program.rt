@@ -1,7 +1,7 @@
 //! The program: a bundle or two files in, their report out.
 ghost use Rattle.std.specs.Prelude.{◌≡◌, ℕ, ◌<◌, ◌≤◌, ◌⊎◌, List, IfErr, IfOk};
 ghost use Rattle.std.specs.Io.KnownBytes.{Appends};
-ghost use Rattle.svnhist.specs.Program.{IsBundleAnswer, IsBundleError, IsInputAnswer, IsRun, IsSent};
+ghost use Rattle.svnhist.specs.Program.{IsBundleAnswer, IsBundleError, IsInputAnswer, IsInputError, IsNoBundle, IsRefusedRun, IsRun, IsSent};
 ghost use Rattle.svnhist.specs.Report.{IsReport};
 ghost use Rattle.svnhist.specs.RunError.{line_of, status_of};
 ghost use Rattle.svnhist.specs.RunFault.{IsRunError};
@@ -35,6 +35,8 @@ pub(crate) fn run<R: Threads + Wait + Sync, I: Pull, O: Push, E: Push>(
     errors: &mut E,
 ) -> u8
     ensures sent { result ≡ 0 → IsRun (I.left input.old) (I.left input.new) (O.gone output.old) (O.gone output.new) }
+    ensures refused { result ≡ 1 → IsRefusedRun (I.left input.old) (I.left input.new) }
+    ensures no_bundle { result ≡ 2 → IsNoBundle (I.left input.old) (I.left input.new) }
     ensures quiet { (result ≡ 0) ⊎ (result ≡ 3) ⊎ (output.new ≡ output.old) }
 {
     match answer_input(rt, alloc, input) {
@@ -122,7 +124,8 @@ fn answer_input<R: Threads + Wait + Sync, I: Pull>(
     alloc: Global,
     input: &mut I,
 ) -> Result<Option<Vec<u8>>, RunError>
-    ensures { IfOk result (IsInputAnswer (I.left input.old) (I.left input.new)) }
+    ensures ok { IfOk result (IsInputAnswer (I.left input.old) (I.left input.new)) }
+    ensures error { IfErr result (IsInputError (I.left input.old) (I.left input.new)) }
 {
     let bytes = load(alloc, input, Source::Input)?;
     answer_bundle(rt, alloc, bytes.as_slice())
