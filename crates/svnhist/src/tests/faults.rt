@@ -1,0 +1,60 @@
+//! Histories with a faulty record.
+ghost use Rattle.std.specs.Prelude.{◌<◌, ◌≤◌, All};
+
+use crate::fault::{Fault, FaultKind};
+use crate::gate::NoGate;
+use crate::report::report;
+use crate::run_error::RunError;
+use crate::tests::histories::{
+    EXISTS, MISSING, NO_PARENT, NO_PARENT_OF_COPY, NO_SOURCE, REPLACED_BY_NOTHING, REPLACES_NOTHING,
+};
+use std::alloc::Global;
+use std::sync::Wait;
+use std::thread::Threads;
+
+fn fault_of<R: Threads + Wait + Sync>(
+    rt: &R,
+    alloc: Global,
+    dump: &[u8],
+    cuts: &[u32],
+    workers: usize,
+) -> Option<Fault>
+    requires cuts { All (λ blocks. 0 < blocks) cuts.now }
+    requires some_worker { 0 < workers }
+    requires few_workers { workers ≤ 64 }
+{
+    match report(rt, alloc, dump, b"", cuts, workers, &NoGate) {
+        Err(RunError::Fault(fault)) => Some(fault),
+        _ => None,
+    }
+}
+
+#[test]
+fn names_the_first_faulty_record(rt: HostRuntime) {
+    for (dump, number, kind) in [
+        (NO_PARENT, 2, FaultKind::NoParent),
+        (EXISTS, 2, FaultKind::Exists),
+        (MISSING, 1, FaultKind::Missing),
+        (NO_SOURCE, 1, FaultKind::NoSource),
+        (NO_PARENT_OF_COPY, 1, FaultKind::NoParent),
+        (REPLACES_NOTHING, 1, FaultKind::Missing),
+        (REPLACED_BY_NOTHING, 2, FaultKind::NoSource),
+    ] {
+        assert_eq!(rt;
+            fault_of(&rt, rt.alloc(), dump, &[], 1),
+            Some(Fault { number, kind })
+        );
+    }
+}
+
+#[test]
+fn names_it_for_every_cutting(rt: HostRuntime) {
+    let wanted = Some(Fault {
+        number: 2,
+        kind: FaultKind::NoParent,
+    });
+    for workers in [1, 2, 8] {
+        assert_eq!(rt; fault_of(&rt, rt.alloc(), NO_PARENT, &[], workers), wanted);
+        assert_eq!(rt; fault_of(&rt, rt.alloc(), NO_PARENT, &[1], workers), wanted);
+    }
+}

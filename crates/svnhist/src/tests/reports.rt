@@ -1,0 +1,245 @@
+//! Reports on small histories.
+
+use crate::gate::NoGate;
+use crate::report::report;
+use crate::run_error::RunError;
+use crate::tests::histories::{
+    AT_SIGN, DUMPED, DUMPED_AS_ONE, EMPTY, FIRST, GONE, MERGED, MOVES, NESTED, REPLACED,
+};
+use std::alloc::Global;
+use std::sync::Wait;
+use std::test::Fail;
+use std::thread::Threads;
+
+pub(crate) fn report_of<R: Threads + Wait + Sync>(
+    rt: &R,
+    alloc: Global,
+    dump: &[u8],
+    queries: &[u8],
+) -> Result<Vec<u8>, RunError> {
+    report(rt, alloc, dump, queries, &[], 1, &NoGate)
+}
+
+// Whether the report is the wanted one.
+fn reports<R: Threads + Wait + Sync>(
+    rt: &R,
+    alloc: Global,
+    dump: &[u8],
+    queries: &[u8],
+    wanted: &[u8],
+) -> Result<bool, RunError> {
+    let found = report_of(rt, alloc, dump, queries)?;
+    Ok(found.as_slice() == wanted)
+}
+
+#[test]
+fn answers_nothing_to_no_queries(rt: HostRuntime) -> Result<(), Fail> {
+    assert!(rt; reports(&rt, rt.alloc(), EMPTY, b"", b"")?);
+    assert!(rt; reports(&rt, rt.alloc(), EMPTY, b"locate\t@0\t0", b"#1 ok\n/\n")?);
+    Ok(())
+}
+
+#[test]
+fn follows_a_copy(rt: HostRuntime) -> Result<(), Fail> {
+    let queries = b"locate\ttrunk@2\t1\nlocate\t/b@2\t1\nlocate\tb@2\t0\n";
+    assert!(rt;
+        reports(
+            &rt,
+            rt.alloc(),
+            FIRST,
+            queries,
+            b"#1 ok\n/trunk\n#2 ok\n/trunk\n#3 ok\n-\n"
+        )?
+    );
+    Ok(())
+}
+
+#[test]
+fn tells_bad_queries(rt: HostRuntime) -> Result<(), Fail> {
+    let queries = b"\nblame\ttrunk@2\nlocate\ttrunk@2\nlocate\ttrunk\t1\nlocate\ta/../b@2\t1\n";
+    let wanted = b"#1 bad-query\n#2 bad-query\n#3 bad-query\n#4 bad-query\n#5 bad-query\n";
+    assert!(rt; reports(&rt, rt.alloc(), FIRST, queries, wanted)?);
+    let queries =
+        b"locate\ttrunk@2147483648\t1\nlocate\ttrunk@\t1\nlocate\ttrunk@2\t\nlocate\ttrunk@2\t1\t\nlocate trunk@2 1";
+    assert!(rt; reports(&rt, rt.alloc(), FIRST, queries, wanted)?);
+    Ok(())
+}
+
+#[test]
+fn tells_pegs_that_are_not_there(rt: HostRuntime) -> Result<(), Fail> {
+    let queries = b"locate\ttrunk@3\t1\nlocate\tnope@2\t1\nlocate\ttrunk@2\t9\nlocate\tb@1\t1";
+    let wanted = b"#1 no-such-revision\n#2 no-such-path\n#3 ok\n-\n#4 no-such-path\n";
+    assert!(rt; reports(&rt, rt.alloc(), FIRST, queries, wanted)?);
+    Ok(())
+}
+
+#[test]
+fn splits_a_peg_at_its_last_at_sign(rt: HostRuntime) -> Result<(), Fail> {
+    let queries = b"locate\ta@b@1\t1\nlocate\t//a@b/@01\t1\n";
+    assert!(rt;
+        reports(
+            &rt,
+            rt.alloc(),
+            AT_SIGN,
+            queries,
+            b"#1 ok\n/a@b\n#2 ok\n/a@b\n"
+        )?
+    );
+    Ok(())
+}
+
+#[test]
+fn takes_along_what_is_below_a_copy(rt: HostRuntime) -> Result<(), Fail> {
+    assert!(rt;
+        reports(
+            &rt,
+            rt.alloc(),
+            MOVES,
+            b"locate\t/A/b@2\t1\nlocate\tA/b@1\t1",
+            b"#1 ok\n/T/b\n#2 no-such-path\n"
+        )?
+    );
+    let queries = b"locate\tn/q/s@3\t2\nlocate\tn/q/s@3\t1\nlocate\tm/q/s@3\t1\nlocate\tm/q@3\t1";
+    assert!(rt;
+        reports(
+            &rt,
+            rt.alloc(),
+            NESTED,
+            queries,
+            b"#1 ok\n/p/q/s\n#2 ok\n/z/s\n#3 no-such-path\n#4 ok\n/p/q\n"
+        )?
+    );
+    Ok(())
+}
+
+#[test]
+fn copies_what_was_deleted(rt: HostRuntime) -> Result<(), Fail> {
+    let queries = b"locate\tb/x@3\t1\nlocate\tb/x@3\t2\nlocate\ta/x@2\t1";
+    assert!(rt;
+        reports(
+            &rt,
+            rt.alloc(),
+            GONE,
+            queries,
+            b"#1 ok\n/a/x\n#2 ok\n-\n#3 no-such-path\n"
+        )?
+    );
+    Ok(())
+}
+
+#[test]
+fn answers_on_a_history_with_mergeinfo(rt: HostRuntime) -> Result<(), Fail> {
+    let queries =
+        b"locate\tbranches/b@8\t3\nlocate\tbranches/b@8\t2\nlocate\tbranches/b@8\t0\nlocate\tbranches/b@8\t9\nlocate\tbranches/b@8\t8\n";
+    let wanted = b"#1 ok\n-\n#2 ok\n/trunk\n#3 ok\n-\n#4 ok\n-\n#5 ok\n/branches/b\n";
+    assert!(rt; reports(&rt, rt.alloc(), MERGED, queries, wanted)?);
+    Ok(())
+}
+
+#[test]
+fn follows_a_replacement(rt: HostRuntime) -> Result<(), Fail> {
+    let queries = b"locate\ta/x@2\t1\n";
+    assert!(rt; reports(&rt, rt.alloc(), REPLACED, queries, b"#1 ok\n/a/x\n")?);
+    let queries = b"locate\tb@3\t3\nlocate\tb@3\t2\nlocate\tb@3\t1\nlocate\tb@3\t0\n";
+    let wanted = b"#1 ok\n/b\n#2 ok\n/trunk\n#3 ok\n/trunk\n#4 ok\n-\n";
+    assert!(rt; reports(&rt, rt.alloc(), DUMPED, queries, wanted)?);
+    assert!(rt; reports(&rt, rt.alloc(), DUMPED_AS_ONE, queries, wanted)?);
+    Ok(())
+}
+
+#[test]
+fn tells_where_paths_stood(rt: HostRuntime) -> Result<(), Fail> {
+    for (dump, queries, wanted) in [
+        (
+            MERGED,
+            b"segments\t/branches/b@8\n".as_slice(),
+            b"#1 ok\n4-8 /branches/b\n3-3 -\n1-2 /trunk\n".as_slice(),
+        ),
+        (MOVES, b"segments\t/A/b@2", b"#1 ok\n2-2 /A/b\n1-1 /T/b\n"),
+        (REPLACED, b"segments\t/a/x@2", b"#1 ok\n1-2 /a/x\n"),
+        (
+            NESTED,
+            b"segments\t/n/q/s@3\nsegments\t/m/q/s@3",
+            b"#1 ok\n3-3 /n/q/s\n2-2 /p/q/s\n1-1 /z/s\n#2 no-such-path\n",
+        ),
+        (EMPTY, b"segments\t/@0", b"#1 ok\n0-0 /\n"),
+        (DUMPED, b"segments\tb@3", b"#1 ok\n3-3 /b\n1-2 /trunk\n"),
+        (
+            DUMPED_AS_ONE,
+            b"segments\tb@3",
+            b"#1 ok\n3-3 /b\n1-2 /trunk\n",
+        ),
+    ] {
+        assert!(rt;
+            reports(&rt, rt.alloc(), dump, queries, wanted)?,
+            "{queries:?}"
+        );
+    }
+    Ok(())
+}
+
+#[test]
+fn tells_which_revisions_touched_paths(rt: HostRuntime) -> Result<(), Fail> {
+    for (dump, queries, wanted) in [
+        (
+            MERGED,
+            b"log\t/branches/b@8\n".as_slice(),
+            b"#1 ok\nr5 /branches/b\nr4 /branches/b\nr2 /trunk\nr1 /trunk\n".as_slice(),
+        ),
+        (
+            MERGED,
+            b"log\t/@10\n",
+            b"#1 ok\nr10 /\nr9 /\nr8 /\nr7 /\nr6 /\nr5 /\nr4 /\nr3 /\nr2 /\nr1 /\n",
+        ),
+        (
+            MERGED,
+            b"log\t/trunk@8\n",
+            b"#1 ok\nr8 /trunk\nr7 /trunk\nr6 /trunk\nr3 /trunk\nr2 /trunk\nr1 /trunk\n",
+        ),
+        (
+            REPLACED,
+            b"log\t/a/x@2\nlog\t/a@2",
+            b"#1 ok\nr1 /a/x\n#2 ok\nr2 /a\nr1 /a\n",
+        ),
+        (EMPTY, b"log\t/@0", b"#1 ok\n"),
+        (DUMPED, b"log\tb@3", b"#1 ok\nr3 /b\nr1 /trunk\n"),
+        (DUMPED_AS_ONE, b"log\tb@3", b"#1 ok\nr3 /b\nr1 /trunk\n"),
+    ] {
+        assert!(rt;
+            reports(&rt, rt.alloc(), dump, queries, wanted)?,
+            "{queries:?}"
+        );
+    }
+    Ok(())
+}
+
+#[test]
+fn tells_wrong_pegs_of_each_verb(rt: HostRuntime) -> Result<(), Fail> {
+    let queries =
+        b"\nblame\t/trunk@8\nlog\ttrunk\nlog\ttrunk@\nlocate\ttrunk@8\nlog\ta/../b@8\nlog\ttrunk@11\nlog\tnope@8\nsegments\t/trunk@8\t1\nsegments";
+    let wanted =
+        b"#1 bad-query\n#2 bad-query\n#3 bad-query\n#4 bad-query\n#5 bad-query\n#6 bad-query\n#7 no-such-revision\n#8 no-such-path\n#9 bad-query\n#10 bad-query\n";
+    assert!(rt; reports(&rt, rt.alloc(), MERGED, queries, wanted)?);
+    Ok(())
+}
+
+#[test]
+fn reports_alike_for_every_cutting(rt: HostRuntime) -> Result<(), Fail> {
+    let queries = b"segments\t/n/q/s@3\nlog\t/n/q/s@3\nlocate\t/n/q/s@3\t1\n";
+    let wanted = report_of(&rt, rt.alloc(), NESTED, queries)?;
+    for cuts in [[2, 1].as_slice(), &[1], &[3]] {
+        for workers in [1, 2, 8] {
+            let found = report(&rt, rt.alloc(), NESTED, queries, cuts, workers, &NoGate)?;
+            assert!(rt; found == wanted, "{cuts:?}");
+        }
+    }
+    Ok(())
+}
+
+#[test]
+fn answers_a_million_queries(rt: HostRuntime) -> Result<(), Fail> {
+    let queries = vec![in rt.alloc(); b'\n'; 1_000_000]?;
+    let found = report_of(&rt, rt.alloc(), FIRST, queries.as_slice())?;
+    assert!(rt; found.ends_with(b"#1000000 bad-query\n"));
+    Ok(())
+}
