@@ -1,0 +1,51 @@
+"""Runs a command and tells what it took, and makes the dumps that are measured."""
+import os
+import subprocess
+import sys
+import tempfile
+import time
+
+HERE = os.path.dirname(os.path.abspath(__file__))
+
+
+class Failed(Exception):
+    pass
+
+
+class Run:
+    """What one run took: seconds from start to end, seconds of the processor, the most memory, and what was said."""
+
+    def __init__(self, wall, usage, status, output, errors):
+        self.wall = wall
+        self.processor = usage.ru_utime + usage.ru_stime
+        self.peak = usage.ru_maxrss * 1024
+        self.status = status
+        self.output = output
+        self.errors = errors
+
+
+def run(words, feeder=None, file=None):
+    """Runs a command with a file or the output of another command as its input."""
+    environment = dict(os.environ, LC_ALL="C")
+    with tempfile.TemporaryFile() as output, tempfile.TemporaryFile() as errors:
+        began = time.perf_counter()
+        if feeder is not None:
+            feeding = subprocess.Popen(feeder, stdout=subprocess.PIPE)
+            source = feeding.stdout
+        else:
+            source = open(file, "rb")
+        child = subprocess.Popen(words, stdin=source, stdout=output, stderr=errors, env=environment)
+        source.close()
+        _, status, usage = os.wait4(child.pid, 0)
+        wall = time.perf_counter() - began
+        child.returncode = os.waitstatus_to_exitcode(status)
+        if feeder is not None:
+            feeding.wait()
+        output.seek(0)
+        errors.seek(0)
+        return Run(wall, usage, child.returncode, output.read(), errors.read())
+
+
+def generate(words, file):
+    """Writes a generated dump to an open file."""
+    subprocess.run([sys.executable, os.path.join(HERE, "generate")] + words, stdout=file, check=True)
