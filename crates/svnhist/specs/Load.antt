@@ -1,5 +1,5 @@
 -- How a run tells that an input could not be read.
-use Rattle.std.specs.Prelude.{◌≡◌, ℕ, ◌≤◌, List, Option, length}
+use Rattle.std.specs.Prelude.{◌≡◌, ◌⊎◌, ℕ, ◌+◌, ◌≤◌, Bool, IsTrue, List, Option, length}
 use Rattle.std.specs.Io.KnownBytes.{Consumes}
 use Rattle.svnhist.specs.declared.run_error.RunError.{RunError}
 use Rattle.svnhist.specs.declared.run_error.RunError.TheVariants.{TooMany, Dump, Fault as Faulty, Read, Memory}
@@ -12,6 +12,11 @@ most_reads = 4294967296
 -- the bytes left were at least as many as the reads, so the end was not reached
 abbrev pub GivesMore : Option (List ℕ) → Option (List ℕ) → Type 0
 GivesMore old new = (bytes : List ℕ) × (most_reads ≤ length bytes) × Consumes old new bytes
+
+-- an input was not read to its end: a call of it failed, or so many calls reached no end
+abbrev pub IsUnread : Bool → ℕ → ℕ → Option (List ℕ) → Option (List ℕ) → Type 0
+IsUnread has_failed calls_old calls_new left_old left_new =
+    IsTrue has_failed ⊎ ((calls_new ≡ calls_old + most_reads) × GivesMore left_old left_new)
 
 abbrev pub IsReadError : RunError → Type 0
 IsReadError TooMany = ⊥

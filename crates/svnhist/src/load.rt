@@ -1,7 +1,7 @@
 //! Reading all of an input or a file.
-ghost use Rattle.std.specs.Prelude.{◌≡◌, ◌+◌, ◌≤◌, ◌⊎◌, Bool, IfErr, IfOk, OnOk, IsTrue, IsFalse};
+ghost use Rattle.std.specs.Prelude.{◌+◌, ◌≤◌, IfErr, IfOk, OnOk, IsFalse};
 ghost use Rattle.std.specs.Io.KnownBytes.{Consumes, IsAtEnd};
-ghost use Rattle.svnhist.specs.Load.{most_reads, GivesMore, IsLoadError, IsReadError};
+ghost use Rattle.svnhist.specs.Load.{most_reads, IsLoadError, IsReadError, IsUnread};
 
 use crate::device::{Device, Pull};
 use crate::run_error::{RunError, Source};
@@ -24,8 +24,7 @@ pub fn load<P: Pull>(alloc: Global, input: &mut P, source: Source) -> Result<Vec
     ensures error { IfErr result (IsLoadError source) }
 
     // `Read` comes only where the device failed, or where the reads are used up and each gave some bytes.
-    ensures honest { IfErr result (λ e. IsReadError e → IsTrue (P.has_failed input.new)
-        ⊎ ((P.calls input.new ≡ P.calls input.old + most_reads) × GivesMore (P.left input.old) (P.left input.new))) }
+    ensures honest { IfErr result (λ e. IsReadError e → IsUnread (P.has_failed input.new) (P.calls input.old) (P.calls input.new) (P.left input.old) (P.left input.new)) }
     ensures reads { P.calls input.new ≤ P.calls input.old + most_reads }
 {
     let mut piece = Vec::with_capacity(alloc, PIECE)?;

@@ -1,6 +1,7 @@
 //! The program: a bundle or two files in, their report out.
-ghost use Rattle.std.specs.Prelude.{◌≡◌, ℕ, ◌<◌, ◌≤◌, ◌⊎◌, List, IfErr, IfOk};
+ghost use Rattle.std.specs.Prelude.{◌≡◌, ℕ, ◌<◌, ◌≤◌, ◌⊎◌, List, IfErr, IfOk, IsTrue};
 ghost use Rattle.std.specs.Io.KnownBytes.{Appends};
+ghost use Rattle.svnhist.specs.Load.{IsReadError, IsUnread};
 ghost use Rattle.svnhist.specs.Program.{IsBundleAnswer, IsBundleError, IsInputAnswer, IsInputError, IsNoBundle, IsRefusedRun, IsRun, IsSent};
 ghost use Rattle.svnhist.specs.Report.{IsReport};
 ghost use Rattle.svnhist.specs.RunError.{line_of, status_of};
@@ -37,6 +38,8 @@ pub(crate) fn run<R: Threads + Wait + Sync, I: Pull, O: Push, E: Push>(
     ensures sent { result ≡ 0 → IsRun (I.left input.old) (I.left input.new) (O.gone output.old) (O.gone output.new) }
     ensures refused { result ≡ 1 → IsRefusedRun (I.left input.old) (I.left input.new) }
     ensures no_bundle { result ≡ 2 → IsNoBundle (I.left input.old) (I.left input.new) }
+    ensures failed { result ≡ 3 → IsTrue (O.has_failed output.new) ⊎ IsUnread (I.has_failed input.new) (I.calls input.old) (I.calls input.new) (I.left input.old) (I.left input.new) }
+    ensures other { result ≤ 4 }
     ensures quiet { (result ≡ 0) ⊎ (result ≡ 3) ⊎ (output.new ≡ output.old) }
 {
     match answer_input(rt, alloc, input) {
@@ -104,6 +107,7 @@ fn error_line(alloc: Global, error: &RunError) -> Result<Vec<u8>, AllocError>
 fn deliver<O: Push, E: Push>(output: &mut O, errors: &mut E, report: &[u8]) -> u8
     ensures sent { result ≡ 0 → Appends (O.gone output.old) (O.gone output.new) report.now }
     ensures status { (result ≡ 0) ⊎ (result ≡ 3) }
+    ensures failed { result ≡ 3 → IsTrue (O.has_failed output.new) }
 {
     match send(output, report) {
         Ok(()) => 0,
@@ -126,6 +130,7 @@ fn answer_input<R: Threads + Wait + Sync, I: Pull>(
 ) -> Result<Option<Vec<u8>>, RunError>
     ensures ok { IfOk result (IsInputAnswer (I.left input.old) (I.left input.new)) }
     ensures error { IfErr result (IsInputError (I.left input.old) (I.left input.new)) }
+    ensures honest { IfErr result (λ e. IsReadError e → IsUnread (I.has_failed input.new) (I.calls input.old) (I.calls input.new) (I.left input.old) (I.left input.new)) }
 {
     let bytes = load(alloc, input, Source::Input)?;
     answer_bundle(rt, alloc, bytes.as_slice())
