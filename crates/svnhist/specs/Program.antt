@@ -1,11 +1,11 @@
 -- What the program answers to its input, and what its status tells.
-use Rattle.std.specs.Prelude.{◌≡◌, ◌⊎◌, ℕ, List, Option, Some, None, Vec}
+use Rattle.std.specs.Prelude.{◌≡◌, ◌⊎◌, ℕ, Bool, IsTrue, List, Option, Some, None, Vec, take}
 use Rattle.std.specs.Io.KnownBytes.{Appends, Consumes, IsAtEnd}
 use Rattle.std.specs.declared.alloc.Global.{Global}
 use Rattle.svnhist.specs.Bundle.{BundleValue, IsBundle}
 use Rattle.svnhist.specs.Load.{IsLoadError}
 use Rattle.svnhist.specs.Report.{IsReport}
-use Rattle.svnhist.specs.RunError.{status_of}
+use Rattle.svnhist.specs.RunError.{line_of, status_of}
 use Rattle.svnhist.specs.RunFault.{IsRunError}
 use Rattle.svnhist.specs.declared.run_error.RunError.{RunError}
 use Rattle.svnhist.specs.declared.run_error.Source.TheVariants.{Input}
@@ -33,6 +33,13 @@ pub record IsSent (old new : Option (List ℕ)) (dump queries : List ℕ) : Type
   pub right : IsReport dump queries report
   pub sent : Appends old new report
 
+-- the front of a report went out, before the output failed
+pub record IsCutShort (old new : Option (List ℕ)) (dump queries : List ℕ) : Type 0 where
+  pub report : List ℕ
+  pub count : ℕ
+  pub right : IsReport dump queries report
+  pub sent : Appends old new (take count report)
+
 -- all of an input was read, it is a bundle, and its report went out
 pub record IsRun (left_old left_new gone_old gone_new : Option (List ℕ)) : Type 0 where
   pub bytes : List ℕ
@@ -42,15 +49,29 @@ pub record IsRun (left_old left_new gone_old gone_new : Option (List ℕ)) : Typ
   pub bundle : IsBundle bytes value
   pub sent : IsSent gone_old gone_new value.dump value.queries
 
+-- the same with the front of its report
+pub record IsCutRun (left_old left_new gone_old gone_new : Option (List ℕ)) : Type 0 where
+  pub bytes : List ℕ
+  pub value : BundleValue
+  pub read : Consumes left_old left_new bytes
+  pub end : IsAtEnd left_new
+  pub bundle : IsBundle bytes value
+  pub cut : IsCutShort gone_old gone_new value.dump value.queries
+
 -- all of an input was read, and it is no bundle
 abbrev pub IsNoBundle : Option (List ℕ) → Option (List ℕ) → Type 0
 IsNoBundle old new = (bytes : List ℕ) × Consumes old new bytes × IsAtEnd new × IsBundleAnswer bytes None
 
--- all of an input was read, it is a bundle, and its queries or its dump are refused
-pub record IsRefusedRun (old new : Option (List ℕ)) : Type 0 where
+-- a line went out on standard error, unless that failed
+abbrev pub IsTold : Bool → Option (List ℕ) → Option (List ℕ) → List ℕ → Type 0
+IsTold has_failed old new line = IsTrue has_failed ⊎ Appends old new line
+
+-- all of an input was read, it is a bundle, and its queries or its dump are refused, as is told
+pub record IsRefusedRun (old new : Option (List ℕ)) (has_failed : Bool) (told_old told_new : Option (List ℕ)) : Type 0 where
   pub bytes : List ℕ
   pub error : RunError
   pub read : Consumes old new bytes
   pub end : IsAtEnd new
   pub refused : IsBundleError bytes error
   pub status : status_of error ≡ 1
+  pub told : IsTold has_failed told_old told_new (line_of error)

@@ -56,6 +56,13 @@ told run.Memory = codes "out of memory"
 abbrev pub line_of : RunError → List ℕ
 line_of error = codes "svnhist: " ++ told error ++ 10 ∷ []
 
+-- the other lines that the program prints on standard error
+abbrev pub usage_line : List ℕ
+usage_line = codes "svnhist: usage: svnhist DUMP QUERIES BLOCK WORKERS" ++ 10 ∷ []
+
+abbrev pub unsent_line : List ℕ
+unsent_line = codes "svnhist: cannot write the report" ++ 10 ∷ []
+
 abbrev pub status_of_refusal : DumpError → ℕ
 status_of_refusal (refusal.Refused number at) = 1
 status_of_refusal refusal.Memory = 4

@@ -13,7 +13,7 @@ pub(crate) struct Arguments<'a> {
     pub queries: &'a str,
     /// How many revisions a block has, 0 for one block.
     pub block: u32,
-    /// How many workers answer, from 1 to 64.
+    /// How many workers are to answer, from 1 to 64.
     pub workers: usize,
 }
 

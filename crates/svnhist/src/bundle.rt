@@ -5,7 +5,7 @@
 pub struct Bundle<'a> {
     /// How many revisions a block has, 0 for one block.
     pub block: u32,
-    /// How many workers answer, from 1 to 64.
+    /// How many workers are to answer, from 1 to 64.
     pub workers: usize,
     /// The query lines.
     pub queries: &'a [u8],

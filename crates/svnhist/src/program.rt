@@ -1,10 +1,10 @@
 //! The program: a bundle or two files in, their report out.
-ghost use Rattle.std.specs.Prelude.{◌≡◌, ℕ, ◌<◌, ◌≤◌, ◌⊎◌, List, IfErr, IfOk, IsTrue};
+ghost use Rattle.std.specs.Prelude.{◌≡◌, ℕ, ◌<◌, ◌≤◌, ◌⊎◌, List, IfErr, IfOk, IsFalse, IsTrue, take};
 ghost use Rattle.std.specs.Io.KnownBytes.{Appends};
 ghost use Rattle.svnhist.specs.Load.{IsReadError, IsUnread};
-ghost use Rattle.svnhist.specs.Program.{IsBundleAnswer, IsBundleError, IsInputAnswer, IsInputError, IsNoBundle, IsRefusedRun, IsRun, IsSent};
+ghost use Rattle.svnhist.specs.Program.{IsBundleAnswer, IsBundleError, IsCutRun, IsCutShort, IsInputAnswer, IsInputError, IsNoBundle, IsRefusedRun, IsRun, IsSent, IsTold};
 ghost use Rattle.svnhist.specs.Report.{IsReport};
-ghost use Rattle.svnhist.specs.RunError.{line_of, status_of};
+ghost use Rattle.svnhist.specs.RunError.{line_of, status_of, unsent_line, usage_line};
 ghost use Rattle.svnhist.specs.RunFault.{IsRunError};
 
 use crate::arguments::Arguments;
@@ -36,9 +36,12 @@ pub(crate) fn run<R: Threads + Wait + Sync, I: Pull, O: Push, E: Push>(
     errors: &mut E,
 ) -> u8
     ensures sent { result ≡ 0 → IsRun (I.left input.old) (I.left input.new) (O.gone output.old) (O.gone output.new) }
-    ensures refused { result ≡ 1 → IsRefusedRun (I.left input.old) (I.left input.new) }
-    ensures no_bundle { result ≡ 2 → IsNoBundle (I.left input.old) (I.left input.new) }
-    ensures failed { result ≡ 3 → IsTrue (O.has_failed output.new) ⊎ IsUnread (I.has_failed input.new) (I.calls input.old) (I.calls input.new) (I.left input.old) (I.left input.new) }
+    ensures refused { result ≡ 1 → IsRefusedRun (I.left input.old) (I.left input.new) (E.has_failed errors.new) (E.gone errors.old) (E.gone errors.new) }
+    ensures no_bundle { result ≡ 2 → IsNoBundle (I.left input.old) (I.left input.new) × IsTold (E.has_failed errors.new) (E.gone errors.old) (E.gone errors.new) usage_line }
+    ensures failed { result ≡ 3 → (IsTrue (O.has_failed output.new) × IsCutRun (I.left input.old) (I.left input.new) (O.gone output.old) (O.gone output.new) × IsTold (E.has_failed errors.new) (E.gone errors.old) (E.gone errors.new) unsent_line)
+        ⊎ (IsUnread (I.has_failed input.new) (I.calls input.old) (I.calls input.new) (I.left input.old) (I.left input.new) × (output.new ≡ output.old) × IsTold (E.has_failed errors.new) (E.gone errors.old) (E.gone errors.new) (line_of (RunError.Read Source.Input))) }
+    ensures memory { result ≡ 4 → IsTold (E.has_failed errors.new) (E.gone errors.old) (E.gone errors.new) (line_of RunError.Memory) }
+    ensures flushed { result ≡ 0 → IsTrue (O.is_flushed output.new) × IsFalse (O.has_failed output.new) × (errors.new ≡ errors.old) }
     ensures other { result ≤ 4 }
     ensures quiet { (result ≡ 0) ⊎ (result ≡ 3) ⊎ (output.new ≡ output.old) }
 {
@@ -60,6 +63,9 @@ pub(crate) fn run_files<R: Files + Threads + Wait + Sync, O: Push, E: Push>(
     requires some_worker { 0 < asked.now.workers }
     requires few_workers { asked.now.workers ≤ 64 }
     ensures sent { result ≡ 0 → (dump queries : List ℕ) × IsSent (O.gone output.old) (O.gone output.new) dump queries }
+    ensures failed { result ≡ 3 → (IsTrue (O.has_failed output.new) × ((dump queries : List ℕ) × IsCutShort (O.gone output.old) (O.gone output.new) dump queries) × IsTold (E.has_failed errors.new) (E.gone errors.old) (E.gone errors.new) unsent_line) ⊎ (output.new ≡ output.old) }
+    ensures flushed { result ≡ 0 → IsTrue (O.is_flushed output.new) × IsFalse (O.has_failed output.new) × (errors.new ≡ errors.old) }
+    ensures told { (result ≡ 0) ⊎ ((result ≡ 3) × IsTrue (O.has_failed output.new)) ⊎ ((error : RunError) × (result ≡ status_of error) × IsTold (E.has_failed errors.new) (E.gone errors.old) (E.gone errors.new) (line_of error)) }
     ensures quiet { (result ≡ 0) ⊎ (result ≡ 3) ⊎ (output.new ≡ output.old) }
 {
     match answer_files(rt, alloc, asked) {
@@ -70,7 +76,8 @@ pub(crate) fn run_files<R: Files + Threads + Wait + Sync, O: Push, E: Push>(
 
 /// Tells how the program is used.
 pub(crate) fn refuse_usage<E: Push>(errors: &mut E) -> u8
-    ensures { result ≡ 2 }
+    ensures status { result ≡ 2 }
+    ensures told { IsTold (E.has_failed errors.new) (E.gone errors.old) (E.gone errors.new) usage_line }
 {
     tell(errors, USAGE);
     2
@@ -78,14 +85,15 @@ pub(crate) fn refuse_usage<E: Push>(errors: &mut E) -> u8
 
 /// Tells that memory ran out.
 pub(crate) fn refuse_memory<E: Push>(errors: &mut E) -> u8
-    ensures { result ≡ 4 }
+    ensures status { result ≡ 4 }
+    ensures told { IsTold (E.has_failed errors.new) (E.gone errors.old) (E.gone errors.new) (line_of RunError.Memory) }
 {
     tell(errors, NO_MEMORY);
     4
 }
 
 fn refuse<E: Push>(alloc: Global, errors: &mut E, error: &RunError) -> u8
-    ensures { (result ≡ status_of error.now) ⊎ (result ≡ 4) }
+    ensures { ((result ≡ status_of error.now) × IsTold (E.has_failed errors.new) (E.gone errors.old) (E.gone errors.new) (line_of error.now)) ⊎ ((result ≡ 4) × IsTold (E.has_failed errors.new) (E.gone errors.old) (E.gone errors.new) (line_of RunError.Memory)) }
 {
     match error_line(alloc, error) {
         Ok(line) => {
@@ -107,7 +115,9 @@ fn error_line(alloc: Global, error: &RunError) -> Result<Vec<u8>, AllocError>
 fn deliver<O: Push, E: Push>(output: &mut O, errors: &mut E, report: &[u8]) -> u8
     ensures sent { result ≡ 0 → Appends (O.gone output.old) (O.gone output.new) report.now }
     ensures status { (result ≡ 0) ⊎ (result ≡ 3) }
-    ensures failed { result ≡ 3 → IsTrue (O.has_failed output.new) }
+    ensures failed { result ≡ 3 → IsTrue (O.has_failed output.new) × ((count : ℕ) × Appends (O.gone output.old) (O.gone output.new) (take count report.now)) }
+    ensures told { result ≡ 3 → IsTold (E.has_failed errors.new) (E.gone errors.old) (E.gone errors.new) unsent_line }
+    ensures flushed { result ≡ 0 → IsTrue (O.is_flushed output.new) × IsFalse (O.has_failed output.new) × (errors.new ≡ errors.old) }
 {
     match send(output, report) {
         Ok(()) => 0,
@@ -119,7 +129,9 @@ fn deliver<O: Push, E: Push>(output: &mut O, errors: &mut E, report: &[u8]) -> u
 }
 
 // Nobody is left to hear that a line on standard error did not go out.
-fn tell<E: Push>(errors: &mut E, line: &[u8]) {
+fn tell<E: Push>(errors: &mut E, line: &[u8])
+    ensures { IsTold (E.has_failed errors.new) (E.gone errors.old) (E.gone errors.new) line.now }
+{
     let _ = send(errors, line);
 }
 

@@ -37,7 +37,15 @@ fn calls_the_gate_round_each_query(rt: HostRuntime) -> Result<(), Fail> {
         left: AtomicUsize::new(0),
         out_of_turn: AtomicUsize::new(0),
     };
-    let _report = report(&rt, rt.alloc(), FIRST, b"\n\n\n", &[], 2, &gate)?;
+    let _report = report(
+        &rt,
+        rt.alloc(),
+        FIRST,
+        b"locate\ttrunk@2\t1\n\nlog\tb@2\n",
+        &[],
+        2,
+        &gate,
+    )?;
     assert_eq!(rt; gate.left.load(Ordering::SeqCst), 3);
     assert_eq!(rt; gate.out_of_turn.load(Ordering::SeqCst), 0);
     Ok(())
