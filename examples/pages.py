@@ -1,0 +1,46 @@
+"""Runs the commands that the documentation shows and compares their output with what the page shows.
+
+In README.md and docs/recipes.md these are the lines after `$ ` of each block marked `console`, in the manual page those
+of each block between `.EX` and `.EE`. The lines up to the next command are its output.
+"""
+import os
+import re
+import subprocess
+
+from tree import ROOT, command, copied_tree
+
+PAGES = ["README.md", "docs/recipes.md", "docs/svnhist.1"]
+CONSOLE = re.compile(r"^```console\n(.*?)^```$", re.MULTILINE | re.DOTALL)
+EXAMPLE = re.compile(r"^\.EX\n(.*?)^\.EE$", re.MULTILINE | re.DOTALL)
+# The repository of the examples is the one whose dump is in interop.
+SVNADMIN = ['test "$*" = "dump -q REPO" && exec cat interop/branches.dump', "exit 1"]
+
+
+def blocks_of(page, text):
+    if not page.endswith(".1"):
+        return CONSOLE.findall(text)
+    return [block.replace(r"\-", "-").replace(r"\e", "\\") for block in EXAMPLE.findall(text)]
+
+
+def commands_of(block):
+    """Each command of a block with the output that the page shows."""
+    pieces = re.split(r"^\$ (.*)\n", block, flags=re.MULTILINE)
+    return list(zip(pieces[1::2], pieces[2::2]))
+
+
+def run_pages(program, folder):
+    """Of each command its name, what the page shows and what was printed."""
+    root = copied_tree(folder, program)
+    tools = os.path.join(folder, "tools")
+    command(tools, "svnadmin", SVNADMIN)
+    os.symlink(os.path.join(root, "svnhist"), os.path.join(tools, "svnhist"))
+    environment = dict(os.environ, PATH=tools + os.pathsep + os.environ.get("PATH", os.defpath))
+    outcomes = []
+    for page in PAGES:
+        with open(os.path.join(ROOT, page), encoding="utf-8") as file:
+            blocks = blocks_of(page, file.read())
+        for line, wanted in [found for block in blocks for found in commands_of(block)]:
+            done = subprocess.run(["sh", "-c", line], cwd=root, env=environment, stdin=subprocess.DEVNULL,
+                                  stdout=subprocess.PIPE, stderr=subprocess.STDOUT)
+            outcomes.append(("%s: %s" % (page, line), wanted, done.stdout.decode("utf-8", "replace")))
+    return outcomes

@@ -1,0 +1,37 @@
+"""A copy of the repository's tree in a temporary folder, in which commands and the launcher can run."""
+import os
+import shutil
+
+ROOT = os.path.dirname(os.path.dirname(os.path.abspath(__file__)))
+LEFT_OUT = shutil.ignore_patterns(".git", "out", "proofs", "must-fail", "__pycache__")
+
+
+def copied_tree(folder, program=None):
+    """The root of a copy in the folder, with the built program in its place if one is given."""
+    root = os.path.join(folder, "tree")
+    shutil.copytree(ROOT, root, symlinks=True, ignore=LEFT_OUT)
+    if program is not None:
+        place_program(root, program)
+    return root
+
+
+def place_program(root, program):
+    out = os.path.join(root, "crates", "svnhist", "out")
+    os.makedirs(out, exist_ok=True)
+    # The time of the copy is now, so the launcher takes the program as current.
+    shutil.copy(program, os.path.join(out, "svnhist"))
+
+
+def command(folder, name, lines):
+    """Makes a shell script that stands for a command."""
+    os.makedirs(folder, exist_ok=True)
+    path = os.path.join(folder, name)
+    with open(path, "w", encoding="utf-8") as file:
+        file.write("#!/bin/sh\n" + "".join(line + "\n" for line in lines))
+    os.chmod(path, 0o755)
+
+
+def path_without(name):
+    """PATH without the folders that have a command of this name."""
+    folders = os.environ.get("PATH", os.defpath).split(os.pathsep)
+    return os.pathsep.join(folder for folder in folders if not os.path.exists(os.path.join(folder, name)))
