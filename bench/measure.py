@@ -1,4 +1,4 @@
-"""Runs a command and tells what it took, and makes the dumps that are measured."""
+"""Runs a command and measures it, and generates the dumps."""
 import os
 import subprocess
 import sys
@@ -13,7 +13,7 @@ class Failed(Exception):
 
 
 class Run:
-    """What one run took: seconds from start to end, seconds of the processor, the most memory, and what was said."""
+    """One run: seconds from start to end, processor seconds, peak memory, exit status and output."""
 
     def __init__(self, wall, usage, status, output, errors):
         self.wall = wall
@@ -25,7 +25,7 @@ class Run:
 
 
 def run(words, feeder=None, file=None):
-    """Runs a command with a file or the output of another command as its input."""
+    """Runs a command whose input is a file or the output of another command."""
     environment = dict(os.environ, LC_ALL="C")
     with tempfile.TemporaryFile() as output, tempfile.TemporaryFile() as errors:
         began = time.perf_counter()

@@ -1,7 +1,7 @@
-"""How long questions take on a history that the plain trees can hold, beside the same questions to Subversion.
+"""How long queries take, on a history whose trees fit into memory, compared with the same queries to Subversion.
 
-The program is run without a question, and with so many of one verb; the difference is what the questions took. Subversion
-is run once for each question, on a repository loaded from the same dump, and its start is in what it took.
+The program is run without queries, and with many of one verb; the difference is the time of the queries. Subversion is
+run once for each query, on a repository loaded from the same dump, and its time includes the start of the process.
 """
 import os
 import random
@@ -13,7 +13,7 @@ from measure import Failed, generate, run
 GENERATED = ["--records", "2", "--width", "4", "--copy-depth", "6", "--body", "0:100"]
 REVISIONS = 2000
 QUICK_REVISIONS = 500
-# How many questions of each verb; the answers to `log` are long.
+# The number of queries of each verb; the answers to `log` are long.
 ASKED = {"locate": 200000, "segments": 200000, "log": 20000}
 ASKED_OF_SUBVERSION = 20
 
@@ -35,7 +35,7 @@ def records_of(path):
 
 
 class Question:
-    """A peg from the later half of the history, and a revision before it."""
+    """A peg from the later half of the history, and an earlier revision."""
 
     def __init__(self, lot, pegs):
         self.path, self.rev = lot.choice(pegs[len(pegs) // 2:])
@@ -46,20 +46,20 @@ class Question:
         return "\t".join(fields) + "\n"
 
     def to_subversion(self, verb, url):
-        """The same question to Subversion, whose program has none for segments."""
+        """The same query as a command of Subversion, which has none for location segments."""
         peg = "%s/%s@%d" % (url, self.path, self.rev)
         return {"locate": ["svn", "info", "-r", str(self.other), peg], "log": ["svn", "log", "-q", peg]}.get(verb)
 
 
 def ask(program, dump, folder, lines):
-    """What a run with these questions took; each must be answered."""
+    """The measurement of a run with these queries; each must be answered."""
     path = os.path.join(folder, "queries")
     with open(path, "w") as file:
         file.writelines(lines)
     taken = run([program, dump, path, "0", "1"], file=os.devnull)
     answered = taken.output.count(b" ok\n")
     if taken.status != 0 or answered != len(lines):
-        raise Failed("the program answers %d of %d questions and ends with %d" % (answered, len(lines), taken.status))
+        raise Failed("the program answered %d of %d queries and ended with %d" % (answered, len(lines), taken.status))
     return taken
 
 
@@ -71,15 +71,15 @@ def load(dump, repository):
     subprocess.run(["svnadmin", "create", repository], check=True)
     taken = run(["svnadmin", "load", "-q", "--no-flush-to-disk", repository], file=dump)
     if taken.status != 0:
-        raise Failed("svnadmin load ends with %d: %s" % (taken.status, taken.errors.decode("utf-8", "replace").strip()))
+        raise Failed("svnadmin load ended with %d: %s" % (taken.status, taken.errors.decode("utf-8", "replace").strip()))
 
 
 def of_subversion(questions, verb, url):
-    """The seconds that Subversion takes for a question, or None where it has no such one."""
+    """The seconds that Subversion takes per query, or None if it has no such command."""
     asked = [question.to_subversion(verb, url) for question in questions[:ASKED_OF_SUBVERSION]]
     if None in asked:
         return None
-    # where a path stood nowhere, svn says so and ends with 1
+    # if the path did not exist, svn reports that and ends with status 1
     return sum(run(words, file=os.devnull).wall for words in asked) / len(asked)
 
 
@@ -101,9 +101,9 @@ def run_questions(program, folder, given):
         load(dump, os.path.join(folder, "asked"))
         url = "file://" + os.path.join(folder, "asked")
     base = best_of(given.times, lambda: ask(program, dump, folder, []))
-    print("questions: %d revisions, %d records, no question in %.3f seconds with %.0f MB at most"
+    print("queries: %d revisions, %d records; without queries %.3f seconds and at most %.0f MB"
           % (revisions, len(records), base.wall, base.peak / 1e6))
-    print("%-12s %12s %12s %20s %24s" % ("", "questions", "answer lines", "ms for a question", "ms for one to Subversion"))
+    print("%-12s %12s %12s %20s %24s" % ("", "queries", "answer lines", "ms per query", "ms per query, Subversion"))
     for verb, asked in ASKED.items():
         lines = [question.line(verb) for question in questions[:asked]]
         taken = best_of(given.times, lambda: ask(program, dump, folder, lines))

@@ -1,7 +1,7 @@
-"""How long the program takes to read a dump, beside other readers of the same bytes.
+"""How long the program takes to read a dump, compared with other readers of the same bytes.
 
-Each dump is a bundle without queries whose last block no reader takes. So the program reads everything, refuses it, and
-builds nothing from it.
+Each dump is in a bundle without queries, and its last block is one that every reader refuses. The program therefore
+reads everything, refuses it, and builds nothing from it.
 """
 import os
 import shutil
@@ -18,7 +18,7 @@ KINDS = {
 TITLES = {"small": "small records", "large": "large bodies"}
 
 REFUSED = 1
-NO_BUNDLE = 2
+NOT_A_BUNDLE = 2
 HOLD = [sys.executable, "-I", "-S", "-c", "import sys; sys.stdin.buffer.read()"]
 
 MOST_OF_GREP = 4.0
@@ -28,7 +28,7 @@ MOST_OF_TWICE = 2.2
 
 
 def make(path, kind, revisions, faulty=True):
-    """A bundle without queries around a generated dump, or the dump alone where it is a lawful one."""
+    """A bundle without queries around a faulty generated dump, or a valid dump alone."""
     words = ["--revisions", str(revisions)] + KINDS[kind][0]
     with open(path, "wb") as file:
         if faulty:
@@ -39,12 +39,12 @@ def make(path, kind, revisions, faulty=True):
 
 
 def rows_of(program, path):
-    """What is measured on a file: a name, a command, how it is fed, and the status that it should end with."""
+    """What is measured on a file: a name, a command, the command that feeds it, and the expected exit status."""
     feeder = ["cat", path]
     return [
         ("program", [program], feeder, REFUSED),
         ("program, from the file", [program], None, REFUSED),
-        ("program, loading alone", [program], ["sh", "-c", "printf x; exec cat \"$1\"", "sh", path], NO_BUNDLE),
+        ("program, loading alone", [program], ["sh", "-c", "printf x; exec cat \"$1\"", "sh", path], NOT_A_BUNDLE),
         ("cat", ["sh", "-c", "exec cat >/dev/null"], feeder, 0),
         ("wc -c", ["wc", "-c"], feeder, 0),
         ("holding the bytes", HOLD, feeder, 0),
@@ -60,17 +60,17 @@ def load_into_cache(path):
 
 
 def run_once(program, path, best):
-    """Runs each row once on a file, and keeps what was best so far."""
+    """Runs each row once on a file, and keeps the best measurement so far."""
     for name, words, feeder, status in rows_of(program, path):
         taken = run(words, feeder, path)
         if taken.status != status:
-            raise Failed("%s ends with %d: %s" % (name, taken.status, taken.errors.decode("utf-8", "replace").strip()))
+            raise Failed("%s ended with %d: %s" % (name, taken.status, taken.errors.decode("utf-8", "replace").strip()))
         if name not in best or taken.wall < best[name].wall:
             best[name] = taken
 
 
 def measure(program, paths, times):
-    """The best of so many runs of each row on each file, taken in turns, so that a slow moment of the machine meets all."""
+    """The best of some runs of each row on each file, in turns, so that a slow moment of the machine affects all."""
     for path in paths:
         load_into_cache(path)
     best = [{} for _ in paths]
@@ -81,7 +81,7 @@ def measure(program, paths, times):
 
 
 def names_in(path):
-    """How many distinct components the paths of a dump have, and their bytes."""
+    """The number of distinct components in the paths of a dump, and their total length in bytes."""
     names = set()
     with open(path, "rb") as file:
         for line in file:
@@ -95,12 +95,12 @@ def megabytes(size):
 
 
 class Measured:
-    """What was measured on one file."""
+    """The measurements on one file."""
 
     def __init__(self, title, size, best):
         self.title = title
         self.size = size
-        # the faulty block at the end is counted too
+        # grep counts the faulty block at the end as well
         self.records = int(best["grep -c ^Node-path"].output) - 1
         self.best = best
 
@@ -111,11 +111,11 @@ class Measured:
         return self.wall("program") / self.wall(name)
 
     def kept(self):
-        """The bytes of memory that a record takes, besides the bundle itself."""
+        """The bytes of memory per record, without those of the bundle itself."""
         return (self.best["program"].peak - self.best["program, loading alone"].peak) / self.records
 
     def show(self):
-        print("%s: %s MB, %d records, %.0f bytes a record"
+        print("%s: %s MB, %d records, %.0f bytes per record"
               % (self.title, megabytes(self.size), self.records, self.size / self.records))
         print("%-24s %9s %9s %9s %9s %9s %9s" % ("", "seconds", "processor", "MB/s", "of wc -c", "of grep", "peak MB"))
         for name, taken in self.best.items():
@@ -136,25 +136,25 @@ def run_kind(program, folder, kind, revisions, times):
     for each in found:
         each.show()
     if kind == "small":
-        print("names in the last one: %d distinct ones of %d bytes in all\n" % names_in(paths[-1]), flush=True)
+        print("names in the last dump: %d distinct names with %d bytes in total\n" % names_in(paths[-1]), flush=True)
     for path in paths:
         os.remove(path)
     return found
 
 
 def run_load(program, folder, revisions):
-    """`svnadmin load` of a lawful dump, once, beside the program on the same dump with the faulty end."""
-    path = os.path.join(folder, "lawful")
+    """`svnadmin load` of a valid dump, once, and the program on the same dump with the faulty end."""
+    path = os.path.join(folder, "valid")
     repository = os.path.join(folder, "repository")
     make(path, "small", revisions, faulty=False)
     subprocess.run(["svnadmin", "create", repository], check=True)
     taken = run(["svnadmin", "load", "-q", "--no-flush-to-disk", repository], file=path)
     if taken.status != 0:
-        raise Failed("svnadmin load ends with %d: %s" % (taken.status, taken.errors.decode("utf-8", "replace").strip()))
+        raise Failed("svnadmin load ended with %d: %s" % (taken.status, taken.errors.decode("utf-8", "replace").strip()))
     shutil.rmtree(repository)
     make(path, "small", revisions)
     beside = run([program], ["cat", path])
-    print("svnadmin load of %s MB: %.3f seconds (%.3f of the processor); the program reads as much in %.3f seconds\n"
+    print("svnadmin load of %s MB: %.3f seconds (processor: %.3f); the program reads the same in %.3f seconds\n"
           % (megabytes(os.path.getsize(path)), taken.wall, taken.processor, beside.wall))
     os.remove(path)
 
@@ -166,7 +166,7 @@ def verdict(text, value, most):
 
 
 def growth(half, full):
-    """How much longer twice the dump takes; the full size is not to the byte twice the half one."""
+    """The time for twice the dump relative to that for the dump; the full size is not exactly twice the half size."""
     return 2 * full.wall("program") / half.wall("program") * half.size / full.size
 
 
@@ -176,11 +176,11 @@ def run_reading(program, folder, given):
     large_half, large = run_kind(program, folder, "large", KINDS["large"][size], given.times)
     if given.quick and shutil.which("svnadmin"):
         run_load(program, folder, KINDS["small"][size] // 2)
-    verdict("small records, the program to grep -c through a pipe", small.ratio("grep -c ^Node-path"), MOST_OF_GREP)
-    verdict("small records, bytes kept a record, its names with it", small.kept(), MOST_KEPT)
-    verdict("large bodies, the program to wc -c through a pipe", large.ratio("wc -c"), MOST_OF_LOADING)
-    verdict("large bodies, the program to holding the bytes", large.ratio("holding the bytes"), MOST_OF_LOADING)
-    verdict("large bodies, the program to its loading alone", large.ratio("program, loading alone"), MOST_OF_LOADING)
-    is_small_even = verdict("small records, twice the dump", growth(small_half, small), MOST_OF_TWICE)
-    is_large_even = verdict("large bodies, twice the dump", growth(large_half, large), MOST_OF_TWICE)
+    verdict("small records, time relative to grep -c through a pipe", small.ratio("grep -c ^Node-path"), MOST_OF_GREP)
+    verdict("small records, bytes kept per record, with its names", small.kept(), MOST_KEPT)
+    verdict("large bodies, time relative to wc -c through a pipe", large.ratio("wc -c"), MOST_OF_LOADING)
+    verdict("large bodies, time relative to holding the bytes", large.ratio("holding the bytes"), MOST_OF_LOADING)
+    verdict("large bodies, time relative to loading alone", large.ratio("program, loading alone"), MOST_OF_LOADING)
+    is_small_even = verdict("small records, time for twice the dump", growth(small_half, small), MOST_OF_TWICE)
+    is_large_even = verdict("large bodies, time for twice the dump", growth(large_half, large), MOST_OF_TWICE)
     return 0 if is_small_even and is_large_even else 1
