@@ -1,7 +1,7 @@
-"""The histories that `record` makes with real Subversion, one function for each repository.
+"""The histories that `record` makes with Subversion, one function for each repository.
 
-Each function gets a `Workshop`: a working copy of an empty repository, and the commands to work on it. The comments say
-which revision a step makes where that matters.
+Each function gets a `Workshop`: a working copy of an empty repository, and the commands for it. The comments have the
+number of the revision that a step makes.
 """
 
 
@@ -34,7 +34,7 @@ def branches(shop):
 
 
 def renames(shop):
-    """Renames of files and directories, of what is inside a renamed one, round trips and a swap of two names."""
+    """Renames of files and directories, inside a renamed directory, back to the first name, and a swap of two names."""
     shop.make("a/b/c")
     shop.write("a/x", "x\n")
     shop.write("a/b/y", "y\n")
@@ -141,7 +141,7 @@ def replaced(shop):
 
 
 def again(shop):
-    """Paths that are deleted and come again: new, as copies of the same or of other sources, or out of the past."""
+    """Paths deleted and added again: new, as copies of the same or of other sources, or from an older revision."""
     shop.make("trunk/a", "b")
     shop.write("trunk/a/f", "f\n")
     shop.commit("Begin")                                                     # 1
@@ -167,7 +167,7 @@ def again(shop):
 
 
 def merges(shop):
-    """Merges as `svn merge` makes them: of all that is due, picked, reversed, recorded only, of a part, and back."""
+    """Merges: of all eligible revisions, of one, reversed, recorded only, into a subdirectory, and back."""
     shop.make("trunk/lib", "branches")
     shop.write("trunk/a", "a\n")
     shop.write("trunk/lib/b", "b\n")
@@ -211,7 +211,7 @@ def merges(shop):
 
 
 def properties(shop):
-    """Properties that look like other parts of a dump, with newlines and all bytes, set, changed and deleted."""
+    """Properties that look like parts of a dump, with newlines and all bytes; set, changed and deleted."""
     shop.make("d", "dup")
     shop.write("f", "")
     shop.write("no-newline", "no newline at the end")
@@ -329,7 +329,7 @@ def roots(shop):
 
 
 def deep(shop):
-    """A long way down, and a file that moves at every step."""
+    """Deeply nested directories, and a file that moves at each step."""
     names = ["l%d" % depth for depth in range(12)]
     shop.make("/".join(names))
     shop.write("f", "f\n")
@@ -348,7 +348,7 @@ def deep(shop):
 
 
 def drawn(shop):
-    """Thirty revisions drawn by lot: additions, changes, deletions, copies, renames and replacements."""
+    """Thirty revisions with additions, changes, deletions, copies and replacements, at random with a fixed seed."""
     lot = Lot(20)
     trees = [{"": "dir"}]
     for rev in range(1, 31):
@@ -365,7 +365,7 @@ def drawn(shop):
 
 
 class Lot:
-    """Numbers that look drawn by lot and are the same at each run, by a linear congruence."""
+    """Pseudorandom numbers that are the same in each run, by a linear congruence."""
 
     def __init__(self, seed):
         self.state = seed
@@ -383,7 +383,7 @@ def is_below(path, above):
 
 
 def draw(lot, trees, tree, touched):
-    """One step of a revision, as arguments of `svnmucc`; the tree is changed, and paths touched are not met again."""
+    """One step of a revision, as arguments of `svnmucc`. It updates the tree, and avoids the paths already changed."""
     def is_free(path):
         return not any(is_below(path, other) or is_below(other, path) for other in touched)
 
