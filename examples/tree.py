@@ -1,15 +1,22 @@
-"""A copy of the repository's tree in a temporary folder, in which commands and the launcher can run."""
+"""A copy of the source tree in a temporary folder, in which commands and the launcher can run."""
 import os
 import shutil
 
 ROOT = os.path.dirname(os.path.dirname(os.path.abspath(__file__)))
-LEFT_OUT = shutil.ignore_patterns(".git", "out", "proofs", "must-fail", "__pycache__")
+PARTS = ["svnhist", "crates.txt", "crates", "examples", "interop"]
+LEFT_OUT = shutil.ignore_patterns("out", "proofs", "must-fail", "__pycache__")
 
 
 def copied_tree(folder, program=None):
     """The root of a copy in the folder, with the built program in its place if one is given."""
     root = os.path.join(folder, "tree")
-    shutil.copytree(ROOT, root, symlinks=True, ignore=LEFT_OUT)
+    os.mkdir(root)
+    for part in PARTS:
+        source, copy = os.path.join(ROOT, part), os.path.join(root, part)
+        if os.path.isdir(source):
+            shutil.copytree(source, copy, ignore=LEFT_OUT)
+        else:
+            shutil.copy2(source, copy)
     if program is not None:
         place_program(root, program)
     return root
@@ -23,7 +30,7 @@ def place_program(root, program):
 
 
 def command(folder, name, lines):
-    """Makes a shell script that stands for a command."""
+    """Makes a shell script as a stand-in for a command."""
     os.makedirs(folder, exist_ok=True)
     path = os.path.join(folder, name)
     with open(path, "w", encoding="utf-8") as file:
