@@ -15,6 +15,8 @@ FAILED = r"svnhist: proving svn_path, crate 1 of 4: \d+ s\nsvnhist: proving svn_
     r"fn read: not proved\nsvnhist: the program was not built; the whole log is .*\n"
 USAGE = r"svnhist: usage: svnhist DUMP QUERIES BLOCK WORKERS\n"
 VERSION = r"svnhist \d+\.\d+\.\d+(-dev)?\n"
+# Seconds until a call counts as hung.
+LIMIT = 60
 HELP = r"usage: svnhist DUMP QUERIES BLOCK WORKERS\n(.*\n)+"
 
 
@@ -61,7 +63,7 @@ class Launcher:
         """The status, and what was printed on standard output and on standard error."""
         with open(self.bundle, "rb") as bundle:
             done = subprocess.run([self.link] + list(words), cwd=self.folder, env=self.environment, stdin=bundle,
-                                  stdout=subprocess.PIPE, stderr=errors)
+                                  stdout=subprocess.PIPE, stderr=errors, timeout=LIMIT)
         return done.returncode, done.stdout.decode(), (done.stderr or b"").decode("utf-8", "replace")
 
     def call_on_terminal(self):
