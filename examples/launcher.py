@@ -1,4 +1,4 @@
-"""Runs the launcher in a copy of the tree, with a command `rt` that proves nothing and puts the built program in place."""
+"""Runs the launcher in a copy of the tree, with a command `rt` that proves nothing and copies the built program."""
 import os
 import pty
 import re
@@ -13,6 +13,7 @@ CALLS = "svn_path lib\nsvn_dump lib\npath_index lib\nsvnhist run\n"
 NO_TOOLCHAIN = r"svnhist: the Rattle toolchain is needed to build: .*\n"
 FAILED = r"svnhist: proving svn_path, crate 1 of 4: \d+ s\nsvnhist: proving svn_dump, crate 2 of 4: \d+ s\n" \
     r"fn read: not proved\nsvnhist: the program was not built; the whole log is .*\n"
+UNBUILT = r"(.*\n)+svnhist: the program was not built; .*\n"
 USAGE = r"svnhist: usage: svnhist DUMP QUERIES BLOCK WORKERS\n"
 VERSION = r"svnhist \d+\.\d+\.\d+(-dev)?\n"
 # Seconds until a call counts as hung.
@@ -111,7 +112,7 @@ def run_failures(launcher):
     launcher.set_toolchain("pwd | grep -q svn_dump || exit 0", "echo 'fn read: not proved'", "exit 1")
     yield outcome("a failed build", launcher.call(), 70, "", FAILED)
     launcher.set_toolchain()
-    yield outcome("a build without a program", launcher.call(), 70, "", r"(.*\n)+svnhist: the program was not built; .*\n")
+    yield outcome("a build without a program", launcher.call(), 70, "", UNBUILT)
     launcher.remove_toolchain()
     yield outcome("no toolchain", launcher.call(), 70, "", NO_TOOLCHAIN)
     yield outcome("help without a build", launcher.call("--help"), 0, HELP, "")
