@@ -6,14 +6,14 @@ use Rattle.std.proofs.lemmas.List.Sums.{fold-append}
 use Rattle.std.proofs.lemmas.Option.{get_or_from_slice_get, slice_get_within}
 use Rattle.svn_path.specs.Components.{IsComponent}
 use Rattle.svn_path.specs.Names.{with_name, with_names, name_of}
-use Rattle.svn_path.specs.Path.{IsOf, spelled}
+use Rattle.svn_path.specs.Path.{IsPathOf, components_of}
 use Rattle.svn_path.specs.declared.names.NameId.{NameId}
-use Rattle.svn_path.proofs.Tables.{with_name-append, spelled-append, IsOf-append}
+use Rattle.svn_path.proofs.Tables.{with_name-append, components_of-append, IsPathOf-append}
 
 -- the path spells the parts that were read, and the others are left
 pub record IsRead (names all : List (List ℕ)) (path : List NameId) (left : List (List ℕ)) : Type 0 where
-  pub within : IsOf names path
-  pub parts : all ≡ spelled names path ++ left
+  pub within : IsPathOf names path
+  pub parts : all ≡ components_of names path ++ left
 
 -- the next part, by its number
 pub IsRead-more : {names all left more : List (List ℕ)} {path : List NameId} {part : List ℕ} → IsRead names all path left → left ≡ part ∷ more → (id : NameId) → slice_get names id.0 ≡ Some part → IsRead names all (path ++ id ∷ []) more
@@ -21,8 +21,8 @@ IsRead-more {names} {all} {left} {more} {path} {part} read next id at = record {
   within = All-push (λ name. name.0 < length names) path id read.within (slice_get_within names id.0 part at);
   parts =
       let named : name_of names id.0 ≡ part = get_or_from_slice_get names id.0 part _ at in
-      let more_spelled : spelled names (path ++ id ∷ []) ≡ spelled names path ++ part ∷ [] = map_push (λ name. name_of names name.0) path id ∙ ap (λ last. spelled names path ++ last ∷ []) named in
-      read.parts ∙ ap (λ rest. spelled names path ++ rest) next ∙ sym (append_assoc (spelled names path) (part ∷ []) more) ∙ ap (λ front. front ++ more) (sym more_spelled);
+      let more_spelled : components_of names (path ++ id ∷ []) ≡ components_of names path ++ part ∷ [] = map_push (λ name. name_of names name.0) path id ∙ ap (λ last. components_of names path ++ last ∷ []) named in
+      read.parts ∙ ap (λ rest. components_of names path ++ rest) next ∙ sym (append_assoc (components_of names path) (part ∷ []) more) ∙ ap (λ front. front ++ more) (sym more_spelled);
 }
 
 -- the table may grow
@@ -30,14 +30,14 @@ pub IsRead-with_name : {names all left : List (List ℕ)} {path : List NameId} �
 IsRead-with_name {names} {all} {left} {path} read name =
     let (more, grown) = with_name-append names name in
     subst (λ table. IsRead table all path left) (sym grown) (record {
-      within = IsOf-append names more path read.within;
-      parts = read.parts ∙ ap (λ front. front ++ left) (sym (spelled-append names more path read.within));
+      within = IsPathOf-append names more path read.within;
+      parts = read.parts ∙ ap (λ front. front ++ left) (sym (components_of-append names more path read.within));
     })
 
 -- the next part has the number of parts that were read for its place
 next_at : {names all left more : List (List ℕ)} {path : List NameId} {part : List ℕ} → IsRead names all path left → left ≡ part ∷ more → (length path < length all) × (get_or all (length path) part ≡ part)
 next_at {names} {all} {left} {more} {path} {part} read next =
-    let front = spelled names path in
+    let front = components_of names path in
     let parts : all ≡ front ++ part ∷ more = read.parts ∙ ap (λ rest. front ++ rest) next in
     let long : length front ≡ length path = length-map path (λ name. name_of names name.0) in
     (omega (arith, ap length parts, length-append front (part ∷ more), long), ap (λ every. get_or every (length path) part) parts ∙ get_or_at front part more part (length path) long)

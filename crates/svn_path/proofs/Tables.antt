@@ -12,7 +12,7 @@ use Rattle.std.specs.List.{list_any, IsDistinct}
 use Rattle.svn_path.specs.Below.{Renames}
 use Rattle.svn_path.specs.Components.{IsComponent}
 use Rattle.svn_path.specs.Names.{most_names, has_name, with_name, with_names, name_of, IsTable}
-use Rattle.svn_path.specs.Path.{same_name, IsOf, spelled, HasUnknown}
+use Rattle.svn_path.specs.Path.{same_name, IsPathOf, components_of, HasUnknown}
 use Rattle.svn_path.specs.declared.names.NameId.{NameId}
 
 -- ---- the names of numbers
@@ -101,36 +101,36 @@ bytes_eq-unknown names name component unknown number =
 -- ---- the paths of numbers
 
 -- what a path spells in a table stays as the table grows
-pub spelled-append : (names more : List (List ℕ)) (path : List NameId) → IsOf names path → spelled (names ++ more) path ≡ spelled names path
-spelled-append names more [] known = refl
-spelled-append names more (name ∷ path) known =
-    rw (name_of-append names more name.0 (All-head (λ each. each.0 < length names) name path known), spelled-append names more path (All-tail (λ each. each.0 < length names) name path known))
+pub components_of-append : (names more : List (List ℕ)) (path : List NameId) → IsPathOf names path → components_of (names ++ more) path ≡ components_of names path
+components_of-append names more [] known = refl
+components_of-append names more (name ∷ path) known =
+    rw (name_of-append names more name.0 (All-head (λ each. each.0 < length names) name path known), components_of-append names more path (All-tail (λ each. each.0 < length names) name path known))
 
 -- and its numbers stay numbers of the table
-pub IsOf-append : (names more : List (List ℕ)) (path : List NameId) → IsOf names path → IsOf (names ++ more) path
-IsOf-append names more path known =
+pub IsPathOf-append : (names more : List (List ℕ)) (path : List NameId) → IsPathOf names path → IsPathOf (names ++ more) path
+IsPathOf-append names more path known =
     All-weaker (λ each. each.0 < length names) (λ each. each.0 < length (names ++ more)) (λ each below. omega (arith, length-append names more)) path known
 
 -- paths that spell the same are the same
-pub spelled-same : {names : List (List ℕ)} → IsTable names → (p q : List NameId) → spelled names p ≡ spelled names q → p ≡ q
-spelled-same table [] [] same = refl
-spelled-same table [] (b ∷ q) same = cc
-spelled-same table (a ∷ p) [] same = cc
-spelled-same {names} table (a ∷ p) (b ∷ q) same =
+pub components_of-same : {names : List (List ℕ)} → IsTable names → (p q : List NameId) → components_of names p ≡ components_of names q → p ≡ q
+components_of-same table [] [] same = refl
+components_of-same table [] (b ∷ q) same = cc
+components_of-same table (a ∷ p) [] same = cc
+components_of-same {names} table (a ∷ p) (b ∷ q) same =
     let head : name_of names a.0 ≡ name_of names b.0 = cc in
-    let tail : spelled names p ≡ spelled names q = cc in
+    let tail : components_of names p ≡ components_of names q = cc in
     let number : a ≡ b = ap (λ n. let id : NameId = record { 0 = n } in id) (name_of-same table a.0 b.0 head) in
-    let rest : p ≡ q = spelled-same table p q tail in
+    let rest : p ≡ q = components_of-same table p q tail in
     cc
 
 -- no path spells parts of which the table lacks one
-pub spelled-unknown : (names parts : List (List ℕ)) → All IsComponent parts → HasUnknown names parts → (path : List NameId) → spelled names path ≢ parts
-spelled-unknown names parts components unknown path same =
+pub components_of-unknown : (names parts : List (List ℕ)) → All IsComponent parts → HasUnknown names parts → (path : List NameId) → components_of names path ≢ parts
+components_of-unknown names parts components unknown path same =
     let (k, part, below, at, missing) = unknown in
     let first : NameId = record { 0 = 0 } in
     let component = subst IsComponent at (components k part below) in
-    let long : length (spelled names path) ≡ length parts = ap length same in
-    let read : get_or (spelled names path) k part ≡ part = ap (λ all. get_or all k part) same ∙ at in
+    let long : length (components_of names path) ≡ length parts = ap length same in
+    let read : get_or (components_of names path) k part ≡ part = ap (λ all. get_or all k part) same ∙ at in
     let named = get_or-map (λ name. name_of names name.0) path k first part (omega (arith, length-map path (λ name. name_of names name.0))) in
     name_of-unknown names part component missing (get_or path k first).0 (sym named ∙ read)
 
@@ -167,16 +167,16 @@ length-le-with_names names added =
     omega (arith, ap length grown.1 ∙ length-append names grown.0)
 
 -- each path keeps what it spells
-pub spelled-with_names : (names added : List (List ℕ)) (path : List NameId) → IsOf names path → spelled (with_names names added) path ≡ spelled names path
-spelled-with_names names added path known =
+pub components_of-with_names : (names added : List (List ℕ)) (path : List NameId) → IsPathOf names path → components_of (with_names names added) path ≡ components_of names path
+components_of-with_names names added path known =
     let grown = with_names-append names added in
-    ap (λ all. spelled all path) grown.1 ∙ spelled-append names grown.0 path known
+    ap (λ all. components_of all path) grown.1 ∙ components_of-append names grown.0 path known
 
 -- and its numbers stay numbers of the table
-pub IsOf-with_names : (names added : List (List ℕ)) (path : List NameId) → IsOf names path → IsOf (with_names names added) path
-IsOf-with_names names added path known =
+pub IsPathOf-with_names : (names added : List (List ℕ)) (path : List NameId) → IsPathOf names path → IsPathOf (with_names names added) path
+IsPathOf-with_names names added path known =
     let grown = with_names-append names added in
-    subst (λ all. IsOf all path) (sym grown.1) (IsOf-append names grown.0 path known)
+    subst (λ all. IsPathOf all path) (sym grown.1) (IsPathOf-append names grown.0 path known)
 
 -- a name that was added is in the table
 pub has_name-with_name : (names : List (List ℕ)) (name : List ℕ) → has_name (with_name names name) name ≡ true

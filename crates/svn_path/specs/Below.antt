@@ -2,7 +2,7 @@
 -- all that stands at its source or below it).
 use Rattle.std.specs.Prelude.{◌≡◌, Bool, true, false, List, [], ◌∷◌, Option, Some, None, is_some, if◌then◌else◌}
 
--- a test of components that tells whether two are equal
+-- a test of components is their equality
 pub record IsSame {C : Type 0} (same : C → C → Bool) : Type 0 where
   pub true_is : (a b : C) → same a b ≡ true → a ≡ b
   pub itself : (a : C) → same a a ≡ true

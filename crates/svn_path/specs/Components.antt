@@ -28,10 +28,10 @@ pub record IsComponent (part : List ℕ) : Type 0 where
   pub not_dot : IsFalse (is_dot part)
 
 -- a slash before each component
-abbrev pub below_root : List (List ℕ) → List ℕ
-below_root parts = flat_map (λ each. 47 ∷ each) parts
+abbrev pub parts_text : List (List ℕ) → List ℕ
+parts_text parts = flat_map (λ each. 47 ∷ each) parts
 
 -- the same, and a slash for the root
-abbrev pub printed : List (List ℕ) → List ℕ
-printed [] = codes "/"
-printed (part ∷ parts) = below_root (part ∷ parts)
+abbrev pub path_text : List (List ℕ) → List ℕ
+path_text [] = codes "/"
+path_text (part ∷ parts) = parts_text (part ∷ parts)

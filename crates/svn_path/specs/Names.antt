@@ -1,5 +1,5 @@
 -- A table of names: each component once, numbered from 0 in the order in which they came.
-use Rattle.std.specs.Prelude.{ℕ, ◌+◌, ◌≤◌, Bool, List, [], ◌∷◌, ◌++◌, All, fold, length, map, replicate, slice_index_or, bytes_eq, if◌then◌else◌, Vec}
+use Rattle.std.specs.Prelude.{◌≡◌, ℕ, ◌+◌, ◌≤◌, Bool, List, [], ◌∷◌, ◌++◌, All, fold, length, map, replicate, slice_index_or, bytes_eq, IsFalse, if◌then◌else◌, Vec}
 use Rattle.std.specs.List.{list_any, IsDistinct}
 use Rattle.std.specs.declared.alloc.Global.{Global}
 use Rattle.svn_path.specs.Components.{IsComponent}
@@ -14,6 +14,10 @@ has_name names name = list_any (λ each. bytes_eq each name) names
 -- the table with a name that it may have already
 abbrev pub with_name : List (List ℕ) → List ℕ → List (List ℕ)
 with_name names name = if has_name names name then names else names ++ name ∷ []
+
+-- the table is full and doesn't have the name
+abbrev pub HasNoRoomFor : List (List ℕ) → List ℕ → Type 0
+HasNoRoomFor names name = (length names ≡ most_names) × IsFalse (has_name names name)
 
 -- the table with these names, one after another
 abbrev pub with_names : List (List ℕ) → List (List ℕ) → List (List ℕ)

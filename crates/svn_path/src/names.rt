@@ -1,8 +1,8 @@
 //! The table of names that the components of paths are numbers of.
-ghost use Rattle.std.specs.Prelude.{◌≡◌, ◌≢◌, ℕ, ◌<◌, ◌≤◌, ◌↔◌, List, [], Some, All, length, slice_get, bytes_eq, IsTrue, IsFalse, IsSome, IfOk, IfSome, OnErr, IsErrOf};
+ghost use Rattle.std.specs.Prelude.{◌≡◌, ◌≢◌, ℕ, ◌<◌, ◌≤◌, ◌↔◌, List, [], Some, All, length, slice_get, bytes_eq, IsTrue, IsOk, IsSome, IfOk, IfSome, OnErr, IsErrOf};
 ghost use Rattle.std.specs.List.{IsDistinct};
 ghost use Rattle.svn_path.specs.Components.{IsComponent};
-ghost use Rattle.svn_path.specs.Names.{has_name, with_name, most_names};
+ghost use Rattle.svn_path.specs.Names.{has_name, with_name, most_names, HasNoRoomFor};
 
 use indexmap::IndexSet;
 use std::alloc::{AllocError, AllocFailed, Global};
@@ -71,12 +71,13 @@ impl Names {
         }
     }
 
-    /// The number of a name, which is put at the table's end where it isn't there yet.
+    /// The number of a name, which is added at the end of the table where it is new.
     pub fn add(&mut self, name: &[u8]) -> Result<NameId, NamesError>
         requires { IsComponent name.now }
         ensures number { IfOk result (λ id. slice_get self.new id.0 ≡ Some name.now) }
         ensures table { IfOk result (λ _. self.new ≡ with_name self.old name.now) }
-        ensures full { IsErrOf result NamesError.Full ↔ ((length self.old ≡ most_names) × IsFalse (has_name self.old name.now)) }
+        ensures known { IsTrue (has_name self.old name.now) → IsOk result }
+        ensures full { IsErrOf result NamesError.Full ↔ HasNoRoomFor self.old name.now }
         ensures err { OnErr result (self.new ≡ self.old) }
     {
         if let Some(id) = self.find(name) {

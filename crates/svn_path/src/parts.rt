@@ -4,7 +4,7 @@ ghost use Rattle.svn_path.specs.Components.{parts_of, HasDot};
 
 use memchr::memchr;
 
-/// The first part that isn't empty, and what stands behind it.
+/// The first part that is not empty, and what follows it.
 pub(crate) fn next_part(bytes: &[u8]) -> Option<(&[u8], &[u8])>
     ensures part { IfSome result (λ found. parts_of bytes.now ≡ found.0.now ∷ parts_of found.1.now) }
     ensures shorter { IfSome result (λ found. length found.1.now < length bytes.now) }
@@ -18,7 +18,7 @@ pub(crate) fn next_part(bytes: &[u8]) -> Option<(&[u8], &[u8])>
     Some(rest.split_at(end))
 }
 
-/// Whether some component that the bytes spell is `.` or `..`.
+/// Whether some component of the path is `.` or `..`.
 pub fn has_dot(bytes: &[u8]) -> bool
     ensures { IsTrue result ↔ HasDot bytes.now }
 {

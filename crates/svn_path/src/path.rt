@@ -4,10 +4,10 @@ ghost use Rattle.std.specs.Cmp.{partial_equiv_from_equiv, partial_order_from_agr
 ghost use Rattle.std.specs.Cmp.Lexicographic.{pointwise, slice_cmp};
 ghost use Rattle.std.specs.Ordering.{as_partial_cmp};
 ghost use Rattle.svn_path.specs.Below.{is_below, parent_of};
-ghost use Rattle.svn_path.specs.Components.{parts_of, below_root, printed, HasDot};
+ghost use Rattle.svn_path.specs.Components.{parts_of, parts_text, path_text, HasDot};
 ghost use Rattle.svn_path.specs.Lookup.{IsLookup};
-ghost use Rattle.svn_path.specs.Names.{with_names, most_names};
-ghost use Rattle.svn_path.specs.Path.{same_name, spelled, IsOf, HasUnknown};
+ghost use Rattle.svn_path.specs.Names.{with_names};
+ghost use Rattle.svn_path.specs.Path.{same_name, components_of, IsPathOf, HasNoRoomForAll};
 ghost use Rattle.svn_path.specs.PathOrder.{name_cmp, paths_equiv, paths_total, paths_ties};
 
 use crate::names::{NameId, Names, NamesError};
@@ -92,9 +92,9 @@ impl Ord for Path {
 }
 
 impl From<NamesError> for PathError {
-    ghost use Rattle.svn_path.specs.PathError.{told};
+    ghost use Rattle.svn_path.specs.PathError.{path_error_of};
 
-    ghost from_gives = { λ e told_as. told_as ≡ told e };
+    ghost from_gives = { λ e reported. reported ≡ path_error_of e };
 
     fn from(e: NamesError) -> PathError {
         match e {
@@ -134,10 +134,10 @@ impl Path {
         }
     }
 
-    /// The path that the bytes spell, its new components put at the table's end.
+    /// Reads a path. Components that are new are added at the end of the table.
     pub fn read(alloc: Global, names: &mut Names, bytes: &[u8]) -> Result<Self, PathError>
-        ensures within { IfOk result (λ path. IsOf names.new path) }
-        ensures spelled { IfOk result (λ path. spelled names.new path ≡ parts_of bytes.now) }
+        ensures within { IfOk result (λ path. IsPathOf names.new path) }
+        ensures components { IfOk result (λ path. components_of names.new path ≡ parts_of bytes.now) }
         ensures table { OnOk result (names.new ≡ with_names names.old (parts_of bytes.now)) }
 
         // `Dot` is looked for first, and leaves the table as it was.
@@ -145,7 +145,7 @@ impl Path {
         ensures unchanged { IsErrOf result PathError.Dot → names.new ≡ names.old }
 
         // Any other refusal may leave some leading new components in the table.
-        ensures full { IsErrOf result PathError.Full → (length names.new ≡ most_names) × HasUnknown names.new (parts_of bytes.now) }
+        ensures full { IsErrOf result PathError.Full → HasNoRoomForAll names.new (parts_of bytes.now) }
         ensures err { OnErr result ((n : ℕ) × (names.new ≡ with_names names.old (take n (parts_of bytes.now)))) }
     {
         if has_dot(bytes) {
@@ -161,7 +161,7 @@ impl Path {
         Ok(Path { parts })
     }
 
-    /// The path that the bytes spell, if the table has all of its components.
+    /// Looks a path up, without adding to the table.
     pub fn find(alloc: Global, names: &Names, bytes: &[u8]) -> Result<Lookup, PathError>
         ensures ok { IfOk result (IsLookup names.now (parts_of bytes.now)) }
         ensures dot { IsErrOf result PathError.Dot ↔ HasDot bytes.now }
@@ -226,7 +226,7 @@ impl Path {
         Path::of(*self.parts.allocator(), self.parts())
     }
 
-    /// The path of the directory in which this path stands: `None` for the root.
+    /// The path of the directory that this path is in: `None` for the root.
     pub fn parent(&self) -> Result<Option<Self>, AllocError>
         ensures { IfOk result (λ path. path ≡ parent_of self.now) }
     {
@@ -236,7 +236,7 @@ impl Path {
         }
     }
 
-    /// The path below `to` that this one is below `from`.
+    /// The same path with `to` in place of `from` at its front.
     pub fn rebase(&self, from: &Path, to: &Path) -> Result<Self, AllocError>
         requires { IsTrue (is_below same_name from.now self.now) }
         ensures { IfOk result (λ path. path ≡ to.now ++ drop (length from.now) self.now) }
@@ -251,8 +251,8 @@ impl Path {
 
     /// Appends the path as it is printed.
     pub fn write(&self, names: &Names, out: &mut Vec<u8>) -> Result<(), AllocError>
-        requires { IsOf names.now self.now }
-        ensures ok { OnOk result (out.new.items ≡ out.old.items ++ printed (spelled names.now self.now)) }
+        requires { IsPathOf names.now self.now }
+        ensures ok { OnOk result (out.new.items ≡ out.old.items ++ path_text (components_of names.now self.now)) }
         ensures err { OnErr result (out.new.items ≡ out.old.items) }
     {
         if self.is_empty() {
@@ -267,10 +267,10 @@ impl Path {
         written
     }
 
-    // Appends a slash and the name for each component.
+    /// Appends a slash and the name for each component.
     fn append(&self, names: &Names, out: &mut Vec<u8>) -> Result<(), AllocError>
-        requires { IsOf names.now self.now }
-        ensures ok { OnOk result (out.new.items ≡ out.old.items ++ below_root (spelled names.now self.now)) }
+        requires { IsPathOf names.now self.now }
+        ensures ok { OnOk result (out.new.items ≡ out.old.items ++ parts_text (components_of names.now self.now)) }
         ensures err { OnErr result ((more : List ℕ) × (out.new.items ≡ out.old.items ++ more)) }
     {
         for id in self.parts() {

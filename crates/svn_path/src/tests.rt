@@ -1,6 +1,6 @@
 //! Tables and paths at small examples.
 ghost use Rattle.std.specs.Prelude.{IfOk};
-ghost use Rattle.svn_path.specs.Path.{IsOf};
+ghost use Rattle.svn_path.specs.Path.{IsPathOf};
 
 use crate::{Lookup, Names, Path, PathError, has_dot};
 use std::alloc::Global;
@@ -15,7 +15,7 @@ fn table(alloc: Global) -> Result<Names, Fail> {
 }
 
 fn known(alloc: Global, names: &Names, bytes: &[u8]) -> Result<Path, Fail>
-    ensures { IfOk result (IsOf names.now) }
+    ensures { IfOk result (IsPathOf names.now) }
 {
     match Path::find(alloc, names, bytes)? {
         Lookup::Known(path) => Ok(path),
@@ -24,7 +24,7 @@ fn known(alloc: Global, names: &Names, bytes: &[u8]) -> Result<Path, Fail>
 }
 
 fn written(alloc: Global, names: &Names, path: &Path) -> Result<Vec<u8>, Fail>
-    requires { IsOf names.now path.now }
+    requires { IsPathOf names.now path.now }
 {
     let mut out = Vec::new(alloc);
     path.write(names, &mut out)?;
@@ -32,7 +32,7 @@ fn written(alloc: Global, names: &Names, path: &Path) -> Result<Vec<u8>, Fail>
 }
 
 #[test]
-fn numbers_names_in_their_order(rt: HostRuntime) -> Result<(), Fail> {
+fn names_are_numbered_in_their_order(rt: HostRuntime) -> Result<(), Fail> {
     let mut names = Names::new(rt.alloc());
     assert_eq!(rt; names.add(b"a".as_slice())?.0, 0);
     assert_eq!(rt; names.add(b"b".as_slice())?.0, 1);
@@ -42,7 +42,7 @@ fn numbers_names_in_their_order(rt: HostRuntime) -> Result<(), Fail> {
 }
 
 #[test]
-fn finds_names(rt: HostRuntime) -> Result<(), Fail> {
+fn names_are_found(rt: HostRuntime) -> Result<(), Fail> {
     let names = table(rt.alloc())?;
     let id = names.find(b"b".as_slice()).ok_or("b has no number")?;
     assert_eq!(rt; names.text(id), b"b".as_slice());
@@ -52,7 +52,7 @@ fn finds_names(rt: HostRuntime) -> Result<(), Fail> {
 }
 
 #[test]
-fn reads_parts_between_slashes(rt: HostRuntime) -> Result<(), Fail> {
+fn paths_are_read_between_slashes(rt: HostRuntime) -> Result<(), Fail> {
     let mut names = Names::new(rt.alloc());
     let _first = Path::read(rt.alloc(), &mut names, b"a/b".as_slice())?;
     let path = Path::read(rt.alloc(), &mut names, b"/a//c/".as_slice())?;
@@ -63,7 +63,7 @@ fn reads_parts_between_slashes(rt: HostRuntime) -> Result<(), Fail> {
 }
 
 #[test]
-fn refuses_dots_before_it_adds_names(rt: HostRuntime) -> Result<(), Fail> {
+fn dots_are_refused_before_names_are_added(rt: HostRuntime) -> Result<(), Fail> {
     let mut names = table(rt.alloc())?;
     for bytes in [b"d/../a".as_slice(), b"d/.".as_slice()] {
         let refused = Path::read(rt.alloc(), &mut names, bytes);
@@ -76,7 +76,7 @@ fn refuses_dots_before_it_adds_names(rt: HostRuntime) -> Result<(), Fail> {
 }
 
 #[test]
-fn sees_dots(rt: HostRuntime) {
+fn dots_are_whole_components(rt: HostRuntime) {
     for (bytes, dots) in [
         (b"a/./b".as_slice(), true),
         (b"..".as_slice(), true),
@@ -88,7 +88,7 @@ fn sees_dots(rt: HostRuntime) {
 }
 
 #[test]
-fn takes_other_names_with_dots(rt: HostRuntime) -> Result<(), Fail> {
+fn other_names_with_dots_are_read(rt: HostRuntime) -> Result<(), Fail> {
     let mut names = Names::new(rt.alloc());
     let path = Path::read(rt.alloc(), &mut names, b"a/.../.b/c.".as_slice())?;
     assert_eq!(rt; path.len(), 4);
@@ -96,7 +96,7 @@ fn takes_other_names_with_dots(rt: HostRuntime) -> Result<(), Fail> {
 }
 
 #[test]
-fn finds_paths_of_known_names(rt: HostRuntime) -> Result<(), Fail> {
+fn paths_of_known_names_are_found(rt: HostRuntime) -> Result<(), Fail> {
     let names = table(rt.alloc())?;
     let found = Path::find(rt.alloc(), &names, b"a/zz".as_slice())?;
     assert!(rt; matches!(found, Lookup::Unknown));
@@ -105,7 +105,7 @@ fn finds_paths_of_known_names(rt: HostRuntime) -> Result<(), Fail> {
 }
 
 #[test]
-fn rebases_onto_another_path(rt: HostRuntime) -> Result<(), Fail> {
+fn paths_are_rebased_onto_another(rt: HostRuntime) -> Result<(), Fail> {
     let names = table(rt.alloc())?;
     let path = known(rt.alloc(), &names, b"a/c".as_slice())?;
     let from = known(rt.alloc(), &names, b"a".as_slice())?;
@@ -117,7 +117,7 @@ fn rebases_onto_another_path(rt: HostRuntime) -> Result<(), Fail> {
 }
 
 #[test]
-fn gives_the_path_above(rt: HostRuntime) -> Result<(), Fail> {
+fn the_parent_is_the_path_above(rt: HostRuntime) -> Result<(), Fail> {
     let names = table(rt.alloc())?;
     let root = Path::root(rt.alloc());
     let path = known(rt.alloc(), &names, b"/a".as_slice())?;
@@ -128,7 +128,7 @@ fn gives_the_path_above(rt: HostRuntime) -> Result<(), Fail> {
 }
 
 #[test]
-fn copies_paths_by_their_parts(rt: HostRuntime) -> Result<(), Fail> {
+fn a_path_of_the_same_parts_is_equal(rt: HostRuntime) -> Result<(), Fail> {
     let names = table(rt.alloc())?;
     let path = known(rt.alloc(), &names, b"a/c".as_slice())?;
     let same = Path::of(rt.alloc(), path.parts())?;
@@ -145,7 +145,7 @@ fn copies_paths_by_their_parts(rt: HostRuntime) -> Result<(), Fail> {
 }
 
 #[test]
-fn writes_the_root_as_a_slash(rt: HostRuntime) -> Result<(), Fail> {
+fn the_root_is_written_as_a_slash(rt: HostRuntime) -> Result<(), Fail> {
     let names = table(rt.alloc())?;
     let root = Path::root(rt.alloc());
     assert!(rt; root.is_empty());
@@ -157,7 +157,7 @@ fn writes_the_root_as_a_slash(rt: HostRuntime) -> Result<(), Fail> {
 }
 
 #[test]
-fn orders_a_path_before_those_below_it(rt: HostRuntime) -> Result<(), Fail> {
+fn a_path_comes_before_those_below_it(rt: HostRuntime) -> Result<(), Fail> {
     let names = table(rt.alloc())?;
     let a = known(rt.alloc(), &names, b"a".as_slice())?;
     let below = known(rt.alloc(), &names, b"a/c".as_slice())?;
@@ -168,7 +168,7 @@ fn orders_a_path_before_those_below_it(rt: HostRuntime) -> Result<(), Fail> {
 }
 
 #[test]
-fn keys_a_map(rt: HostRuntime) -> Result<(), Fail> {
+fn paths_are_keys_of_a_map(rt: HostRuntime) -> Result<(), Fail> {
     let names = table(rt.alloc())?;
     let mut sizes = BTreeMap::new(rt.alloc());
     sizes.insert(known(rt.alloc(), &names, b"a/c".as_slice())?, 5u32)?;
@@ -179,7 +179,7 @@ fn keys_a_map(rt: HostRuntime) -> Result<(), Fail> {
 }
 
 #[test]
-fn reads_a_path_of_many_components(rt: HostRuntime) -> Result<(), Fail> {
+fn paths_of_many_components_are_read(rt: HostRuntime) -> Result<(), Fail> {
     let mut bytes = Vec::new(rt.alloc());
     for _ in 0..10_000u32 {
         bytes.extend_from_slice(b"a/".as_slice())?;

@@ -1,7 +1,7 @@
 use Rattle.std.proofs.Common.{◌≡◌, ℕ, List, [], ◌∷◌, ◌++◌, take, ap, ◌∙◌}
 use Rattle.std.proofs.lemmas.List.{append_assoc}
-use Rattle.svn_path.specs.Components.{below_root}
-use Rattle.svn_path.specs.Path.{spelled}
+use Rattle.svn_path.specs.Components.{parts_text}
+use Rattle.svn_path.specs.Path.{components_of}
 use Rattle.svn_path.proofs.Exits.{OnErr-from}
 use Rattle.svn_path.proofs.Printed.{below_root_more}
 use Rattle.svn_path.proofs.path.Path.append.Goals as goal
@@ -18,7 +18,7 @@ loop-id-preserved c = record {
 
 pub returns-in_err-extend_from_slice-clause-err : goal.returns-in_err-extend_from_slice-clause-err
 returns-in_err-extend_from_slice-clause-err c =
-    let parts = below_root (spelled c.args.names.now (take c.loop-id.id-index c.parts-id-items.result.now)) in
+    let parts = parts_text (components_of c.args.names.now (take c.loop-id.id-index c.parts-id-items.result.now)) in
     let more : (rest : List ℕ) × (c.extend_from_slice.new.self.items ≡ c.args.out.now.items ++ rest) = (
       parts ++ 47 ∷ [],
       c.in_err-extend_from_slice.ensures.items
@@ -30,6 +30,6 @@ returns-in_err-extend_from_slice-clause-err c =
 
 pub returns-in_err-push-clause-err : goal.returns-in_err-push-clause-err
 returns-in_err-push-clause-err c =
-    let parts = below_root (spelled c.args.names.now (take c.loop-id.id-index c.parts-id-items.result.now)) in
+    let parts = parts_text (components_of c.args.names.now (take c.loop-id.id-index c.parts-id-items.result.now)) in
     let more : (rest : List ℕ) × (c.push.new.self.items ≡ c.args.out.now.items ++ rest) = (parts, c.in_err-push.ensures.items ∙ c.loop-id.invariant.written) in
     OnErr-from _ more

@@ -1,10 +1,10 @@
 use Rattle.std.proofs.Common.{◌≢◌, [], ◌++◌, sym, ap, ◌∙◌}
 use Rattle.std.proofs.lemmas.Bool.{false≢true}
 use Rattle.std.proofs.lemmas.Result.{on_ok_weaker}
-use Rattle.svn_path.proofs.Printed.{printed-below_root}
+use Rattle.svn_path.proofs.Printed.{path_text-parts_text}
 use Rattle.svn_path.proofs.path.Path.write.Goals as goal
 
 pub returns-else-is_err-clause-ok : goal.returns-else-is_err-clause-ok
 returns-else-is_err-clause-ok c =
     let some : c.args.self.now ≢ [] = λ root. false≢true (c.if-is_empty.ensures.1 root) in
-    on_ok_weaker c.append-written.result (λ written. written ∙ ap (λ bytes. c.args.out.now.items ++ bytes) (sym (printed-below_root c.args.names.now c.args.self.now some))) c.append-written.ensures.ok
+    on_ok_weaker c.append-written.result (λ written. written ∙ ap (λ bytes. c.args.out.now.items ++ bytes) (sym (path_text-parts_text c.args.names.now c.args.self.now some))) c.append-written.ensures.ok
