@@ -2,7 +2,7 @@
 use Rattle.std.proofs.Common.{◌≡◌, ℕ, ◌+◌, ◌<◌, ◌≤◌, Bool, true, false, List, [], ◌∷◌, ◌++◌, length, take, drop, refl, sym, ap, ap₂, ◌∙◌, inl, inr, append_assoc, append-nil, arith, lt-ltb, Bor}
 use Rattle.std.specs.Prelude.{Option, Some, None, IsFalse, count_by, flat_map, is_none, not, ◌||◌, nat_lt, unwrap_or, ◌==◌, MatchOption}
 use Rattle.std.specs.List.{list_any}
-use Rattle.std.proofs.lemmas.Bool.{both_ways, cases_Bool, cond-true, cond-false, or_parts}
+use Rattle.std.proofs.lemmas.Bool.{both_ways, cases_Bool, cond-true, cond-false, or_parts, or_right}
 use Rattle.std.proofs.lemmas.Grind.{flat_map-append}
 use Rattle.std.proofs.lemmas.List.{take-append-drop, length-take-le}
 use Rattle.std.proofs.lemmas.List.Elements.{All-push}
@@ -12,10 +12,10 @@ use Rattle.svn_path.specs.Components.{is_not_empty}
 use Rattle.svn_dump.specs.Block.{IsHeader, body_length, header_name, is_colon, is_named, is_newline, length_or_zero, line_text, listed_names, properties_length}
 use Rattle.svn_dump.specs.Field.{fields_of}
 use Rattle.svn_dump.specs.FirstRefusal.{after_lines, begins_with_newline, body_length_at, front_refusals, has_twice, header_lines, is_cut, is_no_header}
-use Rattle.svn_dump.specs.Found.{BeginsWithLines, BeginsWithBlock, IsUnfinished}
+use Rattle.svn_dump.specs.FrontBlock.{BeginsWithLines, BeginsWithBlock, IsUnfinished}
 use Rattle.svn_dump.specs.Headers.{AreHeaders, AreOnce}
 use Rattle.svn_dump.specs.Refusal.{first_holding}
-use Rattle.svn_dump.specs.Said.{body_length_said, value_of}
+use Rattle.svn_dump.specs.HeaderValues.{body_length_from_headers, value_of}
 use Rattle.svn_dump.specs.declared.field.Field.TheVariants.{PropertiesLength}
 use Rattle.svn_dump.specs.declared.refusal.Refusal.TheVariants.{Header, Length, Truncated}
 use Rattle.svn_dump.proofs.Fronts.{after_lines-lines, has_twice-once, header_lines-empty, header_lines-line, header_lines-lines, header_lines-unfinished, list_any-no_header, once-has_twice}
@@ -33,23 +33,23 @@ with_line bytes line more rest old new header cut added before = record {
       ∙ append_assoc front (line_text line) more ∙ ap (λ text. front ++ text) (append_assoc line (10 ∷ []) more));
 }
 
-body_length-said : (lines : List (List ℕ)) → body_length lines ≡ body_length_said (fields_of lines)
+body_length-from_headers : (lines : List (List ℕ)) → body_length lines ≡ body_length_from_headers (fields_of lines)
 unfolding body_length
-body_length-said lines = refl
+body_length-from_headers lines = refl
 
 -- bytes that begin with no newline begin with a line
 some_lines : (from rest : List ℕ) (lines : List (List ℕ)) → from ≡ flat_map line_text lines ++ 10 ∷ rest → IsFalse (begins_with_newline from) → length lines ≡ 0 → ⊥
 some_lines from rest [] whole other none = both_ways _ other (ap begins_with_newline whole)
 some_lines from rest (line ∷ lines) whole other none = absurd (omega arith)
 
-properties_length-said : (lines : List (List ℕ)) → properties_length lines ≡ length_or_zero (value_of (fields_of lines) PropertiesLength)
-properties_length-said lines = refl
+properties_length-from_headers : (lines : List (List ℕ)) → properties_length lines ≡ length_or_zero (value_of (fields_of lines) PropertiesLength)
+properties_length-from_headers lines = refl
 
 -- a block, by its lines and the lengths of its body and of its property section
 pub with_body :
     (bytes : List ℕ) (values : List (Option (List ℕ))) (rest : List ℕ) (section whole : ℕ) →
     IsFalse (begins_with_newline bytes) → BeginsWithLines bytes values (10 ∷ rest) →
-    body_length_said values ≡ Some whole → length_or_zero (value_of values PropertiesLength) ≡ Some section → section ≤ whole → whole ≤ length rest →
+    body_length_from_headers values ≡ Some whole → length_or_zero (value_of values PropertiesLength) ≡ Some section → section ≤ whole → whole ≤ length rest →
     BeginsWithBlock bytes values (take section (take whole rest)) (drop whole rest)
 with_body bytes values rest section n other found said in_front inside within = record {
   block = record { lines = found.lines; body = take n rest };
@@ -57,11 +57,11 @@ with_body bytes values rest section n other found said in_front inside within = 
     some_line = some_lines bytes rest found.lines found.whole other;
     headers = found.all;
     once = found.fields.once;
-    whole = body_length-said found.lines ∙ ap body_length_said (sym found.fields.fields) ∙ said ∙ ap Some (sym (length-take-le n rest within));
+    whole = body_length-from_headers found.lines ∙ ap body_length_from_headers (sym found.fields.fields) ∙ said ∙ ap Some (sym (length-take-le n rest within));
   };
   fields = found.fields.fields;
   section =
-      properties_length-said found.lines ∙ ap (λ all. length_or_zero (value_of all PropertiesLength)) (sym found.fields.fields) ∙ in_front ∙ ap Some (sym long);
+      properties_length-from_headers found.lines ∙ ap (λ all. length_or_zero (value_of all PropertiesLength)) (sym found.fields.fields) ∙ in_front ∙ ap Some (sym long);
   front = ap (λ k. take k (take n rest)) (sym long);
   whole =
       let lines = flat_map line_text found.lines in
@@ -119,18 +119,14 @@ module _ (bytes : List ℕ) (values : List (Option (List ℕ))) (rest : List ℕ
           | inl twice ↦ header_holds (or_right (list_any is_no_header (header_lines bytes)) (has_twice (header_lines bytes)) twice)
           | inr once ↦ absurd (again (λ k d h. omega (arith, counted (Rattle.std.specs.List.slice_index_or listed_names k d), once-has_twice (header_lines bytes) once k d h)))
         ]
-      where
-        or_right : (a b : Bool) → b ≡ true → (a || b) ≡ true
-        or_right true b e = refl
-        or_right false b e = e
 
   -- no line follows
   module _ (last : header_lines rest ≡ []) where
     lines_are_found : header_lines bytes ≡ found.lines
     lines_are_found = header_lines-found ∙ ap (λ all. found.lines ++ all) last ∙ append-nil found.lines
 
-    length_is : body_length (header_lines bytes) ≡ body_length_said values
-    length_is = ap body_length lines_are_found ∙ body_length-said found.lines ∙ ap body_length_said (sym found.fields.fields)
+    length_is : body_length (header_lines bytes) ≡ body_length_from_headers values
+    length_is = ap body_length lines_are_found ∙ body_length-from_headers found.lines ∙ ap body_length_from_headers (sym found.fields.fields)
 
     no_header_holds : (list_any is_no_header (header_lines bytes) || has_twice (header_lines bytes)) ≡ false
     no_header_holds =
@@ -138,12 +134,12 @@ module _ (bytes : List ℕ) (values : List (Option (List ℕ))) (rest : List ℕ
         (ap has_twice lines_are_found ∙ has_twice-once found.lines found.fields.once)
 
     -- the lengths are told against
-    pub refused-length : body_length_said values ≡ None → first_holding (front_refusals bytes) ≡ Some Length
+    pub refused-length : body_length_from_headers values ≡ None → first_holding (front_refusals bytes) ≡ Some Length
     unfolding first_holding
     refused-length none = cond-false _ _ _ no_header_holds ∙ cond-true _ _ _ (ap is_none (length_is ∙ none))
 
     -- the bytes end too early
-    pub refused-cut : (whole : ℕ) → body_length_said values ≡ Some whole → is_cut bytes ≡ true → first_holding (front_refusals bytes) ≡ Some Truncated
+    pub refused-cut : (whole : ℕ) → body_length_from_headers values ≡ Some whole → is_cut bytes ≡ true → first_holding (front_refusals bytes) ≡ Some Truncated
     unfolding first_holding
     refused-cut whole said cut = cond-false _ _ _ no_header_holds ∙ cond-false _ _ _ (ap is_none (length_is ∙ said)) ∙ cond-true _ _ _ cut
 
@@ -157,7 +153,7 @@ module _ (bytes : List ℕ) (values : List (Option (List ℕ))) (rest : List ℕ
         (ap begins_with_newline rest_is ∙ no_newline rest none)
 
     -- or in the body
-    pub is_cut-body : (body : List ℕ) (whole : ℕ) → rest ≡ 10 ∷ body → body_length_said values ≡ Some whole → length body < whole → is_cut bytes ≡ true
+    pub is_cut-body : (body : List ℕ) (whole : ℕ) → rest ≡ 10 ∷ body → body_length_from_headers values ≡ Some whole → length body < whole → is_cut bytes ≡ true
     is_cut-body body whole same said short =
         ap (λ after. not (begins_with_newline after) || nat_lt (length (drop 1 after)) (body_length_at bytes)) (rest_is ∙ same)
         ∙ ap (λ told. nat_lt (length body) (unwrap_or told 0)) (length_is ∙ said) ∙ lt-ltb (length body) whole short
@@ -166,19 +162,19 @@ module _ (bytes : List ℕ) (values : List (Option (List ℕ))) (rest : List ℕ
 
 module _ (bytes : List ℕ) (values : List (Option (List ℕ))) where
   -- the bytes end before the empty line
-  pub refused-unfinished : (whole : ℕ) → IsUnfinished bytes values → body_length_said values ≡ Some whole → first_holding (front_refusals bytes) ≡ Some Truncated
+  pub refused-unfinished : (whole : ℕ) → IsUnfinished bytes values → body_length_from_headers values ≡ Some whole → first_holding (front_refusals bytes) ≡ Some Truncated
   refused-unfinished whole found said =
       let last = header_lines-unfinished found.rest found.no_line in
       refused-cut bytes values found.rest found.lines last whole said (is_cut-unfinished bytes values found.rest found.lines last found.no_line)
 
   -- the bytes end in the body
-  pub refused-body : (rest : List ℕ) (whole : ℕ) → BeginsWithLines bytes values (10 ∷ rest) → body_length_said values ≡ Some whole → length rest < whole → first_holding (front_refusals bytes) ≡ Some Truncated
+  pub refused-body : (rest : List ℕ) (whole : ℕ) → BeginsWithLines bytes values (10 ∷ rest) → body_length_from_headers values ≡ Some whole → length rest < whole → first_holding (front_refusals bytes) ≡ Some Truncated
   refused-body rest whole found said short =
       let last = header_lines-empty rest in
       refused-cut bytes values (10 ∷ rest) found last whole said (is_cut-body bytes values (10 ∷ rest) found last rest whole refl said short)
 
   -- the lengths are told against, in both cases
-  pub refused-length_of : (rest : Option (Bor (List ℕ))) → MatchOption rest (IsUnfinished bytes values) (λ after. BeginsWithLines bytes values (10 ∷ after.now)) → body_length_said values ≡ None → first_holding (front_refusals bytes) ≡ Some Length
+  pub refused-length_of : (rest : Option (Bor (List ℕ))) → MatchOption rest (IsUnfinished bytes values) (λ after. BeginsWithLines bytes values (10 ∷ after.now)) → body_length_from_headers values ≡ None → first_holding (front_refusals bytes) ≡ Some Length
   refused-length_of None found none = refused-length bytes values found.rest found.lines (header_lines-unfinished found.rest found.no_line) none
   refused-length_of (Some rest) found none = refused-length bytes values (10 ∷ rest.now) found (header_lines-empty rest.now) none
 

@@ -2,7 +2,7 @@
 use Rattle.std.proofs.Common.{◌≡◌, ℕ, ◌+◌, Bool, List, [], ◌∷◌, ◌++◌, Option, None, Some, flat_map, fold, length, refl, sym, ap, ◌∙◌, length-append, arith}
 use Rattle.std.specs.Option.{option_or}
 use Rattle.svn_dump.specs.History.{Setting, delete, change, add, copy, Record, History}
-use Rattle.svn_dump.specs.Tree.{Tree, apply, opening, closing, with_revision, trees_of}
+use Rattle.svn_dump.specs.Tree.{Tree, tree_after_record, start_tree, end_tree, with_revision, trees_of}
 use Rattle.svn_dump.specs.Fault.{Fault, fault_if_missing, fault_of_target, fault_of_source, fault_of, first_fault_in, first_fault_from, first_fault}
 use Rattle.svn_dump.specs.declared.kind.Kind.{Kind}
 
@@ -70,7 +70,7 @@ module _ {C M : Type 0} (same : C → C → Bool) (trees : List (Tree C M)) wher
   pub first_fault_in-cons : (number : ℕ) (tree : Tree C M) (each : Record C M) (records : List (Record C M))
       → first_fault_in same trees number tree (each ∷ records)
       ≡ elim (fault_of same trees tree each.path each.action) [
-        | None ↦ first_fault_in same trees (number + 1) (apply same trees tree each) records
+        | None ↦ first_fault_in same trees (number + 1) (tree_after_record same trees tree each) records
         | Some fault ↦ Some (number, fault)
       ]
   unfolding first_fault_in
@@ -79,7 +79,7 @@ module _ {C M : Type 0} (same : C → C → Bool) (trees : List (Tree C M)) wher
   -- past a record with no fault
   pub first_fault_in_fine : (number : ℕ) (tree : Tree C M) (each : Record C M) (records : List (Record C M))
       → fault_of same trees tree each.path each.action ≡ None
-      → first_fault_in same trees number tree (each ∷ records) ≡ first_fault_in same trees (number + 1) (apply same trees tree each) records
+      → first_fault_in same trees number tree (each ∷ records) ≡ first_fault_in same trees (number + 1) (tree_after_record same trees tree each) records
   unfolding first_fault_in
   first_fault_in_fine number tree each records fine = rw (fine, first_fault_in)
 
@@ -92,25 +92,25 @@ module _ {C M : Type 0} (same : C → C → Bool) (trees : List (Tree C M)) wher
   -- the first fault of some records, or else that of the records after them
   pub first_fault_in-append : (number : ℕ) (tree : Tree C M) (xs ys : List (Record C M))
       → first_fault_in same trees number tree (xs ++ ys)
-      ≡ option_or (first_fault_in same trees number tree xs) (first_fault_in same trees (number + length xs) (fold (apply same trees) tree xs) ys)
+      ≡ option_or (first_fault_in same trees number tree xs) (first_fault_in same trees (number + length xs) (fold (tree_after_record same trees) tree xs) ys)
   unfolding first_fault_in
   first_fault_in-append number tree [] ys =
       let counted : number ≡ number + 0 = omega arith in
       ap (λ n. first_fault_in same trees n tree ys) counted
   first_fault_in-append number tree (each ∷ xs) ys =
       let counted : number + 1 + length xs ≡ number + length (each ∷ xs) = omega arith in
-      let next = apply same trees tree each in
+      let next = tree_after_record same trees tree each in
       let front = first_fault_in same trees (number + 1) next xs in
       first_or (fault_of same trees tree each.path each.action) number _ front _
       (first_fault_in-append (number + 1) next xs ys
-      ∙ ap (λ n. option_or front (first_fault_in same trees n (fold (apply same trees) next xs) ys)) counted)
+      ∙ ap (λ n. option_or front (first_fault_in same trees n (fold (tree_after_record same trees) next xs) ys)) counted)
 
   -- past some records with no fault
   pub first_fault_in_rest : (number : ℕ) (tree : Tree C M) (xs ys : List (Record C M)) → first_fault_in same trees number tree xs ≡ None
-      → first_fault_in same trees number tree (xs ++ ys) ≡ first_fault_in same trees (number + length xs) (fold (apply same trees) tree xs) ys
+      → first_fault_in same trees number tree (xs ++ ys) ≡ first_fault_in same trees (number + length xs) (fold (tree_after_record same trees) tree xs) ys
   first_fault_in_rest number tree xs ys fine =
       first_fault_in-append number tree xs ys
-      ∙ ap (λ o. option_or o (first_fault_in same trees (number + length xs) (fold (apply same trees) tree xs) ys)) fine
+      ∙ ap (λ o. option_or o (first_fault_in same trees (number + length xs) (fold (tree_after_record same trees) tree xs) ys)) fine
 
 -- ---- the revisions of a history
 
@@ -140,14 +140,14 @@ module _ {C M : Type 0} (same : C → C → Bool) where
   -- the first fault of the first revision, or else that of the others
   pub first_fault_from-cons : (trees : List (Tree C M)) (number : ℕ) (records : List (Record C M)) (history : History C M)
       → first_fault_from same trees number (records ∷ history)
-      ≡ option_or (first_fault_in same trees number (opening trees) records)
+      ≡ option_or (first_fault_in same trees number (start_tree trees) records)
       (first_fault_from same (with_revision same trees records) (number + length records) history)
   unfolding first_fault_from
   first_fault_from-cons trees number records history = refl
 
   -- past a revision with no fault
   pub first_fault_from_fine : (trees : List (Tree C M)) (number : ℕ) (records : List (Record C M)) (history : History C M)
-      → first_fault_in same trees number (opening trees) records ≡ None
+      → first_fault_in same trees number (start_tree trees) records ≡ None
       → first_fault_from same trees number (records ∷ history)
       ≡ first_fault_from same (with_revision same trees records) (number + length records) history
   unfolding first_fault_from
@@ -156,7 +156,7 @@ module _ {C M : Type 0} (same : C → C → Bool) where
 
   -- at a revision with a fault
   pub first_fault_from_faulty : (trees : List (Tree C M)) (number : ℕ) (records : List (Record C M)) (history : History C M) (fault : ℕ × Fault)
-      → first_fault_in same trees number (opening trees) records ≡ Some fault → first_fault_from same trees number (records ∷ history) ≡ Some fault
+      → first_fault_in same trees number (start_tree trees) records ≡ Some fault → first_fault_from same trees number (records ∷ history) ≡ Some fault
   unfolding first_fault_from
   first_fault_from_faulty trees number records history fault faulty =
       ap (λ o. option_or o (first_fault_from same (with_revision same trees records) (number + length records) history)) faulty
@@ -172,7 +172,7 @@ module _ {C M : Type 0} (same : C → C → Bool) where
       ap (λ n. first_fault_from same trees n back) counted
   first_fault_from-append trees number (records ∷ front) back =
       let next = with_revision same trees records in
-      let here = first_fault_in same trees number (opening trees) records in
+      let here = first_fault_in same trees number (start_tree trees) records in
       let counted : number + length records + record_count front ≡ number + record_count (records ∷ front) = omega (arith, record_count-cons records front) in
       let later = first_fault_from same next (number + length records) front in
       ap (option_or here) (first_fault_from-append next (number + length records) front back)
@@ -196,11 +196,11 @@ module _ {C M : Type 0} (same : C → C → Bool) where
   pub first_fault_push : (history : History C M) (records : List (Record C M))
       → first_fault same (history ++ records ∷ [])
       ≡ option_or (first_fault same history)
-      (first_fault_in same (trees_of same history) (1 + record_count history) (opening (trees_of same history)) records)
+      (first_fault_in same (trees_of same history) (1 + record_count history) (start_tree (trees_of same history)) records)
   first_fault_push history records =
       let trees = trees_of same history in
       let number = 1 + record_count history in
-      let here = first_fault_in same trees number (opening trees) records in
+      let here = first_fault_in same trees number (start_tree trees) records in
       first_fault-append history (records ∷ [])
       ∙ ap (option_or (first_fault same history)) (first_fault_from-cons trees number records []
       ∙ ap (option_or here) (first_fault_from-nil (with_revision same trees records) (number + length records)) ∙ option_or_none here)
@@ -218,23 +218,23 @@ module _ {C M : Type 0} (same : C → C → Bool) where
   -- each revision of a history with no fault has none
   pub first_fault_in_revision : (front : History C M) (records : List (Record C M)) (back : History C M)
       → first_fault same (front ++ records ∷ back) ≡ None
-      → first_fault_in same (trees_of same front) (1 + record_count front) (opening (trees_of same front)) records ≡ None
+      → first_fault_in same (trees_of same front) (1 + record_count front) (start_tree (trees_of same front)) records ≡ None
   first_fault_in_revision front records back fine =
       let trees = trees_of same front in
       let number = 1 + record_count front in
       let rest = (both_none (first_fault same front) _ (sym (first_fault-append front (records ∷ back)) ∙ fine)).1 in
-      (both_none (first_fault_in same trees number (opening trees) records) _ (sym (first_fault_from-cons trees number records back) ∙ rest)).0
+      (both_none (first_fault_in same trees number (start_tree trees) records) _ (sym (first_fault_from-cons trees number records back) ∙ rest)).0
 
   -- and so has each of its records, in the tree before it
   pub fault_of_record : (front : History C M) (before : List (Record C M)) (each : Record C M) (after : List (Record C M)) (back : History C M)
       → first_fault same (front ++ (before ++ each ∷ after) ∷ back) ≡ None
-      → fault_of same (trees_of same front) (closing same (trees_of same front) before) each.path each.action ≡ None
+      → fault_of same (trees_of same front) (end_tree same (trees_of same front) before) each.path each.action ≡ None
   fault_of_record front before each after back fine =
       let trees = trees_of same front in
       let number = 1 + record_count front in
       let revision = first_fault_in_revision front (before ++ each ∷ after) back fine in
-      let split = first_fault_in-append same trees number (opening trees) before (each ∷ after) in
-      let rest = (both_none (first_fault_in same trees number (opening trees) before) _ (sym split ∙ revision)).1 in
-      let tree = closing same trees before in
+      let split = first_fault_in-append same trees number (start_tree trees) before (each ∷ after) in
+      let rest = (both_none (first_fault_in same trees number (start_tree trees) before) _ (sym split ∙ revision)).1 in
+      let tree = end_tree same trees before in
       first_is_none (fault_of same trees tree each.path each.action) (number + length before) _
       (sym (first_fault_in-cons same trees (number + length before) tree each after) ∙ rest)

@@ -12,7 +12,7 @@ use Rattle.std.proofs.lemmas.Option.{none-some}
 use Rattle.svn_path.specs.Components.{is_not_empty}
 use Rattle.svn_dump.specs.Block.{Block, IsBlock, IsHeader, block_text, body_length, is_named, is_newline, line_text, listed_names}
 use Rattle.svn_dump.specs.FirstRefusal.{after_block, after_lines, begins_with_newline, block_at, body_length_at, front_refusals, has_twice, header_lines, is_cut, is_no_header, lines_before_empty, without_empty_lines}
-use Rattle.svn_dump.specs.Refusal.{first_holding, judged}
+use Rattle.svn_dump.specs.Refusal.{first_holding, reason}
 use Rattle.svn_dump.specs.declared.refusal.Refusal.{Refusal}
 use Rattle.svn_dump.specs.declared.refusal.Refusal.TheVariants.{Header, Length, Truncated}
 
@@ -158,14 +158,14 @@ header_lines-IsHeader bytes none k d h = IsHeader-none _ (header_lines-one_line 
 
 -- three reasons, none of which holds
 module _ (a b c : Refusal) where
-  none_of_three : (x y z : Bool) → x ≡ false → y ≡ false → z ≡ false → first_holding (judged a x ∷ judged b y ∷ judged c z ∷ []) ≡ None
+  none_of_three : (x y z : Bool) → x ≡ false → y ≡ false → z ≡ false → first_holding (reason a x ∷ reason b y ∷ reason c z ∷ []) ≡ None
   unfolding first_holding
   none_of_three true y z e f g = absurd (both_ways _ e refl)
   none_of_three false true z e f g = absurd (both_ways _ f refl)
   none_of_three false false true e f g = absurd (both_ways _ g refl)
   none_of_three false false false e f g = refl
 
-  pub three_none : (x y z : Bool) → first_holding (judged a x ∷ judged b y ∷ judged c z ∷ []) ≡ None → (x ≡ false) × (y ≡ false) × (z ≡ false)
+  pub three_none : (x y z : Bool) → first_holding (reason a x ∷ reason b y ∷ reason c z ∷ []) ≡ None → (x ≡ false) × (y ≡ false) × (z ≡ false)
   unfolding first_holding
   three_none true y z e = absurd (none-some a (sym e))
   three_none false true z e = absurd (none-some b (sym e))

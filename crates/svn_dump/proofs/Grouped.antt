@@ -1,14 +1,19 @@
 -- Items in groups of given sizes, and what one more item or one more group makes of them.
-use Rattle.std.proofs.Common.{◌≡◌, ℕ, zero, suc, ◌+◌, ◌-◌, ◌<◌, ◌≤◌, List, [], ◌∷◌, ◌++◌, map, length, take, drop, get_or, set, replicate, refl, sym, ap, ap₂, ◌∙◌, append_assoc, append-nil, arith, length-append, length-drop, take_all}
+use Rattle.std.proofs.Common.{◌≡◌, ℕ, zero, suc, ◌+◌, ◌-◌, ◌<◌, ◌≤◌, List, [], ◌∷◌, ◌++◌, map, length, take, drop, get_or, set, replicate, sum, refl, sym, ap, ap₂, ◌∙◌, append_assoc, append-nil, arith, length-append, length-drop, take_all}
 use Rattle.std.proofs.lemmas.List.{take-map, drop-map, take-append-le, drop-append-le, length_push, length-replicate, replicate_more, take-append-drop, nil_from_length, get_or_read}
+use Rattle.std.proofs.lemmas.List.Sums.{sum_by-cons}
 use Rattle.std.specs.List.{flat_map}
-use Rattle.svn_dump.specs.Dump.{grouped, revisions_from}
+use Rattle.svn_dump.specs.Dump.{records_by_revision, revisions_from}
 use Rattle.svn_dump.specs.Record.{RecordOfBytes, with_record}
 
 -- how many items the counts are of
 abbrev pub total : List ℕ → ℕ
 total [] = 0
 total (count ∷ counts) = count + total counts
+
+pub total-sum : (counts : List ℕ) → total counts ≡ sum counts
+total-sum [] = refl
+total-sum (count ∷ counts) = omega (arith, sum_by-cons (λ (x : ℕ). x) count counts, total-sum counts)
 
 -- one more item in the last group
 abbrev pub with_more : List ℕ → List ℕ
@@ -29,37 +34,37 @@ get_or-le-total (count ∷ counts) zero = omega arith
 get_or-le-total (count ∷ counts) (suc k) = omega (arith, get_or-le-total counts k)
 
 -- there are as many groups as counts
-pub length-grouped : {X : Type 0} (counts : List ℕ) (items : List X) → length (grouped counts items) ≡ length counts
-length-grouped [] items = refl
-length-grouped (count ∷ counts) items = ap suc (length-grouped counts (drop count items))
+pub length-records_by_revision : {X : Type 0} (counts : List ℕ) (items : List X) → length (records_by_revision counts items) ≡ length counts
+length-records_by_revision [] items = refl
+length-records_by_revision (count ∷ counts) items = ap suc (length-records_by_revision counts (drop count items))
 
 -- a map of all items is one of each group's
-pub map-grouped : {X Y : Type 0} (f : X → Y) (counts : List ℕ) (items : List X) → map (map f) (grouped counts items) ≡ grouped counts (map f items)
-map-grouped f [] items = refl
-map-grouped f (count ∷ counts) items =
-    ap₂ (λ group groups. group ∷ groups) (sym (take-map f count items)) (map-grouped f counts (drop count items) ∙ ap (grouped counts) (sym (drop-map f count items)))
+pub map-records_by_revision : {X Y : Type 0} (f : X → Y) (counts : List ℕ) (items : List X) → map (map f) (records_by_revision counts items) ≡ records_by_revision counts (map f items)
+map-records_by_revision f [] items = refl
+map-records_by_revision f (count ∷ counts) items =
+    ap₂ (λ group groups. group ∷ groups) (sym (take-map f count items)) (map-records_by_revision f counts (drop count items) ∙ ap (records_by_revision counts) (sym (drop-map f count items)))
 
 -- the groups joined are the items, where the counts are as many
-pub flat_map-grouped : {X : Type 0} (counts : List ℕ) (items : List X) → total counts ≡ length items → flat_map (λ group. group) (grouped counts items) ≡ items
-flat_map-grouped [] items h = sym (nil_from_length items (sym h))
-flat_map-grouped (count ∷ counts) items h =
-    ap (λ rest. take count items ++ rest) (flat_map-grouped counts (drop count items) (omega (arith, length-drop count items)))
+pub flat_map-records_by_revision : {X : Type 0} (counts : List ℕ) (items : List X) → total counts ≡ length items → flat_map (λ group. group) (records_by_revision counts items) ≡ items
+flat_map-records_by_revision [] items h = sym (nil_from_length items (sym h))
+flat_map-records_by_revision (count ∷ counts) items h =
+    ap (λ rest. take count items ++ rest) (flat_map-records_by_revision counts (drop count items) (omega (arith, length-drop count items)))
     ∙ take-append-drop count items
 
 -- one more item goes into the last group
-pub grouped-with_more : (counts : List ℕ) (items : List RecordOfBytes) (item : RecordOfBytes) → total counts ≡ length items → 0 < length counts → grouped (with_more counts) (items ++ item ∷ []) ≡ with_record (grouped counts items) item
-grouped-with_more [] items item h some = absurd (omega arith)
-grouped-with_more (count ∷ []) items item h some =
+pub records_by_revision-with_more : (counts : List ℕ) (items : List RecordOfBytes) (item : RecordOfBytes) → total counts ≡ length items → 0 < length counts → records_by_revision (with_more counts) (items ++ item ∷ []) ≡ with_record (records_by_revision counts items) item
+records_by_revision-with_more [] items item h some = absurd (omega arith)
+records_by_revision-with_more (count ∷ []) items item h some =
     ap (λ group. group ∷ []) (take_all (count + 1) (items ++ item ∷ []) (omega (arith, length_push items item)) ∙ ap (λ group. group ++ item ∷ []) (sym (take_all count items (omega arith))))
-grouped-with_more (count ∷ more ∷ counts) items item h some =
+records_by_revision-with_more (count ∷ more ∷ counts) items item h some =
     ap₂ (λ group groups. group ∷ groups) (take-append-le count items (item ∷ []) (omega arith))
-    (ap (grouped (with_more (more ∷ counts))) (drop-append-le count items (item ∷ []) (omega arith))
-    ∙ grouped-with_more (more ∷ counts) (drop count items) item (omega (arith, length-drop count items)) (omega arith))
+    (ap (records_by_revision (with_more (more ∷ counts))) (drop-append-le count items (item ∷ []) (omega arith))
+    ∙ records_by_revision-with_more (more ∷ counts) (drop count items) item (omega (arith, length-drop count items)) (omega arith))
 
 -- one more count is one more group, empty
-pub grouped-with_group : {X : Type 0} (counts : List ℕ) (items : List X) → grouped (counts ++ 0 ∷ []) items ≡ grouped counts items ++ [] ∷ []
-grouped-with_group [] items = refl
-grouped-with_group (count ∷ counts) items = ap (λ groups. take count items ∷ groups) (grouped-with_group counts (drop count items))
+pub records_by_revision-with_group : {X : Type 0} (counts : List ℕ) (items : List X) → records_by_revision (counts ++ 0 ∷ []) items ≡ records_by_revision counts items ++ [] ∷ []
+records_by_revision-with_group [] items = refl
+records_by_revision-with_group (count ∷ counts) items = ap (λ groups. take count items ∷ groups) (records_by_revision-with_group counts (drop count items))
 
 -- ---- the revision of each item
 

@@ -5,24 +5,24 @@ use Rattle.std.specs.List.{flat_map}
 use Rattle.std.proofs.lemmas.Grind.{fold-append, flat_map-append}
 use Rattle.std.proofs.lemmas.List.{map-append, length-map}
 use Rattle.svn_path.specs.Names.{name_of, with_name, with_names}
-use Rattle.svn_dump.specs.Draft.{Extends, record_told, dump_of}
-use Rattle.svn_dump.specs.Dump.{RecordIsOf, record_shown, grouped, revisions_from, history_shown, text_of}
+use Rattle.svn_dump.specs.Draft.{Extends, record_in_bytes, dump_of}
+use Rattle.svn_dump.specs.Dump.{IsRecordOf, record_view, records_by_revision, revisions_from, history_in_bytes, text_of}
 use Rattle.svn_dump.specs.DumpText.{parts_of_record, texts_of_action, all_records, names_of, values_of}
 use Rattle.svn_dump.specs.History.{rename_record}
 use Rattle.svn_dump.specs.Record.{RecordOfBytes, HistoryOfBytes, with_record}
 use Rattle.svn_dump.specs.declared.record.NodeRecord.{NodeRecord}
-use Rattle.svn_dump.proofs.Growing.{map-record_told-grows}
-use Rattle.svn_dump.proofs.Grouped.{total, with_more, length-grouped, map-grouped, flat_map-grouped, grouped-with_more, grouped-with_group, length-revisions_from}
+use Rattle.svn_dump.proofs.Growing.{map-record_in_bytes-grows}
+use Rattle.svn_dump.proofs.Grouped.{total, with_more, length-records_by_revision, map-records_by_revision, flat_map-records_by_revision, records_by_revision-with_more, records_by_revision-with_group, length-revisions_from}
 
 map-map : {A B C : Type 0} (f : B → C) (g : A → B) (xs : List A) → map f (map g xs) ≡ map (λ x. f (g x)) xs
 map-map f g [] = refl
 map-map f g (x ∷ xs) = ap (λ ys. f (g x) ∷ ys) (map-map f g xs)
 
 -- the history in bytes, by its flat list of records
-pub history_shown-told : (names : List (List ℕ)) (records : List NodeRecord) (counts : List ℕ) (texts : List (List ℕ)) → history_shown (dump_of names records counts texts) ≡ grouped counts (map (record_told names texts) records)
-history_shown-told names records counts texts =
+pub history_in_bytes-told : (names : List (List ℕ)) (records : List NodeRecord) (counts : List ℕ) (texts : List (List ℕ)) → history_in_bytes (dump_of names records counts texts) ≡ records_by_revision counts (map (record_in_bytes names texts) records)
+history_in_bytes-told names records counts texts =
     let f : (each : _) → RecordOfBytes = rename_record (λ name. name_of names name.0) (λ value. text_of texts value.0) in
-    map-grouped f counts (map record_shown records) ∙ ap (grouped counts) (map-map f record_shown records)
+    map-records_by_revision f counts (map record_view records) ∙ ap (records_by_revision counts) (map-map f record_view records)
 
 -- as many records as the counts say
 pub total-revisions : (records : List NodeRecord) (counts : List ℕ) → map (λ each. each.rev) records ≡ revisions_from 0 counts → total counts ≡ length records
@@ -31,8 +31,8 @@ total-revisions records counts h = sym (length-revisions_from 0 counts) ∙ ap l
 -- ---- the names and the records of a history
 
 -- the records of groups are those that were grouped
-pub all_records-grouped : (counts : List ℕ) (records : List RecordOfBytes) → total counts ≡ length records → all_records (grouped counts records) ≡ records
-all_records-grouped counts records h = flat_map-grouped counts records h
+pub all_records-records_by_revision : (counts : List ℕ) (records : List RecordOfBytes) → total counts ≡ length records → all_records (records_by_revision counts records) ≡ records
+all_records-records_by_revision counts records h = flat_map-records_by_revision counts records h
 
 -- one more record comes last
 pub all_records-with_record : (history : HistoryOfBytes) (each : RecordOfBytes) → 0 < length history → all_records (with_record history each) ≡ all_records history ++ each ∷ []
@@ -71,35 +71,35 @@ values_of-with_revision history = ap (λ records. with_names [] (flat_map (λ on
 -- ---- one more
 
 -- the dump with one more record, and its new names and texts, shows the history with that record
-pub history_shown-with_record :
+pub history_in_bytes-with_record :
     (old new old_texts new_texts : List (List ℕ)) (records : List NodeRecord) (counts : List ℕ) (each : NodeRecord) →
-    Extends old new → Extends old_texts new_texts → All (RecordIsOf (dump_of old records counts old_texts)) records →
+    Extends old new → Extends old_texts new_texts → All (IsRecordOf (dump_of old records counts old_texts)) records →
     map (λ one. one.rev) records ≡ revisions_from 0 counts → 0 < length counts →
-    history_shown (dump_of new (records ++ each ∷ []) (with_more counts) new_texts) ≡ with_record (history_shown (dump_of old records counts old_texts)) (record_told new new_texts each)
-history_shown-with_record old new old_texts new_texts records counts each grows texts_grow all revisions some =
-    history_shown-told new (records ++ each ∷ []) (with_more counts) new_texts
-    ∙ ap (grouped (with_more counts)) (map-append (record_told new new_texts) records (each ∷ [])
-    ∙ ap (λ front. front ++ record_told new new_texts each ∷ []) (map-record_told-grows (dump_of old records counts old_texts) new new_texts grows texts_grow records all))
-    ∙ grouped-with_more counts (map (record_told old old_texts) records) (record_told new new_texts each) (total-revisions records counts revisions ∙ sym (length-map records (record_told old old_texts))) some
-    ∙ ap (λ history. with_record history (record_told new new_texts each)) (sym (history_shown-told old records counts old_texts))
+    history_in_bytes (dump_of new (records ++ each ∷ []) (with_more counts) new_texts) ≡ with_record (history_in_bytes (dump_of old records counts old_texts)) (record_in_bytes new new_texts each)
+history_in_bytes-with_record old new old_texts new_texts records counts each grows texts_grow all revisions some =
+    history_in_bytes-told new (records ++ each ∷ []) (with_more counts) new_texts
+    ∙ ap (records_by_revision (with_more counts)) (map-append (record_in_bytes new new_texts) records (each ∷ [])
+    ∙ ap (λ front. front ++ record_in_bytes new new_texts each ∷ []) (map-record_in_bytes-grows (dump_of old records counts old_texts) new new_texts grows texts_grow records all))
+    ∙ records_by_revision-with_more counts (map (record_in_bytes old old_texts) records) (record_in_bytes new new_texts each) (total-revisions records counts revisions ∙ sym (length-map records (record_in_bytes old old_texts))) some
+    ∙ ap (λ history. with_record history (record_in_bytes new new_texts each)) (sym (history_in_bytes-told old records counts old_texts))
 
 module _ (names : List (List ℕ)) (records : List NodeRecord) (counts : List ℕ) (texts : List (List ℕ)) where
   -- the dump with one more revision shows the history with that revision
-  pub history_shown-with_revision : history_shown (dump_of names records (counts ++ 0 ∷ []) texts) ≡ history_shown (dump_of names records counts texts) ++ [] ∷ []
-  history_shown-with_revision =
-      history_shown-told names records (counts ++ 0 ∷ []) texts
-      ∙ grouped-with_group counts (map (record_told names texts) records)
-      ∙ ap (λ history. history ++ [] ∷ []) (sym (history_shown-told names records counts texts))
+  pub history_in_bytes-with_revision : history_in_bytes (dump_of names records (counts ++ 0 ∷ []) texts) ≡ history_in_bytes (dump_of names records counts texts) ++ [] ∷ []
+  history_in_bytes-with_revision =
+      history_in_bytes-told names records (counts ++ 0 ∷ []) texts
+      ∙ records_by_revision-with_group counts (map (record_in_bytes names texts) records)
+      ∙ ap (λ history. history ++ [] ∷ []) (sym (history_in_bytes-told names records counts texts))
 
   -- ---- how many
 
   -- there are as many revisions as counts
-  pub length-history_shown : length (history_shown (dump_of names records counts texts)) ≡ length counts
-  length-history_shown = ap length (history_shown-told names records counts texts) ∙ length-grouped counts (map (record_told names texts) records)
+  pub length-history_in_bytes : length (history_in_bytes (dump_of names records counts texts)) ≡ length counts
+  length-history_in_bytes = ap length (history_in_bytes-told names records counts texts) ∙ length-records_by_revision counts (map (record_in_bytes names texts) records)
 
   -- and as many records as the dump has
-  pub length-all_records : map (λ one. one.rev) records ≡ revisions_from 0 counts → length (all_records (history_shown (dump_of names records counts texts))) ≡ length records
+  pub length-all_records : map (λ one. one.rev) records ≡ revisions_from 0 counts → length (all_records (history_in_bytes (dump_of names records counts texts))) ≡ length records
   length-all_records revisions =
-      ap (λ history. length (all_records history)) (history_shown-told names records counts texts)
-      ∙ ap length (all_records-grouped counts (map (record_told names texts) records) (total-revisions records counts revisions ∙ sym (length-map records (record_told names texts))))
-      ∙ length-map records (record_told names texts)
+      ap (λ history. length (all_records history)) (history_in_bytes-told names records counts texts)
+      ∙ ap length (all_records-records_by_revision counts (map (record_in_bytes names texts) records) (total-revisions records counts revisions ∙ sym (length-map records (record_in_bytes names texts))))
+      ∙ length-map records (record_in_bytes names texts)

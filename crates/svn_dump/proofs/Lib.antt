@@ -15,6 +15,7 @@ mod TextTables
 pub mod Belows
 pub mod Entries
 pub mod Faults
+pub mod FirstRevisions
 pub mod Grouped
 pub mod Growing
 pub mod Histories

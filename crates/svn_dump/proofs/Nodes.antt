@@ -2,38 +2,32 @@
 use Rattle.std.proofs.Common.{◌≡◌, ℕ, pred, ◌<◌, ◌≤◌, Bool, true, false, not, ◌&&◌, ◌||◌, List, [], ◌∷◌, ◌++◌, length, take, drop, refl, sym, ap, ap₂, ◌∙◌, subst, lt-ltb, eq-eqb, arith, inl, inr, take-append-drop}
 use Rattle.std.specs.Prelude.{Some, None, filter, is_none, nat_lt, ◌==◌, ◌⊎◌}
 use Rattle.std.specs.List.{list_all, list_any, slice_split, onto_first}
-use Rattle.std.proofs.lemmas.Bool.{cases_Bool, cond-true, cond-false, le-ltb, ltb-true, ne_eqb, not-false, or_parts}
+use Rattle.std.proofs.lemmas.Bool.{cases_Bool, cond-true, cond-false, le-ltb, ltb-true, ne_eqb, not-false, or_parts, or_right}
+use Rattle.std.proofs.Math.Bool.{or-true}
 use Rattle.std.proofs.lemmas.Grind.{fold-append}
 use Rattle.svn_path.specs.Components.{is_not_empty, is_slash, parts_of}
 use Rattle.svn_path.specs.Names.{most_names, with_name, with_names}
-use Rattle.svn_path.specs.Path.{spelled}
+use Rattle.svn_path.specs.Path.{components_of}
 use Rattle.svn_path.specs.declared.names.NameId.{NameId}
 use Rattle.svn_path.specs.declared.path.PathError.{PathError}
 use Rattle.svn_path.specs.declared.path.PathError.TheVariants as path
-use Rattle.svn_dump.specs.Draft.{Extends, action_told}
+use Rattle.svn_dump.specs.Draft.{Extends, action_in_bytes}
 use Rattle.svn_dump.specs.Dump.{IsChange}
 use Rattle.svn_dump.specs.DumpText.{most_numbered, parts_of_action, parts_of_record, texts_of_action}
 use Rattle.svn_dump.specs.History.{Setting, delete, change, add, copy}
-use Rattle.svn_dump.specs.Node.{Node, NodeAction, adding, changing, copying, deleting, is_change}
+use Rattle.svn_dump.specs.Node.{Node, NodeAction, node_add, node_change, node_copy, node_delete, is_change}
 use Rattle.svn_dump.specs.Record.{ActionOfBytes, RecordOfBytes, action_of, has_dot, is_late, is_long, is_root, is_root_action, most_components, paths_read, record_by, record_of}
-use Rattle.svn_dump.specs.Refusal.{Judged, action_refusals, first_holding, judged, later_refusals, node_refusals, size_refusals}
-use Rattle.svn_dump.specs.ReadError.{stopped}
-use Rattle.svn_dump.specs.Told.{IsActTold, IsFirst, IsPathTold, IsRecordTold, IsTaken, IsTooLarge, is_full_with, is_path_large, is_record_large}
+use Rattle.svn_dump.specs.Refusal.{Reason, action_refusals, first_holding, reason, later_refusals, node_refusals, size_refusals}
+use Rattle.svn_dump.specs.ReadError.{read_error_of}
+use Rattle.svn_dump.specs.NumberedRecord.{IsNumberedAct, IsFirstReason, IsNumberedPath, IsNumberedRecord, IsAcceptedNode, IsTooLarge, is_full_with, is_path_large, is_record_large}
 use Rattle.svn_dump.specs.declared.read_error.ReadError.{ReadError}
 use Rattle.svn_dump.specs.declared.read_error.ReadError.TheVariants as read
 use Rattle.svn_dump.specs.declared.record.Act.{Act}
 use Rattle.svn_dump.specs.declared.record.Act.TheVariants as act
 use Rattle.svn_dump.specs.declared.refusal.Refusal.{Refusal}
 use Rattle.svn_dump.specs.declared.refusal.Refusal.TheVariants.{BadPath, BadRecord, Delta, CopyRevision, Props, RootAction, RevisionZero, TooLarge}
-use Rattle.svn_dump.proofs.Growing.{Extends-with_names, IsOf-grows, length-Extends, spelled-grows}
+use Rattle.svn_dump.proofs.Growing.{Extends-with_names, IsPathOf-grows, length-Extends, components_of-grows}
 use Rattle.svn_dump.proofs.Refusals.{first_holding-front, first_holding-later, none_holds-parts, record_of-allowed}
-
-or_right : (a b : Bool) → b ≡ true → (a || b) ≡ true
-or_right true b e = refl
-or_right false b e = e
-
-pub or_true : (a : Bool) → (a || true) ≡ true
-or_true a = or_right a true refl
 
 or_either : (a b : Bool) → (a || b) ≡ true → (a ≡ true) ⊎ (b ≡ true)
 or_either true b e = inl refl
@@ -57,9 +51,9 @@ is_root-slashes (byte ∷ path) =
 -- ---- what stands against what it does
 
 -- the first of these that holds
-abbrev action_judged : (dot delta late root zero : Bool) → List Judged
+abbrev action_judged : (dot delta late root zero : Bool) → List Reason
 action_judged dot delta late root zero =
-    judged BadPath dot ∷ judged Delta delta ∷ judged CopyRevision late ∷ judged RootAction root ∷ judged RevisionZero zero ∷ []
+    reason BadPath dot ∷ reason Delta delta ∷ reason CopyRevision late ∷ reason RootAction root ∷ reason RevisionZero zero ∷ []
 
 module _ (rev : ℕ) (node : Node) (action : NodeAction) where
   abbrev dot : Bool
@@ -104,7 +98,7 @@ length-with_names-take names added n =
     omega (arith, ap length all, length-Extends _ _ (Extends-with_names (with_names names (take n added)) (drop n added)))
 
 -- a path without `.` and `..` is not read only where it has too many names, or memory runs out
-pub path_error : (names new : List (List ℕ)) (bytes : List ℕ) (e : PathError) → (e ≡ path.Dot → ⊥) → (e ≡ path.Full → length new ≡ most_names) → (n : ℕ) → new ≡ with_names names (take n (parts_of bytes)) → IsTooLarge (is_path_large names bytes) (stopped e)
+pub path_error : (names new : List (List ℕ)) (bytes : List ℕ) (e : PathError) → (e ≡ path.Dot → ⊥) → (e ≡ path.Full → length new ≡ most_names) → (n : ℕ) → new ≡ with_names names (take n (parts_of bytes)) → IsTooLarge (is_path_large names bytes) (read_error_of e)
 path_error names new bytes path.Dot no_dot full n left = absurd (no_dot refl)
 path_error names new bytes path.Full no_dot full n left = (refl, or_right (is_long bytes) _ (lt-ltb _ _ (omega (arith, full refl, ap length left, length-with_names-take names (parts_of bytes) n))))
 path_error names new bytes path.Memory no_dot full n left = tt
@@ -117,31 +111,31 @@ is_long-short bytes n long short = le-ltb most_components (length (parts_of byte
 
 -- the path itself, and the others
 paths_read-split : (test : List ℕ → Bool) (path : List ℕ) (action : NodeAction) → test [] ≡ false → list_any test (paths_read path action) ≡ (test path || list_any test (paths_read [] action))
-paths_read-split test path deleting none = ap (λ b. test path || (b || false)) (sym none)
-paths_read-split test path changing none = ap (λ b. test path || (b || false)) (sym none)
-paths_read-split test path (adding replace kind) none = ap (λ b. test path || (b || false)) (sym none)
-paths_read-split test path (copying replace from_rev from) none = ap (λ b. test path || (b || (test from || false))) (sym none)
+paths_read-split test path node_delete none = ap (λ b. test path || (b || false)) (sym none)
+paths_read-split test path node_change none = ap (λ b. test path || (b || false)) (sym none)
+paths_read-split test path (node_add replace kind) none = ap (λ b. test path || (b || false)) (sym none)
+paths_read-split test path (node_copy replace from_rev from) none = ap (λ b. test path || (b || (test from || false))) (sym none)
 
 pub has_dot-parts : (path : List ℕ) (action : NodeAction) → list_any has_dot (paths_read path action) ≡ false → (has_dot path ≡ false) × (list_any has_dot (paths_read [] action) ≡ false)
 has_dot-parts path action none = or_parts (has_dot path) _ (sym (paths_read-split has_dot path action refl) ∙ none)
 
 -- that of a copy's source
-pub has_dot-from : (action : NodeAction) (replace : Bool) (from_rev : ℕ) (from : List ℕ) → action ≡ copying replace from_rev from → list_any has_dot (paths_read [] action) ≡ false → has_dot from ≡ false
+pub has_dot-from : (action : NodeAction) (replace : Bool) (from_rev : ℕ) (from : List ℕ) → action ≡ node_copy replace from_rev from → list_any has_dot (paths_read [] action) ≡ false → has_dot from ≡ false
 has_dot-from action replace from_rev from same none = (or_parts (has_dot from) false (sym (ap (λ each. list_any has_dot (paths_read [] each)) same) ∙ none)).0
 
 -- ---- what stands against a node block
 
 module _ (rev : ℕ) (node : Node) (action : NodeAction) (none : first_holding (action_refusals rev node action) ≡ None) where
-  no_dot : (list_any has_dot (paths_read node.path action) ≡ false) × (first_holding (judged Delta node.is_delta ∷ judged CopyRevision (is_late rev action) ∷ judged RootAction (is_root_action node.path action) ∷ judged RevisionZero (not (nat_lt 0 rev)) ∷ []) ≡ None)
+  no_dot : (list_any has_dot (paths_read node.path action) ≡ false) × (first_holding (reason Delta node.is_delta ∷ reason CopyRevision (is_late rev action) ∷ reason RootAction (is_root_action node.path action) ∷ reason RevisionZero (not (nat_lt 0 rev)) ∷ []) ≡ None)
   no_dot = none_holds-parts BadPath _ _ none
 
-  no_delta : (node.is_delta ≡ false) × (first_holding (judged CopyRevision (is_late rev action) ∷ judged RootAction (is_root_action node.path action) ∷ judged RevisionZero (not (nat_lt 0 rev)) ∷ []) ≡ None)
+  no_delta : (node.is_delta ≡ false) × (first_holding (reason CopyRevision (is_late rev action) ∷ reason RootAction (is_root_action node.path action) ∷ reason RevisionZero (not (nat_lt 0 rev)) ∷ []) ≡ None)
   no_delta = none_holds-parts Delta _ _ no_dot.1
 
-  no_late : (is_late rev action ≡ false) × (first_holding (judged RootAction (is_root_action node.path action) ∷ judged RevisionZero (not (nat_lt 0 rev)) ∷ []) ≡ None)
+  no_late : (is_late rev action ≡ false) × (first_holding (reason RootAction (is_root_action node.path action) ∷ reason RevisionZero (not (nat_lt 0 rev)) ∷ []) ≡ None)
   no_late = none_holds-parts CopyRevision _ _ no_delta.1
 
-  no_root : (is_root_action node.path action ≡ false) × (first_holding (judged RevisionZero (not (nat_lt 0 rev)) ∷ []) ≡ None)
+  no_root : (is_root_action node.path action ≡ false) × (first_holding (reason RevisionZero (not (nat_lt 0 rev)) ∷ []) ≡ None)
   no_root = none_holds-parts RootAction _ _ no_late.1
 
   pub dotless : (has_dot node.path ≡ false) × (list_any has_dot (paths_read [] action) ≡ false)
@@ -181,7 +175,7 @@ module _ (revisions : ℕ) (node : Node) (large : Bool) where
       refused_size none holds = by_action ∙ first_holding-later (action_refusals (pred revisions) node action) (size_refusals node action large) none ∙ cond-true _ _ _ holds
 
       -- too large, or out of memory
-      pub IsFirst-size : (e : ReadError) (told : Bool) → first_holding (action_refusals (pred revisions) node action) ≡ None → (told ≡ true → (list_any is_long (paths_read node.path action) || large) ≡ true) → IsTooLarge told e → IsFirst (node_refusals revisions node large) e
+      pub IsFirst-size : (e : ReadError) (told : Bool) → first_holding (action_refusals (pred revisions) node action) ≡ None → (told ≡ true → (list_any is_long (paths_read node.path action) || large) ≡ true) → IsTooLarge told e → IsFirstReason (node_refusals revisions node large) e
       IsFirst-size (read.Refused refusal) told none holds is = refused_size none (holds is.1) ∙ ap Some (sym is.0)
       IsFirst-size read.Memory told none holds is = tt
 
@@ -232,7 +226,7 @@ module _ (rev : ℕ) (node : Node) (setting : Setting (List ℕ)) (action : Node
           (list_any is_long (paths_read node.path action) || is_record_large names texts (record_of rev node)) ≡ true
       by_cases true is full has e =
           ap (λ b. b || is_record_large names texts (record_of rev node))
-          (paths_read-split is_long node.path action refl ∙ ap (λ b. is_long node.path || b) is ∙ or_true (is_long node.path))
+          (paths_read-split is_long node.path action refl ∙ ap (λ b. is_long node.path || b) is ∙ or-true (is_long node.path))
       by_cases false is full has e =
           by_record (ap (λ b. b || is_full_with texts (texts_of_action told_record.action)) (names_full ∙ has) ∙ e)
 
@@ -245,48 +239,48 @@ changes (change given) = true
 changes (add replace kind given) = false
 changes (copy replace from from_rev given) = false
 
-IsChange-changes : (names texts : List (List ℕ)) (each : Act) → changes (action_told names texts each) ≡ true → IsChange each
+IsChange-changes : (names texts : List (List ℕ)) (each : Act) → changes (action_in_bytes names texts each) ≡ true → IsChange each
 IsChange-changes names texts act.Delete e = absurd (cc)
 IsChange-changes names texts (act.Change given) e = tt
 IsChange-changes names texts (act.Add replace kind given) e = absurd (cc)
 IsChange-changes names texts (act.Copy replace from from_rev given) e = absurd (cc)
 
 changes-action_of : (setting : Setting (List ℕ)) (action : NodeAction) → changes (action_of setting action) ≡ is_change action
-changes-action_of setting deleting = refl
-changes-action_of setting changing = refl
-changes-action_of setting (adding replace kind) = refl
-changes-action_of setting (copying replace from_rev from) = refl
+changes-action_of setting node_delete = refl
+changes-action_of setting node_change = refl
+changes-action_of setting (node_add replace kind) = refl
+changes-action_of setting (node_copy replace from_rev from) = refl
 
-IsChange-told : (names texts : List (List ℕ)) (each : Act) (setting : Setting (List ℕ)) (action : NodeAction) → action_told names texts each ≡ action_of setting action → is_change action ≡ true → IsChange each
+IsChange-told : (names texts : List (List ℕ)) (each : Act) (setting : Setting (List ℕ)) (action : NodeAction) → action_in_bytes names texts each ≡ action_of setting action → is_change action ≡ true → IsChange each
 IsChange-told names texts each setting action same e = IsChange-changes names texts each (ap changes same ∙ changes-action_of setting action ∙ e)
 
 module _ (rev : ℕ) (node : Node) (setting : Setting (List ℕ)) (action : NodeAction) (settled : node.setting ≡ Some setting) (does : node.action ≡ Some action) (none : first_holding (action_refusals rev node action) ≡ None) where
   pub record_told_of :
       (old mid new old_texts new_texts : List (List ℕ)) (path : List NameId) (each : Act) →
-      IsPathTold node.path old mid path → is_long node.path ≡ false → IsActTold (action_of setting action) rev mid new new_texts each → list_any is_long (paths_read [] action) ≡ false →
+      IsNumberedPath node.path old mid path → is_long node.path ≡ false → IsNumberedAct (action_of setting action) rev mid new new_texts each → list_any is_long (paths_read [] action) ≡ false →
       new_texts ≡ with_names old_texts (texts_of_action (action_of setting action)) → Extends mid new →
-      IsRecordTold (record_of rev node) rev old new old_texts new_texts (record { rev = rev; path = path; act = each })
+      IsNumberedRecord (record_of rev node) rev old new old_texts new_texts (record { rev = rev; path = path; act = each })
   record_told_of old mid new old_texts new_texts path each told short acts short_from texts grows =
-      let spells : spelled new path ≡ parts_of node.path = spelled-grows mid new path grows told.of_table ∙ told.same in
+      let spells : components_of new path ≡ parts_of node.path = components_of-grows mid new path grows told.of_table ∙ told.same in
       let is_short : list_any is_long (paths_read node.path action) ≡ false = paths_read-split is_long node.path action refl ∙ ap₂ (λ a b. a || b) short short_from in record {
         same = record_of-allowed rev node setting action settled does none is_short
             ∙ ap₂ (λ parts action. let one : RecordOfBytes = record { path = parts; action = action } in Some one) (sym spells) (sym acts.same);
         of_table = record {
-          path = IsOf-grows mid new path grows told.of_table;
+          path = IsPathOf-grows mid new path grows told.of_table;
           length = told.short;
           act = acts.of_table;
           above_zero = above_zero rev node action none;
-          root = λ root. IsChange-told new new_texts each setting action acts.same (root_changed rev node action none (sym (ap length spells) ∙ ap (λ parts. length (spelled new parts)) root));
+          root = λ root. IsChange-told new new_texts each setting action acts.same (root_changed rev node action none (sym (ap length spells) ∙ ap (λ parts. length (components_of new parts)) root));
         };
         revision = refl;
-        table = acts.table ∙ ap₂ (λ names more. with_names names (parts_of_action more)) told.table (sym acts.same) ∙ sym (fold-append with_name old (parts_of node.path) (parts_of_action (action_told new new_texts each)))
-            ∙ ap (λ all. with_names old (all ++ parts_of_action (action_told new new_texts each))) (sym spells);
+        table = acts.table ∙ ap₂ (λ names more. with_names names (parts_of_action more)) told.table (sym acts.same) ∙ sym (fold-append with_name old (parts_of node.path) (parts_of_action (action_in_bytes new new_texts each)))
+            ∙ ap (λ all. with_names old (all ++ parts_of_action (action_in_bytes new new_texts each))) (sym spells);
         texts = texts ∙ ap (λ action. with_names old_texts (texts_of_action action)) (sym acts.same);
       }
 
 -- ---- a node block that is taken
 
-module _ (revisions : ℕ) (node : Node) (rev : ℕ) (action : NodeAction) (setting : Setting (List ℕ)) (taken : IsTaken revisions node rev action setting) where
+module _ (revisions : ℕ) (node : Node) (rev : ℕ) (action : NodeAction) (setting : Setting (List ℕ)) (taken : IsAcceptedNode revisions node rev action setting) where
   none_at : first_holding (action_refusals (pred revisions) node action) ≡ None
   none_at = ap (λ n. first_holding (action_refusals n node action)) (sym taken.revision) ∙ taken.none
 
@@ -294,7 +288,7 @@ module _ (revisions : ℕ) (node : Node) (rev : ℕ) (action : NodeAction) (sett
   dotless-taken = dotless (pred revisions) node action none_at
 
   -- its path is too large, or memory has run out
-  pub IsFirst-path : (names texts : List (List ℕ)) (e : ReadError) → IsTooLarge (is_path_large names node.path) e → IsFirst (node_refusals revisions node (is_record_large names texts (record_of (pred revisions) node))) e
+  pub IsFirst-path : (names texts : List (List ℕ)) (e : ReadError) → IsTooLarge (is_path_large names node.path) e → IsFirstReason (node_refusals revisions node (is_record_large names texts (record_of (pred revisions) node))) e
   IsFirst-path names texts e is =
       IsFirst-size revisions node (is_record_large names texts (record_of (pred revisions) node)) setting taken.settled action taken.does taken.some_revision e (is_path_large names node.path) none_at
       (large_path (pred revisions) node setting action taken.settled taken.does none_at names texts) is
@@ -302,7 +296,7 @@ module _ (revisions : ℕ) (node : Node) (rev : ℕ) (action : NodeAction) (sett
   -- the same of what it does
   pub IsFirst-action : (names mid texts : List (List ℕ)) (e : ReadError) → mid ≡ with_names names (parts_of node.path) →
       IsTooLarge (list_any is_long (paths_read [] action) || is_full_with mid (parts_of_action (action_of setting action)) || is_full_with texts (texts_of_action (action_of setting action))) e →
-      IsFirst (node_refusals revisions node (is_record_large names texts (record_of (pred revisions) node))) e
+      IsFirstReason (node_refusals revisions node (is_record_large names texts (record_of (pred revisions) node))) e
   IsFirst-action names mid texts e table is =
       IsFirst-size revisions node (is_record_large names texts (record_of (pred revisions) node)) setting taken.settled action taken.does taken.some_revision e _ none_at
       (large_action (pred revisions) node setting action taken.settled taken.does none_at names texts mid table) is
@@ -310,9 +304,9 @@ module _ (revisions : ℕ) (node : Node) (rev : ℕ) (action : NodeAction) (sett
   -- its record
   pub IsRecordTold-taken :
       (old mid new old_texts new_texts : List (List ℕ)) (path : List NameId) (each : Act) →
-      IsPathTold node.path old mid path → is_long node.path ≡ false → (is_late (pred revisions) action ≡ false → IsActTold (action_of setting action) (pred revisions) mid new new_texts each) → list_any is_long (paths_read [] action) ≡ false →
+      IsNumberedPath node.path old mid path → is_long node.path ≡ false → (is_late (pred revisions) action ≡ false → IsNumberedAct (action_of setting action) (pred revisions) mid new new_texts each) → list_any is_long (paths_read [] action) ≡ false →
       new_texts ≡ with_names old_texts (texts_of_action (action_of setting action)) → Extends mid new →
-      IsRecordTold (record_of (pred revisions) node) (pred revisions) old new old_texts new_texts (record { rev = rev; path = path; act = each })
+      IsNumberedRecord (record_of (pred revisions) node) (pred revisions) old new old_texts new_texts (record { rev = rev; path = path; act = each })
   IsRecordTold-taken old mid new old_texts new_texts path each told short acts short_from texts grows =
-      subst (λ n. IsRecordTold (record_of (pred revisions) node) (pred revisions) old new old_texts new_texts (record { rev = n; path = path; act = each })) (sym taken.revision)
+      subst (λ n. IsNumberedRecord (record_of (pred revisions) node) (pred revisions) old new old_texts new_texts (record { rev = n; path = path; act = each })) (sym taken.revision)
       (record_told_of (pred revisions) node setting action taken.settled taken.does none_at old mid new old_texts new_texts path each told short (acts (not_late (pred revisions) node action none_at)) short_from texts grows)

@@ -6,9 +6,9 @@ use Rattle.std.proofs.lemmas.Option.{IfSome_then}
 use Rattle.svn_path.specs.Below.{IsSame, same_path}
 use Rattle.svn_dump.specs.History.{History}
 use Rattle.svn_dump.specs.Location.{origin_of}
-use Rattle.svn_dump.specs.Tree.{Tree, Entry, entry_at, is_there, tree_of, closing, with_revision, trees_of}
+use Rattle.svn_dump.specs.Tree.{Tree, Entry, entry_at, is_there, tree_of, end_tree, with_revision, trees_of}
 use Rattle.svn_path.proofs.Belows.{IsSame-same_path}
-use Rattle.svn_dump.proofs.Entries.{AllEntries, AllEntries-entry_at, IsKept, AllEntries-closing}
+use Rattle.svn_dump.proofs.Entries.{AllEntries, AllEntries-entry_at, IsKept, AllEntries-end_tree}
 use Rattle.svn_dump.proofs.Revisions.{tree_of-append, tree_of_past, each_tree_push}
 use Rattle.svn_dump.proofs.Trees.{entry_from}
 
@@ -41,9 +41,9 @@ module _ {C M : Type 0} (same : C → C → Bool) where
   all_revisions_fall : (trees : List (Tree C M)) (history : History C M) → AllFall trees → AllFall (fold (with_revision same) trees history)
   all_revisions_fall trees [] all = all
   all_revisions_fall trees (records ∷ history) all =
-      let last = AllEntries-closing same trees (ComesFromBelow (length trees)) (kept_below trees) records in
+      let last = AllEntries-end_tree same trees (ComesFromBelow (length trees)) (kept_below trees) records in
       all_revisions_fall (with_revision same trees records) history
-      (each_tree_push (λ rev tree. AllEntries (ComesFromBelow rev) tree) trees (closing same trees records) nothing_falls all last)
+      (each_tree_push (λ rev tree. AllEntries (ComesFromBelow rev) tree) trees (end_tree same trees records) nothing_falls all last)
 
   falls_from_entry : (rev : ℕ) (from : List C) (from_rev : ℕ) (o : Option (Entry C M)) → IfSome o (ComesFromBelow rev)
       → option_and_then (λ entry. entry.origin) o ≡ Some (from, from_rev) → from_rev < rev
@@ -116,8 +116,8 @@ module _ {C M : Type 0} (same : C → C → Bool) (is : IsSame same) where
   all_revisions_there trees [] all = all
   all_revisions_there trees (records ∷ history) all =
       let next = with_revision same trees records in
-      let tree = closing same trees records in
-      let last = AllEntries-closing same trees (CameFromThere same trees) (kept_there trees) records in
+      let tree = end_tree same trees records in
+      let last = AllEntries-end_tree same trees (CameFromThere same trees) (kept_there trees) records in
       all_revisions_there next history
       (each_tree_push (λ rev t. AllEntries (CameFromThere same next) t) trees tree (λ rev. nothing_came same next)
       (λ rev. all_append trees (tree ∷ []) (tree_of trees rev) (all rev)) (all_append trees (tree ∷ []) tree last))

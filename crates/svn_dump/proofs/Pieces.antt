@@ -9,7 +9,7 @@ use Rattle.std.proofs.lemmas.List.Folds.{list_any-append}
 use Rattle.std.proofs.lemmas.Option.{none-some, some_pair_parts}
 use Rattle.svn_dump.specs.Block.{is_newline}
 use Rattle.svn_dump.specs.Number.{is_digit, number_of, number_up_to}
-use Rattle.svn_dump.specs.Property.{counted, piece_of}
+use Rattle.svn_dump.specs.Property.{text_of_length, piece_of}
 
 -- what a test lets through
 some_when : {X : Type 0} (b : Bool) (o : Option X) (x : X) → (if b then o else None) ≡ Some x → (b ≡ true) × (o ≡ Some x)
@@ -70,8 +70,8 @@ number_of-plain digits n e =
 
 -- ---- so many bytes and a newline
 
-pub counted-front : (text rest : List ℕ) → counted (text ++ 10 ∷ rest) (length text) ≡ Some (text, rest)
-counted-front text rest =
+pub text_of_length-front : (text rest : List ℕ) → text_of_length (text ++ 10 ∷ rest) (length text) ≡ Some (text, rest)
+text_of_length-front text rest =
     let bytes = text ++ 10 ∷ rest in
     let long : length bytes ≡ length text + (1 + length rest) = length-append text (10 ∷ rest) ∙ omega arith in
     let within : nat_lt (length text) (length bytes) ≡ true = lt-ltb _ _ (omega arith) in
@@ -79,8 +79,8 @@ counted-front text rest =
     cond-true _ _ _ (and_from _ _ within (eq-eqb _ _ newline))
     ∙ ap₂ (λ front more. Some (front, more)) (take-append_seam text (10 ∷ rest)) (behind-seam text rest)
 
-pub counted-Some : (bytes : List ℕ) (n : ℕ) (text rest : List ℕ) → counted bytes n ≡ Some (text, rest) → (n ≡ length text) × (bytes ≡ text ++ 10 ∷ rest)
-counted-Some bytes n text rest e =
+pub text_of_length-Some : (bytes : List ℕ) (n : ℕ) (text rest : List ℕ) → text_of_length bytes n ≡ Some (text, rest) → (n ≡ length text) × (bytes ≡ text ++ 10 ∷ rest)
+text_of_length-Some bytes n text rest e =
     let tests = some_when _ _ _ e in
     let inside = and_parts (nat_lt n (length bytes)) (get_or bytes n 0 == 10) tests.0 in
     let within = ltb-true n (length bytes) inside.0 in
@@ -90,32 +90,32 @@ counted-Some bytes n text rest e =
           ∙ ap₂ (λ front more. front ++ 10 ∷ more) parts.0 parts.1,
     )
 
-counted-beyond : (bytes : List ℕ) (n : ℕ) → length bytes ≤ n → counted bytes n ≡ None
-counted-beyond bytes n past = cond-false _ _ _ (and_left (nat_lt n (length bytes)) _ (le-ltb n (length bytes) past))
+text_of_length-beyond : (bytes : List ℕ) (n : ℕ) → length bytes ≤ n → text_of_length bytes n ≡ None
+text_of_length-beyond bytes n past = cond-false _ _ _ (and_left (nat_lt n (length bytes)) _ (le-ltb n (length bytes) past))
 
 -- a number past the bytes may be refused before they are looked at
-pub counted-up_to : (bytes digits : List ℕ) (most : ℕ) → length bytes ≤ most → option_and_then (counted bytes) (number_up_to most digits) ≡ option_and_then (counted bytes) (number_of digits)
-counted-up_to bytes digits most long = by_number (number_of digits)
+pub text_of_length-up_to : (bytes digits : List ℕ) (most : ℕ) → length bytes ≤ most → option_and_then (text_of_length bytes) (number_up_to most digits) ≡ option_and_then (text_of_length bytes) (number_of digits)
+text_of_length-up_to bytes digits most long = by_number (number_of digits)
   where
-    by_number : (o : Option ℕ) → option_and_then (counted bytes) (option_and_then (λ value. if nat_le value most then Some value else None) o) ≡ option_and_then (counted bytes) o
+    by_number : (o : Option ℕ) → option_and_then (text_of_length bytes) (option_and_then (λ value. if nat_le value most then Some value else None) o) ≡ option_and_then (text_of_length bytes) o
     by_number None = refl
     by_number (Some value) =
         elim (cases_lt most value) [
-          | inl past ↦ ap (option_and_then (counted bytes)) (cond-false _ _ _ (lt-leb value most past)) ∙ sym (counted-beyond bytes value (omega arith))
-          | inr within ↦ ap (option_and_then (counted bytes)) (cond-true _ _ _ (le-leb value most within))
+          | inl past ↦ ap (option_and_then (text_of_length bytes)) (cond-false _ _ _ (lt-leb value most past)) ∙ sym (text_of_length-beyond bytes value (omega arith))
+          | inr within ↦ ap (option_and_then (text_of_length bytes)) (cond-true _ _ _ (le-leb value most within))
         ]
 
 -- ---- pieces
 
 -- a piece is read by its line
-pub piece_of-front : (letter : ℕ) (line rest : List ℕ) → letter ≢ 10 → list_any is_newline line ≡ false → piece_of letter (letter ∷ 32 ∷ (line ++ 10 ∷ rest)) ≡ option_and_then (counted rest) (number_of line)
+pub piece_of-front : (letter : ℕ) (line rest : List ℕ) → letter ≢ 10 → list_any is_newline line ≡ false → piece_of letter (letter ∷ 32 ∷ (line ++ 10 ∷ rest)) ≡ option_and_then (text_of_length rest) (number_of line)
 piece_of-front letter line rest other none =
     let whole : List ℕ = letter ∷ 32 ∷ line in
     let plain : list_any is_newline whole ≡ false = ap₂ (λ a b. a || b) (ne_eqb letter 10 other) none in
     let starts : starts_with nat_eq (whole ++ 10 ∷ rest) (letter ∷ 32 ∷ []) ≡ true = rw (eq-eqb letter letter refl) refl in
     let has_newline : list_any is_newline (whole ++ 10 ∷ rest) ≡ true = list_any-append is_newline whole (10 ∷ rest) ∙ or_right _ _ refl in
     cond-true _ _ _ (and_from _ _ starts has_newline)
-    ∙ ap₂ (λ front more. option_and_then (counted more) (number_of (drop 2 front))) (before_first-front whole rest plain) (after_first-front whole rest plain)
+    ∙ ap₂ (λ front more. option_and_then (text_of_length more) (number_of (drop 2 front))) (before_first-front whole rest plain) (after_first-front whole rest plain)
 
 -- a piece that was read, and what follows it
 pub record IsPieceRead (letter : ℕ) (bytes text rest : List ℕ) : Type 0 where
@@ -127,12 +127,12 @@ pub piece_of-read : (letter : ℕ) (bytes text rest : List ℕ) → letter ≢ 1
 piece_of-read letter bytes text rest other read =
     ap (piece_of letter) read.whole
     ∙ piece_of-front letter read.digits (text ++ 10 ∷ rest) other (number_of-plain read.digits (length text) read.number)
-    ∙ ap (option_and_then (counted (text ++ 10 ∷ rest))) read.number ∙ counted-front text rest
+    ∙ ap (option_and_then (text_of_length (text ++ 10 ∷ rest))) read.number ∙ text_of_length-front text rest
 
-read_by_line : (letter : ℕ) (line more text rest : List ℕ) (o : Option ℕ) → number_of line ≡ o → option_and_then (counted more) o ≡ Some (text, rest) → IsPieceRead letter (letter ∷ 32 ∷ (line ++ 10 ∷ more)) text rest
+read_by_line : (letter : ℕ) (line more text rest : List ℕ) (o : Option ℕ) → number_of line ≡ o → option_and_then (text_of_length more) o ≡ Some (text, rest) → IsPieceRead letter (letter ∷ 32 ∷ (line ++ 10 ∷ more)) text rest
 read_by_line letter line more text rest None number e = absurd (none-some _ e)
 read_by_line letter line more text rest (Some n) number e =
-    let parts = counted-Some more n text rest e in
+    let parts = text_of_length-Some more n text rest e in
     record { digits = line; number = number ∙ ap Some parts.0; whole = ap (λ bytes. letter ∷ 32 ∷ (line ++ 10 ∷ bytes)) parts.1 }
 
 pub IsPieceRead-Some : (letter : ℕ) (bytes text rest : List ℕ) → letter ≢ 10 → piece_of letter bytes ≡ Some (text, rest) → IsPieceRead letter bytes text rest
@@ -160,7 +160,7 @@ length-piece letter bytes text rest read =
     omega (arith, ap length read.whole, length-append read.digits (10 ∷ (text ++ 10 ∷ rest)), length-append text (10 ∷ rest))
 
 -- a piece, by the cuts that a reader makes
-pub piece_of-cut : (letter : ℕ) (bytes more digits rest : List ℕ) (o : Option ℕ) (most : ℕ) → letter ≢ 10 → bytes ≡ letter ∷ 32 ∷ more → list_any is_newline digits ≡ false → more ≡ digits ++ 10 ∷ rest → length rest ≤ most → o ≡ number_up_to most digits → option_and_then (counted rest) o ≡ piece_of letter bytes
+pub piece_of-cut : (letter : ℕ) (bytes more digits rest : List ℕ) (o : Option ℕ) (most : ℕ) → letter ≢ 10 → bytes ≡ letter ∷ 32 ∷ more → list_any is_newline digits ≡ false → more ≡ digits ++ 10 ∷ rest → length rest ≤ most → o ≡ number_up_to most digits → option_and_then (text_of_length rest) o ≡ piece_of letter bytes
 piece_of-cut letter bytes more digits rest o most other front plain line long number =
-    ap (option_and_then (counted rest)) number ∙ counted-up_to rest digits most long
+    ap (option_and_then (text_of_length rest)) number ∙ text_of_length-up_to rest digits most long
     ∙ sym (ap (piece_of letter) (front ∙ ap (λ all. letter ∷ 32 ∷ all) line) ∙ piece_of-front letter digits rest other plain)

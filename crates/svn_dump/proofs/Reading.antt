@@ -9,16 +9,16 @@ use Rattle.std.proofs.lemmas.List.{nil_from_length}
 use Rattle.svn_path.specs.Components.{is_not_empty}
 use Rattle.svn_dump.specs.Block.{AreBlocks, Block, block_text, is_newline}
 use Rattle.svn_dump.specs.Draft.{dump_of, IsWhole}
-use Rattle.svn_dump.specs.Dump.{DumpValue, IsDump, history_shown}
+use Rattle.svn_dump.specs.Dump.{DumpValue, IsDump, history_in_bytes}
 use Rattle.svn_dump.specs.DumpError.{IsRefusal}
 use Rattle.svn_dump.specs.DumpText.{IsDumpText, IsSmall, first_line, names_of, values_of}
-use Rattle.svn_dump.specs.FirstRefusal.{after_block, block_at, block_refusal, end_refusal, first_refusal, front_refusals, line_refusals, refusal_from, refused_or, without_empty_lines}
-use Rattle.svn_dump.specs.Found.{AddsBlock, BeginsWithBlock, IsBlockRefusal}
-use Rattle.svn_dump.specs.ReadError.{told_at}
+use Rattle.svn_dump.specs.FirstRefusal.{after_block, block_at, block_refusal, end_refusal, first_refusal, front_refusals, line_refusals, refusal_from, refusal_or, without_empty_lines}
+use Rattle.svn_dump.specs.FrontBlock.{AddsBlock, BeginsWithBlock, IsBlockRefusal}
+use Rattle.svn_dump.specs.ReadError.{dump_error_at}
 use Rattle.svn_dump.specs.Record.{HistoryOfBytes, history_of, sort_of, with_block, with_sort}
 use Rattle.svn_dump.specs.Refusal.{first_holding, sort_refusals}
-use Rattle.svn_dump.specs.Said.{sort_said}
-use Rattle.svn_dump.specs.Told.{IsFirst}
+use Rattle.svn_dump.specs.HeaderValues.{sort_from_headers}
+use Rattle.svn_dump.specs.NumberedRecord.{IsFirstReason}
 use Rattle.svn_dump.specs.declared.error.DumpError.{DumpError}
 use Rattle.svn_dump.specs.declared.error.DumpError.TheVariants as dump
 use Rattle.svn_dump.specs.declared.read_error.ReadError.{ReadError}
@@ -28,21 +28,21 @@ use Rattle.svn_dump.specs.declared.refusal.Refusal.TheVariants.{Revision}
 use Rattle.svn_dump.proofs.FirstRefusals.{after_first_line, first_line_taken, length-after_line, length-block, no_first, refusal_at-block, refusal_from-at}
 use Rattle.svn_dump.proofs.Drafts.{IsWhole-none}
 use Rattle.svn_dump.proofs.Fronts.{front-block, without_empty_lines-front}
-use Rattle.svn_dump.proofs.Histories.{length-history_shown}
+use Rattle.svn_dump.proofs.Histories.{length-history_in_bytes}
 use Rattle.svn_dump.proofs.Refusals.{first_holding-append, first_holding-front}
-use Rattle.svn_dump.proofs.Sorts.{sort_said-block}
+use Rattle.svn_dump.proofs.Sorts.{sort_from_headers-block}
 
 -- ---- one block
 
 -- a found block, and what it adds
 pub AddsBlock-found :
     (bytes rest : List ℕ) (values : List (Option (List ℕ))) (properties : List ℕ) (old new : HistoryOfBytes) →
-    BeginsWithBlock bytes values properties rest → with_sort old (sort_said values properties) ≡ Some new → AddsBlock bytes rest old new
+    BeginsWithBlock bytes values properties rest → with_sort old (sort_from_headers values properties) ≡ Some new → AddsBlock bytes rest old new
 AddsBlock-found bytes rest values properties old new found told = record {
   block = found.block;
   is_block = found.is_block;
   whole = found.whole;
-  told = ap (with_sort old) (sym (sort_said-block bytes rest values properties found)) ∙ told;
+  adds = ap (with_sort old) (sym (sort_from_headers-block bytes rest values properties found)) ∙ told;
 }
 
 -- a block whose form is told against
@@ -53,14 +53,14 @@ block_refusal-front history bytes refusal first = first_holding-front (front_ref
 -- a found block that is told against
 pub IsBlockRefusal-found :
     (history : HistoryOfBytes) (bytes rest : List ℕ) (values : List (Option (List ℕ))) (properties : List ℕ) (e : ReadError) →
-    BeginsWithBlock bytes values properties rest → IsFirst (sort_refusals history (sort_said values properties)) e → IsBlockRefusal history bytes e
+    BeginsWithBlock bytes values properties rest → IsFirstReason (sort_refusals history (sort_from_headers values properties)) e → IsBlockRefusal history bytes e
 unfolding block_refusal
 IsBlockRefusal-found history bytes rest values properties (read.Refused refusal) found is =
     let front = front-block bytes rest found.block found.is_block found.whole in
     first_holding-append (front_refusals bytes) (sort_refusals history (sort_of (block_at bytes)))
     ∙ ap (λ first. option_or first (first_holding (sort_refusals history (sort_of (block_at bytes))))) front.0
     ∙ ap (λ block. first_holding (sort_refusals history (sort_of block))) front.1
-    ∙ ap (λ sort. first_holding (sort_refusals history sort)) (sym (sort_said-block bytes rest values properties found)) ∙ is
+    ∙ ap (λ sort. first_holding (sort_refusals history sort)) (sym (sort_from_headers-block bytes rest values properties found)) ∙ is
 IsBlockRefusal-found history bytes rest values properties read.Memory found is = tt
 
 -- ---- the blocks so far
@@ -70,12 +70,12 @@ IsBlockRefusal-found history bytes rest values properties read.Memory found is =
 pub record IsRead (bytes rest : List ℕ) (draft : DumpValue) : Type 0 where
   pub done : List Block
   pub begins : (more : List Block) → AreBlocks rest more → (after : List ℕ) × (bytes ≡ first_line ++ after) × AreBlocks after (done ++ more)
-  pub tells : history_of done ≡ Some (history_shown draft)
+  pub tells : history_of done ≡ Some (history_in_bytes draft)
   pub whole : IsWhole draft
   pub within : length rest ≤ length bytes
   pub most : ℕ
   pub enough : length rest < suc most
-  pub refusal : first_refusal bytes ≡ refusal_from (suc most) (length bytes) (history_shown draft) rest
+  pub refusal : first_refusal bytes ≡ refusal_from (suc most) (length bytes) (history_in_bytes draft) rest
 
 first_refusal-line : (bytes rest : List ℕ) → bytes ≡ first_line ++ rest → first_refusal bytes ≡ refusal_from (length bytes) (length bytes) [] rest
 unfolding first_refusal
@@ -103,15 +103,15 @@ length-skipped rest block front =
     let skipped = without_empty_lines-front rest in
     omega (arith, ap length skipped.1, length-append (replicate skipped.0 10) (without_empty_lines rest), ap length front)
 
-pub length-added : (rest block after : List ℕ) (old new : HistoryOfBytes) → block ≡ without_empty_lines rest → AddsBlock block after old new → length after < length rest
-length-added rest block after old new front added = omega (arith, length-skipped rest block front, length-block [] added.block after block added.whole)
+pub length-tree_after_add : (rest block after : List ℕ) (old new : HistoryOfBytes) → block ≡ without_empty_lines rest → AddsBlock block after old new → length after < length rest
+length-tree_after_add rest block after old new front added = omega (arith, length-skipped rest block front, length-block [] added.block after block added.whole)
 
 module _ (bytes rest block : List ℕ) (old : DumpValue) (before : IsRead bytes rest old) (front : block ≡ without_empty_lines rest) where
   -- what stands against the bytes stands against this block or what follows it
-  from_block : first_refusal bytes ≡ cond (is_not_empty block) (refused_or (block_refusal (history_shown old) block) (length bytes - length block) (option_and_then (λ after. refusal_from before.most (length bytes) after (after_block block)) (with_block (history_shown old) (block_at block)))) (end_refusal (length bytes) (history_shown old))
-  from_block = before.refusal ∙ refusal_from-at before.most (length bytes) (history_shown old) rest block (sym front)
+  from_block : first_refusal bytes ≡ cond (is_not_empty block) (refusal_or (block_refusal (history_in_bytes old) block) (length bytes - length block) (option_and_then (λ after. refusal_from before.most (length bytes) after (after_block block)) (with_block (history_in_bytes old) (block_at block)))) (end_refusal (length bytes) (history_in_bytes old))
+  from_block = before.refusal ∙ refusal_from-at before.most (length bytes) (history_in_bytes old) rest block (sym front)
 
-  pub IsRead-more : (after : List ℕ) (new : DumpValue) → AddsBlock block after (history_shown old) (history_shown new) → (IsWhole old → IsWhole new) → IsRead bytes after new
+  pub IsRead-more : (after : List ℕ) (new : DumpValue) → AddsBlock block after (history_in_bytes old) (history_in_bytes new) → (IsWhole old → IsWhole new) → IsRead bytes after new
   IsRead-more after new added keeps =
       let whole = keeps before.whole in
       let skipped = without_empty_lines-front rest in
@@ -124,23 +124,23 @@ module _ (bytes rest block : List ℕ) (old : DumpValue) (before : IsRead bytes 
             (from, begins, subst (AreBlocks from) (sym (append_assoc before.done (added.block ∷ []) more)) all);
         tells =
             fold-append (λ so_far block. option_and_then (λ history. with_block history block) so_far) (Some []) before.done (added.block ∷ [])
-            ∙ ap (option_and_then (λ history. with_block history added.block)) before.tells ∙ added.told;
+            ∙ ap (option_and_then (λ history. with_block history added.block)) before.tells ∙ added.adds;
         whole = whole;
         within = omega (arith, shorter, before.within);
         most = before.most - 1;
         enough = omega (arith, shorter, before.enough);
         refusal =
             let long : before.most ≡ suc (before.most - 1) = omega (arith, shorter, before.enough) in
-            from_block ∙ refusal_at-block (history_shown old) (history_shown new) block after added.block added.is_block added.whole added.told before.most (length bytes) whole.small
-            ∙ ap (λ n. refusal_from n (length bytes) (history_shown new) after) long;
+            from_block ∙ refusal_at-block (history_in_bytes old) (history_in_bytes new) block after added.block added.is_block added.whole added.adds before.most (length bytes) whole.small
+            ∙ ap (λ n. refusal_from n (length bytes) (history_in_bytes new) after) long;
       }
 
   -- a refusal of the block is that of the bytes
-  pub IsRefusal-block : (e : ReadError) → is_not_empty block ≡ true → (IsWhole old → IsBlockRefusal (history_shown old) block e) → IsRefusal bytes (told_at (length bytes - length block) e)
+  pub IsRefusal-block : (e : ReadError) → is_not_empty block ≡ true → (IsWhole old → IsBlockRefusal (history_in_bytes old) block e) → IsRefusal bytes (dump_error_at (length bytes - length block) e)
   IsRefusal-block (read.Refused refusal) some is = record {
     refusal = refusal;
     first = from_block ∙ cond-true _ _ _ some
-        ∙ ap (λ first. refused_or first (length bytes - length block) (option_and_then (λ after. refusal_from before.most (length bytes) after (after_block block)) (with_block (history_shown old) (block_at block)))) (is before.whole);
+        ∙ ap (λ first. refusal_or first (length bytes - length block) (option_and_then (λ after. refusal_from before.most (length bytes) after (after_block block)) (with_block (history_in_bytes old) (block_at block)))) (is before.whole);
     numbered = refl;
   }
   IsRefusal-block read.Memory some is = tt
@@ -148,11 +148,11 @@ module _ (bytes rest block : List ℕ) (old : DumpValue) (before : IsRead bytes 
 -- ---- the whole dump
 
 -- a refusal of the first line
-pub IsRefusal-line : (bytes : List ℕ) (refusal : Refusal) → first_holding (line_refusals bytes) ≡ Some refusal → IsRefusal bytes (told_at 0 (read.Refused refusal))
+pub IsRefusal-line : (bytes : List ℕ) (refusal : Refusal) → first_holding (line_refusals bytes) ≡ Some refusal → IsRefusal bytes (dump_error_at 0 (read.Refused refusal))
 unfolding first_refusal
 IsRefusal-line bytes refusal first = record {
   refusal = refusal;
-  first = ap (λ o. refused_or o 0 (refusal_from (length bytes) (length bytes) [] (after_first is_newline bytes))) first;
+  first = ap (λ o. refusal_or o 0 (refusal_from (length bytes) (length bytes) [] (after_first is_newline bytes))) first;
   numbered = refl;
 }
 
@@ -162,37 +162,37 @@ module _ (bytes rest : List ℕ) (draft : DumpValue) (read : IsRead bytes rest d
       let skipped = without_empty_lines-front rest in
       (skipped.0, skipped.1 ∙ ap (λ more. replicate skipped.0 10 ++ more) ends ∙ append-nil (replicate skipped.0 10))
 
-  IsDumpText-read : (dump : DumpValue) → dump ≡ draft → IsDump dump → IsDumpText bytes (history_shown dump)
+  IsDumpText-read : (dump : DumpValue) → dump ≡ draft → IsDump dump → IsDumpText bytes (history_in_bytes dump)
   IsDumpText-read dump same kept =
       let (after, begins, blocks) = read.begins [] only_empty in record {
         rest = after;
         blocks = read.done;
         begins = begins;
         follows = subst (AreBlocks after) (append-nil read.done) blocks;
-        tells = read.tells ∙ ap (λ one. Some (history_shown one)) (sym same);
-        some_revision = λ none. kept.some_revision (nil_from_length dump.counts (sym (length-history_shown dump.names dump.records dump.counts dump.values) ∙ ap length none));
-        small = subst (λ one. IsSmall (history_shown one)) (sym same) read.whole.small;
+        tells = read.tells ∙ ap (λ one. Some (history_in_bytes one)) (sym same);
+        some_revision = λ none. kept.some_revision (nil_from_length dump.counts (sym (length-history_in_bytes dump.names dump.records dump.counts dump.values) ∙ ap length none));
+        small = subst (λ one. IsSmall (history_in_bytes one)) (sym same) read.whole.small;
       }
 
   -- what finishing the draft gave
-  pub IfOk-read : (result : Result DumpValue DumpError) → IfOk result (λ dump. dump ≡ draft) → IfOk result IsDump → IfOk result (λ dump. IsDumpText bytes (history_shown dump))
+  pub IfOk-read : (result : Result DumpValue DumpError) → IfOk result (λ dump. dump ≡ draft) → IfOk result IsDump → IfOk result (λ dump. IsDumpText bytes (history_in_bytes dump))
   IfOk-read (Ok dump) same kept = IsDumpText-read dump same kept
   IfOk-read (Err e) same kept = tt
 
-  pub IfOk-named : (result : Result DumpValue DumpError) → IfOk result (λ dump. dump ≡ draft) → IfOk result (λ dump. dump.names ≡ names_of (history_shown dump))
-  IfOk-named (Ok dump) same = subst (λ one. one.names ≡ names_of (history_shown one)) (sym same) read.whole.named
+  pub IfOk-named : (result : Result DumpValue DumpError) → IfOk result (λ dump. dump ≡ draft) → IfOk result (λ dump. dump.names ≡ names_of (history_in_bytes dump))
+  IfOk-named (Ok dump) same = subst (λ one. one.names ≡ names_of (history_in_bytes one)) (sym same) read.whole.named
   IfOk-named (Err e) same = tt
 
-  pub IfOk-valued : (result : Result DumpValue DumpError) → IfOk result (λ dump. dump ≡ draft) → IfOk result (λ dump. dump.values ≡ values_of (history_shown dump))
-  IfOk-valued (Ok dump) same = subst (λ one. one.values ≡ values_of (history_shown one)) (sym same) read.whole.valued
+  pub IfOk-valued : (result : Result DumpValue DumpError) → IfOk result (λ dump. dump ≡ draft) → IfOk result (λ dump. dump.values ≡ values_of (history_in_bytes dump))
+  IfOk-valued (Ok dump) same = subst (λ one. one.values ≡ values_of (history_in_bytes one)) (sym same) read.whole.valued
   IfOk-valued (Err e) same = tt
 
   -- the bytes end without a revision
   IsRefusal-end : draft.counts ≡ [] → IsRefusal bytes (dump.Refused 8 (length bytes))
   IsRefusal-end none =
-      let nothing : history_shown draft ≡ [] = nil_from_length (history_shown draft) (length-history_shown draft.names draft.records draft.counts draft.values ∙ ap length none) in record {
+      let nothing : history_in_bytes draft ≡ [] = nil_from_length (history_in_bytes draft) (length-history_in_bytes draft.names draft.records draft.counts draft.values ∙ ap length none) in record {
         refusal = Revision;
-        first = read.refusal ∙ refusal_from-at read.most (length bytes) (history_shown draft) rest [] ends ∙ ap (end_refusal (length bytes)) nothing;
+        first = read.refusal ∙ refusal_from-at read.most (length bytes) (history_in_bytes draft) rest [] ends ∙ ap (end_refusal (length bytes)) nothing;
         numbered = refl;
       }
 

@@ -5,6 +5,7 @@ use Rattle.std.specs.Prelude.{Option, Some, None, is_none, nat_lt, ◌==◌, opt
 use Rattle.std.specs.List.{list_all, list_any}
 use Rattle.std.specs.Option.{option_or}
 use Rattle.std.proofs.lemmas.Bool.{and_from, and_parts, both_ways, cases_Bool, cond-false, cond-true, ne_eqb, not-false, not-true, not_from_false, not_from_true, or_from, or_parts}
+use Rattle.std.proofs.Math.Bool.{or-true}
 use Rattle.std.proofs.lemmas.Option.{none-some, same_Some}
 use Rattle.svn_path.specs.Names.{with_names}
 use Rattle.svn_dump.specs.DumpText.{IsSmall, all_records, most_numbered, names_of, parts_of_record, texts_of_action, values_of}
@@ -12,8 +13,8 @@ use Rattle.svn_dump.specs.History.{Setting}
 use Rattle.svn_dump.specs.Node.{BlockSort, Node, NodeAction, node_block, other_block, revision_block, uuid_block}
 use Rattle.svn_dump.specs.Number.{number_of}
 use Rattle.svn_dump.specs.Record.{HistoryOfBytes, RecordOfBytes, has_dot, is_allowed, is_late, is_long, is_root_action, paths_read, record_by, record_of, with_numbered, with_record, with_sort}
-use Rattle.svn_dump.specs.Refusal.{Judged, action_refusals, first_holding, grows_large, is_large, judged, later_refusals, node_refusals, refusals_by, revision_refusals, size_refusals, sort_refusals}
-use Rattle.svn_dump.specs.Told.{IsFirst, is_record_large}
+use Rattle.svn_dump.specs.Refusal.{Reason, action_refusals, first_holding, grows_large, is_large, reason, later_refusals, node_refusals, refusals_by, revision_refusals, size_refusals, sort_refusals}
+use Rattle.svn_dump.specs.NumberedRecord.{IsFirstReason, is_record_large}
 use Rattle.svn_dump.specs.declared.read_error.ReadError.{ReadError}
 use Rattle.svn_dump.specs.declared.read_error.ReadError.TheVariants as read
 use Rattle.svn_dump.specs.declared.refusal.Refusal.{Refusal}
@@ -24,7 +25,7 @@ use Rattle.svn_dump.proofs.Histories.{all_records-with_record, all_records-with_
 -- ---- the first that holds
 
 -- the first of two lists is that of the first list, if it has one
-pub first_holding-append : (a b : List Judged) → first_holding (a ++ b) ≡ option_or (first_holding a) (first_holding b)
+pub first_holding-append : (a b : List Reason) → first_holding (a ++ b) ≡ option_or (first_holding a) (first_holding b)
 unfolding first_holding
 first_holding-append [] b = refl
 first_holding-append (each ∷ more) b = by each.holds (first_holding-append more b)
@@ -34,11 +35,11 @@ first_holding-append (each ∷ more) b = by each.holds (first_holding-append mor
     by false rest = rest
 
 -- so one that holds in front stays the first
-pub first_holding-front : (a b : List Judged) (refusal : Refusal) → first_holding a ≡ Some refusal → first_holding (a ++ b) ≡ Some refusal
+pub first_holding-front : (a b : List Reason) (refusal : Refusal) → first_holding a ≡ Some refusal → first_holding (a ++ b) ≡ Some refusal
 first_holding-front a b refusal at = first_holding-append a b ∙ ap (λ first. option_or first (first_holding b)) at
 
 -- and behind a list of which none holds the first is the later one
-pub first_holding-later : (a b : List Judged) → first_holding a ≡ None → first_holding (a ++ b) ≡ first_holding b
+pub first_holding-later : (a b : List Reason) → first_holding a ≡ None → first_holding (a ++ b) ≡ first_holding b
 first_holding-later a b at = first_holding-append a b ∙ ap (λ first. option_or first (first_holding b)) at
 
 -- where none holds
@@ -46,18 +47,18 @@ nothing_holds : first_holding [] ≡ None
 unfolding first_holding
 nothing_holds = refl
 
-none_holds : (refusal : Refusal) (holds : Bool) (more : List Judged) → holds ≡ false → first_holding more ≡ None → first_holding (judged refusal holds ∷ more) ≡ None
+none_holds : (refusal : Refusal) (holds : Bool) (more : List Reason) → holds ≡ false → first_holding more ≡ None → first_holding (reason refusal holds ∷ more) ≡ None
 unfolding first_holding
 none_holds refusal true more e rest = absurd (cc)
 none_holds refusal false more e rest = rest
 
 -- and what doesn't hold then
-pub none_holds-parts : (refusal : Refusal) (holds : Bool) (more : List Judged) → first_holding (judged refusal holds ∷ more) ≡ None → (holds ≡ false) × (first_holding more ≡ None)
+pub none_holds-parts : (refusal : Refusal) (holds : Bool) (more : List Reason) → first_holding (reason refusal holds ∷ more) ≡ None → (holds ≡ false) × (first_holding more ≡ None)
 unfolding first_holding
 none_holds-parts refusal true more none = absurd (cc)
 none_holds-parts refusal false more none = (refl, none)
 
-none_holds-append : (a b : List Judged) → first_holding (a ++ b) ≡ None → (first_holding a ≡ None) × (first_holding b ≡ None)
+none_holds-append : (a b : List Reason) → first_holding (a ++ b) ≡ None → (first_holding a ≡ None) × (first_holding b ≡ None)
 none_holds-append a b none = by (first_holding a) (first_holding b) (sym (first_holding-append a b) ∙ none)
   where
     by : (first later : Option Refusal) → option_or first later ≡ None → (first ≡ None) × (later ≡ None)
@@ -191,10 +192,6 @@ node_refusals-none revisions node is =
     ∙ first_holding-later (action_refusals (pred revisions) node is.action) (size_refusals node is.action false) parts.none
     ∙ none_holds TooLarge _ _ (or_from _ _ parts.short refl) nothing_holds))
 
-or_true : (b : Bool) → (b || true) ≡ true
-or_true true = refl
-or_true false = refl
-
 -- and only its size is against one that doesn't
 pub node_refusals-large : (revisions : ℕ) (node : Node) (each : RecordOfBytes) → record_of (pred revisions) node ≡ Some each → first_holding (node_refusals revisions node true) ≡ Some TooLarge
 unfolding first_holding node_refusals
@@ -204,7 +201,7 @@ node_refusals-large revisions node each told =
     cond-false _ _ _ (ap is_none is.settled) ∙ cond-false _ _ _ (or_from _ _ (some_revisions revisions parts.above) (ap is_none is.does))
     ∙ ap (λ o. first_holding (later_refusals (pred revisions) node true o)) is.does
     ∙ first_holding-later (action_refusals (pred revisions) node is.action) (size_refusals node is.action true) parts.none
-    ∙ cond-true _ _ _ (or_true (list_any is_long (paths_read node.path is.action)))
+    ∙ cond-true _ _ _ (or-true (list_any is_long (paths_read node.path is.action)))
 
 some_value : {A : Type 0} (o : Option A) → is_none o ≡ false → (value : A) × (o ≡ Some value)
 some_value None e = absurd (cc)
@@ -233,14 +230,14 @@ node_refusals-taken revisions node large none =
     record { setting = setting; action = action; settled = settled; does = does; none = none_3; short = short; small = small }
 
 -- a first reason stays the first if what follows it changes, and later ones stay
-first_holding-same : (front a b : List Judged) (refusal : Refusal) → (first_holding a ≡ Some refusal → first_holding b ≡ Some refusal) → first_holding (front ++ a) ≡ Some refusal → first_holding (front ++ b) ≡ Some refusal
+first_holding-same : (front a b : List Reason) (refusal : Refusal) → (first_holding a ≡ Some refusal → first_holding b ≡ Some refusal) → first_holding (front ++ a) ≡ Some refusal → first_holding (front ++ b) ≡ Some refusal
 first_holding-same front a b refusal onward at = first_holding-append front b ∙ by (first_holding front) (sym (first_holding-append front a) ∙ at)
   where
     by : (o : Option Refusal) → option_or o (first_holding a) ≡ Some refusal → option_or o (first_holding b) ≡ Some refusal
     by None e = onward e
     by (Some first) e = e
 
-size-larger : (refusal : Refusal) (long few many : Bool) → (few ≡ true → many ≡ true) → first_holding (judged TooLarge (long || few) ∷ []) ≡ Some refusal → first_holding (judged TooLarge (long || many) ∷ []) ≡ Some refusal
+size-larger : (refusal : Refusal) (long few many : Bool) → (few ≡ true → many ≡ true) → first_holding (reason TooLarge (long || few) ∷ []) ≡ Some refusal → first_holding (reason TooLarge (long || many) ∷ []) ≡ Some refusal
 unfolding first_holding
 size-larger refusal true few many more e = e
 size-larger refusal false true many more e = ap (λ holds. if holds then Some TooLarge else None) (more refl) ∙ e
@@ -256,7 +253,7 @@ later_refusals-larger rev node few many refusal (Some action) more e =
 pub node_refusals-larger : (revisions : ℕ) (node : Node) (few many : Bool) (refusal : Refusal) → (few ≡ true → many ≡ true) → first_holding (node_refusals revisions node few) ≡ Some refusal → first_holding (node_refusals revisions node many) ≡ Some refusal
 unfolding node_refusals
 node_refusals-larger revisions node few many refusal more e =
-    first_holding-same (judged Props (is_none node.setting) ∷ judged BadRecord (revisions == 0 || is_none node.action) ∷ [])
+    first_holding-same (reason Props (is_none node.setting) ∷ reason BadRecord (revisions == 0 || is_none node.action) ∷ [])
     (later_refusals (pred revisions) node few node.action) (later_refusals (pred revisions) node many node.action) refusal
     (later_refusals-larger (pred revisions) node few many refusal node.action more) e
 
@@ -358,10 +355,10 @@ IsSmall-before history after other_block told small = absurd (none-some after to
 -- ---- what grows too large
 
 -- what is against a node block, given that few or many things are too large
-pub IsFirst-node : (history : HistoryOfBytes) (node : Node) (large : Bool) (e : ReadError) → (large ≡ true → grows_large (with_sort history (node_block node)) ≡ true) → IsFirst (node_refusals (length history) node large) e → IsFirst (sort_refusals history (node_block node)) e
+pub IsFirstReason-node : (history : HistoryOfBytes) (node : Node) (large : Bool) (e : ReadError) → (large ≡ true → grows_large (with_sort history (node_block node)) ≡ true) → IsFirstReason (node_refusals (length history) node large) e → IsFirstReason (sort_refusals history (node_block node)) e
 unfolding refusals_by
-IsFirst-node history node large (read.Refused refusal) more is = node_refusals-larger (length history) node large (grows_large (with_sort history (node_block node))) refusal more is
-IsFirst-node history node large read.Memory more is = tt
+IsFirstReason-node history node large (read.Refused refusal) more is = node_refusals-larger (length history) node large (grows_large (with_sort history (node_block node))) refusal more is
+IsFirstReason-node history node large read.Memory more is = tt
 
 -- a record with too many names or texts makes the history too large
 pub grows_large-record : (history : HistoryOfBytes) (node : Node) → is_record_large (names_of history) (values_of history) (record_of (pred (length history)) node) ≡ true → grows_large (with_sort history (node_block node)) ≡ true

@@ -4,7 +4,7 @@ use Rattle.std.proofs.lemmas.Bool.{cases_order}
 use Rattle.std.proofs.lemmas.List.{length_push, get_or_append_left, get_or_push, get_or_past}
 use Rattle.std.proofs.lemmas.List.Sums.{fold_push, fold-append}
 use Rattle.svn_dump.specs.History.{Record, History}
-use Rattle.svn_dump.specs.Tree.{Tree, tree_of, apply, first_tree, carried, opening, closing, with_revision, trees_of}
+use Rattle.svn_dump.specs.Tree.{Tree, tree_of, tree_after_record, first_tree, tree_from_revision, start_tree, end_tree, with_revision, trees_of}
 
 -- ---- the tree of a revision
 
@@ -34,26 +34,26 @@ module _ {C M : Type 0} where
   -- ---- the tree with which a revision begins
 
   -- revision 0 begins with the root
-  pub opening-nil : opening {C = C} {M = M} [] ≡ first_tree
-  unfolding opening
-  opening-nil = refl
+  pub start_tree-nil : start_tree {C = C} {M = M} [] ≡ first_tree
+  unfolding start_tree
+  start_tree-nil = refl
 
-  -- a revision begins with the last tree, carried on
-  pub opening_push : (trees : List (Tree C M)) (tree : Tree C M) → opening (trees ++ tree ∷ []) ≡ carried (length trees) tree
-  unfolding opening
+  -- a revision begins with the last tree, each path come from itself
+  pub opening_push : (trees : List (Tree C M)) (tree : Tree C M) → start_tree (trees ++ tree ∷ []) ≡ tree_from_revision (length trees) tree
+  unfolding start_tree
   opening_push [] tree = refl
   opening_push (t ∷ trees) tree =
       let one_more : length (trees ++ tree ∷ []) ≡ length (t ∷ trees) = omega (arith, length_push trees tree) in
-      (λ i. carried (one_more i) (tree_of ((t ∷ trees) ++ tree ∷ []) (one_more i)))
-      ∙ ap (carried (length (t ∷ trees))) (tree_of_push (t ∷ trees) tree)
+      (λ i. tree_from_revision (one_more i) (tree_of ((t ∷ trees) ++ tree ∷ []) (one_more i)))
+      ∙ ap (tree_from_revision (length (t ∷ trees))) (tree_of_push (t ∷ trees) tree)
 
   -- the same, by the number of the last tree
-  pub opening_last : (trees : List (Tree C M)) → 0 < length trees → opening trees ≡ carried (length trees - 1) (tree_of trees (length trees - 1))
-  unfolding opening
+  pub opening_last : (trees : List (Tree C M)) → 0 < length trees → start_tree trees ≡ tree_from_revision (length trees - 1) (tree_of trees (length trees - 1))
+  unfolding start_tree
   opening_last [] some = absurd (omega arith)
   opening_last (tree ∷ trees) some =
       let last : length trees ≡ length (tree ∷ trees) - 1 = omega arith in
-      λ i. carried (last i) (tree_of (tree ∷ trees) (last i))
+      λ i. tree_from_revision (last i) (tree_of (tree ∷ trees) (last i))
 
 -- ---- one more revision
 
@@ -76,7 +76,7 @@ module _ {C M : Type 0} (same : C → C → Bool) where
 
   -- a revision adds one tree
   pub length-with_revision : (trees : List (Tree C M)) (records : List (Record C M)) → length (with_revision same trees records) ≡ length trees + 1
-  length-with_revision trees records = length_push trees (closing same trees records)
+  length-with_revision trees records = length_push trees (end_tree same trees records)
 
   -- revisions add as many trees as they are
   pub length-revisions : (trees : List (Tree C M)) (history : History C M)
@@ -97,7 +97,7 @@ module _ {C M : Type 0} (same : C → C → Bool) where
   tree_of-revisions trees (records ∷ history) rev within =
       let next = with_revision same trees records in
       tree_of-revisions next history rev (omega (arith, length-with_revision trees records))
-      ∙ tree_of-append trees (closing same trees records ∷ []) rev within
+      ∙ tree_of-append trees (end_tree same trees records ∷ []) rev within
 
   -- a revision of a front has the same tree in the whole history
   pub tree_of-front : (history more : History C M) (rev : ℕ) → rev < length history
@@ -108,7 +108,7 @@ module _ {C M : Type 0} (same : C → C → Bool) where
 
   -- the tree of a revision is what its records make of the trees before it
   pub tree_of_next : (history : History C M) (records : List (Record C M)) (more : History C M)
-      → tree_of (trees_of same (history ++ records ∷ more)) (length history) ≡ closing same (trees_of same history) records
+      → tree_of (trees_of same (history ++ records ∷ more)) (length history) ≡ end_tree same (trees_of same history) records
   tree_of_next history records more =
       let trees = trees_of same history in
       let number = length history in
@@ -116,14 +116,14 @@ module _ {C M : Type 0} (same : C → C → Bool) where
       ∙ tree_of-front (history ++ records ∷ []) more number (omega (arith, length_push history records))
       ∙ ap (λ ts. tree_of ts number) (trees_of_push history records)
       ∙ ap (tree_of (with_revision same trees records)) (sym (length-trees_of history))
-      ∙ tree_of_push trees (closing same trees records)
+      ∙ tree_of_push trees (end_tree same trees records)
 
   -- one more record is applied to the tree after the others
-  pub closing_push : (trees : List (Tree C M)) (records : List (Record C M)) (each : Record C M)
-      → closing same trees (records ++ each ∷ []) ≡ apply same trees (closing same trees records) each
-  closing_push trees records each = fold_push (apply same trees) (opening trees) records each
+  pub end_tree_push : (trees : List (Tree C M)) (records : List (Record C M)) (each : Record C M)
+      → end_tree same trees (records ++ each ∷ []) ≡ tree_after_record same trees (end_tree same trees records) each
+  end_tree_push trees records each = fold_push (tree_after_record same trees) (start_tree trees) records each
 
-  -- after a revision the next begins with its tree, carried on
+  -- after a revision the next begins with its tree, each path come from itself
   pub opening_next : (trees : List (Tree C M)) (records : List (Record C M))
-      → opening (with_revision same trees records) ≡ carried (length trees) (closing same trees records)
-  opening_next trees records = opening_push trees (closing same trees records)
+      → start_tree (with_revision same trees records) ≡ tree_from_revision (length trees) (end_tree same trees records)
+  opening_next trees records = opening_push trees (end_tree same trees records)

@@ -3,53 +3,53 @@ use Rattle.std.proofs.Common.{◌≡◌, ℕ, List, [], ◌∷◌, length, take,
 use Rattle.std.specs.Prelude.{Option, Some, None, option_map}
 use Rattle.svn_dump.specs.Block.{Block, properties_length}
 use Rattle.svn_dump.specs.Field.{fields_of}
-use Rattle.svn_dump.specs.Found.{BeginsWithBlock}
+use Rattle.svn_dump.specs.FrontBlock.{BeginsWithBlock}
 use Rattle.svn_dump.specs.History.{put}
-use Rattle.svn_dump.specs.Node.{Node, node_block, other_block, revision_block, sorted, uuid_block}
+use Rattle.svn_dump.specs.Node.{Node, node_block, other_block, revision_block, sort_by_fields, uuid_block}
 use Rattle.svn_dump.specs.Property.{last_value, mergeinfo_name, section_of, setting_of}
 use Rattle.svn_dump.specs.Record.{is_delta, node_action_of, node_of, sort_of}
-use Rattle.svn_dump.specs.Said.{node_said, setting_said, sort_said, value_of}
+use Rattle.svn_dump.specs.HeaderValues.{node_from_headers, setting_from_section, sort_from_headers, value_of}
 use Rattle.svn_dump.specs.declared.field.Field.TheVariants.{RevisionNumber, NodePath, Uuid}
 
 -- ---- by the values that are there
 
 module _ (values : List (Option (List ℕ))) (properties : List ℕ) where
-  by_values : (number path uuid : Option (List ℕ)) → value_of values RevisionNumber ≡ number → value_of values NodePath ≡ path → value_of values Uuid ≡ uuid → sort_said values properties ≡ sorted number (option_map (node_said values properties) path) uuid
-  unfolding sort_said
+  by_values : (number path uuid : Option (List ℕ)) → value_of values RevisionNumber ≡ number → value_of values NodePath ≡ path → value_of values Uuid ≡ uuid → sort_from_headers values properties ≡ sort_by_fields number (option_map (node_from_headers values properties) path) uuid
+  unfolding sort_from_headers
   by_values number path uuid h i j =
-      ap₂ (λ a b. sorted a (option_map (node_said values properties) b) (value_of values Uuid)) h i ∙ ap (sorted number (option_map (node_said values properties) path)) j
+      ap₂ (λ a b. sort_by_fields a (option_map (node_from_headers values properties) b) (value_of values Uuid)) h i ∙ ap (sort_by_fields number (option_map (node_from_headers values properties) path)) j
 
-  pub sort_said-revision : (number : List ℕ) → value_of values RevisionNumber ≡ Some number → sort_said values properties ≡ revision_block number
+  pub sort_said-revision : (number : List ℕ) → value_of values RevisionNumber ≡ Some number → sort_from_headers values properties ≡ revision_block number
   sort_said-revision number h = by_values (Some number) (value_of values NodePath) (value_of values Uuid) h refl refl
 
-  pub sort_said-node : (path : List ℕ) → value_of values RevisionNumber ≡ None → value_of values NodePath ≡ Some path → sort_said values properties ≡ node_block (node_said values properties path)
+  pub sort_said-node : (path : List ℕ) → value_of values RevisionNumber ≡ None → value_of values NodePath ≡ Some path → sort_from_headers values properties ≡ node_block (node_from_headers values properties path)
   sort_said-node path h i = by_values None (Some path) (value_of values Uuid) h i refl
 
-  pub sort_said-uuid : (uuid : List ℕ) → value_of values RevisionNumber ≡ None → value_of values NodePath ≡ None → value_of values Uuid ≡ Some uuid → sort_said values properties ≡ uuid_block
+  pub sort_said-uuid : (uuid : List ℕ) → value_of values RevisionNumber ≡ None → value_of values NodePath ≡ None → value_of values Uuid ≡ Some uuid → sort_from_headers values properties ≡ uuid_block
   sort_said-uuid uuid h i j = by_values None None (Some uuid) h i j
 
-  pub sort_said-other : value_of values RevisionNumber ≡ None → value_of values NodePath ≡ None → value_of values Uuid ≡ None → sort_said values properties ≡ other_block
+  pub sort_said-other : value_of values RevisionNumber ≡ None → value_of values NodePath ≡ None → value_of values Uuid ≡ None → sort_from_headers values properties ≡ other_block
   sort_said-other h i j = by_values None None None h i j
 
 -- ---- by the lines of the block
 
-setting_of-front : (section : Option ℕ) (properties body : List ℕ) → section ≡ Some (length properties) → properties ≡ take (length properties) body → setting_said properties ≡ setting_of section body
+setting_of-front : (section : Option ℕ) (properties body : List ℕ) → section ≡ Some (length properties) → properties ≡ take (length properties) body → setting_from_section properties ≡ setting_of section body
 setting_of-front section [] body long front = ap (λ n. setting_of n body) (sym long)
 setting_of-front section (byte ∷ properties) body long front =
     ap (λ all. option_map (λ given. put (last_value mergeinfo_name given)) (section_of all)) front ∙ ap (λ n. setting_of n body) (sym long)
 
-node_of-front : (block : Block) (properties path : List ℕ) → setting_said properties ≡ setting_of (properties_length block.lines) block.body → node_said (fields_of block.lines) properties path ≡ node_of block path
+node_of-front : (block : Block) (properties path : List ℕ) → setting_from_section properties ≡ setting_of (properties_length block.lines) block.body → node_from_headers (fields_of block.lines) properties path ≡ node_of block path
 node_of-front block properties path settled =
     ap (λ setting. let node : Node = record { path = path; action = node_action_of block.lines; is_delta = is_delta block.lines; setting = setting } in node) settled
 
-nodes-front : (block : Block) (properties : List ℕ) (path : Option (List ℕ)) → setting_said properties ≡ setting_of (properties_length block.lines) block.body → option_map (node_said (fields_of block.lines) properties) path ≡ option_map (node_of block) path
+nodes-front : (block : Block) (properties : List ℕ) (path : Option (List ℕ)) → setting_from_section properties ≡ setting_of (properties_length block.lines) block.body → option_map (node_from_headers (fields_of block.lines) properties) path ≡ option_map (node_of block) path
 nodes-front block properties None settled = refl
 nodes-front block properties (Some path) settled = ap Some (node_of-front block properties path settled)
 
 -- the same that its headers say
-pub sort_said-block : (bytes rest : List ℕ) (values : List (Option (List ℕ))) (properties : List ℕ) (found : BeginsWithBlock bytes values properties rest) → sort_said values properties ≡ sort_of found.block
-unfolding sort_said sort_of
-sort_said-block bytes rest values properties found =
-    ap (λ all. sort_said all properties) found.fields
-    ∙ ap (λ node. sorted (value_of (fields_of found.block.lines) RevisionNumber) node (value_of (fields_of found.block.lines) Uuid))
+pub sort_from_headers-block : (bytes rest : List ℕ) (values : List (Option (List ℕ))) (properties : List ℕ) (found : BeginsWithBlock bytes values properties rest) → sort_from_headers values properties ≡ sort_of found.block
+unfolding sort_from_headers sort_of
+sort_from_headers-block bytes rest values properties found =
+    ap (λ all. sort_from_headers all properties) found.fields
+    ∙ ap (λ node. sort_by_fields (value_of (fields_of found.block.lines) RevisionNumber) node (value_of (fields_of found.block.lines) Uuid))
     (nodes-front found.block properties (value_of (fields_of found.block.lines) NodePath) (setting_of-front (properties_length found.block.lines) properties found.block.body found.section found.front))

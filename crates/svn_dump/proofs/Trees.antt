@@ -3,7 +3,7 @@ use Rattle.std.proofs.Common.{◌≡◌, ℕ, Bool, false, not, if◌then◌else
 use Rattle.std.specs.Option.{option_or, option_map_or}
 use Rattle.svn_path.specs.Below.{IsSame, below, is_below, same_path}
 use Rattle.svn_dump.specs.History.{Setting, Action, delete, change, add, copy}
-use Rattle.svn_dump.specs.Tree.{Tree, Entry, entry_at, settled, without, changed, moved, tree_of, apply_action, first_tree, carried}
+use Rattle.svn_dump.specs.Tree.{Tree, Entry, entry_at, mergeinfo_after, tree_without, tree_with_mergeinfo, entry_of_copy, tree_of, tree_after_action, first_tree, tree_from_revision}
 use Rattle.svn_dump.specs.declared.kind.Kind.{Kind}
 use Rattle.svn_dump.specs.declared.kind.Kind.TheVariants.{Dir}
 use Rattle.svn_path.proofs.Belows.{below-itself, same_path-is}
@@ -11,7 +11,7 @@ use Rattle.svn_dump.proofs.Belows.{same_path_front, same_path_by_below, same_pat
 
 -- the entry with the mergeinfo that a record leaves
 abbrev pub settled_entry : {C M : Type 0} → Setting M → Entry C M → Entry C M
-settled_entry setting e = record e { mergeinfo = settled setting e.mergeinfo }
+settled_entry setting e = record e { mergeinfo = mergeinfo_after setting e.mergeinfo }
 
 -- the same for the entry at the record's path, given what is left of the entry's path below that; another entry stays
 abbrev pub settled_entry_at : {C M : Type 0} → Setting M → List C → Entry C M → Entry C M
@@ -24,7 +24,7 @@ entry_from from rev e = record e { origin = Some (from, rev) }
 
 -- what an addition puts at its path
 abbrev pub new_entry : {C M : Type 0} → Kind → Setting M → Entry C M
-new_entry kind setting = record { kind = kind; mergeinfo = settled setting None; origin = None }
+new_entry kind setting = record { kind = kind; mergeinfo = mergeinfo_after setting None; origin = None }
 
 -- what it leaves there and below
 abbrev pub added_entry : {C M : Type 0} → Kind → Setting M → List C → Option (Entry C M)
@@ -101,28 +101,28 @@ module _ {C M : Type 0} (same : C → C → Bool) (is : IsSame same) where
 
   -- a path taken out, with all below it
   pub entry_at-without : (path : List C) (tree : Tree C M) (at : List C)
-      → entry_at same (without same path tree) at ≡ (if is_below same path at then None else entry_at same tree at)
+      → entry_at same (tree_without same path tree) at ≡ (if is_below same path at then None else entry_at same tree at)
   unfolding entry_at
   entry_at-without path tree at = grind (arith, entry_at-filter (λ p. not (is_below same path p)) tree at)
 
   -- other mergeinfo at a path
   pub entry_at-changed : (path : List C) (setting : Setting M) (tree : Tree C M) (at : List C)
-      → entry_at same (changed same path setting tree) at
+      → entry_at same (tree_with_mergeinfo same path setting tree) at
       ≡ (if same_path same at path then option_map (settled_entry setting) (entry_at same tree at) else entry_at same tree at)
   unfolding entry_at
   entry_at-changed path setting [] at = grind arith
   entry_at-changed path setting (each ∷ tree) at = grind (arith, (same_path-is is each.0 at).0, entry_at-changed path setting tree at)
 
   -- each entry come from itself in the revision before
-  pub entry_at-carried : (rev : ℕ) (tree : Tree C M) (at : List C)
-      → entry_at same (carried rev tree) at ≡ option_map (entry_from at rev) (entry_at same tree at)
+  pub entry_at-tree_from_revision : (rev : ℕ) (tree : Tree C M) (at : List C)
+      → entry_at same (tree_from_revision rev tree) at ≡ option_map (entry_from at rev) (entry_at same tree at)
   unfolding entry_at
-  entry_at-carried rev [] at = refl
-  entry_at-carried rev (each ∷ tree) at = grind (arith, (same_path-is is each.0 at).0, entry_at-carried rev tree at)
+  entry_at-tree_from_revision rev [] at = refl
+  entry_at-tree_from_revision rev (each ∷ tree) at = grind (arith, (same_path-is is each.0 at).0, entry_at-tree_from_revision rev tree at)
 
   -- the copied subtree has nothing that is not under the copy's path
   pub entry_at-moved_apart : (from : List C) (from_rev : ℕ) (path : List C) (tree : Tree C M) (at : List C) → below same path at ≡ None
-      → entry_at same (filter_map (moved same from from_rev path) tree) at ≡ None
+      → entry_at same (filter_map (entry_of_copy same from from_rev path) tree) at ≡ None
   unfolding entry_at
   entry_at-moved_apart from from_rev path [] at apart = refl
   entry_at-moved_apart from from_rev path (each ∷ tree) at apart =
@@ -130,7 +130,7 @@ module _ {C M : Type 0} (same : C → C → Bool) (is : IsSame same) where
 
   -- and what the source has, at the place that is as far under the copy's path
   pub entry_at-moved_under : (from : List C) (from_rev : ℕ) (path : List C) (tree : Tree C M) (at rest : List C) → below same path at ≡ Some rest
-      → entry_at same (filter_map (moved same from from_rev path) tree) at
+      → entry_at same (filter_map (entry_of_copy same from from_rev path) tree) at
       ≡ option_map (entry_from (from ++ rest) from_rev) (entry_at same tree (from ++ rest))
   unfolding entry_at
   entry_at-moved_under from from_rev path [] at rest under = refl
@@ -140,10 +140,10 @@ module _ {C M : Type 0} (same : C → C → Bool) (is : IsSame same) where
       grind (arith, same_path_moved same is from path each.0 at, apart_from_below same is from each.0 rest, found, more)
 
   -- both, by what is left of the path
-  pub entry_at-moved : (from : List C) (from_rev : ℕ) (path : List C) (tree : Tree C M) (at : List C)
-      → entry_at same (filter_map (moved same from from_rev path) tree) at
+  pub entry_at-entry_of_copy : (from : List C) (from_rev : ℕ) (path : List C) (tree : Tree C M) (at : List C)
+      → entry_at same (filter_map (entry_of_copy same from from_rev path) tree) at
       ≡ option_and_then (λ rest. option_map (entry_from (from ++ rest) from_rev) (entry_at same tree (from ++ rest))) (below same path at)
-  entry_at-moved from from_rev path tree at =
+  entry_at-entry_of_copy from from_rev path tree at =
       grind (arith, entry_at-moved_apart from from_rev path tree at, entry_at-moved_under from from_rev path tree at)
 
   -- ---- actions
@@ -151,32 +151,32 @@ module _ {C M : Type 0} (same : C → C → Bool) (is : IsSame same) where
   module _ (trees : List (Tree C M)) (path : List C) where
     -- nothing at the path or below it
     pub entry_at-delete : (tree : Tree C M) (at : List C)
-        → entry_at same (apply_action same trees path delete tree) at ≡ (if is_below same path at then None else entry_at same tree at)
-    unfolding apply_action
+        → entry_at same (tree_after_action same trees path delete tree) at ≡ (if is_below same path at then None else entry_at same tree at)
+    unfolding tree_after_action
     entry_at-delete tree at = entry_at-without path tree at
 
     -- other mergeinfo at the path
     pub entry_at-change : (setting : Setting M) (tree : Tree C M) (at : List C)
-        → entry_at same (apply_action same trees path (change setting) tree) at
+        → entry_at same (tree_after_action same trees path (change setting) tree) at
         ≡ (if same_path same at path then option_map (settled_entry setting) (entry_at same tree at) else entry_at same tree at)
-    unfolding apply_action
+    unfolding tree_after_action
     entry_at-change setting tree at = entry_at-changed path setting tree at
 
     -- the new entry at the path, and nothing below it
     pub entry_at-add : (replace : Bool) (kind : Kind) (setting : Setting M) (tree : Tree C M) (at : List C)
-        → entry_at same (apply_action same trees path (add replace kind setting) tree) at
+        → entry_at same (tree_after_action same trees path (add replace kind setting) tree) at
         ≡ (if same_path same path at then Some (new_entry kind setting)
         else (if is_below same path at then None else entry_at same tree at))
-    unfolding apply_action entry_at
+    unfolding tree_after_action entry_at
     entry_at-add replace kind setting tree at =
-        let both = entry_at-append same (without same path tree) ((path, new_entry kind setting) ∷ []) at in
+        let both = entry_at-append same (tree_without same path tree) ((path, new_entry kind setting) ∷ []) at in
         grind (arith, both, entry_at-without path tree at, (same_path-is is path at).0, ap is_some (below-itself is path))
 
     copied_under : (source : Tree C M) (from : List C) (from_rev : ℕ) (setting : Setting M) (at rest : List C) → below same path at ≡ Some rest
-        → entry_at same (changed same path setting (filter_map (moved same from from_rev path) source)) at
+        → entry_at same (tree_with_mergeinfo same path setting (filter_map (entry_of_copy same from from_rev path) source)) at
         ≡ copied_entry same source from from_rev setting rest
     copied_under source from from_rev setting at rest under =
-        let whole = filter_map (moved same from from_rev path) source in
+        let whole = filter_map (entry_of_copy same from from_rev path) source in
         let front = same_path_front same is path at rest under in
         let came = entry_at-moved_under from from_rev path source at rest under in
         entry_at-changed path setting whole at
@@ -184,51 +184,51 @@ module _ {C M : Type 0} (same : C → C → Bool) (is : IsSame same) where
         ∙ settled_twice same setting from from_rev rest (entry_at same source (from ++ rest))
 
     copied_apart : (source : Tree C M) (from : List C) (from_rev : ℕ) (setting : Setting M) (at : List C) → below same path at ≡ None
-        → entry_at same (changed same path setting (filter_map (moved same from from_rev path) source)) at ≡ None
+        → entry_at same (tree_with_mergeinfo same path setting (filter_map (entry_of_copy same from from_rev path) source)) at ≡ None
     copied_apart source from from_rev setting at apart =
-        let whole = filter_map (moved same from from_rev path) source in
+        let whole = filter_map (entry_of_copy same from from_rev path) source in
         grind (arith, entry_at-changed path setting whole at, entry_at-moved_apart from from_rev path source at)
 
     -- what the source has, at the path and below it
     pub entry_at-copy : (replace : Bool) (from : List C) (from_rev : ℕ) (setting : Setting M) (tree : Tree C M) (at : List C)
-        → entry_at same (apply_action same trees path (copy replace from from_rev setting) tree) at
+        → entry_at same (tree_after_action same trees path (copy replace from from_rev setting) tree) at
         ≡ option_map_or (copied_entry same (tree_of trees from_rev) from from_rev setting) (below same path at) (entry_at same tree at)
-    unfolding apply_action
+    unfolding tree_after_action
     entry_at-copy replace from from_rev setting tree at =
         let source = tree_of trees from_rev in
-        let whole = changed same path setting (filter_map (moved same from from_rev path) source) in
-        let both = entry_at-append same (without same path tree) whole at in
+        let whole = tree_with_mergeinfo same path setting (filter_map (entry_of_copy same from from_rev path) source) in
+        let both = entry_at-append same (tree_without same path tree) whole at in
         let under = copied_under source from from_rev setting at in
         grind (arith, both, entry_at-without path tree at, under, copied_apart source from from_rev setting at)
 
     -- what the tree after an action has at a path, by what is left of that path under the record's
-    pub entry_at-apply_action : (action : Action C M) (tree : Tree C M) (at : List C)
-        → entry_at same (apply_action same trees path action tree) at
+    pub entry_at-tree_after_action : (action : Action C M) (tree : Tree C M) (at : List C)
+        → entry_at same (tree_after_action same trees path action tree) at
         ≡ option_map_or (entry_left same trees action (entry_at same tree at)) (below same path at) (entry_at same tree at)
-    entry_at-apply_action delete tree at = grind (arith, entry_at-delete tree at)
-    entry_at-apply_action (change setting) tree at =
+    entry_at-tree_after_action delete tree at = grind (arith, entry_at-delete tree at)
+    entry_at-tree_after_action (change setting) tree at =
         let old = entry_at same tree at in
         entry_at-change setting tree at
         ∙ ap (λ b. if b then option_map (settled_entry setting) old else old) (same_path_by_below same is path at)
         ∙ changed_by same setting (below same path at) old
-    entry_at-apply_action (add replace kind setting) tree at =
+    entry_at-tree_after_action (add replace kind setting) tree at =
         let old = entry_at same tree at in
         let test = same_path_comm same is path at ∙ same_path_by_below same is path at in
         entry_at-add replace kind setting tree at
         ∙ ap (λ b. if b then added_entry kind setting [] else (if is_below same path at then None else old)) test
         ∙ added_by same kind setting (below same path at) old
-    entry_at-apply_action (copy replace from from_rev setting) tree at = entry_at-copy replace from from_rev setting tree at
+    entry_at-tree_after_action (copy replace from from_rev setting) tree at = entry_at-copy replace from from_rev setting tree at
 
     -- an action leaves what is not under its path
     pub entry_at-elsewhere : (action : Action C M) (tree : Tree C M) (at : List C) → below same path at ≡ None
-        → entry_at same (apply_action same trees path action tree) at ≡ entry_at same tree at
+        → entry_at same (tree_after_action same trees path action tree) at ≡ entry_at same tree at
     entry_at-elsewhere action tree at apart =
         let old = entry_at same tree at in
-        entry_at-apply_action action tree at ∙ ap (λ b. option_map_or (entry_left same trees action old) b old) apart
+        entry_at-tree_after_action action tree at ∙ ap (λ b. option_map_or (entry_left same trees action old) b old) apart
 
     -- and makes this of what is
     pub entry_at-under : (action : Action C M) (tree : Tree C M) (at rest : List C) → below same path at ≡ Some rest
-        → entry_at same (apply_action same trees path action tree) at ≡ entry_left same trees action (entry_at same tree at) rest
+        → entry_at same (tree_after_action same trees path action tree) at ≡ entry_left same trees action (entry_at same tree at) rest
     entry_at-under action tree at rest under =
         let old = entry_at same tree at in
-        entry_at-apply_action action tree at ∙ ap (λ b. option_map_or (entry_left same trees action old) b old) under
+        entry_at-tree_after_action action tree at ∙ ap (λ b. option_map_or (entry_left same trees action old) b old) under

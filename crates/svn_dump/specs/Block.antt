@@ -37,7 +37,7 @@ abbrev pub field : List ℕ → List (List ℕ) → Option (List ℕ)
 field name [] = None
 field name (line ∷ lines) = if is_named name line then Some (header_value line) else field name lines
 
--- the names that are read, each of which stands at most once in a block; others are passed over
+-- the names that are read, each of which stands at most once in a block; others are ignored
 abbrev pub listed_names : List (List ℕ)
 listed_names =
     codes "UUID" ∷ codes "Revision-number" ∷ codes "Node-path" ∷ codes "Node-kind" ∷ codes "Node-action"
@@ -51,7 +51,7 @@ abbrev pub length_or_zero : Option (List ℕ) → Option ℕ
 length_or_zero None = Some 0
 length_or_zero (Some value) = number_up_to greatest_length value
 
--- how long a body is, given the lengths of its property section and its text, and the whole where it is told
+-- how long a body is, given the lengths of its property section and its text, and the value of the whole, if there is one
 abbrev pub whole_length : ℕ → ℕ → Option (List ℕ) → Option ℕ
 whole_length properties text None = if nat_lt greatest_length (properties + text) then None else Some (properties + text)
 whole_length properties text (Some value) =

@@ -3,7 +3,7 @@
 use Rattle.std.specs.Prelude.{◌≡◌, ◌≢◌, ℕ, ◌+◌, ◌<◌, ◌≤◌, List, [], ◌∷◌, ◌++◌, All, IfSome, map, drop, take, length, replicate, slice_index_or, bytes_eq}
 use Rattle.std.specs.List.{IsDistinct}
 use Rattle.svn_path.specs.Names.{IsTable, name_of}
-use Rattle.svn_path.specs.Path.{IsOf}
+use Rattle.svn_path.specs.Path.{IsPathOf}
 use Rattle.svn_path.specs.declared.names.NameId.{NameId}
 use Rattle.svn_dump.specs.DumpText.{most_numbered}
 use Rattle.svn_dump.specs.History.{Setting, keep, put, Action, delete, change, add, copy, Record, History, rename_history}
@@ -23,48 +23,48 @@ pub record DumpValue : Type 0 where
 
 -- ---- records as the definitions see them
 
-abbrev pub setting_of : Mi → Setting ValueId
-setting_of mi.Keep = keep
-setting_of (mi.Put value) = put value
+abbrev pub setting_view : Mi → Setting ValueId
+setting_view mi.Keep = keep
+setting_view (mi.Put value) = put value
 
-abbrev pub action_shown : Act → Action NameId ValueId
-action_shown act.Delete = delete
-action_shown (act.Change setting) = change (setting_of setting)
-action_shown (act.Add replace kind setting) = add replace kind (setting_of setting)
-action_shown (act.Copy replace from from_rev setting) = copy replace from from_rev (setting_of setting)
+abbrev pub action_view : Act → Action NameId ValueId
+action_view act.Delete = delete
+action_view (act.Change setting) = change (setting_view setting)
+action_view (act.Add replace kind setting) = add replace kind (setting_view setting)
+action_view (act.Copy replace from from_rev setting) = copy replace from from_rev (setting_view setting)
 
-abbrev pub record_shown : NodeRecord → Record NameId ValueId
-record_shown each = record { path = each.path; action = action_shown each.act }
+abbrev pub record_view : NodeRecord → Record NameId ValueId
+record_view each = record { path = each.path; action = action_view each.act }
 
 -- the records of each revision, by how many each has
-abbrev pub grouped : {X : Type 0} → List ℕ → List X → List (List X)
-grouped [] items = []
-grouped (count ∷ counts) items = take count items ∷ grouped counts (drop count items)
+abbrev pub records_by_revision : {X : Type 0} → List ℕ → List X → List (List X)
+records_by_revision [] items = []
+records_by_revision (count ∷ counts) items = take count items ∷ records_by_revision counts (drop count items)
 
-abbrev pub history_by_number : DumpValue → History NameId ValueId
-history_by_number dump = grouped dump.counts (map record_shown dump.records)
+abbrev pub history_view : DumpValue → History NameId ValueId
+history_view dump = records_by_revision dump.counts (map record_view dump.records)
 
 abbrev pub text_of : List (List ℕ) → ℕ → List ℕ
 text_of values number = slice_index_or values number []
 
 -- the history of the dump in bytes
-abbrev pub history_shown : DumpValue → HistoryOfBytes
-history_shown dump =
-    rename_history (λ name. name_of dump.names name.0) (λ value. text_of dump.values value.0) (history_by_number dump)
+abbrev pub history_in_bytes : DumpValue → HistoryOfBytes
+history_in_bytes dump =
+    rename_history (λ name. name_of dump.names name.0) (λ value. text_of dump.values value.0) (history_view dump)
 
 -- ---- what every dump keeps
 
-abbrev pub SettingIsOf : ℕ → Mi → Type 0
-SettingIsOf values mi.Keep = Unit {0}
-SettingIsOf values (mi.Put value) = IfSome value (λ id. id.0 < values)
+abbrev pub IsSettingOf : ℕ → Mi → Type 0
+IsSettingOf values mi.Keep = Unit {0}
+IsSettingOf values (mi.Put value) = IfSome value (λ id. id.0 < values)
 
 -- the paths and the texts are the dump's, a copy is of an earlier revision, and no path is too long
-abbrev pub ActIsOf : DumpValue → ℕ → Act → Type 0
-ActIsOf dump rev act.Delete = Unit {0}
-ActIsOf dump rev (act.Change setting) = SettingIsOf (length dump.values) setting
-ActIsOf dump rev (act.Add replace kind setting) = SettingIsOf (length dump.values) setting
-ActIsOf dump rev (act.Copy replace from from_rev setting) =
-    IsOf dump.names from × (length from ≤ most_components) × (from_rev < rev) × SettingIsOf (length dump.values) setting
+abbrev pub IsActOf : DumpValue → ℕ → Act → Type 0
+IsActOf dump rev act.Delete = Unit {0}
+IsActOf dump rev (act.Change setting) = IsSettingOf (length dump.values) setting
+IsActOf dump rev (act.Add replace kind setting) = IsSettingOf (length dump.values) setting
+IsActOf dump rev (act.Copy replace from from_rev setting) =
+    IsPathOf dump.names from × (length from ≤ most_components) × (from_rev < rev) × IsSettingOf (length dump.values) setting
 
 abbrev pub IsChange : Act → Type 0
 IsChange act.Delete = ⊥
@@ -72,10 +72,10 @@ IsChange (act.Change setting) = Unit {0}
 IsChange (act.Add replace kind setting) = ⊥
 IsChange (act.Copy replace from from_rev setting) = ⊥
 
-pub record RecordIsOf (dump : DumpValue) (each : NodeRecord) : Type 0 where
-  pub path : IsOf dump.names each.path
+pub record IsRecordOf (dump : DumpValue) (each : NodeRecord) : Type 0 where
+  pub path : IsPathOf dump.names each.path
   pub length : length each.path ≤ most_components
-  pub act : ActIsOf dump each.rev each.act
+  pub act : IsActOf dump each.rev each.act
   pub above_zero : 0 < each.rev
   pub root : each.path ≡ [] → IsChange each.act
 
@@ -87,7 +87,7 @@ revisions_from rev (count ∷ counts) = replicate count rev ++ revisions_from (r
 pub record IsDump (dump : DumpValue) : Type 0 where
   pub names : IsTable dump.names
   pub texts : IsDistinct bytes_eq dump.values
-  pub records : All (RecordIsOf dump) dump.records
+  pub records : All (IsRecordOf dump) dump.records
   pub revisions : map (λ each. each.rev) dump.records ≡ revisions_from 0 dump.counts
   pub some_revision : dump.counts ≢ []
   pub few_names : length dump.names ≤ most_numbered

@@ -3,7 +3,7 @@ use Rattle.std.specs.Prelude.{ℕ, ◌+◌, Bool, true, false, List, [], ◌∷�
 use Rattle.std.specs.Option.{option_or}
 use Rattle.svn_path.specs.Below.{parent_of}
 use Rattle.svn_dump.specs.History.{Action, delete, change, add, copy, Record, History}
-use Rattle.svn_dump.specs.Tree.{Tree, Entry, entry_at, is_there, tree_of, apply, opening, with_revision}
+use Rattle.svn_dump.specs.Tree.{Tree, Entry, entry_at, is_there, tree_of, tree_after_record, start_tree, with_revision}
 use Rattle.svn_dump.specs.declared.kind.Kind.TheVariants.{File, Dir}
 
 pub data Fault : Type 0 where
@@ -49,7 +49,7 @@ unfoldable pub first_fault_in : {C M : Type 0} → (C → C → Bool) → List (
 first_fault_in same trees number tree [] = None
 first_fault_in same trees number tree (each ∷ records) =
     elim (fault_of same trees tree each.path each.action) [
-      | None ↦ first_fault_in same trees (number + 1) (apply same trees tree each) records
+      | None ↦ first_fault_in same trees (number + 1) (tree_after_record same trees tree each) records
       | Some fault ↦ Some (number, fault)
     ]
 
@@ -57,7 +57,7 @@ first_fault_in same trees number tree (each ∷ records) =
 unfoldable pub first_fault_from : {C M : Type 0} → (C → C → Bool) → List (Tree C M) → ℕ → History C M → Option (ℕ × Fault)
 first_fault_from same trees number [] = None
 first_fault_from same trees number (records ∷ history) =
-    option_or (first_fault_in same trees number (opening trees) records)
+    option_or (first_fault_in same trees number (start_tree trees) records)
     (first_fault_from same (with_revision same trees records) (number + length records) history)
 
 -- the first faulty record of a history, records numbered from 1; a lawful history has none

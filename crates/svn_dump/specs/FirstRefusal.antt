@@ -1,15 +1,15 @@
 -- The first reason against bytes as a dump: of the first block against which there is one, the first in their order.
-use Rattle.std.specs.Prelude.{ℕ, zero, suc, ◌-◌, ◌==◌, nat_eq, nat_lt, Bool, false, not, ◌&&◌, ◌||◌, List, [], ◌∷◌, ◌++◌, Option, Some, None, is_none, bytes_eq, codes, count_by, drop, flat_map, length, option_and_then, take, unwrap_or, if◌then◌else◌}
+use Rattle.std.specs.Prelude.{◌≡◌, ℕ, zero, suc, ◌-◌, ◌==◌, nat_eq, nat_lt, Bool, false, not, ◌&&◌, ◌||◌, List, [], ◌∷◌, ◌++◌, Option, Some, None, is_none, bytes_eq, codes, count_by, drop, flat_map, length, option_and_then, take, unwrap_or, if◌then◌else◌}
 use Rattle.std.specs.List.{after_first, before_first, list_any, slice_split, starts_with}
 use Rattle.svn_path.specs.Components.{is_not_empty}
 use Rattle.svn_dump.specs.Block.{Block, body_length, header_name, is_colon, is_named, is_newline, line_text, listed_names}
 use Rattle.svn_dump.specs.Record.{HistoryOfBytes, sort_of, with_block}
-use Rattle.svn_dump.specs.Refusal.{Judged, first_holding, judged, sort_refusals}
+use Rattle.svn_dump.specs.Refusal.{Reason, first_holding, reason, sort_refusals}
 use Rattle.svn_dump.specs.declared.refusal.Refusal.{Refusal}
 use Rattle.svn_dump.specs.declared.refusal.Refusal.TheVariants.{Magic, Version, Header, Length, Truncated, Revision}
 
 -- a reason, and where the block begins against which it holds
-pub record Refused : Type 0 where
+pub record PlacedRefusal : Type 0 where
   pub refusal : Refusal
   pub at : ℕ
 
@@ -19,11 +19,11 @@ abbrev pub magic : List ℕ
 magic = codes "SVN-fs-dump-format-version: "
 
 -- a line that isn't complete has no value yet
-abbrev pub line_refusals : List ℕ → List Judged
+abbrev pub line_refusals : List ℕ → List Reason
 line_refusals bytes =
-    judged Magic (not (starts_with nat_eq bytes magic))
-    ∷ judged Version (list_any is_newline bytes && not (bytes_eq (drop (length magic) (before_first is_newline bytes)) (codes "2")))
-    ∷ judged Truncated (not (list_any is_newline bytes))
+    reason Magic (not (starts_with nat_eq bytes magic))
+    ∷ reason Version (list_any is_newline bytes && not (bytes_eq (drop (length magic) (before_first is_newline bytes)) (codes "2")))
+    ∷ reason Truncated (not (list_any is_newline bytes))
     ∷ []
 
 -- ---- the block at the front of the bytes
@@ -32,11 +32,15 @@ abbrev pub without_empty_lines : List ℕ → List ℕ
 without_empty_lines [] = []
 without_empty_lines (byte ∷ bytes) = if byte == 10 then without_empty_lines bytes else byte ∷ bytes
 
+-- nothing but empty lines
+abbrev pub IsEmptyLines : List ℕ → Type 0
+IsEmptyLines bytes = without_empty_lines bytes ≡ []
+
 abbrev pub begins_with_newline : List ℕ → Bool
 begins_with_newline [] = false
 begins_with_newline (byte ∷ bytes) = byte == 10
 
--- the lines before the first empty one; what stands behind the last newline is no line yet
+-- the lines before the first empty one; what follows the last newline is not a line yet
 abbrev pub lines_before_empty : List (List ℕ) → List (List ℕ)
 lines_before_empty [] = []
 lines_before_empty (last ∷ []) = []
@@ -45,7 +49,7 @@ lines_before_empty (line ∷ more ∷ lines) = if is_not_empty line then line �
 unfoldable pub header_lines : List ℕ → List (List ℕ)
 header_lines bytes = lines_before_empty (slice_split is_newline bytes)
 
--- what stands behind them: it begins with the empty line, if that is there
+-- what follows them: it begins with the empty line, if that is there
 unfoldable pub after_lines : List ℕ → List ℕ
 after_lines bytes = drop (length (flat_map line_text (header_lines bytes))) bytes
 
@@ -64,11 +68,11 @@ abbrev pub is_cut : List ℕ → Bool
 is_cut bytes = not (begins_with_newline (after_lines bytes)) || nat_lt (length (drop 1 (after_lines bytes))) (body_length_at bytes)
 
 -- against the form of the block: its header is judged by its complete lines
-abbrev pub front_refusals : List ℕ → List Judged
+abbrev pub front_refusals : List ℕ → List Reason
 front_refusals bytes =
-    judged Header (list_any is_no_header (header_lines bytes) || has_twice (header_lines bytes))
-    ∷ judged Length (is_none (body_length (header_lines bytes)))
-    ∷ judged Truncated (is_cut bytes)
+    reason Header (list_any is_no_header (header_lines bytes) || has_twice (header_lines bytes))
+    ∷ reason Length (is_none (body_length (header_lines bytes)))
+    ∷ reason Truncated (is_cut bytes)
     ∷ []
 
 abbrev pub block_at : List ℕ → Block
@@ -85,26 +89,26 @@ block_refusal history bytes = first_holding (front_refusals bytes ++ sort_refusa
 -- ---- the whole dump
 
 -- a dump has a revision
-abbrev pub end_refusal : ℕ → HistoryOfBytes → Option Refused
+abbrev pub end_refusal : ℕ → HistoryOfBytes → Option PlacedRefusal
 end_refusal total [] = Some (record { refusal = Revision; at = total })
 end_refusal total (records ∷ history) = None
 
 -- a refusal there, if there is one, else a later one
-abbrev pub refused_or : Option Refusal → ℕ → Option Refused → Option Refused
-refused_or None at later = later
-refused_or (Some refusal) at later = Some (record { refusal = refusal; at = at })
+abbrev pub refusal_or : Option Refusal → ℕ → Option PlacedRefusal → Option PlacedRefusal
+refusal_or None at later = later
+refusal_or (Some refusal) at later = Some (record { refusal = refusal; at = at })
 
 -- in the blocks that the rest of so many bytes begins with, after a history; each block takes bytes, so there are fewer
 -- blocks than bytes
-unfoldable pub refusal_from : ℕ → ℕ → HistoryOfBytes → List ℕ → Option Refused
+unfoldable pub refusal_from : ℕ → ℕ → HistoryOfBytes → List ℕ → Option PlacedRefusal
 refusal_from zero total history rest = None
 refusal_from (suc most) total history rest =
     let bytes = without_empty_lines rest in
     if is_not_empty bytes
-    then refused_or (block_refusal history bytes) (total - length bytes)
+    then refusal_or (block_refusal history bytes) (total - length bytes)
     (option_and_then (λ after. refusal_from most total after (after_block bytes)) (with_block history (block_at bytes)))
     else end_refusal total history
 
-unfoldable pub first_refusal : List ℕ → Option Refused
+unfoldable pub first_refusal : List ℕ → Option PlacedRefusal
 first_refusal bytes =
-    refused_or (first_holding (line_refusals bytes)) 0 (refusal_from (length bytes) (length bytes) [] (after_first is_newline bytes))
+    refusal_or (first_holding (line_refusals bytes)) 0 (refusal_from (length bytes) (length bytes) [] (after_first is_newline bytes))

@@ -8,12 +8,12 @@ abbrev pub origin_of : {C M : Type 0} → (C → C → Bool) → List (Tree C M)
 origin_of same trees path rev = option_and_then (λ entry. entry.origin) (entry_at same (tree_of trees rev) path)
 
 -- where the path of the revision stood in the wanted one, found in at most so many steps back
-unfoldable pub traced : {C M : Type 0} → (C → C → Bool) → List (Tree C M) → ℕ → List C → ℕ → ℕ → Option (List C)
-traced same trees zero path rev wanted = if rev == wanted then Some path else None
-traced same trees (suc steps) path rev wanted =
+unfoldable pub location_within : {C M : Type 0} → (C → C → Bool) → List (Tree C M) → ℕ → List C → ℕ → ℕ → Option (List C)
+location_within same trees zero path rev wanted = if rev == wanted then Some path else None
+location_within same trees (suc steps) path rev wanted =
     if rev == wanted then Some path
-    else option_and_then (λ from. if nat_lt from.1 wanted then None else traced same trees steps from.0 from.1 wanted) (origin_of same trees path rev)
+    else option_and_then (λ from. if nat_lt from.1 wanted then None else location_within same trees steps from.0 from.1 wanted) (origin_of same trees path rev)
 
--- each step goes to a smaller revision, so there are no more steps than the revision's number
+-- a revision above the path's own has no location; each step goes to a smaller revision, so there are no more steps than the revision's number
 abbrev pub location : {C M : Type 0} → (C → C → Bool) → List (Tree C M) → List C → ℕ → ℕ → Option (List C)
-location same trees path rev wanted = traced same trees rev path rev wanted
+location same trees path rev wanted = location_within same trees rev path rev wanted

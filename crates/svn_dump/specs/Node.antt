@@ -8,10 +8,10 @@ use Rattle.svn_dump.specs.declared.kind.Kind.TheVariants.{File, Dir}
 -- what a node block does; the first part of an addition and of a copy is whether it replaces what is there, and a copy
 -- names the revision and the path of its source
 pub data NodeAction : Type 0 where
-  deleting : NodeAction
-  changing : NodeAction
-  adding : Bool → Kind → NodeAction
-  copying : Bool → ℕ → List ℕ → NodeAction
+  node_delete : NodeAction
+  node_change : NodeAction
+  node_add : Bool → Kind → NodeAction
+  node_copy : Bool → ℕ → List ℕ → NodeAction
 
 abbrev pub kind_of : List ℕ → Option Kind
 kind_of value = if bytes_eq value (codes "file") then Some File else (if bytes_eq value (codes "dir") then Some Dir else None)
@@ -19,26 +19,26 @@ kind_of value = if bytes_eq value (codes "file") then Some File else (if bytes_e
 -- an addition, given the values of `Node-kind`, `Node-copyfrom-rev` and `Node-copyfrom-path`: the last two stand
 -- together, and make it a copy, whose kind isn't read
 abbrev pub addition : Bool → Option (List ℕ) → Option (List ℕ) → Option (List ℕ) → Option NodeAction
-addition replace kind None None = option_map (adding replace) (option_and_then kind_of kind)
+addition replace kind None None = option_map (node_add replace) (option_and_then kind_of kind)
 addition replace kind None (Some from) = None
 addition replace kind (Some from_rev) None = None
 addition replace kind (Some from_rev) (Some from) =
-    option_map (λ number. copying replace number from) (number_up_to greatest_revision from_rev)
+    option_map (λ number. node_copy replace number from) (number_up_to greatest_revision from_rev)
 
 -- the action of that name; a delete and a change read no other header
 abbrev pub action_named : Option (List ℕ) → Option (List ℕ) → Option (List ℕ) → List ℕ → Option NodeAction
 action_named kind from_rev from name =
-    if bytes_eq name (codes "delete") then Some deleting
-    else (if bytes_eq name (codes "change") then Some changing
+    if bytes_eq name (codes "delete") then Some node_delete
+    else (if bytes_eq name (codes "change") then Some node_change
     else (if bytes_eq name (codes "add") then addition false kind from_rev from
     else (if bytes_eq name (codes "replace") then addition true kind from_rev from
     else None)))
 
 abbrev pub is_change : NodeAction → Bool
-is_change deleting = false
-is_change changing = true
-is_change (adding replace kind) = false
-is_change (copying replace from_rev from) = false
+is_change node_delete = false
+is_change node_change = true
+is_change (node_add replace kind) = false
+is_change (node_copy replace from_rev from) = false
 
 -- a node block: the value of `Node-path`, what it does, if its headers say one thing, whether it holds a difference to
 -- an earlier text or section, and what its property section says of mergeinfo, if it is one
@@ -56,8 +56,8 @@ pub data BlockSort : Type 0 where
   other_block : BlockSort
 
 -- `Revision-number` stands before `Node-path`, and that before `UUID`
-abbrev pub sorted : Option (List ℕ) → Option Node → Option (List ℕ) → BlockSort
-sorted (Some number) said uuid = revision_block number
-sorted None (Some said) uuid = node_block said
-sorted None None (Some uuid) = uuid_block
-sorted None None None = other_block
+abbrev pub sort_by_fields : Option (List ℕ) → Option Node → Option (List ℕ) → BlockSort
+sort_by_fields (Some number) said uuid = revision_block number
+sort_by_fields None (Some said) uuid = node_block said
+sort_by_fields None None (Some uuid) = uuid_block
+sort_by_fields None None None = other_block

@@ -1,6 +1,6 @@
 -- The property section of a node (Subversion's dump format notes, "property sections"): properties, each a name and a
 -- value with their lengths before them, and an end.
-use Rattle.std.specs.Prelude.{◌≡◌, ℕ, zero, suc, ◌+◌, ◌==◌, nat_eq, nat_lt, ◌&&◌, List, [], ◌∷◌, ◌++◌, Option, Some, None, codes, bytes_eq, drop, fold, length, option_map, option_and_then, slice_index, take, if◌then◌else◌}
+use Rattle.std.specs.Prelude.{◌≡◌, ◌≢◌, ◌↔◌, ℕ, zero, suc, ◌+◌, ◌==◌, nat_eq, nat_lt, ◌&&◌, List, [], ◌∷◌, ◌++◌, Option, Some, None, codes, bytes_eq, drop, fold, length, option_map, option_and_then, slice_index, take, if◌then◌else◌}
 use Rattle.std.specs.List.{after_first, before_first, list_any, starts_with}
 use Rattle.svn_dump.specs.Block.{is_newline}
 use Rattle.svn_dump.specs.History.{Setting, keep, put}
@@ -29,16 +29,20 @@ IsSection bytes (property ∷ properties) =
 
 -- ---- its reading
 
--- so many bytes, and what stands behind the newline after them
-abbrev pub counted : List ℕ → ℕ → Option (List ℕ × List ℕ)
-counted bytes count =
+-- the bytes do not begin with that letter and a space
+abbrev pub BeginsOtherwise : ℕ → List ℕ → Type 0
+BeginsOtherwise letter bytes = (rest : List ℕ) → bytes ≢ letter ∷ 32 ∷ rest
+
+-- so many bytes, and what follows the newline after them
+abbrev pub text_of_length : List ℕ → ℕ → Option (List ℕ × List ℕ)
+text_of_length bytes count =
     if nat_lt count (length bytes) && slice_index bytes count == 10 then Some (take count bytes, drop (count + 1) bytes) else None
 
 -- the text of a piece at the front, and what follows the piece
 abbrev pub piece_of : ℕ → List ℕ → Option (List ℕ × List ℕ)
 piece_of letter bytes =
     if starts_with nat_eq bytes (letter ∷ 32 ∷ []) && list_any is_newline bytes
-    then option_and_then (counted (after_first is_newline bytes)) (number_of (drop 2 (before_first is_newline bytes)))
+    then option_and_then (text_of_length (after_first is_newline bytes)) (number_of (drop 2 (before_first is_newline bytes)))
     else None
 
 -- the properties, of which there are fewer than this
@@ -56,6 +60,10 @@ section_up_to (suc most) bytes =
 abbrev pub section_of : List ℕ → Option (List Property)
 section_of bytes = section_up_to (length bytes) bytes
 
+-- a property section is read as its form says, both ways
+abbrev pub SectionsAreExact : Type 0
+SectionsAreExact = (section : List ℕ) (properties : List Property) → (section_of section ≡ Some properties) ↔ IsSection section properties
+
 -- ---- mergeinfo
 
 -- the value of the last property of that name
@@ -65,7 +73,7 @@ last_value name properties = fold (λ found each. if bytes_eq each.name name the
 abbrev pub mergeinfo_name : List ℕ
 mergeinfo_name = codes "svn:mergeinfo"
 
--- what a node's body says of its mergeinfo, given the length of its property section: nothing where there is no section,
+-- what a node's body says of its mergeinfo, given the length of its property section: nothing where it has none,
 -- else that it is the property's value, or none
 abbrev pub setting_of : Option ℕ → List ℕ → Option (Setting (List ℕ))
 setting_of None body = None

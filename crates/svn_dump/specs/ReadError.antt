@@ -1,4 +1,4 @@
--- How the reasons to stop reading are told.
+-- How the reasons to stop reading are reported.
 use Rattle.std.specs.Prelude.{ℕ}
 use Rattle.svn_dump.specs.Refusal.{number_of_refusal}
 use Rattle.svn_dump.specs.declared.error.DumpError.{DumpError}
@@ -10,12 +10,12 @@ use Rattle.svn_path.specs.declared.path.PathError.{PathError}
 use Rattle.svn_path.specs.declared.path.PathError.TheVariants as path
 
 -- of a block that begins there
-abbrev pub told_at : ℕ → ReadError → DumpError
-told_at at (read.Refused refusal) = dump.Refused (number_of_refusal refusal) at
-told_at at read.Memory = dump.Memory
+abbrev pub dump_error_at : ℕ → ReadError → DumpError
+dump_error_at at (read.Refused refusal) = dump.Refused (number_of_refusal refusal) at
+dump_error_at at read.Memory = dump.Memory
 
 -- of a path
-abbrev pub stopped : PathError → ReadError
-stopped path.Dot = read.Refused BadPath
-stopped path.Full = read.Refused TooLarge
-stopped path.Memory = read.Memory
+abbrev pub read_error_of : PathError → ReadError
+read_error_of path.Dot = read.Refused BadPath
+read_error_of path.Full = read.Refused TooLarge
+read_error_of path.Memory = read.Memory

@@ -4,7 +4,7 @@ use Rattle.std.specs.List.{list_all, list_any}
 use Rattle.svn_path.specs.Components.{parts_of, is_dot}
 use Rattle.svn_dump.specs.Block.{Block, field, properties_length}
 use Rattle.svn_dump.specs.History.{Setting, Action, delete, change, add, copy, Record, History}
-use Rattle.svn_dump.specs.Node.{BlockSort, Node, NodeAction, action_named, adding, changing, copying, deleting, is_change, node_block, other_block, revision_block, sorted, uuid_block}
+use Rattle.svn_dump.specs.Node.{BlockSort, Node, NodeAction, action_named, node_add, node_change, node_copy, node_delete, is_change, node_block, other_block, revision_block, sort_by_fields, uuid_block}
 use Rattle.svn_dump.specs.Number.{number_of}
 use Rattle.svn_dump.specs.Property.{setting_of}
 
@@ -36,17 +36,17 @@ is_root path = length (parts_of path) == 0
 
 -- the paths that are read: the node's own, and that of a copy's source
 abbrev pub paths_read : List ℕ → NodeAction → List (List ℕ)
-paths_read path deleting = path ∷ []
-paths_read path changing = path ∷ []
-paths_read path (adding replace kind) = path ∷ []
-paths_read path (copying replace from_rev from) = path ∷ from ∷ []
+paths_read path node_delete = path ∷ []
+paths_read path node_change = path ∷ []
+paths_read path (node_add replace kind) = path ∷ []
+paths_read path (node_copy replace from_rev from) = path ∷ from ∷ []
 
 -- a copy from the block's own revision, or a later one
 abbrev pub is_late : ℕ → NodeAction → Bool
-is_late rev deleting = false
-is_late rev changing = false
-is_late rev (adding replace kind) = false
-is_late rev (copying replace from_rev from) = nat_le rev from_rev
+is_late rev node_delete = false
+is_late rev node_change = false
+is_late rev (node_add replace kind) = false
+is_late rev (node_copy replace from_rev from) = nat_le rev from_rev
 
 -- the root can only be changed
 abbrev pub is_root_action : List ℕ → NodeAction → Bool
@@ -62,10 +62,10 @@ is_allowed rev path is_delta action =
 -- ---- the record of a node block
 
 abbrev pub action_of : Setting (List ℕ) → NodeAction → ActionOfBytes
-action_of setting deleting = delete
-action_of setting changing = change setting
-action_of setting (adding replace kind) = add replace kind setting
-action_of setting (copying replace from_rev from) = copy replace (parts_of from) from_rev setting
+action_of setting node_delete = delete
+action_of setting node_change = change setting
+action_of setting (node_add replace kind) = add replace kind setting
+action_of setting (node_copy replace from_rev from) = copy replace (parts_of from) from_rev setting
 
 abbrev pub record_by : List ℕ → Setting (List ℕ) → NodeAction → RecordOfBytes
 record_by path setting action = record { path = parts_of path; action = action_of setting action }
@@ -105,7 +105,7 @@ node_of block path = record {
 
 unfoldable pub sort_of : Block → BlockSort
 sort_of block =
-    sorted (field (codes "Revision-number") block.lines) (option_map (node_of block) (field (codes "Node-path") block.lines))
+    sort_by_fields (field (codes "Revision-number") block.lines) (option_map (node_of block) (field (codes "Node-path") block.lines))
     (field (codes "UUID") block.lines)
 
 -- ---- the history

@@ -1,4 +1,4 @@
--- Why a block is refused, in the order in which the reasons against one block are told.
+-- Why a block is refused, in the order in which the reasons against one block are reported.
 use Rattle.std.specs.Prelude.{ℕ, pred, ◌==◌, nat_lt, Bool, true, false, not, ◌||◌, List, [], ◌∷◌, ◌++◌, Option, Some, None, is_none, length, if◌then◌else◌}
 use Rattle.std.specs.List.{list_any}
 use Rattle.svn_dump.specs.DumpText.{all_records, most_numbered, names_of, values_of}
@@ -24,15 +24,15 @@ number_of_refusal RevisionZero = 13
 number_of_refusal TooLarge = 14
 
 -- a reason, and whether it holds
-pub record Judged : Type 0 where
+pub record Reason : Type 0 where
   pub refusal : Refusal
   pub holds : Bool
 
-abbrev pub judged : Refusal → Bool → Judged
-judged refusal holds = record { refusal = refusal; holds = holds }
+abbrev pub reason : Refusal → Bool → Reason
+reason refusal holds = record { refusal = refusal; holds = holds }
 
 -- the first that holds
-unfoldable pub first_holding : List Judged → Option Refusal
+unfoldable pub first_holding : List Reason → Option Refusal
 first_holding [] = None
 first_holding (each ∷ more) = if each.holds then Some each.refusal else first_holding more
 
@@ -50,41 +50,41 @@ grows_large None = false
 grows_large (Some history) = is_large history
 
 -- against what a node block of a revision does
-abbrev pub action_refusals : ℕ → Node → NodeAction → List Judged
+abbrev pub action_refusals : ℕ → Node → NodeAction → List Reason
 action_refusals rev node action =
-    judged BadPath (list_any has_dot (paths_read node.path action))
-    ∷ judged Delta node.is_delta
-    ∷ judged CopyRevision (is_late rev action)
-    ∷ judged RootAction (is_root_action node.path action)
-    ∷ judged RevisionZero (not (nat_lt 0 rev))
+    reason BadPath (list_any has_dot (paths_read node.path action))
+    ∷ reason Delta node.is_delta
+    ∷ reason CopyRevision (is_late rev action)
+    ∷ reason RootAction (is_root_action node.path action)
+    ∷ reason RevisionZero (not (nat_lt 0 rev))
     ∷ []
 
 -- against its size, given whether the history grows too large by it
-abbrev pub size_refusals : Node → NodeAction → Bool → List Judged
-size_refusals node action large = judged TooLarge (list_any is_long (paths_read node.path action) || large) ∷ []
+abbrev pub size_refusals : Node → NodeAction → Bool → List Reason
+size_refusals node action large = reason TooLarge (list_any is_long (paths_read node.path action) || large) ∷ []
 
-abbrev pub later_refusals : ℕ → Node → Bool → Option NodeAction → List Judged
+abbrev pub later_refusals : ℕ → Node → Bool → Option NodeAction → List Reason
 later_refusals rev node large None = []
 later_refusals rev node large (Some action) = action_refusals rev node action ++ size_refusals node action large
 
 -- against a node block after so many revisions, of which it needs one
-unfoldable pub node_refusals : ℕ → Node → Bool → List Judged
+unfoldable pub node_refusals : ℕ → Node → Bool → List Reason
 node_refusals revisions node large =
-    judged Props (is_none node.setting)
-    ∷ judged BadRecord (revisions == 0 || is_none node.action)
+    reason Props (is_none node.setting)
+    ∷ reason BadRecord (revisions == 0 || is_none node.action)
     ∷ later_refusals (pred revisions) node large node.action
 
 -- a revision block has the number of the revision blocks before it
-abbrev pub revision_refusals : Option HistoryOfBytes → List Judged
-revision_refusals after = judged Revision (is_none after) ∷ judged TooLarge (grows_large after) ∷ []
+abbrev pub revision_refusals : Option HistoryOfBytes → List Reason
+revision_refusals after = reason Revision (is_none after) ∷ reason TooLarge (grows_large after) ∷ []
 
 -- given what the block makes of the history
-unfoldable pub refusals_by : HistoryOfBytes → Option HistoryOfBytes → BlockSort → List Judged
+unfoldable pub refusals_by : HistoryOfBytes → Option HistoryOfBytes → BlockSort → List Reason
 refusals_by history after (revision_block number) = revision_refusals after
 refusals_by history after (node_block node) = node_refusals (length history) node (grows_large after)
 refusals_by history after uuid_block = []
-refusals_by history after other_block = judged BadRecord true ∷ []
+refusals_by history after other_block = reason BadRecord true ∷ []
 
 -- against a whole block after a history
-abbrev pub sort_refusals : HistoryOfBytes → BlockSort → List Judged
+abbrev pub sort_refusals : HistoryOfBytes → BlockSort → List Reason
 sort_refusals history sort = refusals_by history (with_sort history sort) sort

@@ -26,22 +26,22 @@ is_there same tree path = is_some (entry_at same tree path)
 -- ---- the effect of one record
 
 -- the mergeinfo that a record leaves where there was some or none
-abbrev pub settled : {M : Type 0} → Setting M → Option M → Option M
-settled keep old = old
-settled (put new) old = new
+abbrev pub mergeinfo_after : {M : Type 0} → Setting M → Option M → Option M
+mergeinfo_after keep old = old
+mergeinfo_after (put new) old = new
 
 -- the path and all below it taken out
-abbrev pub without : {C M : Type 0} → (C → C → Bool) → List C → Tree C M → Tree C M
-without same path tree = filter (λ each. not (is_below same path each.0)) tree
+abbrev pub tree_without : {C M : Type 0} → (C → C → Bool) → List C → Tree C M → Tree C M
+tree_without same path tree = filter (λ each. not (is_below same path each.0)) tree
 
 -- the mergeinfo of the path as the record gives it, where the path is there
-abbrev pub changed : {C M : Type 0} → (C → C → Bool) → List C → Setting M → Tree C M → Tree C M
-changed same path setting tree =
-    map (λ each. if same_path same each.0 path then (each.0, record each.1 { mergeinfo = settled setting each.1.mergeinfo }) else each) tree
+abbrev pub tree_with_mergeinfo : {C M : Type 0} → (C → C → Bool) → List C → Setting M → Tree C M → Tree C M
+tree_with_mergeinfo same path setting tree =
+    map (λ each. if same_path same each.0 path then (each.0, record each.1 { mergeinfo = mergeinfo_after setting each.1.mergeinfo }) else each) tree
 
 -- an entry of the source tree at its place below the copy, if it is one that the copy takes along
-abbrev pub moved : {C M : Type 0} → (C → C → Bool) → List C → ℕ → List C → List C × Entry C M → Option (List C × Entry C M)
-moved same from from_rev path each =
+abbrev pub entry_of_copy : {C M : Type 0} → (C → C → Bool) → List C → ℕ → List C → List C × Entry C M → Option (List C × Entry C M)
+entry_of_copy same from from_rev path each =
     option_map (λ rest. (path ++ rest, record each.1 { origin = Some (each.0, from_rev) })) (below same from each.0)
 
 -- the tree of a revision; the empty one past the last
@@ -49,16 +49,16 @@ abbrev pub tree_of : {C M : Type 0} → List (Tree C M) → ℕ → Tree C M
 tree_of trees rev = slice_index_or trees rev []
 
 -- the tree after a record, given the finished trees of the revisions before
-unfoldable pub apply_action : {C M : Type 0} → (C → C → Bool) → List (Tree C M) → List C → Action C M → Tree C M → Tree C M
-apply_action same trees path delete tree = without same path tree
-apply_action same trees path (change setting) tree = changed same path setting tree
-apply_action same trees path (add replace kind setting) tree =
-    without same path tree ++ (path, record { kind = kind; mergeinfo = settled setting None; origin = None }) ∷ []
-apply_action same trees path (copy replace from from_rev setting) tree =
-    without same path tree ++ changed same path setting (filter_map (moved same from from_rev path) (tree_of trees from_rev))
+unfoldable pub tree_after_action : {C M : Type 0} → (C → C → Bool) → List (Tree C M) → List C → Action C M → Tree C M → Tree C M
+tree_after_action same trees path delete tree = tree_without same path tree
+tree_after_action same trees path (change setting) tree = tree_with_mergeinfo same path setting tree
+tree_after_action same trees path (add replace kind setting) tree =
+    tree_without same path tree ++ (path, record { kind = kind; mergeinfo = mergeinfo_after setting None; origin = None }) ∷ []
+tree_after_action same trees path (copy replace from from_rev setting) tree =
+    tree_without same path tree ++ tree_with_mergeinfo same path setting (filter_map (entry_of_copy same from from_rev path) (tree_of trees from_rev))
 
-abbrev pub apply : {C M : Type 0} → (C → C → Bool) → List (Tree C M) → Tree C M → Record C M → Tree C M
-apply same trees tree each = apply_action same trees each.path each.action tree
+abbrev pub tree_after_record : {C M : Type 0} → (C → C → Bool) → List (Tree C M) → Tree C M → Record C M → Tree C M
+tree_after_record same trees tree each = tree_after_action same trees each.path each.action tree
 
 -- ---- revisions
 
@@ -67,20 +67,20 @@ abbrev pub first_tree : {C M : Type 0} → Tree C M
 first_tree = ([], record { kind = Dir; mergeinfo = None; origin = None }) ∷ []
 
 -- each path, come from itself in that revision
-abbrev pub carried : {C M : Type 0} → ℕ → Tree C M → Tree C M
-carried rev tree = map (λ each. (each.0, record each.1 { origin = Some (each.0, rev) })) tree
+abbrev pub tree_from_revision : {C M : Type 0} → ℕ → Tree C M → Tree C M
+tree_from_revision rev tree = map (λ each. (each.0, record each.1 { origin = Some (each.0, rev) })) tree
 
 -- the tree with which the next revision begins
-unfoldable pub opening : {C M : Type 0} → List (Tree C M) → Tree C M
-opening [] = first_tree
-opening (tree ∷ trees) = carried (length trees) (tree_of (tree ∷ trees) (length trees))
+unfoldable pub start_tree : {C M : Type 0} → List (Tree C M) → Tree C M
+start_tree [] = first_tree
+start_tree (tree ∷ trees) = tree_from_revision (length trees) (tree_of (tree ∷ trees) (length trees))
 
 -- the tree after the records of one revision
-abbrev pub closing : {C M : Type 0} → (C → C → Bool) → List (Tree C M) → List (Record C M) → Tree C M
-closing same trees records = fold (apply same trees) (opening trees) records
+abbrev pub end_tree : {C M : Type 0} → (C → C → Bool) → List (Tree C M) → List (Record C M) → Tree C M
+end_tree same trees records = fold (tree_after_record same trees) (start_tree trees) records
 
 abbrev pub with_revision : {C M : Type 0} → (C → C → Bool) → List (Tree C M) → List (Record C M) → List (Tree C M)
-with_revision same trees records = trees ++ closing same trees records ∷ []
+with_revision same trees records = trees ++ end_tree same trees records ∷ []
 
 -- the trees of all revisions, revision 0 first
 unfoldable pub trees_of : {C M : Type 0} → (C → C → Bool) → History C M → List (Tree C M)

@@ -1,7 +1,7 @@
 //! The blocks of a dump.
 ghost use Rattle.std.specs.Prelude.{◌≡◌, ℕ, ◌∷◌, ◌++◌, IsFalse, IsTrue, IfErr, IfOk, IfSome, MatchOption, Some, []};
-ghost use Rattle.svn_dump.specs.FirstRefusal.{begins_with_newline, front_refusals, without_empty_lines};
-ghost use Rattle.svn_dump.specs.Found.{BeginsWithBlock, BeginsWithLines, IsUnfinished};
+ghost use Rattle.svn_dump.specs.FirstRefusal.{IsEmptyLines, begins_with_newline, front_refusals, without_empty_lines};
+ghost use Rattle.svn_dump.specs.FrontBlock.{BeginsWithBlock, BeginsWithHeaders};
 ghost use Rattle.svn_dump.specs.Refusal.{first_holding};
 ghost use Rattle.svn_path.specs.Components.{is_not_empty};
 
@@ -12,7 +12,7 @@ use crate::refusal::Refusal;
 
 /// A block at the front of the bytes.
 #[derive(Drop)]
-pub(crate) struct Found<'a> {
+pub(crate) struct FrontBlock<'a> {
     pub(crate) headers: Headers<'a>,
     /// The property section at the front of the body, empty where there is none.
     pub(crate) properties: &'a [u8],
@@ -22,7 +22,7 @@ pub(crate) struct Found<'a> {
 
 /// The bytes without the empty lines at their front, if there is more than these.
 pub(crate) fn skip_empty_lines(bytes: &[u8]) -> Option<&[u8]>
-    ensures same { MatchOption result (without_empty_lines bytes.now ≡ []) (λ rest. rest.now ≡ without_empty_lines bytes.now) }
+    ensures same { MatchOption result (IsEmptyLines bytes.now) (λ rest. rest.now ≡ without_empty_lines bytes.now) }
     ensures some { IfSome result (λ rest. IsTrue (is_not_empty rest.now)) }
     ensures all { IfSome result (λ rest. IsFalse (begins_with_newline rest.now)) }
 {
@@ -35,7 +35,7 @@ pub(crate) fn skip_empty_lines(bytes: &[u8]) -> Option<&[u8]>
 
 /// The headers of a block, and what follows the empty line after them, if the bytes do not end before it.
 fn headers_of(bytes: &[u8]) -> Result<(Headers<'_>, Option<&[u8]>), Refusal>
-    ensures whole { IfOk result (λ found. MatchOption found.1 (IsUnfinished bytes.now found.0) (λ rest. BeginsWithLines bytes.now found.0 (10 ∷ rest.now))) }
+    ensures headers { IfOk result (λ found. BeginsWithHeaders bytes.now found.0 found.1) }
     ensures refused { IfErr result (λ refusal. first_holding (front_refusals bytes.now) ≡ Some refusal) }
 {
     let mut headers = Headers::new();
@@ -53,8 +53,8 @@ fn headers_of(bytes: &[u8]) -> Result<(Headers<'_>, Option<&[u8]>), Refusal>
     Ok((headers, None))
 }
 
-/// The block that the bytes begin with. The text of its body is passed over.
-pub(crate) fn first_block(bytes: &[u8]) -> Result<Found<'_>, Refusal>
+/// The block that the bytes begin with. The text of its body is skipped.
+pub(crate) fn first_block(bytes: &[u8]) -> Result<FrontBlock<'_>, Refusal>
     requires some { IsTrue (is_not_empty bytes.now) }
     requires not_empty_line { IsFalse (begins_with_newline bytes.now) }
     ensures found { IfOk result (λ found. BeginsWithBlock bytes.now found.headers found.properties.now found.rest.now) }
@@ -68,7 +68,7 @@ pub(crate) fn first_block(bytes: &[u8]) -> Result<Found<'_>, Refusal>
         Some(rest) if whole <= rest.len() as u64 => {
             let (body, rest) = rest.split_at(whole as usize);
             let (properties, _) = body.split_at(section as usize);
-            Ok(Found {
+            Ok(FrontBlock {
                 headers,
                 properties,
                 rest,

@@ -1,16 +1,14 @@
 //! A dump that is being read.
-ghost use Rattle.std.specs.Prelude.{◌≡◌, [], Some, bytes_eq, IsFalse, OnOk, IfErr, IfOk};
+ghost use Rattle.std.specs.Prelude.{◌≡◌, [], bytes_eq, IsFalse, OnOk, IfErr, IfOk};
 ghost use Rattle.std.specs.List.{IsDistinct};
 ghost use Rattle.svn_path.specs.Names.{IsTable};
-ghost use Rattle.svn_dump.specs.Dump.{IsDump, history_shown};
+ghost use Rattle.svn_dump.specs.Dump.{IsDump};
 ghost use Rattle.svn_dump.specs.Draft.{dump_of, is_full, IsWhole};
 ghost use Rattle.svn_dump.specs.Node.{node_block, revision_block};
-ghost use Rattle.svn_dump.specs.Record.{with_sort};
-ghost use Rattle.svn_dump.specs.Refusal.{sort_refusals};
-ghost use Rattle.svn_dump.specs.Said.{node_said, sort_said};
-ghost use Rattle.svn_dump.specs.Told.{IsFirst};
+ghost use Rattle.svn_dump.specs.FrontBlock.{AddsSort, IsSortRefusal};
+ghost use Rattle.svn_dump.specs.HeaderValues.{node_of_front, sort_of_front};
 
-use crate::block::Found;
+use crate::block::FrontBlock;
 use crate::dump::Dump;
 use crate::error::DumpError;
 use crate::field::Field;
@@ -62,10 +60,10 @@ impl Draft {
     }
 
     /// Adds what a block says.
-    pub(crate) fn add(&mut self, alloc: Global, found: &Found) -> Result<(), ReadError>
-        ensures told { OnOk result (with_sort (history_shown self.old) (sort_said found.now.headers found.now.properties.now) ≡ Some (history_shown self.new)) }
+    pub(crate) fn add(&mut self, alloc: Global, found: &FrontBlock) -> Result<(), ReadError>
+        ensures added { OnOk result (AddsSort self.old (sort_of_front found.now) self.new) }
         ensures keeps { OnOk result (IsWhole self.old → IsWhole self.new) }
-        ensures refused { IfErr result (λ e. IsWhole self.old → IsFirst (sort_refusals (history_shown self.old) (sort_said found.now.headers found.now.properties.now)) e) }
+        ensures refused { IfErr result (IsSortRefusal self.old (sort_of_front found.now)) }
     {
         if let Some(number) = found.headers.get(Field::RevisionNumber) {
             self.add_revision(number)
@@ -80,9 +78,9 @@ impl Draft {
 
     /// Adds a revision, whose number is to be the next.
     fn add_revision(&mut self, number: &[u8]) -> Result<(), ReadError>
-        ensures told { OnOk result (with_sort (history_shown self.old) (revision_block number.now) ≡ Some (history_shown self.new)) }
+        ensures added { OnOk result (AddsSort self.old (revision_block number.now) self.new) }
         ensures keeps { OnOk result (IsWhole self.old → IsWhole self.new) }
-        ensures refused { IfErr result (λ e. IsWhole self.old → IsFirst (sort_refusals (history_shown self.old) (revision_block number.now)) e) }
+        ensures refused { IfErr result (IsSortRefusal self.old (revision_block number.now)) }
     {
         let next = self.counts.len();
         if number_up_to(next as u64, number) != Some(next as u64) {
@@ -96,10 +94,15 @@ impl Draft {
     }
 
     /// Adds a record of the last revision, given the value of its path.
-    fn add_record(&mut self, alloc: Global, found: &Found, path: &[u8]) -> Result<(), ReadError>
-        ensures told { OnOk result (with_sort (history_shown self.old) (node_block (node_said found.now.headers found.now.properties.now path.now)) ≡ Some (history_shown self.new)) }
+    fn add_record(
+        &mut self,
+        alloc: Global,
+        found: &FrontBlock,
+        path: &[u8],
+    ) -> Result<(), ReadError>
+        ensures added { OnOk result (AddsSort self.old (node_block (node_of_front found.now path.now)) self.new) }
         ensures keeps { OnOk result (IsWhole self.old → IsWhole self.new) }
-        ensures refused { IfErr result (λ e. IsWhole self.old → IsFirst (sort_refusals (history_shown self.old) (node_block (node_said found.now.headers found.now.properties.now path.now))) e) }
+        ensures refused { IfErr result (IsSortRefusal self.old (node_block (node_of_front found.now path.now))) }
     {
         let revisions = self.counts.len();
         let record = record_of(

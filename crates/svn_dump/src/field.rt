@@ -1,7 +1,6 @@
 //! The header names that are read.
-ghost use Rattle.std.specs.Prelude.{◌≡◌, MatchOption, All, slice_get, Some, bytes_eq, IsFalse};
-ghost use Rattle.svn_dump.specs.Block.{listed_names};
-ghost use Rattle.svn_dump.specs.Field.{place_of};
+ghost use Rattle.std.specs.Prelude.{◌≡◌, MatchOption};
+ghost use Rattle.svn_dump.specs.Field.{IsFieldOf, IsUnlisted, place_of};
 
 /// A header name that is read, in the order of the list of such names.
 #[derive(Clone, Copy, Debug, PartialEq, Eq)]
@@ -23,7 +22,7 @@ pub(crate) enum Field {
 impl Field {
     /// The field of that name, if it is one that is read.
     pub(crate) fn of(name: &[u8]) -> Option<Field>
-        ensures { MatchOption result (All (λ listed. IsFalse (bytes_eq listed name.now)) listed_names) (λ field. slice_get listed_names (place_of field) ≡ Some name.now) }
+        ensures { MatchOption result (IsUnlisted name.now) (IsFieldOf name.now) }
     {
         if name == b"UUID".as_slice() {
             Some(Field::Uuid)

@@ -1,8 +1,7 @@
 //! The values of a block's headers.
-ghost use Rattle.std.specs.Prelude.{◌≡◌, ℕ, List, [], ◌∷◌, ◌++◌, option_copied, IfErr, OnOk, OnErr};
-ghost use Rattle.svn_dump.specs.Block.{header_name, header_value};
-ghost use Rattle.svn_dump.specs.Headers.{AreHeaders, AreOnce};
-ghost use Rattle.svn_dump.specs.Said.{value_of};
+ghost use Rattle.std.specs.Prelude.{◌≡◌, [], option_copied, IfErr, OnOk, OnErr};
+ghost use Rattle.svn_dump.specs.Headers.{AddsHeader, AreHeaders, RepeatsHeader};
+ghost use Rattle.svn_dump.specs.HeaderValues.{value_of};
 ghost use Rattle.svn_dump.specs.declared.refusal.Refusal.TheVariants.{Header};
 
 use crate::field::Field;
@@ -24,25 +23,25 @@ impl<'a> Model for Headers<'a> {
 }
 
 impl<'a> Headers<'a> {
+    /// No headers.
     pub(crate) fn new() -> Self
         ensures { AreHeaders result [] }
     {
         Headers { values: [None; 12] }
     }
 
+    /// The value of a header.
     pub(crate) fn get(&self, field: Field) -> Option<&'a [u8]>
         ensures { option_copied result ≡ value_of self.now field }
     {
         self.values[field.place()]
     }
 
-    /// Adds a header line. Lines of other names are passed over, and a second one of a listed name is refused.
+    /// Adds a header line. Lines of other names are ignored, and a second one of a listed name is refused.
     pub(crate) fn add(&mut self, name: &[u8], value: &'a [u8]) -> Result<(), Refusal>
-        ensures ok { OnOk result ((lines : List (List ℕ)) (line : List ℕ) → header_name line ≡ name.now → header_value line ≡ value.now
-            → AreHeaders self.old lines → AreHeaders self.new (lines ++ line ∷ [])) }
+        ensures ok { OnOk result (AddsHeader self.old self.new name.now value.now) }
         ensures refused { IfErr result (λ refusal. refusal ≡ Header) }
-        ensures twice { OnErr result ((lines : List (List ℕ)) (line : List ℕ) → header_name line ≡ name.now
-            → AreHeaders self.old lines → AreOnce (lines ++ line ∷ []) → ⊥) }
+        ensures twice { OnErr result (RepeatsHeader self.old name.now) }
     {
         if let Some(field) = Field::of(name) {
             if self.get(field).is_some() {

@@ -2,7 +2,7 @@
 ghost use Rattle.std.specs.Prelude.{◌≡◌, ◌+◌, ◌≤◌, Some, IfSome, option_copied, option_map};
 ghost use Rattle.svn_dump.specs.Block.{length_or_zero, whole_length};
 ghost use Rattle.svn_dump.specs.Number.{greatest_length};
-ghost use Rattle.svn_dump.specs.Said.{body_length_said, value_of};
+ghost use Rattle.svn_dump.specs.HeaderValues.{body_length_from_headers, value_of};
 ghost use Rattle.svn_dump.specs.declared.field.Field.TheVariants.{PropertiesLength};
 
 use crate::field::Field;
@@ -22,7 +22,7 @@ fn length_or_zero(value: Option<&[u8]>) -> Option<u64>
     }
 }
 
-/// How long a body is, given the lengths of its two parts, and its own where that is told.
+/// How long a body is, given the lengths of its two parts, and the value of its own header, if any.
 fn whole_length(properties: u64, text: u64, value: Option<&[u8]>) -> Option<u64>
     requires properties { properties ≤ greatest_length }
     requires text { text ≤ greatest_length }
@@ -41,7 +41,7 @@ fn whole_length(properties: u64, text: u64, value: Option<&[u8]>) -> Option<u64>
 
 /// How long the property section and the whole body of a block with these headers are.
 pub(crate) fn lengths_of(headers: &Headers) -> Option<(u64, u64)>
-    ensures whole { option_map (λ lengths. lengths.1) result ≡ body_length_said headers.now }
+    ensures whole { option_map (λ lengths. lengths.1) result ≡ body_length_from_headers headers.now }
     ensures section { IfSome result (λ lengths. length_or_zero (value_of headers.now PropertiesLength) ≡ Some lengths.0) }
     ensures within { IfSome result (λ lengths. lengths.0 ≤ lengths.1) }
 {

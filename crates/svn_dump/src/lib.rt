@@ -1,4 +1,4 @@
-//! The reader of Subversion dumps, and the definitions of the history that a dump tells.
+//! The reader of Subversion dumps, and the definitions of the history of a dump.
 #![tactic(auto)]
 
 mod block;
@@ -14,6 +14,7 @@ mod mergeinfo;
 mod node;
 mod node_action;
 mod number;
+mod origin;
 mod read_error;
 mod reader;
 mod record;
@@ -24,7 +25,9 @@ mod texts;
 pub use dump::Dump;
 pub use error::DumpError;
 pub use kind::Kind;
-pub use number::number_up_to;
+pub use line::split_at_byte;
+pub use number::{GREATEST_REVISION, number_up_to};
+pub use origin::Origin;
 pub use reader::read;
 pub use record::{Act, Mi, NodeRecord, ValueId};
 

@@ -1,16 +1,14 @@
 //! Lines of a dump.
-ghost use Rattle.std.specs.Prelude.{◌≡◌, ◌++◌, ◌∷◌, ◌==◌, IsFalse, MatchOption};
+ghost use Rattle.std.specs.Prelude.{◌≡◌, IsFalse, MatchOption};
 ghost use Rattle.std.specs.List.{list_any};
-ghost use Rattle.svn_dump.specs.Line.{IsCutAt};
-ghost use Rattle.svn_dump.specs.Block.{is_newline, is_colon, header_name, header_value, without_space, IsHeader};
+ghost use Rattle.svn_dump.specs.Line.{HasNoLine, IsCutAt, IsFirstLine, IsHeaderOf, Lacks};
+ghost use Rattle.svn_dump.specs.Block.{is_newline, without_space, IsHeader};
 
 use memchr::memchr;
 
-/// What stands before the first such byte, and what stands after it.
-fn split_at_byte(byte: u8, bytes: &[u8]) -> Option<(&[u8], &[u8])>
-    ensures { MatchOption result
-        (IsFalse (list_any (λ each. each == byte) bytes.now))
-        (λ parts. IsCutAt byte bytes.now parts.0.now parts.1.now) }
+/// What precedes the first such byte, and what follows it.
+pub fn split_at_byte(byte: u8, bytes: &[u8]) -> Option<(&[u8], &[u8])>
+    ensures { MatchOption result (Lacks byte bytes.now) (λ parts. IsCutAt byte bytes.now parts.0.now parts.1.now) }
 {
     match memchr(byte, bytes) {
         None => None,
@@ -20,9 +18,7 @@ fn split_at_byte(byte: u8, bytes: &[u8]) -> Option<(&[u8], &[u8])>
 
 /// The first line, without its newline, and what follows it.
 pub(crate) fn split_line(bytes: &[u8]) -> Option<(&[u8], &[u8])>
-    ensures { MatchOption result
-        (IsFalse (list_any is_newline bytes.now))
-        (λ parts. IsFalse (list_any is_newline parts.0.now) × (bytes.now ≡ parts.0.now ++ 10 ∷ parts.1.now)) }
+    ensures { MatchOption result (HasNoLine bytes.now) (λ parts. IsFirstLine bytes.now parts.0.now parts.1.now) }
 {
     split_at_byte(b'\n', bytes)
 }
@@ -40,9 +36,7 @@ fn without_space(bytes: &[u8]) -> &[u8]
 /// The name and the value of a header line.
 pub(crate) fn header_of(line: &[u8]) -> Option<(&[u8], &[u8])>
     requires { IsFalse (list_any is_newline line.now) }
-    ensures { MatchOption result
-        (IsHeader line.now → ⊥)
-        (λ parts. IsHeader line.now × (parts.0.now ≡ header_name line.now) × (parts.1.now ≡ header_value line.now)) }
+    ensures { MatchOption result (IsHeader line.now → ⊥) (λ parts. IsHeaderOf line.now parts.0.now parts.1.now) }
 {
     match split_at_byte(b':', line) {
         Some((name, value)) if !name.is_empty() => Some((name, without_space(value))),

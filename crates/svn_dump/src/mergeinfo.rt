@@ -1,9 +1,9 @@
 //! What a node block says of the mergeinfo of its path.
 ghost use Rattle.std.specs.Prelude.{◌≡◌, IfErr, IfOk, option_map};
 ghost use Rattle.svn_dump.specs.Draft.{Extends};
-ghost use Rattle.svn_dump.specs.Said.{setting_read, setting_said};
+ghost use Rattle.svn_dump.specs.HeaderValues.{mergeinfo_view, setting_from_section};
 ghost use Rattle.svn_dump.specs.DumpText.{texts_of_setting};
-ghost use Rattle.svn_dump.specs.Told.{IsSettingTold, IsTooLarge, is_full_with};
+ghost use Rattle.svn_dump.specs.NumberedRecord.{IsNumberedSetting, IsTooLarge, is_full_with};
 
 use crate::read_error::ReadError;
 use crate::record::Mi;
@@ -20,7 +20,7 @@ pub(crate) enum Mergeinfo<'a> {
 impl<'a> Mergeinfo<'a> {
     /// What a property section says, which is empty where the block has none.
     pub(crate) fn of(properties: &'a [u8]) -> Option<Self>
-        ensures { option_map setting_read result ≡ setting_said properties.now }
+        ensures { option_map mergeinfo_view result ≡ setting_from_section properties.now }
     {
         if properties.is_empty() {
             return Some(Mergeinfo::Keep);
@@ -33,8 +33,8 @@ impl<'a> Mergeinfo<'a> {
 
     /// The same by the number of the text, which the table takes where it is new.
     pub(crate) fn numbered(self, texts: &mut Texts) -> Result<Mi, ReadError>
-        ensures told { IfOk result (IsSettingTold (setting_read self.entry) texts.old texts.new) }
-        ensures refused { IfErr result (IsTooLarge (is_full_with texts.old (texts_of_setting (setting_read self.entry)))) }
+        ensures setting { IfOk result (IsNumberedSetting (mergeinfo_view self.entry) texts.old texts.new) }
+        ensures refused { IfErr result (IsTooLarge (is_full_with texts.old (texts_of_setting (mergeinfo_view self.entry)))) }
         ensures grows { Extends texts.old texts.new }
     {
         Ok(match self {

@@ -1,5 +1,5 @@
 //! What a node block says: a record of its revision.
-ghost use Rattle.std.specs.Prelude.{◌≡◌, ℕ, [], pred, ◌||◌, Bool, IsFalse, Some, option_copied, IfErr, IfOk};
+ghost use Rattle.std.specs.Prelude.{◌≡◌, ℕ, [], pred, ◌||◌, Bool, IsFalse, Some, option_copied, IfErr, IfOk, OnOk};
 ghost use Rattle.std.specs.List.{list_all, list_any};
 ghost use Rattle.svn_path.specs.Components.{is_slash, parts_of};
 ghost use Rattle.svn_path.specs.Names.{with_names};
@@ -7,10 +7,10 @@ ghost use Rattle.svn_dump.specs.Draft.{Extends};
 ghost use Rattle.svn_dump.specs.DumpText.{parts_of_action, texts_of_action};
 ghost use Rattle.svn_dump.specs.Record.{action_of, has_dot, is_late, is_long, is_root_action, paths_read, record_of, says_true};
 ghost use Rattle.svn_dump.specs.Refusal.{action_refusals, first_holding, node_refusals};
-ghost use Rattle.svn_dump.specs.Said.{action_read, is_delta_said, node_said, setting_read};
-ghost use Rattle.svn_dump.specs.Told.{IsActTold, IsFirst, IsPathTold, IsRecordTold, IsTaken, IsTooLarge, is_full_with, is_path_large, is_record_large};
+ghost use Rattle.svn_dump.specs.HeaderValues.{node_action_view, is_delta_from_headers, node_of_front};
+ghost use Rattle.svn_dump.specs.NumberedRecord.{IsAcceptedAs, IsActOfNode, IsFirstAtAnySize, IsFirstReason, IsNumberedPath, IsRecordOfNode, IsTooLarge, has_long_source, is_act_large, is_path_large, record_refusals, texts_of_node};
 
-use crate::block::Found;
+use crate::block::FrontBlock;
 use crate::field::Field;
 use crate::headers::Headers;
 use crate::mergeinfo::Mergeinfo;
@@ -34,11 +34,12 @@ fn is_root(path: &[u8]) -> bool
 
 /// Whether the path is the root, and something else than changed.
 fn is_root_action(path: &[u8], action: NodeAction) -> bool
-    ensures { result ≡ is_root_action path.now (action_read action.entry) }
+    ensures { result ≡ is_root_action path.now (node_action_view action.entry) }
 {
     is_root(path) && !action.is_change()
 }
 
+/// Whether a header is there with the value `true`.
 fn says_true(value: Option<&[u8]>) -> bool
     ensures { result ≡ says_true (option_copied value.entry) }
 {
@@ -50,14 +51,14 @@ fn says_true(value: Option<&[u8]>) -> bool
 
 /// Whether a section or the text of the block is a difference to an earlier one.
 fn is_delta(headers: &Headers) -> bool
-    ensures { result ≡ is_delta_said headers.now }
+    ensures { result ≡ is_delta_from_headers headers.now }
 {
     says_true(headers.get(Field::PropertiesDelta)) || says_true(headers.get(Field::TextDelta))
 }
 
 /// Whether a path that is read has a component `.` or `..`.
 fn names_dot(path: &[u8], action: NodeAction) -> bool
-    ensures { result ≡ list_any has_dot (paths_read path.now (action_read action.entry)) }
+    ensures { result ≡ list_any has_dot (paths_read path.now (node_action_view action.entry)) }
 {
     match action {
         NodeAction::Copy { from, .. } => has_dot(path) || has_dot(from),
@@ -66,8 +67,9 @@ fn names_dot(path: &[u8], action: NodeAction) -> bool
 }
 
 /// The first reason against what a node block of a revision does.
-fn refusal_of(rev: u32, found: &Found, path: &[u8], action: NodeAction) -> Option<Refusal>
-    ensures { result ≡ first_holding (action_refusals rev (node_said found.now.headers found.now.properties.now path.now) (action_read action.entry)) }
+fn refusal_of(rev: u32, found: &FrontBlock, path: &[u8], action: NodeAction) -> Option<Refusal>
+    ensures { result ≡ first_holding
+        (action_refusals rev (node_of_front found.now path.now) (node_action_view action.entry)) }
 {
     if names_dot(path, action) {
         Some(Refusal::BadPath)
@@ -87,7 +89,7 @@ fn refusal_of(rev: u32, found: &Found, path: &[u8], action: NodeAction) -> Optio
 /// The path that the bytes tell.
 fn path_of(alloc: Global, names: &mut Names, bytes: &[u8]) -> Result<Path, ReadError>
     requires { IsFalse (has_dot bytes.now) }
-    ensures told { IfOk result (IsPathTold bytes.now names.old names.new) }
+    ensures path { IfOk result (IsNumberedPath bytes.now names.old names.new) }
     ensures short { IfOk result (λ _. IsFalse (is_long bytes.now)) }
     ensures refused { IfErr result (IsTooLarge (is_path_large names.old bytes.now)) }
     ensures grows { Extends names.old names.new }
@@ -107,14 +109,11 @@ fn act_of(
     action: NodeAction,
     mergeinfo: Mergeinfo,
 ) -> Result<Act, ReadError>
-    requires { IsFalse (list_any has_dot (paths_read [] (action_read action))) }
-    ensures told { IfOk result (λ act. (rev : ℕ) → IsFalse (is_late rev (action_read action.entry)) →
-        IsActTold (action_of (setting_read mergeinfo.entry) (action_read action.entry)) rev names.old names.new texts.new act) }
-    ensures texts { IfOk result (λ _. texts.new ≡ with_names texts.old (texts_of_action (action_of (setting_read mergeinfo.entry) (action_read action.entry)))) }
-    ensures short { IfOk result (λ _. IsFalse (list_any is_long (paths_read [] (action_read action.entry)))) }
-    ensures refused { IfErr result (IsTooLarge (list_any is_long (paths_read [] (action_read action.entry))
-        || is_full_with names.old (parts_of_action (action_of (setting_read mergeinfo.entry) (action_read action.entry)))
-        || is_full_with texts.old (texts_of_action (action_of (setting_read mergeinfo.entry) (action_read action.entry))))) }
+    requires { IsFalse (list_any has_dot (paths_read [] (node_action_view action))) }
+    ensures act { IfOk result (IsActOfNode action.entry mergeinfo.entry names.old names.new texts.new) }
+    ensures texts { OnOk result (texts.new ≡ with_names texts.old (texts_of_node action.entry mergeinfo.entry)) }
+    ensures short { OnOk result (IsFalse (has_long_source action.entry)) }
+    ensures refused { IfErr result (IsTooLarge (is_act_large names.old texts.old action.entry mergeinfo.entry)) }
     ensures grows { Extends names.old names.new }
     ensures texts_grow { Extends texts.old texts.new }
 {
@@ -145,11 +144,11 @@ fn act_of(
 /// but perhaps its size.
 fn judge<'a>(
     revisions: u32,
-    found: &Found<'a>,
+    found: &FrontBlock<'a>,
     path: &[u8],
 ) -> Result<(u32, NodeAction<'a>, Mergeinfo<'a>), Refusal>
-    ensures ok { IfOk result (λ read. IsTaken revisions (node_said found.now.headers found.now.properties.now path.now) read.0 (action_read read.1) (setting_read read.2)) }
-    ensures refused { IfErr result (λ refusal. (large : Bool) → first_holding (node_refusals revisions (node_said found.now.headers found.now.properties.now path.now) large) ≡ Some refusal) }
+    ensures ok { IfOk result (λ read. IsAcceptedAs revisions (node_of_front found.now path.now) read.0 read.1 read.2) }
+    ensures refused { IfErr result (IsFirstAtAnySize revisions (node_of_front found.now path.now)) }
 {
     let Some(mergeinfo) = Mergeinfo::of(found.properties) else {
         return Err(Refusal::Props);
@@ -170,12 +169,13 @@ pub(crate) fn record_of(
     names: &mut Names,
     texts: &mut Texts,
     revisions: u32,
-    found: &Found,
+    found: &FrontBlock,
     path: &[u8],
 ) -> Result<NodeRecord, ReadError>
-    ensures told { IfOk result (IsRecordTold (record_of (pred revisions) (node_said found.now.headers found.now.properties.now path.now)) (pred revisions) names.old names.new texts.old texts.new) }
-    ensures refused { IfErr result (IsFirst (node_refusals revisions (node_said found.now.headers found.now.properties.now path.now)
-        (is_record_large names.old texts.old (record_of (pred revisions) (node_said found.now.headers found.now.properties.now path.now))))) }
+    ensures record { IfOk result
+        (IsRecordOfNode revisions (node_of_front found.now path.now) names.old names.new texts.old texts.new) }
+    ensures refused { IfErr result
+        (IsFirstReason (record_refusals revisions (node_of_front found.now path.now) names.old texts.old)) }
     ensures grows { Extends names.old names.new }
     ensures texts_grow { Extends texts.old texts.new }
 {

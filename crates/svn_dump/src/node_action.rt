@@ -1,17 +1,13 @@
 //! What a node block does.
 ghost use Rattle.std.specs.Prelude.{◌≡◌, option_copied, option_map};
-ghost use Rattle.svn_dump.specs.Node.{addition, is_change, kind_of};
+ghost use Rattle.svn_dump.specs.Node.{is_change, kind_of};
 ghost use Rattle.svn_dump.specs.Record.{is_late};
-ghost use Rattle.svn_dump.specs.Said.{action_read, node_action_said, value_of};
-ghost use Rattle.svn_dump.specs.declared.field.Field.TheVariants as field;
+ghost use Rattle.svn_dump.specs.HeaderValues.{addition_from_headers, node_action_from_headers, node_action_view};
 
 use crate::field::Field;
 use crate::headers::Headers;
 use crate::kind::Kind;
-use crate::number::number_up_to;
-
-/// The greatest revision that a copy may name.
-const GREATEST_REVISION: u64 = 2_147_483_647;
+use crate::number::{GREATEST_REVISION, number_up_to};
 
 /// What a node block does, by its headers alone. The path of a copy's source is lent by the dump.
 #[derive(Clone, Copy)]
@@ -29,6 +25,7 @@ pub(crate) enum NodeAction<'a> {
     },
 }
 
+/// The kind of this name.
 fn kind_of(value: &[u8]) -> Option<Kind>
     ensures { result ≡ kind_of value.now }
 {
@@ -43,7 +40,7 @@ fn kind_of(value: &[u8]) -> Option<Kind>
 
 /// An addition, which is a copy where its headers name a source.
 fn addition<'a>(headers: &Headers<'a>, replace: bool) -> Option<NodeAction<'a>>
-    ensures { option_map action_read result ≡ addition replace (value_of headers.now field.NodeKind) (value_of headers.now field.CopyfromRevision) (value_of headers.now field.CopyfromPath) }
+    ensures { option_map node_action_view result ≡ addition_from_headers replace headers.now }
 {
     match (
         headers.get(Field::CopyfromRevision),
@@ -68,7 +65,7 @@ fn addition<'a>(headers: &Headers<'a>, replace: bool) -> Option<NodeAction<'a>>
 impl<'a> NodeAction<'a> {
     /// What the headers say, if they say one thing.
     pub(crate) fn of(headers: &Headers<'a>) -> Option<Self>
-        ensures { option_map action_read result ≡ node_action_said headers.now }
+        ensures { option_map node_action_view result ≡ node_action_from_headers headers.now }
     {
         let Some(name) = headers.get(Field::NodeAction) else {
             return None;
@@ -86,15 +83,16 @@ impl<'a> NodeAction<'a> {
         }
     }
 
+    /// Whether it is a change.
     pub(crate) fn is_change(self) -> bool
-        ensures { result ≡ is_change (action_read self.entry) }
+        ensures { result ≡ is_change (node_action_view self.entry) }
     {
         matches!(self, NodeAction::Change)
     }
 
     /// Whether it copies from this revision or a later one.
     pub(crate) fn is_late(self, rev: u32) -> bool
-        ensures { result ≡ is_late rev (action_read self.entry) }
+        ensures { result ≡ is_late rev (node_action_view self.entry) }
     {
         match self {
             NodeAction::Copy { from_rev, .. } => rev <= from_rev,

@@ -2,7 +2,10 @@
 ghost use Rattle.std.specs.Prelude.{◌≡◌, ◌≤◌};
 ghost use Rattle.svn_dump.specs.Number.{number_up_to, greatest_length};
 
-/// The number that the bytes are, if they are one and it is at most this. It may have any number of digits.
+/// The greatest number of a revision.
+pub const GREATEST_REVISION: u64 = 2_147_483_647;
+
+/// The value of one or more decimal digits, if it is at most `most`. There may be any number of leading zeros.
 pub fn number_up_to(most: u64, bytes: &[u8]) -> Option<u64>
     requires { most ≤ greatest_length }
     ensures { result ≡ number_up_to most bytes.now }

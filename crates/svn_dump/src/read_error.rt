@@ -1,6 +1,6 @@
 //! Why reading stopped.
 ghost use Rattle.std.specs.Prelude.{◌≡◌};
-ghost use Rattle.svn_dump.specs.ReadError.{told_at};
+ghost use Rattle.svn_dump.specs.ReadError.{dump_error_at};
 
 use crate::error::DumpError;
 use crate::refusal::Refusal;
@@ -18,7 +18,7 @@ pub(crate) enum ReadError {
 impl ReadError {
     /// The same of a block that begins there.
     pub(crate) fn at(self, at: u64) -> DumpError
-        ensures { result ≡ told_at at self }
+        ensures { result ≡ dump_error_at at self }
     {
         match self {
             ReadError::Refused(refusal) => DumpError::Refused {
@@ -43,9 +43,9 @@ impl From<Refusal> for ReadError {
 
 impl From<PathError> for ReadError {
     ghost use Rattle.std.specs.Prelude.{◌≡◌};
-    ghost use Rattle.svn_dump.specs.ReadError.{stopped};
+    ghost use Rattle.svn_dump.specs.ReadError.{read_error_of};
 
-    ghost from_gives = { λ e r. r ≡ stopped e };
+    ghost from_gives = { λ e r. r ≡ read_error_of e };
 
     fn from(e: PathError) -> ReadError {
         match e {

@@ -1,13 +1,13 @@
 //! Reading a dump.
-ghost use Rattle.std.specs.Prelude.{◌≡◌, ℕ, List, ◌++◌, ◌↔◌, None, IsFalse, IsTrue, IfErr, IfOk, IsErrOf, OnOk, Some};
+ghost use Rattle.std.specs.Prelude.{◌≡◌, ◌++◌, ◌↔◌, None, IsFalse, IsTrue, IfErr, IfOk, IsErrOf, OnOk, Some};
 ghost use Rattle.svn_path.specs.Components.{is_not_empty};
 ghost use Rattle.svn_dump.specs.Draft.{IsWhole};
-ghost use Rattle.svn_dump.specs.Dump.{history_shown};
+ghost use Rattle.svn_dump.specs.Dump.{history_in_bytes};
 ghost use Rattle.svn_dump.specs.DumpText.{IsDumpText, first_line, names_of, values_of};
 ghost use Rattle.svn_dump.specs.DumpError.{IsRefusal};
 ghost use Rattle.svn_dump.specs.FirstRefusal.{begins_with_newline, first_refusal, line_refusals};
-ghost use Rattle.svn_dump.specs.Found.{AddsBlock, IsBlockRefusal};
-ghost use Rattle.svn_dump.specs.Property.{IsSection, Property, section_of};
+ghost use Rattle.svn_dump.specs.FrontBlock.{AddsBlock, AddsBlockTo, IsBlockRefusal};
+ghost use Rattle.svn_dump.specs.Property.{SectionsAreExact};
 ghost use Rattle.svn_dump.specs.Record.{HistoryOfBytes};
 ghost use Rattle.svn_dump.specs.Refusal.{first_holding};
 ghost use Rattle.svn_dump.specs.declared.error.DumpError.{DumpError};
@@ -23,21 +23,21 @@ use std::alloc::Global;
 
 /// The dump that the bytes are. Nothing is copied but names and mergeinfo texts.
 ///
-/// A refusal tells the number of the first reason against the first faulty block, and where that block begins.
+/// A refusal has the number of the first reason against the first faulty block, and the offset of that block.
 pub fn read(alloc: Global, bytes: &[u8]) -> Result<Dump, DumpError>
     // The bytes are a dump exactly where there is no reason against them, and then of one history.
     ensures exactly { (first_refusal bytes.now ≡ None) ↔ ((history : HistoryOfBytes) × IsDumpText bytes.now history) }
     ensures one { (a b : HistoryOfBytes) → IsDumpText bytes.now a → IsDumpText bytes.now b → a ≡ b }
 
     // A property section is read as its form says.
-    ensures sections { (section : List ℕ) (properties : List Property) → (section_of section ≡ Some properties) ↔ IsSection section properties }
+    ensures sections { SectionsAreExact }
 
-    ensures ok { IfOk result (λ dump. IsDumpText bytes.now (history_shown dump)) }
-    ensures names { IfOk result (λ dump. dump.names ≡ names_of (history_shown dump)) }
-    ensures values { IfOk result (λ dump. dump.values ≡ values_of (history_shown dump)) }
+    ensures ok { IfOk result (λ dump. IsDumpText bytes.now (history_in_bytes dump)) }
+    ensures names { IfOk result (λ dump. dump.names ≡ names_of (history_in_bytes dump)) }
+    ensures values { IfOk result (λ dump. dump.values ≡ values_of (history_in_bytes dump)) }
     ensures refused { IfErr result (IsRefusal bytes.now) }
 
-    // A faulty first line is told without taking any memory.
+    // A faulty first line is reported without taking any memory.
     ensures memory { IsErrOf result DumpError.Memory → first_holding (line_refusals bytes.now) ≡ None }
 {
     let mut rest = match after_first_line(bytes) {
@@ -73,9 +73,9 @@ fn after_first_line(bytes: &[u8]) -> Result<&[u8], Refusal>
 fn add_block<'a>(alloc: Global, draft: &mut Draft, bytes: &'a [u8]) -> Result<&'a [u8], ReadError>
     requires some { IsTrue (is_not_empty bytes.now) }
     requires not_empty_line { IsFalse (begins_with_newline bytes.now) }
-    ensures added { IfOk result (λ rest. AddsBlock bytes.now rest.now (history_shown draft.old) (history_shown draft.new)) }
+    ensures added { IfOk result (λ rest. AddsBlockTo draft.old draft.new bytes.now rest.now) }
     ensures keeps { OnOk result (IsWhole draft.old → IsWhole draft.new) }
-    ensures refused { IfErr result (λ e. IsWhole draft.old → IsBlockRefusal (history_shown draft.old) bytes.now e) }
+    ensures refused { IfErr result (λ e. IsWhole draft.old → IsBlockRefusal (history_in_bytes draft.old) bytes.now e) }
 {
     let found = first_block(bytes)?;
     draft.add(alloc, &found)?;

@@ -1,13 +1,13 @@
 //! The property section of a node.
-ghost use Rattle.std.specs.Prelude.{◌≡◌, ◌≢◌, ◌∷◌, ℕ, List, MatchOption, option_copied, option_map};
-ghost use Rattle.svn_dump.specs.Property.{counted, last_value, mergeinfo_name, piece_of, section_of};
+ghost use Rattle.std.specs.Prelude.{◌≡◌, ◌≢◌, ◌∷◌, MatchOption, option_copied, option_map};
+ghost use Rattle.svn_dump.specs.Property.{BeginsOtherwise, text_of_length, last_value, mergeinfo_name, piece_of, section_of};
 
 use crate::line::split_line;
 use crate::number::number_up_to;
 
-/// So many bytes, and what stands behind the newline after them.
+/// `count` bytes, and what follows the newline after them.
 fn split_counted(bytes: &[u8], count: u64) -> Option<(&[u8], &[u8])>
-    ensures { option_map (λ parts. (parts.0.now, parts.1.now)) result ≡ counted bytes.now count }
+    ensures { option_map (λ parts. (parts.0.now, parts.1.now)) result ≡ text_of_length bytes.now count }
 {
     if count >= bytes.len() as u64 {
         return None;
@@ -19,11 +19,9 @@ fn split_counted(bytes: &[u8], count: u64) -> Option<(&[u8], &[u8])>
     Some((&bytes[..end], &bytes[end + 1..]))
 }
 
-/// What stands behind the letter and the space at the front of a piece.
+/// What follows the letter and the space at the front of a piece.
 fn after_letter(letter: u8, bytes: &[u8]) -> Option<&[u8]>
-    ensures { MatchOption result
-        ((rest : List ℕ) → bytes.now ≢ letter ∷ 32 ∷ rest)
-        (λ rest. bytes.now ≡ letter ∷ 32 ∷ rest.now) }
+    ensures { MatchOption result (BeginsOtherwise letter bytes.now) (λ rest. bytes.now ≡ letter ∷ 32 ∷ rest.now) }
 {
     match bytes {
         [first, b' ', rest @ ..] if *first == letter => Some(rest),

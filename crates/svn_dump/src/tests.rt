@@ -1,4 +1,4 @@
-//! Small dumps, read and refused.
+//! Small dumps, read and refused. In a table of blocks each line is a sample and each `|` a newline.
 
 mod accepted;
 mod dumps;

@@ -2,7 +2,7 @@
 ghost use Rattle.std.specs.Prelude.{◌≡◌, ◌<◌, ◌≤◌, [], Some, bytes_eq, length, slice_get, ◌∷◌, IfErr, IfOk, OnErr};
 ghost use Rattle.std.specs.List.{IsDistinct};
 ghost use Rattle.svn_path.specs.Names.{most_names, with_name};
-ghost use Rattle.svn_dump.specs.Told.{IsTooLarge, is_full_with};
+ghost use Rattle.svn_dump.specs.NumberedRecord.{IsTooLarge, is_full_with};
 
 use crate::read_error::ReadError;
 use crate::record::ValueId;

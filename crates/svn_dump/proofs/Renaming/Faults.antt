@@ -5,9 +5,9 @@ use Rattle.std.specs.Option.{option_or}
 use Rattle.svn_path.specs.Below.{parent_of}
 use Rattle.svn_dump.specs.Fault.{no_source, is_dir, has_parent, fault_if_missing, fault_of_place, fault_of_target, fault_of_source, fault_of, first_fault_in, first_fault_from, first_fault}
 use Rattle.svn_dump.specs.History.{Action, delete, change, add, copy, Record, History, rename_action, rename_record, rename_history}
-use Rattle.svn_dump.specs.Tree.{Tree, Entry, entry_at, is_there, tree_of, apply, opening, with_revision, rename_entry, rename_tree}
+use Rattle.svn_dump.specs.Tree.{Tree, Entry, entry_at, is_there, tree_of, tree_after_record, start_tree, with_revision, rename_entry, rename_tree}
 use Rattle.svn_dump.proofs.Renaming.Paths.{KeepsSame, parent_of-rename}
-use Rattle.svn_dump.proofs.Renaming.Trees.{tree_of-rename, opening-rename, entry_at-rename, is_there-rename, apply-rename, with_revision-rename}
+use Rattle.svn_dump.proofs.Renaming.Trees.{tree_of-rename, start_tree-rename, entry_at-rename, is_there-rename, apply-rename, with_revision-rename}
 
 module _ {C D M N : Type 0} (name : C → D) (text : M → N) (sameC : C → C → Bool) (sameD : D → D → Bool) (alike : KeepsSame name sameC sameD) where
   is_dir-rename : (o : Option (Entry C M)) → is_dir (option_map (rename_entry name text) o) ≡ is_dir o
@@ -75,7 +75,7 @@ module _ {C D M N : Type 0} (name : C → D) (text : M → N) (sameC : C → C �
         | Some fault ↦ Some (number, fault)
       ])
       ∙ (λ i. elim (fault_of sameC trees tree each.path each.action) [
-        | None ↦ first_fault_in-rename trees (number + 1) (apply sameC trees tree each) records i
+        | None ↦ first_fault_in-rename trees (number + 1) (tree_after_record sameC trees tree each) records i
         | Some fault ↦ Some (number, fault)
       ])
 
@@ -89,10 +89,10 @@ module _ {C D M N : Type 0} (name : C → D) (text : M → N) (sameC : C → C �
       let next = with_revision-rename name text sameC sameD alike trees records in
       let count = length-map records (rename_record name text) in
       (λ i. option_or
-      (first_fault_in sameD (map (rename_tree name text) trees) number (opening-rename name text trees i) (map (rename_record name text) records))
+      (first_fault_in sameD (map (rename_tree name text) trees) number (start_tree-rename name text trees i) (map (rename_record name text) records))
       (first_fault_from sameD (next i) (number + count i) (rename_history name text history)))
       ∙ (λ i. option_or
-      (first_fault_in-rename trees number (opening trees) records i)
+      (first_fault_in-rename trees number (start_tree trees) records i)
       (first_fault_from-rename (with_revision sameC trees records) (number + length records) history i))
 
   -- and that of a history

@@ -1,17 +1,14 @@
 -- The origins and locations in a renamed history.
 use Rattle.std.proofs.Common.{◌≡◌, ℕ, zero, suc, ◌==◌, nat_lt, Bool, true, false, if◌then◌else◌, List, Option, None, Some, Contains, option_map, option_and_then, map, refl, ap, ◌∙◌, arith}
-use Rattle.svn_dump.specs.Location.{origin_of, traced, location}
+use Rattle.svn_dump.specs.Location.{origin_of, location_within, location}
 use Rattle.svn_dump.specs.Tree.{Tree, Entry, entry_at, tree_of, rename_entry, rename_tree}
+use Rattle.svn_dump.proofs.Locations.{step_back}
 use Rattle.svn_dump.proofs.Renaming.Paths.{KeepsSame}
 use Rattle.svn_dump.proofs.Renaming.Trees.{rename_origin, tree_of-rename, entry_at-rename, tree_of_unnamed}
 
 if_map : {A B : Type 0} (f : A → B) (b : Bool) (x y : Option A) → (if b then option_map f x else option_map f y) ≡ option_map f (if b then x else y)
 if_map f true x y = refl
 if_map f false x y = refl
-
--- what a step back to an origin finds, given what is found from there
-abbrev step_back : {C : Type 0} → (List C → ℕ → Option (List C)) → ℕ → Option (List C × ℕ) → Option (List C)
-step_back found wanted origin = option_and_then (λ from. if nat_lt from.1 wanted then None else found from.0 from.1) origin
 
 step_back-rename : {C D : Type 0} (name : C → D) (wanted : ℕ) (f : List C → ℕ → Option (List C)) (g : List D → ℕ → Option (List D))
     → ((path : List C) (rev : ℕ) → g (map name path) rev ≡ option_map (map name) (f path rev)) → (o : Option (List C × ℕ))
@@ -36,13 +33,13 @@ module _ {C D M N : Type 0} (name : C → D) (text : M → N) (sameC : C → C �
       of_entry (Some e) = refl
 
   traced-rename : (trees : List (Tree C M)) (steps : ℕ) (path : List C) (rev wanted : ℕ)
-      → traced sameD (map (rename_tree name text) trees) steps (map name path) rev wanted
-      ≡ option_map (map name) (traced sameC trees steps path rev wanted)
-  unfolding traced
+      → location_within sameD (map (rename_tree name text) trees) steps (map name path) rev wanted
+      ≡ option_map (map name) (location_within sameC trees steps path rev wanted)
+  unfolding location_within
   traced-rename trees zero path rev wanted = grind arith
   traced-rename trees (suc steps) path rev wanted =
-      let found = λ (p : List C) (r : ℕ). traced sameC trees steps p r wanted in
-      let found' = λ (p : List D) (r : ℕ). traced sameD (map (rename_tree name text) trees) steps p r wanted in
+      let found = λ (p : List C) (r : ℕ). location_within sameC trees steps p r wanted in
+      let found' = λ (p : List D) (r : ℕ). location_within sameD (map (rename_tree name text) trees) steps p r wanted in
       let origin = origin_of sameC trees path rev in
       ap (λ r. if rev == wanted then Some (map name path) else r)
       (ap (step_back found' wanted) (origin_of-rename trees path rev)

@@ -4,7 +4,7 @@ use Rattle.std.proofs.lemmas.List.{map-append, length-map}
 use Rattle.std.specs.List.{cons_option}
 use Rattle.svn_path.specs.Below.{below, same_path}
 use Rattle.svn_dump.specs.History.{Setting, keep, put, Action, delete, change, add, copy, Record, History, rename_setting, rename_action, rename_record, rename_history}
-use Rattle.svn_dump.specs.Tree.{Tree, Entry, entry_at, is_there, settled, without, changed, moved, tree_of, apply_action, apply, carried, opening, closing, with_revision, trees_of, rename_entry, rename_tree}
+use Rattle.svn_dump.specs.Tree.{Tree, Entry, entry_at, is_there, mergeinfo_after, tree_without, tree_with_mergeinfo, entry_of_copy, tree_of, tree_after_action, tree_after_record, tree_from_revision, start_tree, end_tree, with_revision, trees_of, rename_entry, rename_tree}
 use Rattle.svn_dump.proofs.Renaming.Paths.{KeepsSame, below-rename, is_below-rename, same_path-rename, same_path_unnamed}
 use Rattle.svn_dump.proofs.Trees.{settled_entry, entry_from}
 
@@ -16,28 +16,28 @@ tree_of-rename name text (tree ∷ trees) zero = refl
 tree_of-rename name text (tree ∷ trees) (suc rev) = tree_of-rename name text trees rev
 
 -- carrying on goes before or after renaming
-pub carried-rename : {C D M N : Type 0} (name : C → D) (text : M → N) (rev : ℕ) (tree : Tree C M)
-    → carried rev (rename_tree name text tree) ≡ rename_tree name text (carried rev tree)
-carried-rename name text rev [] = refl
-carried-rename name text rev (each ∷ tree) =
-    ap (λ l. (map name each.0, rename_entry name text (entry_from each.0 rev each.1)) ∷ l) (carried-rename name text rev tree)
+pub tree_from_revision-rename : {C D M N : Type 0} (name : C → D) (text : M → N) (rev : ℕ) (tree : Tree C M)
+    → tree_from_revision rev (rename_tree name text tree) ≡ rename_tree name text (tree_from_revision rev tree)
+tree_from_revision-rename name text rev [] = refl
+tree_from_revision-rename name text rev (each ∷ tree) =
+    ap (λ l. (map name each.0, rename_entry name text (entry_from each.0 rev each.1)) ∷ l) (tree_from_revision-rename name text rev tree)
 
--- so does opening a revision
-pub opening-rename : {C D M N : Type 0} (name : C → D) (text : M → N) (trees : List (Tree C M))
-    → opening (map (rename_tree name text) trees) ≡ rename_tree name text (opening trees)
-unfolding opening
-opening-rename name text [] = refl
-opening-rename name text (tree ∷ trees) =
+-- so does beginning a revision
+pub start_tree-rename : {C D M N : Type 0} (name : C → D) (text : M → N) (trees : List (Tree C M))
+    → start_tree (map (rename_tree name text) trees) ≡ rename_tree name text (start_tree trees)
+unfolding start_tree
+start_tree-rename name text [] = refl
+start_tree-rename name text (tree ∷ trees) =
     let last = length-map trees (rename_tree name text) in
-    (λ i. carried (last i) (tree_of (map (rename_tree name text) (tree ∷ trees)) (last i)))
-    ∙ ap (carried (length trees)) (tree_of-rename name text (tree ∷ trees) (length trees))
-    ∙ carried-rename name text (length trees) (tree_of (tree ∷ trees) (length trees))
+    (λ i. tree_from_revision (last i) (tree_of (map (rename_tree name text) (tree ∷ trees)) (last i)))
+    ∙ ap (tree_from_revision (length trees)) (tree_of-rename name text (tree ∷ trees) (length trees))
+    ∙ tree_from_revision-rename name text (length trees) (tree_of (tree ∷ trees) (length trees))
 
 -- and settling mergeinfo
-pub settled-rename : {M N : Type 0} (text : M → N) (setting : Setting M) (old : Option M)
-    → settled (rename_setting text setting) (option_map text old) ≡ option_map text (settled setting old)
-settled-rename text keep old = refl
-settled-rename text (put new) old = refl
+pub mergeinfo_after-rename : {M N : Type 0} (text : M → N) (setting : Setting M) (old : Option M)
+    → mergeinfo_after (rename_setting text setting) (option_map text old) ≡ option_map text (mergeinfo_after setting old)
+mergeinfo_after-rename text keep old = refl
+mergeinfo_after-rename text (put new) old = refl
 
 -- an origin, renamed
 abbrev pub rename_origin : {C D : Type 0} → (C → D) → List C × ℕ → List D × ℕ
@@ -52,7 +52,7 @@ changed_each : {C D M N : Type 0} (name : C → D) (text : M → N) (setting : S
     else (map name path, rename_entry name text e))
     ≡ rename_each name text (if b then (path, settled_entry setting e) else (path, e))
 changed_each name text setting true path e =
-    λ i. (map name path, record (rename_entry name text e) { mergeinfo = settled-rename text setting e.mergeinfo i })
+    λ i. (map name path, record (rename_entry name text e) { mergeinfo = mergeinfo_after-rename text setting e.mergeinfo i })
 changed_each name text setting false path e = refl
 
 -- an entry of the source, put at what is left of its path below the copy's
@@ -86,14 +86,14 @@ module _ {C D M N : Type 0} (name : C → D) (text : M → N) (sameC : C → C �
 
   -- taking out goes before or after renaming
   pub without-rename : (path : List C) (tree : Tree C M)
-      → without sameD (map name path) (rename_tree name text tree) ≡ rename_tree name text (without sameC path tree)
+      → tree_without sameD (map name path) (rename_tree name text tree) ≡ rename_tree name text (tree_without sameC path tree)
   without-rename path [] = refl
   without-rename path (each ∷ tree) = grind (arith, is_below-rename name sameC sameD alike path each.0, without-rename path tree)
 
   -- so does changing
   pub changed-rename : (path : List C) (setting : Setting M) (tree : Tree C M)
-      → changed sameD (map name path) (rename_setting text setting) (rename_tree name text tree)
-      ≡ rename_tree name text (changed sameC path setting tree)
+      → tree_with_mergeinfo sameD (map name path) (rename_setting text setting) (rename_tree name text tree)
+      ≡ rename_tree name text (tree_with_mergeinfo sameC path setting tree)
   changed-rename path setting [] = refl
   changed-rename path setting (each ∷ tree) =
       let new = settled_entry (rename_setting text setting) (rename_entry name text each.1) in
@@ -102,71 +102,71 @@ module _ {C D M N : Type 0} (name : C → D) (text : M → N) (sameC : C → C �
       λ i. head i ∷ changed-rename path setting tree i
 
   -- and moving an element
-  pub moved-rename : (from : List C) (from_rev : ℕ) (path : List C) (each : List C × Entry C M)
-      → moved sameD (map name from) from_rev (map name path) (rename_each name text each)
-      ≡ option_map (rename_each name text) (moved sameC from from_rev path each)
+  pub entry_of_copy-rename : (from : List C) (from_rev : ℕ) (path : List C) (each : List C × Entry C M)
+      → entry_of_copy sameD (map name from) from_rev (map name path) (rename_each name text each)
+      ≡ option_map (rename_each name text) (entry_of_copy sameC from from_rev path each)
   unfolding put_below
-  moved-rename from from_rev path each =
+  entry_of_copy-rename from from_rev path each =
       ap (option_map (put_below (map name each.0) from_rev (map name path) (rename_entry name text each.1)))
       (below-rename name sameC sameD alike from each.0)
       ∙ put_below-rename name text each.0 from_rev path each.1 (below sameC from each.0)
 
   -- and moving a tree
   pub moved_all-rename : (from : List C) (from_rev : ℕ) (path : List C) (tree : Tree C M)
-      → filter_map (moved sameD (map name from) from_rev (map name path)) (rename_tree name text tree)
-      ≡ rename_tree name text (filter_map (moved sameC from from_rev path) tree)
+      → filter_map (entry_of_copy sameD (map name from) from_rev (map name path)) (rename_tree name text tree)
+      ≡ rename_tree name text (filter_map (entry_of_copy sameC from from_rev path) tree)
   moved_all-rename from from_rev path [] = refl
   moved_all-rename from from_rev path (each ∷ tree) =
-      (λ i. cons_option (moved-rename from from_rev path each i) (moved_all-rename from from_rev path tree i))
-      ∙ cons_option-map (rename_each name text) (moved sameC from from_rev path each) (filter_map (moved sameC from from_rev path) tree)
+      (λ i. cons_option (entry_of_copy-rename from from_rev path each i) (moved_all-rename from from_rev path tree i))
+      ∙ cons_option-map (rename_each name text) (entry_of_copy sameC from from_rev path each) (filter_map (entry_of_copy sameC from from_rev path) tree)
 
   -- and an action
-  pub apply_action-rename : (trees : List (Tree C M)) (path : List C) (action : Action C M) (tree : Tree C M)
-      → apply_action sameD (map (rename_tree name text) trees) (map name path) (rename_action name text action) (rename_tree name text tree)
-      ≡ rename_tree name text (apply_action sameC trees path action tree)
-  unfolding apply_action
-  apply_action-rename trees path delete tree = without-rename path tree
-  apply_action-rename trees path (change setting) tree = changed-rename path setting tree
-  apply_action-rename trees path (add replace kind setting) tree =
-      (λ i. without-rename path tree i ++ (map name path, record { kind = kind; mergeinfo = settled-rename text setting None i; origin = None }) ∷ [])
-      ∙ sym (map-append (rename_each name text) (without sameC path tree) _)
-  apply_action-rename trees path (copy replace from from_rev setting) tree =
-      let source = filter_map (moved sameC from from_rev path) (tree_of trees from_rev) in
-      let taken = ap (filter_map (moved sameD (map name from) from_rev (map name path))) (tree_of-rename name text trees from_rev)
+  pub tree_after_action-rename : (trees : List (Tree C M)) (path : List C) (action : Action C M) (tree : Tree C M)
+      → tree_after_action sameD (map (rename_tree name text) trees) (map name path) (rename_action name text action) (rename_tree name text tree)
+      ≡ rename_tree name text (tree_after_action sameC trees path action tree)
+  unfolding tree_after_action
+  tree_after_action-rename trees path delete tree = without-rename path tree
+  tree_after_action-rename trees path (change setting) tree = changed-rename path setting tree
+  tree_after_action-rename trees path (add replace kind setting) tree =
+      (λ i. without-rename path tree i ++ (map name path, record { kind = kind; mergeinfo = mergeinfo_after-rename text setting None i; origin = None }) ∷ [])
+      ∙ sym (map-append (rename_each name text) (tree_without sameC path tree) _)
+  tree_after_action-rename trees path (copy replace from from_rev setting) tree =
+      let source = filter_map (entry_of_copy sameC from from_rev path) (tree_of trees from_rev) in
+      let taken = ap (filter_map (entry_of_copy sameD (map name from) from_rev (map name path))) (tree_of-rename name text trees from_rev)
       ∙ moved_all-rename from from_rev path (tree_of trees from_rev) in
-      let settles = ap (changed sameD (map name path) (rename_setting text setting)) taken ∙ changed-rename path setting source in
+      let settles = ap (tree_with_mergeinfo sameD (map name path) (rename_setting text setting)) taken ∙ changed-rename path setting source in
       (λ i. without-rename path tree i ++ settles i)
-      ∙ sym (map-append (rename_each name text) (without sameC path tree) (changed sameC path setting source))
+      ∙ sym (map-append (rename_each name text) (tree_without sameC path tree) (tree_with_mergeinfo sameC path setting source))
 
   -- and a record
   pub apply-rename : (trees : List (Tree C M)) (tree : Tree C M) (each : Record C M)
-      → apply sameD (map (rename_tree name text) trees) (rename_tree name text tree) (rename_record name text each)
-      ≡ rename_tree name text (apply sameC trees tree each)
-  apply-rename trees tree each = apply_action-rename trees each.path each.action tree
+      → tree_after_record sameD (map (rename_tree name text) trees) (rename_tree name text tree) (rename_record name text each)
+      ≡ rename_tree name text (tree_after_record sameC trees tree each)
+  apply-rename trees tree each = tree_after_action-rename trees each.path each.action tree
 
   records-rename : (trees : List (Tree C M)) (tree : Tree C M) (records : List (Record C M))
-      → fold (apply sameD (map (rename_tree name text) trees)) (rename_tree name text tree) (map (rename_record name text) records)
-      ≡ rename_tree name text (fold (apply sameC trees) tree records)
+      → fold (tree_after_record sameD (map (rename_tree name text) trees)) (rename_tree name text tree) (map (rename_record name text) records)
+      ≡ rename_tree name text (fold (tree_after_record sameC trees) tree records)
   records-rename trees tree [] = refl
   records-rename trees tree (each ∷ records) =
-      ap (λ t. fold (apply sameD (map (rename_tree name text) trees)) t (map (rename_record name text) records)) (apply-rename trees tree each)
-      ∙ records-rename trees (apply sameC trees tree each) records
+      ap (λ t. fold (tree_after_record sameD (map (rename_tree name text) trees)) t (map (rename_record name text) records)) (apply-rename trees tree each)
+      ∙ records-rename trees (tree_after_record sameC trees tree each) records
 
   -- and the records of a revision
-  pub closing-rename : (trees : List (Tree C M)) (records : List (Record C M))
-      → closing sameD (map (rename_tree name text) trees) (map (rename_record name text) records)
-      ≡ rename_tree name text (closing sameC trees records)
-  closing-rename trees records =
-      ap (λ t. fold (apply sameD (map (rename_tree name text) trees)) t (map (rename_record name text) records)) (opening-rename name text trees)
-      ∙ records-rename trees (opening trees) records
+  pub end_tree-rename : (trees : List (Tree C M)) (records : List (Record C M))
+      → end_tree sameD (map (rename_tree name text) trees) (map (rename_record name text) records)
+      ≡ rename_tree name text (end_tree sameC trees records)
+  end_tree-rename trees records =
+      ap (λ t. fold (tree_after_record sameD (map (rename_tree name text) trees)) t (map (rename_record name text) records)) (start_tree-rename name text trees)
+      ∙ records-rename trees (start_tree trees) records
 
   -- and one more revision
   pub with_revision-rename : (trees : List (Tree C M)) (records : List (Record C M))
       → with_revision sameD (map (rename_tree name text) trees) (map (rename_record name text) records)
       ≡ map (rename_tree name text) (with_revision sameC trees records)
   with_revision-rename trees records =
-      ap (λ t. map (rename_tree name text) trees ++ t ∷ []) (closing-rename trees records)
-      ∙ sym (map-append (rename_tree name text) trees (closing sameC trees records ∷ []))
+      ap (λ t. map (rename_tree name text) trees ++ t ∷ []) (end_tree-rename trees records)
+      ∙ sym (map-append (rename_tree name text) trees (end_tree sameC trees records ∷ []))
 
   revisions-rename : (trees : List (Tree C M)) (history : History C M)
       → fold (with_revision sameD) (map (rename_tree name text) trees) (rename_history name text history)

@@ -1,81 +1,86 @@
-//! What is read, and what is passed over.
+//! What is read, and what is ignored.
 
-use crate::tests::dumps::{ONE, START, ZERO, accepts};
+use crate::tests::dumps::{ONE, START, ZERO, check_blocks, check_dump};
 use std::test::Fail;
 
 #[test]
-fn reads_revision_numbers_with_zeros_before_them(rt: HostRuntime) -> Result<(), Fail> {
-    accepts(rt.alloc(), START, 1, 0, &["Revision-number: 00\n\n"])?;
-    let revisions = ["Revision-number:001\n\nRevision-number: 02\n\n"];
-    accepts(rt.alloc(), ZERO, 3, 0, revisions.as_slice())
+fn a_dump_may_end_after_a_revision(rt: HostRuntime) -> Result<(), Fail> {
+    check_dump(rt.alloc(), ZERO, "", "revisions of 0")?;
+    check_dump(rt.alloc(), ONE, "", "revisions of 0 0")
 }
 
 #[test]
-fn passes_over_empty_lines_and_bodies(rt: HostRuntime) -> Result<(), Fail> {
-    let none = ["\n\n\n", "UUID: 0\nContent-length: 5\n\nNode\n"];
-    accepts(rt.alloc(), ONE, 2, 0, none.as_slice())?;
-    let records = [
-        "Node-path: a\nNode-kind: file\nNode-action: add\nText-content-length: 5\nContent-length: 8\n\nhello...",
-        "Node-path: \nNode-action: change\nProp-content-length: 34\nContent-length: 34\n\nK 13\nsvn:mergeinfo\nV 0\n\nPROPS-END\n",
-    ];
-    accepts(rt.alloc(), ONE, 2, 1, records.as_slice())?;
-    let text = [
-        "Node-path: a\nNode-action: change\nText-content-length: 6\n\nNode-\nRevision-number: 2\n\n",
-    ];
-    accepts(rt.alloc(), ONE, 3, 1, text.as_slice())?;
-    let revision = [
-        "Revision-number: 2\nContent-length: 20\n\nRevision-number: 9\n\nRevision-number: 3\n\n",
-    ];
-    accepts(rt.alloc(), ONE, 4, 0, revision.as_slice())
+fn revision_numbers_may_begin_with_zeros(rt: HostRuntime) -> Result<(), Fail> {
+    check_blocks(
+        rt.alloc(),
+        START,
+        "revisions of 0 = Revision-number: 00||",
+        "",
+    )?;
+    let two = "revisions of 0 0 0 = Revision-number:001||Revision-number: 02||";
+    check_blocks(rt.alloc(), ZERO, two, "")
 }
 
-#[test]
-fn passes_over_names_that_are_not_listed(rt: HostRuntime) -> Result<(), Fail> {
-    let records = [
-        "\n\nText-content-md5: 0\nNode-path: a\nText-content-md5: 1\nNode-action: change\n\n\n",
-        "Node-path:/a//b/\nNode-kind:file\nNode-action:add\n\n",
-    ];
-    accepts(rt.alloc(), ONE, 2, 1, records.as_slice())?;
-    let revision = ["Revision-number:2\nrevision-number: 7\nOther: :\n\n"];
-    accepts(rt.alloc(), ONE, 3, 0, revision.as_slice())
-}
+const BODIES: &str = "
+revisions of 0 0 = |||
+revisions of 0 0 = UUID: 0|Content-length: 5||Node|
+revisions of 0 1|r1 /a add a file = Node-path: a|Node-kind: file|Node-action: add|Content-length: 8||hello...
+revisions of 0 1|r1 /a delete = Node-path: a|Node-action: delete|Text-content-length: 5|Content-length: 8||hello...
+revisions of 0 1 0|r1 /a change = Node-path: a|Node-action: change|Text-content-length: 6||Node-|Revision-number: 2||
+revisions of 0 0 0 0 = Revision-number: 2|Content-length: 20||Revision-number: 9||Revision-number: 3||
+";
 
 #[test]
-fn passes_over_what_a_sort_of_block_has_no_use_for(rt: HostRuntime) -> Result<(), Fail> {
-    let revisions = [
-        "Revision-number: 2\nNode-path: ..\nNode-action: none\nNode-copyfrom-rev: x\n\n",
-        "Revision-number: 2\nNode-path: a\nProp-delta: true\nProp-content-length: 10\n\nPROPS-EN.\n",
-        "UUID: 0\nRevision-number: 2\nText-delta: true\n\n",
-    ];
-    accepts(rt.alloc(), ONE, 3, 0, revisions.as_slice())?;
-    let uuid = [
-        "UUID: 0\nNode-kind: link\nProp-delta: true\nProp-content-length: 10\n\nPROPS-EN.\n",
-    ];
-    accepts(rt.alloc(), ONE, 2, 0, uuid.as_slice())?;
-    let record = ["UUID: 0\nNode-path: a\nNode-action: delete\n\n"];
-    accepts(rt.alloc(), ONE, 2, 1, record.as_slice())
+fn empty_lines_and_bodies_are_skipped(rt: HostRuntime) -> Result<(), Fail> {
+    check_blocks(rt.alloc(), ONE, BODIES, "")
 }
 
-#[test]
-fn passes_over_what_an_action_has_no_use_for(rt: HostRuntime) -> Result<(), Fail> {
-    let records = [
-        "Node-path: a\nNode-action: delete\nNode-kind: link\nNode-copyfrom-rev: 9\n\n",
-        "Node-path: a\nNode-action: delete\nNode-copyfrom-rev: 9\nNode-copyfrom-path: ..\n\n",
-        "Node-path: a\nNode-action: change\nNode-kind: \nNode-copyfrom-path: ../a\n\n",
-        "Node-path: \nNode-action: change\nNode-copyfrom-rev: 2147483648\nNode-copyfrom-path: .\n\n",
-        "Node-path: a\nNode-kind: link\nNode-action: add\nNode-copyfrom-rev: 0\nNode-copyfrom-path: b\n\n",
-        "Node-path: a\nNode-kind: \nNode-action: replace\nNode-copyfrom-rev: 0\nNode-copyfrom-path: b\n\n",
-    ];
-    accepts(rt.alloc(), ONE, 2, 1, records.as_slice())
-}
+const OTHER_NAMES: &str = "
+revisions of 0 1|r1 /a change = ||Text-content-md5: 0|Node-path: a|Text-content-md5: 1|Node-action: change||||
+revisions of 0 1|r1 /a/b add a file = Node-path:/a//b/|Node-kind:file|Node-action:add||
+revisions of 0 0 0 = Revision-number:2|revision-number: 7|Other: :||
+";
 
 #[test]
-fn takes_no_other_word_for_true(rt: HostRuntime) -> Result<(), Fail> {
-    let records = [
-        "Node-path: a\nNode-action: change\nText-delta: True\nProp-delta: TRUE\n\n",
-        "Node-path: a\nNode-action: change\nText-delta: true \nProp-delta:  true\n\n",
-        "Node-path: a\nNode-action: change\nText-delta: true\r\nProp-delta: \n\n",
-        "Node-path: a\nNode-action: change\nText-delta: false\nProp-delta: 1\n\n",
-    ];
-    accepts(rt.alloc(), ONE, 2, 1, records.as_slice())
+fn other_header_names_are_ignored(rt: HostRuntime) -> Result<(), Fail> {
+    check_blocks(rt.alloc(), ONE, OTHER_NAMES, "")
+}
+
+const SORTS: &str = "
+revisions of 0 0 0 = Revision-number: 2|Node-path: ..|Node-action: none|Node-copyfrom-rev: x||
+revisions of 0 0 0 = Revision-number: 2|Node-path: a|Prop-delta: true|Prop-content-length: 10||PROPS-EN.|
+revisions of 0 0 0 = UUID: 0|Revision-number: 2|Text-delta: true||
+revisions of 0 0 = UUID: 0|Node-kind: link|Prop-delta: true|Prop-content-length: 10||PROPS-EN.|
+revisions of 0 1|r1 /a delete = UUID: 0|Node-path: a|Node-action: delete||
+";
+
+#[test]
+fn revisions_come_before_paths_and_paths_before_identifiers(rt: HostRuntime) -> Result<(), Fail> {
+    check_blocks(rt.alloc(), ONE, SORTS, "")
+}
+
+const ACTIONS: &str = "
+revisions of 0 1|r1 /a delete = Node-path: a|Node-action: delete|Node-kind: link|Node-copyfrom-rev: 9||
+revisions of 0 1|r1 /a delete = Node-path: a|Node-action: delete|Node-copyfrom-rev: 9|Node-copyfrom-path: ..||
+revisions of 0 1|r1 /a change = Node-path: a|Node-action: change|Node-kind: |Node-copyfrom-path: ../a||
+revisions of 0 1|r1 / change = Node-path: |Node-action: change|Node-copyfrom-rev: 2147483648|Node-copyfrom-path: .||
+revisions of 0 1|r1 /a copy /b@0 = Node-path: a|Node-kind: link|Node-action: add|Node-copyfrom-rev: 0|Node-copyfrom-path: b||
+revisions of 0 1|r1 /a replace by /b@0 = Node-path: a|Node-kind: |Node-action: replace|Node-copyfrom-rev: 0|Node-copyfrom-path: b||
+";
+
+#[test]
+fn headers_that_an_action_does_not_need_are_ignored(rt: HostRuntime) -> Result<(), Fail> {
+    check_blocks(rt.alloc(), ONE, ACTIONS, "")
+}
+
+const NO_DELTAS: &str = "
+revisions of 0 1|r1 /a change = Node-path: a|Node-action: change|Text-delta: True|Prop-delta: TRUE||
+revisions of 0 1|r1 /a change = Node-path: a|Node-action: change|Text-delta: true |Prop-delta:  true||
+revisions of 0 1|r1 /a change = Node-path: a|Node-action: change|Text-delta: true\r|Prop-delta: ||
+revisions of 0 1|r1 /a change = Node-path: a|Node-action: change|Text-delta: false|Prop-delta: 1||
+";
+
+#[test]
+fn only_true_makes_a_delta(rt: HostRuntime) -> Result<(), Fail> {
+    check_blocks(rt.alloc(), ONE, NO_DELTAS, "")
 }

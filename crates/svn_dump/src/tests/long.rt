@@ -1,84 +1,72 @@
-//! Long paths and long numbers.
+//! Long paths and long numbers, which stand for each `*` of a table.
 
 use crate::number_up_to;
-use crate::tests::dumps::{CHANGE, ONE, ZERO, accepts_with, refuses_with};
+use crate::tests::dumps::{ONE, ZERO, check_blocks, check_refusals};
 use std::test::Fail;
 
-#[test]
-fn refuses_paths_of_1025_components(rt: HostRuntime) -> Result<(), Fail> {
-    let path = "/a".repeat(rt.alloc(), 1025)?;
-    let blocks = [
-        "Node-path: *\nNode-action: delete\n\n",
-        "Node-path: b\nNode-action: add\nNode-copyfrom-rev: 0\nNode-copyfrom-path: *\n\n",
-    ];
-    refuses_with(rt.alloc(), ONE, path.as_str(), 14, 71, blocks.as_slice())
-}
+const LONG_PATHS: &str = "
+14 Node-path: *|Node-action: delete||
+14 Node-path: *|Node-action: change||
+14 Node-path: b|Node-action: add|Node-copyfrom-rev: 0|Node-copyfrom-path: *||
+9 Node-path: ..*|Node-action: delete||
+9 Node-path: *|Node-action: add|Node-copyfrom-rev: 0|Node-copyfrom-path: .||
+10 Node-path: *|Node-action: delete|Text-delta: true||
+11 Node-path: *|Node-action: add|Node-copyfrom-rev: 1|Node-copyfrom-path: b||
+";
 
 #[test]
-fn refuses_other_faults_before_long_paths(rt: HostRuntime) -> Result<(), Fail> {
-    let path = "/a".repeat(rt.alloc(), 1025)?;
-    let dots = [
-        "Node-path: ..*\nNode-action: delete\n\n",
-        "Node-path: *\nNode-action: add\nNode-copyfrom-rev: 0\nNode-copyfrom-path: .\n\n",
-    ];
-    refuses_with(rt.alloc(), ONE, path.as_str(), 9, 71, dots.as_slice())?;
-    let delta = ["Node-path: *\nNode-action: delete\nText-delta: true\n\n"];
-    refuses_with(rt.alloc(), ONE, path.as_str(), 10, 71, delta.as_slice())?;
-    let copy = ["Node-path: *\nNode-action: add\nNode-copyfrom-rev: 1\nNode-copyfrom-path: b\n\n"];
-    refuses_with(rt.alloc(), ONE, path.as_str(), 11, 71, copy.as_slice())?;
-    let delete = ["Node-path: *\nNode-action: delete\n\n"];
-    refuses_with(rt.alloc(), ZERO, path.as_str(), 13, 51, delete.as_slice())
+fn paths_have_at_most_1024_components(rt: HostRuntime) -> Result<(), Fail> {
+    for count in [1025, 100_000] {
+        let path = "/a".repeat(rt.alloc(), count)?;
+        check_refusals(rt.alloc(), ONE, 71, LONG_PATHS, path.as_str())?;
+        let delete = "13 Node-path: *|Node-action: delete||";
+        check_refusals(rt.alloc(), ZERO, 51, delete, path.as_str())?;
+    }
+    Ok(())
 }
 
-#[test]
-fn refuses_a_path_of_100000_components(rt: HostRuntime) -> Result<(), Fail> {
-    let path = "/a".repeat(rt.alloc(), 100_000)?;
-    let blocks = ["Node-path: *\nNode-action: change\n\n"];
-    refuses_with(rt.alloc(), ONE, path.as_str(), 14, 71, blocks.as_slice())
-}
+const PATHS: &str = "
+revisions of 0 1|r1 * delete = Node-path: *|Node-action: delete||
+revisions of 0 1|r1 * change = Node-path: *//|Node-action: change||
+revisions of 0 1|r1 * copy *@0 = Node-path: *|Node-action: add|Node-copyfrom-rev: 0|Node-copyfrom-path: *||
+revisions of 0 1|r1 /b delete = Node-path: b|Node-action: delete|Node-copyfrom-path: *a/a||
+revisions of 0 0 0 = Revision-number: 2|Node-path: */a||
+";
 
 #[test]
-fn reads_paths_of_1024_components(rt: HostRuntime) -> Result<(), Fail> {
-    let path = "//a".repeat(rt.alloc(), 1024)?;
-    let records = [
-        "Node-path: *\nNode-action: delete\n\n",
-        "Node-path: *//\nNode-action: change\n\n",
-        "Node-path: *\nNode-action: add\nNode-copyfrom-rev: 0\nNode-copyfrom-path: *\n\n",
-        "Node-path: b\nNode-action: delete\nNode-copyfrom-path: *a/a\n\n",
-    ];
-    accepts_with(rt.alloc(), path.as_str(), 2, 1, records.as_slice())?;
-    let revision = ["Revision-number: 2\nNode-path: */a\n\n"];
-    accepts_with(rt.alloc(), path.as_str(), 3, 0, revision.as_slice())
+fn paths_of_1024_components_are_read(rt: HostRuntime) -> Result<(), Fail> {
+    let path = "/a".repeat(rt.alloc(), 1024)?;
+    check_blocks(rt.alloc(), ONE, PATHS, path.as_str())
 }
 
+const GREAT_NUMBERS: &str = "
+4 Node-path: a|Node-action: change|Content-length: *||ab
+6 Node-path: |Node-action: change|Prop-content-length: 1021||K *|a|V 1|b|PROPS-END|
+7 Node-path: a|Node-action: add|Node-copyfrom-rev: *|Node-copyfrom-path: b||
+8 Revision-number: *||
+";
+
 #[test]
-fn refuses_numbers_of_a_thousand_digits(rt: HostRuntime) -> Result<(), Fail> {
+fn numbers_of_a_thousand_digits_are_too_great(rt: HostRuntime) -> Result<(), Fail> {
     let digits = "9".repeat(rt.alloc(), 1000)?;
-    let text = digits.as_str();
-    let length = ["Node-path: a\nNode-action: change\nContent-length: *\n\nab"];
-    refuses_with(rt.alloc(), ONE, text, 4, 71, length.as_slice())?;
-    let section = ["1021\n\nK *\na\nV 1\nb\nPROPS-END\n"];
-    refuses_with(rt.alloc(), CHANGE, text, 6, 71, section.as_slice())?;
-    let copy = ["Node-path: a\nNode-action: add\nNode-copyfrom-rev: *\nNode-copyfrom-path: b\n\n"];
-    refuses_with(rt.alloc(), ONE, text, 7, 71, copy.as_slice())?;
-    refuses_with(rt.alloc(), ONE, text, 8, 71, &["Revision-number: *\n\n"])
+    check_refusals(rt.alloc(), ONE, 71, GREAT_NUMBERS, digits.as_str())
 }
 
+const ZEROS: &str = "
+revisions of 0 1|r1 /a change = Node-path: a|Node-action: change|Content-length: *2||ab
+revisions of 0 1|r1 /a change none = Node-path: a|Node-action: change|Prop-content-length: 1022||K *1|a|V 1|b|PROPS-END|
+revisions of 0 1|r1 /a copy /b@0 = Node-path: a|Node-action: add|Node-copyfrom-rev: *|Node-copyfrom-path: b||
+revisions of 0 0 0 = Revision-number: *2||
+";
+
 #[test]
-fn reads_numbers_with_a_thousand_zeros(rt: HostRuntime) -> Result<(), Fail> {
+fn numbers_may_begin_with_a_thousand_zeros(rt: HostRuntime) -> Result<(), Fail> {
     let zeros = "0".repeat(rt.alloc(), 1000)?;
-    let records = [
-        "Node-path: a\nNode-action: change\nContent-length: *2\n\nab",
-        "Node-path: a\nNode-action: change\nProp-content-length: 1022\n\nK *1\na\nV 1\nb\nPROPS-END\n",
-        "Node-path: a\nNode-action: add\nNode-copyfrom-rev: *\nNode-copyfrom-path: b\n\n",
-    ];
-    accepts_with(rt.alloc(), zeros.as_str(), 2, 1, records.as_slice())?;
-    let revision = ["Revision-number: *2\n\n"];
-    accepts_with(rt.alloc(), zeros.as_str(), 3, 0, revision.as_slice())
+    check_blocks(rt.alloc(), ONE, ZEROS, zeros.as_str())
 }
 
 #[test]
-fn tells_numbers_up_to_the_greatest(rt: HostRuntime) {
+fn numbers_go_up_to_the_greatest(rt: HostRuntime) {
     assert_eq!(rt; number_up_to(9, b"009".as_slice()), Some(9));
     assert!(rt; number_up_to(9, b"10".as_slice()).is_none());
     assert!(rt; number_up_to(9, b"".as_slice()).is_none());

@@ -1,144 +1,119 @@
 //! Refusals of node blocks.
 
-use crate::tests::dumps::{CHANGE, ONE, ZERO, refuses};
+use crate::tests::dumps::{ONE, ZERO, check_refusals};
 use std::test::Fail;
 
-#[test]
-fn refuses_sections(rt: HostRuntime) -> Result<(), Fail> {
-    let sections = [
-        "10\nContent-length: 10\n\nPROPS-EN.\n",
-        "9\n\nPROPS-END",
-        "11\n\nPROPS-END\n\n",
-        "11\n\n\nPROPS-END\n",
-        "20\n\nPROPS-END\nPROPS-END\n",
-        "12\n\nK 1\na\nV 1\nb\n",
-        "20\n\nK 1\na\nV 1\nb\nPROPS-EN",
-        "16\n\nK 1\na\nPROPS-END\n",
-        "22\n\nK 1\na\nK 1\nb\nPROPS-END\n",
-        "22\n\nV 1\na\nV 1\nb\nPROPS-END\n",
-        "22\n\nk 1\na\nv 1\nb\nPROPS-END\n",
-        "16\n\nD 1\na\nPROPS-END\n",
-        "16\nProp-delta: true\n\nD 1\na\nPROPS-END\n",
-    ];
-    refuses(rt.alloc(), CHANGE, 6, 71, sections.as_slice())?;
-    let blocks = [
-        "Node-path: a\nProp-content-length: 10\n\nPROPS-EN.\n",
-        "Node-path: ..\nNode-action: delete\nProp-content-length: 10\n\nPROPS-EN.\n",
-        "Node-path: a\nNode-action: delete\nProp-content-length: 14\n\nK 99\nab\nV 0\n\nP",
-    ];
-    refuses(rt.alloc(), ONE, 6, 71, blocks.as_slice())
-}
+const SECTIONS: &str = "
+6 Node-path: |Node-action: change|Prop-content-length: 10|Content-length: 10||PROPS-EN.|
+6 Node-path: |Node-action: change|Prop-content-length: 9||PROPS-END
+6 Node-path: |Node-action: change|Prop-content-length: 11||PROPS-END||
+6 Node-path: |Node-action: change|Prop-content-length: 11|||PROPS-END|
+6 Node-path: |Node-action: change|Prop-content-length: 20||PROPS-END|PROPS-END|
+6 Node-path: |Node-action: change|Prop-content-length: 12||K 1|a|V 1|b|
+6 Node-path: |Node-action: change|Prop-content-length: 20||K 1|a|V 1|b|PROPS-EN
+6 Node-path: |Node-action: change|Prop-content-length: 16||K 1|a|PROPS-END|
+6 Node-path: |Node-action: change|Prop-content-length: 22||K 1|a|K 1|b|PROPS-END|
+6 Node-path: |Node-action: change|Prop-content-length: 22||V 1|a|V 1|b|PROPS-END|
+6 Node-path: |Node-action: change|Prop-content-length: 22||k 1|a|v 1|b|PROPS-END|
+6 Node-path: |Node-action: change|Prop-content-length: 16||D 1|a|PROPS-END|
+6 Node-path: |Node-action: change|Prop-content-length: 16|Prop-delta: true||D 1|a|PROPS-END|
+6 Node-path: a|Prop-content-length: 10||PROPS-EN.|
+6 Node-path: ..|Node-action: delete|Prop-content-length: 10||PROPS-EN.|
+6 Node-path: a|Node-action: delete|Prop-content-length: 14||K 99|ab|V 0||P
+";
 
 #[test]
-fn refuses_lengths_in_sections(rt: HostRuntime) -> Result<(), Fail> {
-    let sections = [
-        "23\n\nK 99\na\nV 1\nb\nPROPS-END\n",
-        "40\n\nK 9223372036854775808\na\nV 1\nb\nPROPS-END\n",
-        "41\n\nK 18446744073709551617\na\nV 1\nb\nPROPS-END\n",
-        "22\n\nK 1\na\nV 2\nb\nPROPS-END\n",
-        "22\n\nK 1\na\nV 0\nb\nPROPS-END\n",
-        "20\n\nK \n\nV 1\nb\nPROPS-END\n",
-        "23\n\nK  1\na\nV 1\nb\nPROPS-END\n",
-        "21\n\nK1\na\nV 1\nb\nPROPS-END\n",
-        "23\n\nK -1\na\nV 1\nb\nPROPS-END\n",
-        "23\n\nK +1\na\nV 1\nb\nPROPS-END\n",
-        "3\n\nK 1",
-    ];
-    refuses(rt.alloc(), CHANGE, 6, 71, sections.as_slice())
+fn sections_have_one_form(rt: HostRuntime) -> Result<(), Fail> {
+    check_refusals(rt.alloc(), ONE, 71, SECTIONS, "")
 }
 
-#[test]
-fn refuses_records(rt: HostRuntime) -> Result<(), Fail> {
-    let blocks = [
-        "Other: 0\n\n",
-        "Node-action: delete\n\n",
-        "node-path: a\nNode-action: delete\n\n",
-        "Node-path: a\n\n",
-        "Node-path: a\nNode-action: \n\n",
-        "Node-path: a\nNode-action: Delete\n\n",
-        "Node-path: a\nNode-action: delete \n\n",
-        "Node-path: ..\nNode-action: none\nText-delta: true\n\n",
-        "Node-path: a\nNode-action: add\n\n",
-        "Node-path: a\nNode-action: replace\n\n",
-        "Node-path: a\nNode-kind: \nNode-action: add\n\n",
-        "Node-path: a\nNode-kind: link\nNode-action: replace\n\n",
-    ];
-    refuses(rt.alloc(), ONE, 7, 71, blocks.as_slice())
-}
+const SECTION_LENGTHS: &str = "
+6 Node-path: |Node-action: change|Prop-content-length: 23||K 99|a|V 1|b|PROPS-END|
+6 Node-path: |Node-action: change|Prop-content-length: 40||K 9223372036854775808|a|V 1|b|PROPS-END|
+6 Node-path: |Node-action: change|Prop-content-length: 41||K 18446744073709551617|a|V 1|b|PROPS-END|
+6 Node-path: |Node-action: change|Prop-content-length: 22||K 1|a|V 2|b|PROPS-END|
+6 Node-path: |Node-action: change|Prop-content-length: 22||K 1|a|V 0|b|PROPS-END|
+6 Node-path: |Node-action: change|Prop-content-length: 20||K ||V 1|b|PROPS-END|
+6 Node-path: |Node-action: change|Prop-content-length: 23||K  1|a|V 1|b|PROPS-END|
+6 Node-path: |Node-action: change|Prop-content-length: 21||K1|a|V 1|b|PROPS-END|
+6 Node-path: |Node-action: change|Prop-content-length: 23||K -1|a|V 1|b|PROPS-END|
+6 Node-path: |Node-action: change|Prop-content-length: 23||K +1|a|V 1|b|PROPS-END|
+6 Node-path: |Node-action: change|Prop-content-length: 3||K 1
+";
 
 #[test]
-fn refuses_copies_without_a_source(rt: HostRuntime) -> Result<(), Fail> {
-    let blocks = [
-        "Node-path: a\nNode-action: add\nNode-copyfrom-rev: 0\n\n",
-        "Node-path: a\nNode-kind: dir\nNode-action: replace\nNode-copyfrom-rev: 0\n\n",
-        "Node-path: a\nNode-kind: dir\nNode-action: add\nNode-copyfrom-path: b\n\n",
-        "Node-path: a\nNode-action: replace\nNode-copyfrom-path: b\n\n",
-        "Node-path: a\nNode-action: add\nNode-copyfrom-rev: \nNode-copyfrom-path: b\n\n",
-        "Node-path: a\nNode-action: add\nNode-copyfrom-rev: one\nNode-copyfrom-path: b\n\n",
-        "Node-path: a\nNode-action: add\nNode-copyfrom-rev: -1\nNode-copyfrom-path: b\n\n",
-        "Node-path: a\nNode-action: add\nNode-copyfrom-rev: 4294967296\nNode-copyfrom-path: b\n\n",
-        "Node-path: ..\nNode-action: add\nNode-copyfrom-rev: 2147483648\nNode-copyfrom-path: ..\n\n",
-    ];
-    refuses(rt.alloc(), ONE, 7, 71, blocks.as_slice())
+fn lengths_in_sections_are_exact(rt: HostRuntime) -> Result<(), Fail> {
+    check_refusals(rt.alloc(), ONE, 71, SECTION_LENGTHS, "")
 }
 
-#[test]
-fn refuses_dots_and_deltas(rt: HostRuntime) -> Result<(), Fail> {
-    let dots = [
-        "Node-path: a/../b\nNode-action: delete\n\n",
-        "Node-path: ./a\nNode-action: change\n\n",
-        "Node-path: a//.\nNode-kind: dir\nNode-action: add\n\n",
-        "Node-path: ..\nNode-action: delete\nText-delta: true\n\n",
-        "Node-path: \nNode-action: add\nNode-copyfrom-rev: 1\nNode-copyfrom-path: b/..\n\n",
-    ];
-    refuses(rt.alloc(), ONE, 9, 71, dots.as_slice())?;
-    let deltas = [
-        "Node-path: a\nNode-action: delete\nText-delta: true\n\n",
-        "Node-path: a\nNode-action: change\nText-delta:true\n\n",
-        "Node-path: a\nNode-action: change\nProp-delta: true\n\n",
-        "Node-path: a\nNode-action: change\nProp-delta: true\nProp-content-length: 10\n\nPROPS-END\n",
-        "Node-path: \nNode-action: delete\nText-delta: true\n\n",
-        "Node-path: a\nNode-action: add\nNode-copyfrom-rev: 1\nNode-copyfrom-path: b\nText-delta: true\n\n",
-    ];
-    refuses(rt.alloc(), ONE, 10, 71, deltas.as_slice())
-}
+const RECORDS: &str = "
+7 Other: 0||
+7 Node-action: delete||
+7 node-path: a|Node-action: delete||
+7 Node-path: a||
+7 Node-path: a|Node-action: ||
+7 Node-path: a|Node-action: Delete||
+7 Node-path: a|Node-action: delete ||
+7 Node-path: ..|Node-action: none|Text-delta: true||
+7 Node-path: a|Node-action: add||
+7 Node-path: a|Node-action: replace||
+7 Node-path: a|Node-kind: |Node-action: add||
+7 Node-path: a|Node-kind: link|Node-action: replace||
+7 Node-path: a|Node-action: add|Node-copyfrom-rev: 0||
+7 Node-path: a|Node-kind: dir|Node-action: replace|Node-copyfrom-rev: 0||
+7 Node-path: a|Node-kind: dir|Node-action: add|Node-copyfrom-path: b||
+7 Node-path: a|Node-action: replace|Node-copyfrom-path: b||
+7 Node-path: a|Node-action: add|Node-copyfrom-rev: |Node-copyfrom-path: b||
+7 Node-path: a|Node-action: add|Node-copyfrom-rev: one|Node-copyfrom-path: b||
+7 Node-path: a|Node-action: add|Node-copyfrom-rev: -1|Node-copyfrom-path: b||
+7 Node-path: a|Node-action: add|Node-copyfrom-rev: 2147483648|Node-copyfrom-path: b||
+7 Node-path: a|Node-action: add|Node-copyfrom-rev: 4294967296|Node-copyfrom-path: b||
+7 Node-path: ..|Node-action: add|Node-copyfrom-rev: 2147483648|Node-copyfrom-path: ..||
+";
 
 #[test]
-fn refuses_late_copies_and_other_roots(rt: HostRuntime) -> Result<(), Fail> {
-    let copies = [
-        "Node-path: a\nNode-action: add\nNode-copyfrom-rev: 1\nNode-copyfrom-path: \n\n",
-        "Node-path: a\nNode-action: replace\nNode-copyfrom-rev: 2147483647\nNode-copyfrom-path: b\n\n",
-        "Node-path: \nNode-action: add\nNode-copyfrom-rev: 1\nNode-copyfrom-path: b\n\n",
-    ];
-    refuses(rt.alloc(), ONE, 11, 71, copies.as_slice())?;
-    let roots = [
-        "Node-path: /\nNode-action: delete\n\n",
-        "Node-path: \nNode-kind: dir\nNode-action: add\n\n",
-        "Node-path: //\nNode-kind: dir\nNode-action: replace\n\n",
-        "Node-path: \nNode-action: replace\nNode-copyfrom-rev: 0\nNode-copyfrom-path: b\n\n",
-    ];
-    refuses(rt.alloc(), ONE, 12, 71, roots.as_slice())
+fn records_have_a_path_an_action_and_a_kind_or_a_source(rt: HostRuntime) -> Result<(), Fail> {
+    check_refusals(rt.alloc(), ONE, 71, RECORDS, "")
 }
 
+const ACTIONS: &str = "
+9 Node-path: a/../b|Node-action: delete||
+9 Node-path: ./a|Node-action: change||
+9 Node-path: a//.|Node-kind: dir|Node-action: add||
+9 Node-path: ..|Node-action: delete|Text-delta: true||
+9 Node-path: |Node-action: add|Node-copyfrom-rev: 1|Node-copyfrom-path: b/..||
+10 Node-path: a|Node-action: delete|Text-delta: true||
+10 Node-path: a|Node-action: change|Text-delta:true||
+10 Node-path: a|Node-action: change|Prop-delta: true||
+10 Node-path: a|Node-action: change|Prop-delta: true|Prop-content-length: 10||PROPS-END|
+10 Node-path: |Node-action: delete|Text-delta: true||
+10 Node-path: a|Node-action: add|Node-copyfrom-rev: 1|Node-copyfrom-path: b|Text-delta: true||
+11 Node-path: a|Node-action: add|Node-copyfrom-rev: 1|Node-copyfrom-path: ||
+11 Node-path: a|Node-action: replace|Node-copyfrom-rev: 2147483647|Node-copyfrom-path: b||
+11 Node-path: |Node-action: add|Node-copyfrom-rev: 1|Node-copyfrom-path: b||
+12 Node-path: /|Node-action: delete||
+12 Node-path: |Node-kind: dir|Node-action: add||
+12 Node-path: //|Node-kind: dir|Node-action: replace||
+12 Node-path: |Node-action: replace|Node-copyfrom-rev: 0|Node-copyfrom-path: b||
+";
+
 #[test]
-fn refuses_node_blocks_of_revision_0(rt: HostRuntime) -> Result<(), Fail> {
-    for (end, number) in [
-        ("Node-path: a\nNode-action: none\n\n", 7),
-        ("Node-path: ..\nNode-action: delete\n\n", 9),
-        (
-            "Node-path: a\nNode-action: delete\nText-delta: true\n\n",
-            10,
-        ),
-        (
-            "Node-path: a\nNode-action: add\nNode-copyfrom-rev: 0\nNode-copyfrom-path: b\n\n",
-            11,
-        ),
-        ("Node-path: \nNode-action: delete\n\n", 12),
-        ("Node-path: a\nNode-kind: dir\nNode-action: add\n\n", 13),
-        ("Node-path: a\nNode-action: delete\n\n", 13),
-        ("Node-path: \nNode-action: change\n\n", 13),
-    ] {
-        refuses(rt.alloc(), ZERO, number, 51, &[end])?;
-    }
-    Ok(())
+fn records_are_refused_for_the_first_reason(rt: HostRuntime) -> Result<(), Fail> {
+    check_refusals(rt.alloc(), ONE, 71, ACTIONS, "")
+}
+
+const IN_REVISION_0: &str = "
+7 Node-path: a|Node-action: none||
+9 Node-path: ..|Node-action: delete||
+10 Node-path: a|Node-action: delete|Text-delta: true||
+11 Node-path: a|Node-action: add|Node-copyfrom-rev: 0|Node-copyfrom-path: b||
+12 Node-path: |Node-action: delete||
+13 Node-path: a|Node-kind: dir|Node-action: add||
+13 Node-path: a|Node-action: delete||
+13 Node-path: |Node-action: change||
+";
+
+#[test]
+fn revision_0_has_no_records(rt: HostRuntime) -> Result<(), Fail> {
+    check_refusals(rt.alloc(), ZERO, 51, IN_REVISION_0, "")
 }

@@ -5,7 +5,7 @@ use Rattle.svn_dump.proofs.block.first_block.Goals.{in_default-rest-via-in-Some-
 
 pub returns-in_default-clause-refused : goal.returns-in_default-clause-refused
 returns-in_default-clause-refused c =
-    refused-length_of c.args.bytes.now c.in_ok-headers.headers c.in_ok-headers.rest c.in_ok-headers.ensures.whole (sym c.in_default.ensures.whole)
+    refused-length_of c.args.bytes.now c.in_ok-headers.headers c.in_ok-headers.rest c.in_ok-headers.ensures.headers (sym c.in_default.ensures.whole)
 
 pub returns-in-Some-rest-clause-found : goal.returns-in-Some-rest-clause-found
 returns-in-Some-rest-clause-found c =
@@ -13,14 +13,14 @@ returns-in-Some-rest-clause-found c =
     let body = c.split_at.ensures in
     rw (c.split_at-in-Some-rest.ensures.front, body.front, body.back)
     (with_body c.args.bytes.now c.in_ok-headers.headers c.in-Some-rest.rest.now c.in-Some.section c.in-Some.whole
-    c.requires.not_empty_line (rw c.in-Some-rest.is at c.in_ok-headers.ensures.whole) (sym said.whole) said.section said.within c.if-whole-rest.true)
+    c.requires.not_empty_line (rw c.in-Some-rest.is at c.in_ok-headers.ensures.headers) (sym said.whole) said.section said.within c.if-whole-rest.true)
 
 pub returns-in_default-rest-clause-refused : goal.returns-in_default-rest-clause-refused
 returns-in_default-rest-clause-refused c =
     let said = sym c.in-Some.ensures.whole in
     elim c.in_default-rest.branch [
       | in_default-rest-via-in-Some-rest+else-whole-rest w ↦
-          refused-body c.args.bytes.now c.in_ok-headers.headers w.in-Some-rest.rest.now c.in-Some.whole (rw w.in-Some-rest.is at c.in_ok-headers.ensures.whole) said w.if-whole-rest.false
+          refused-body c.args.bytes.now c.in_ok-headers.headers w.in-Some-rest.rest.now c.in-Some.whole (rw w.in-Some-rest.is at c.in_ok-headers.ensures.headers) said w.if-whole-rest.false
       | in_default-rest-via-in_default-rest w ↦
-          refused-unfinished c.args.bytes.now c.in_ok-headers.headers c.in-Some.whole (rw w.in_default-rest.is at c.in_ok-headers.ensures.whole) said
+          refused-unfinished c.args.bytes.now c.in_ok-headers.headers c.in-Some.whole (rw w.in_default-rest.is at c.in_ok-headers.ensures.headers) said
     ]

@@ -1,5 +1,5 @@
 use Rattle.std.proofs.Common.{length}
-use Rattle.svn_dump.specs.Found.{BeginsWithLines}
+use Rattle.svn_dump.specs.FrontBlock.{BeginsWithLines}
 use Rattle.svn_dump.proofs.block.headers_of.Given as goal
 
 abbrev pub invariant-loop-line : goal.invariant-loop-line

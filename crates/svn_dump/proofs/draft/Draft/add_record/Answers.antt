@@ -2,14 +2,14 @@ use Rattle.std.proofs.Common.{◌≡◌, ℕ, ◌+◌, ◌-◌, ◌<◌, pred, s
 use Rattle.std.proofs.lemmas.List.{get_or_read}
 use Rattle.std.proofs.lemmas.Result.{err_from_is_err_and}
 use Rattle.svn_dump.specs.Draft.{dump_of}
-use Rattle.svn_dump.specs.Dump.{history_shown}
+use Rattle.svn_dump.specs.Dump.{history_in_bytes}
 use Rattle.svn_dump.specs.Record.{record_of, with_sort}
 use Rattle.svn_dump.specs.Refusal.{node_refusals}
-use Rattle.svn_dump.specs.Said.{node_said}
-use Rattle.svn_dump.specs.Told.{IsFirst, is_record_large}
+use Rattle.svn_dump.specs.HeaderValues.{node_from_headers}
+use Rattle.svn_dump.specs.NumberedRecord.{IsFirstReason, is_record_large}
 use Rattle.svn_dump.proofs.Drafts.{room_left, IsDraft-grows, count-le, IsDraft-with_record, with_record-told, IsWhole-with_record, refused-full, refused-record}
 use Rattle.svn_dump.proofs.Grouped.{with_more, set_last_read}
-use Rattle.svn_dump.proofs.Histories.{length-history_shown}
+use Rattle.svn_dump.proofs.Histories.{length-history_in_bytes}
 use Rattle.svn_dump.proofs.draft.Draft.add_record.Goals as goal
 
 pub invariant_of-self : goal.invariant_of-self
@@ -37,21 +37,21 @@ returns-in_err-record-clause-refused c =
     let (error, errs, same) = err_from_is_err_and c.from_residual.result c.from_residual.ensures.1 in
     let inside = c.self.inside in
     let long : c.len-revisions.result ≡ length inside.counts.items = omega arith in
-    rw (errs, same, ← c.self.view_is) (refused-record inside.names inside.records.items inside.counts.items inside.texts c.self.invariant (node_said c.args.found.now.headers c.args.found.now.properties.now c.args.path.now) c.in_err-record.field-0.0
-    (subst (λ revisions. IsFirst (node_refusals revisions (node_said c.args.found.now.headers c.args.found.now.properties.now c.args.path.now) (is_record_large inside.names inside.texts (record_of (pred revisions) (node_said c.args.found.now.headers c.args.found.now.properties.now c.args.path.now)))) c.in_err-record.field-0.0) long c.in_err-record.ensures.refused))
+    rw (errs, same, ← c.self.view_is) (refused-record inside.names inside.records.items inside.counts.items inside.texts c.self.invariant (node_from_headers c.args.found.now.headers c.args.found.now.properties.now c.args.path.now) c.in_err-record.field-0.0
+    (subst (λ revisions. IsFirstReason (node_refusals revisions (node_from_headers c.args.found.now.headers c.args.found.now.properties.now c.args.path.now) (is_record_large inside.names inside.texts (record_of (pred revisions) (node_from_headers c.args.found.now.headers c.args.found.now.properties.now c.args.path.now)))) c.in_err-record.field-0.0) long c.in_err-record.ensures.refused))
 
 pub returns-then-is_full-clause-refused : goal.returns-then-is_full-clause-refused
 returns-then-is_full-clause-refused c =
     let inside = c.self.inside in
     let long : c.len-revisions.result ≡ length inside.counts.items = omega arith in
     rw (← c.self.view_is)
-    (refused-full inside.names inside.records.items inside.counts.items inside.texts c.self.invariant c.record_of.new.names c.record_of.new.texts _ (pred c.len-revisions.result) c.in_ok-record.record c.in_ok-record.ensures.told (ap pred long ∙ sym (sub-one (length inside.counts.items))) (node_said c.args.found.now.headers c.args.found.now.properties.now c.args.path.now)
-    (ap (λ revisions. record_of (pred revisions) (node_said c.args.found.now.headers c.args.found.now.properties.now c.args.path.now)) (long ∙ sym (length-history_shown inside.names inside.records.items inside.counts.items inside.texts))) (sym c.is_full.ensures.full ∙ c.if-is_full.true))
+    (refused-full inside.names inside.records.items inside.counts.items inside.texts c.self.invariant c.record_of.new.names c.record_of.new.texts _ (pred c.len-revisions.result) c.in_ok-record.record c.in_ok-record.ensures.record (ap pred long ∙ sym (sub-one (length inside.counts.items))) (node_from_headers c.args.found.now.headers c.args.found.now.properties.now c.args.path.now)
+    (ap (λ revisions. record_of (pred revisions) (node_from_headers c.args.found.now.headers c.args.found.now.properties.now c.args.path.now)) (long ∙ sym (length-history_in_bytes inside.names inside.records.items inside.counts.items inside.texts))) (sym c.is_full.ensures.full ∙ c.if-is_full.true))
 
 pub overflow_add-index_mut : goal.overflow_add-index_mut
 overflow_add-index_mut c =
     let inside = c.self.inside in
-    let told = c.in_ok-record.ensures.told in
+    let told = c.in_ok-record.ensures.record in
     let last : ℕ = c.len-revisions.result - 1 in
     let within : last < length inside.counts.items = omega (arith, inside.counts.ok.0, told.of_table.above_zero, told.revision, sub-one c.len-revisions.result) in
     let read = get_or_read inside.counts.items last c.index_mut.result.now within c.index_mut.ensures.value 0 in
@@ -60,32 +60,32 @@ overflow_add-index_mut c =
 pub invariant_of-self-3 : goal.invariant_of-self-3
 invariant_of-self-3 c =
     let inside = c.self.inside in
-    let told = c.in_ok-record.ensures.told in
+    let told = c.in_ok-record.ensures.record in
     let long : c.len-revisions.result ≡ length inside.counts.items = omega arith in
     let last : pred c.len-revisions.result ≡ length inside.counts.items - 1 = ap pred long ∙ sym (sub-one (length inside.counts.items)) in
     let counts_are : set inside.counts.items (c.len-revisions.result - 1) (c.index_mut.result.now + 1) ≡ with_more inside.counts.items =
     set_last_read inside.counts.items (c.len-revisions.result - 1) c.index_mut.result.now (ap (λ n. n - 1) long)
     (omega (arith, long, told.of_table.above_zero, told.revision, sub-one c.len-revisions.result)) c.index_mut.ensures.value in
-    rw (c.in_ok-push.ensures.items, counts_are) (IsDraft-with_record inside.names inside.records.items inside.counts.items inside.texts c.self.invariant c.record_of.new.names c.record_of.new.texts _ (pred c.len-revisions.result) c.in_ok-record.record c.in_ok-record.ensures.told last (room_left (dump_of c.record_of.new.names inside.records.items inside.counts.items c.record_of.new.texts) (sym c.is_full.ensures.full ∙ c.if-is_full.false)))
+    rw (c.in_ok-push.ensures.items, counts_are) (IsDraft-with_record inside.names inside.records.items inside.counts.items inside.texts c.self.invariant c.record_of.new.names c.record_of.new.texts _ (pred c.len-revisions.result) c.in_ok-record.record c.in_ok-record.ensures.record last (room_left (dump_of c.record_of.new.names inside.records.items inside.counts.items c.record_of.new.texts) (sym c.is_full.ensures.full ∙ c.if-is_full.false)))
 
-pub returns-clause-told : goal.returns-clause-told
+pub returns-clause-added : goal.returns-clause-added
 unfolding with_sort
-returns-clause-told c =
+returns-clause-added c =
     let inside = c.self.inside in
-    let told = c.in_ok-record.ensures.told in
+    let told = c.in_ok-record.ensures.record in
     let long : c.len-revisions.result ≡ length inside.counts.items = omega arith in
     let last : pred c.len-revisions.result ≡ length inside.counts.items - 1 = ap pred long ∙ sym (sub-one (length inside.counts.items)) in
     let counts_are : set inside.counts.items (c.len-revisions.result - 1) (c.index_mut.result.now + 1) ≡ with_more inside.counts.items =
     set_last_read inside.counts.items (c.len-revisions.result - 1) c.index_mut.result.now (ap (λ n. n - 1) long)
     (omega (arith, long, told.of_table.above_zero, told.revision, sub-one c.len-revisions.result)) c.index_mut.ensures.value in
-    let revisions : pred (length (history_shown c.args.self.now)) ≡ pred c.len-revisions.result =
-    ap (λ dump. pred (length (history_shown dump))) (sym c.self.view_is) ∙ ap pred (length-history_shown inside.names inside.records.items inside.counts.items inside.texts ∙ sym long) in
-    rw (revisions, c.in_ok-push.ensures.items, counts_are, ← c.self.view_is) (with_record-told inside.names inside.records.items inside.counts.items inside.texts c.self.invariant c.record_of.new.names c.record_of.new.texts _ (pred c.len-revisions.result) c.in_ok-record.record c.in_ok-record.ensures.told last)
+    let revisions : pred (length (history_in_bytes c.args.self.now)) ≡ pred c.len-revisions.result =
+    ap (λ dump. pred (length (history_in_bytes dump))) (sym c.self.view_is) ∙ ap pred (length-history_in_bytes inside.names inside.records.items inside.counts.items inside.texts ∙ sym long) in
+    rw (revisions, c.in_ok-push.ensures.items, counts_are, ← c.self.view_is) (with_record-told inside.names inside.records.items inside.counts.items inside.texts c.self.invariant c.record_of.new.names c.record_of.new.texts _ (pred c.len-revisions.result) c.in_ok-record.record c.in_ok-record.ensures.record last)
 
 pub returns-clause-keeps : goal.returns-clause-keeps
 returns-clause-keeps c =
     let inside = c.self.inside in
-    let told = c.in_ok-record.ensures.told in
+    let told = c.in_ok-record.ensures.record in
     let long : c.len-revisions.result ≡ length inside.counts.items = omega arith in
     let last : pred c.len-revisions.result ≡ length inside.counts.items - 1 = ap pred long ∙ sym (sub-one (length inside.counts.items)) in
     let counts_are : set inside.counts.items (c.len-revisions.result - 1) (c.index_mut.result.now + 1) ≡ with_more inside.counts.items =
@@ -93,4 +93,4 @@ returns-clause-keeps c =
     (omega (arith, long, told.of_table.above_zero, told.revision, sub-one c.len-revisions.result)) c.index_mut.ensures.value in
     let room = sym c.is_full.ensures.full ∙ c.if-is_full.false in
     rw (c.in_ok-push.ensures.items, counts_are, ← c.self.view_is)
-    (IsWhole-with_record inside.names inside.records.items inside.counts.items inside.texts c.self.invariant c.record_of.new.names c.record_of.new.texts _ (pred c.len-revisions.result) c.in_ok-record.record c.in_ok-record.ensures.told last room (c.is_full.ensures.names c.if-is_full.false) (c.is_full.ensures.texts c.if-is_full.false))
+    (IsWhole-with_record inside.names inside.records.items inside.counts.items inside.texts c.self.invariant c.record_of.new.names c.record_of.new.texts _ (pred c.len-revisions.result) c.in_ok-record.record c.in_ok-record.ensures.record last room (c.is_full.ensures.names c.if-is_full.false) (c.is_full.ensures.texts c.if-is_full.false))

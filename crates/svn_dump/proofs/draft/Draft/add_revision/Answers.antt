@@ -10,9 +10,9 @@ invariant_of-self-2 c =
     let inside = c.self.inside in
     rw c.in_ok-push.ensures.items (IsDraft-with_revision inside.names inside.records.items inside.counts.items inside.texts c.self.invariant (omega arith))
 
-pub returns-clause-told : goal.returns-clause-told
+pub returns-clause-added : goal.returns-clause-added
 unfolding with_sort
-returns-clause-told c =
+returns-clause-added c =
     let inside = c.self.inside in
     rw (c.in_ok-push.ensures.items, ← c.self.view_is) (with_numbered-told inside.names inside.records.items inside.counts.items inside.texts c.self.invariant c.args.number.now (search rules))
 

@@ -1,0 +1,83 @@
+-- What the values of the listed headers say, by their places, with the property section: what a block says that has
+-- these.
+use Rattle.std.specs.Prelude.{ℕ, Bool, ◌||◌, List, [], ◌∷◌, Option, Some, None, slice_index_or, option_copied, option_map, option_and_then}
+use Rattle.svn_dump.specs.Block.{length_or_zero, whole_length}
+use Rattle.svn_dump.specs.Field.{place_of}
+use Rattle.svn_dump.specs.History.{Setting, keep, put}
+use Rattle.svn_dump.specs.Node.{BlockSort, Node, NodeAction, action_named, addition, node_add, node_change, node_copy, node_delete, sort_by_fields}
+use Rattle.svn_dump.specs.Record.{says_true}
+use Rattle.svn_dump.specs.Property.{last_value, mergeinfo_name, section_of}
+use Rattle.svn_dump.specs.declared.block.FrontBlock.{FrontBlock}
+use Rattle.svn_dump.specs.declared.mergeinfo.Mergeinfo.{Mergeinfo}
+use Rattle.svn_dump.specs.declared.mergeinfo.Mergeinfo.TheVariants as mergeinfo
+use Rattle.svn_dump.specs.declared.node_action.NodeAction.{NodeAction as ReadAction}
+use Rattle.svn_dump.specs.declared.node_action.NodeAction.TheVariants as action
+use Rattle.svn_dump.specs.declared.field.Field.{Field}
+use Rattle.svn_dump.specs.declared.field.Field.TheVariants as field
+
+abbrev pub value_of : List (Option (List ℕ)) → Field → Option (List ℕ)
+value_of values field = slice_index_or values (place_of field) None
+
+-- how long the body is
+abbrev pub body_length_from_headers : List (Option (List ℕ)) → Option ℕ
+body_length_from_headers values =
+    option_and_then
+    (λ properties. option_and_then
+    (λ text. whole_length properties text (value_of values field.ContentLength))
+    (length_or_zero (value_of values field.TextLength)))
+    (length_or_zero (value_of values field.PropertiesLength))
+
+abbrev pub is_delta_from_headers : List (Option (List ℕ)) → Bool
+is_delta_from_headers values = says_true (value_of values field.PropertiesDelta) || says_true (value_of values field.TextDelta)
+
+-- what a property section says of the mergeinfo; it is empty where there is none
+abbrev pub setting_from_section : List ℕ → Option (Setting (List ℕ))
+setting_from_section [] = Some keep
+setting_from_section (byte ∷ bytes) = option_map (λ properties. put (last_value mergeinfo_name properties)) (section_of (byte ∷ bytes))
+
+-- the same as it is read
+abbrev pub mergeinfo_view : Mergeinfo → Setting (List ℕ)
+mergeinfo_view mergeinfo.Keep = keep
+mergeinfo_view (mergeinfo.Put value) = put (option_copied value)
+
+-- an addition, which is a copy where the headers name a source
+abbrev pub addition_from_headers : Bool → List (Option (List ℕ)) → Option NodeAction
+addition_from_headers replace values =
+    addition replace (value_of values field.NodeKind) (value_of values field.CopyfromRevision) (value_of values field.CopyfromPath)
+
+-- what a node block does
+abbrev pub node_action_from_headers : List (Option (List ℕ)) → Option NodeAction
+node_action_from_headers values =
+    option_and_then
+    (action_named (value_of values field.NodeKind) (value_of values field.CopyfromRevision) (value_of values field.CopyfromPath))
+    (value_of values field.NodeAction)
+
+-- the same as it is read
+abbrev pub node_action_view : ReadAction → NodeAction
+node_action_view action.Delete = node_delete
+node_action_view action.Change = node_change
+node_action_view (action.Add replace kind) = node_add replace kind
+node_action_view (action.Copy replace from_rev from) = node_copy replace from_rev from.now
+
+abbrev pub node_from_headers : List (Option (List ℕ)) → List ℕ → List ℕ → Node
+node_from_headers values properties path = record {
+  path = path;
+  action = node_action_from_headers values;
+  is_delta = is_delta_from_headers values;
+  setting = setting_from_section properties;
+}
+
+-- what a block is, given the values of its headers and its property section
+unfoldable pub sort_from_headers : List (Option (List ℕ)) → List ℕ → BlockSort
+sort_from_headers values properties =
+    sort_by_fields (value_of values field.RevisionNumber) (option_map (node_from_headers values properties) (value_of values field.NodePath))
+    (value_of values field.Uuid)
+
+-- ---- the block at the front of the bytes
+
+abbrev pub sort_of_front : FrontBlock → BlockSort
+sort_of_front front = sort_from_headers front.headers front.properties.now
+
+-- the node block, given the value of its `Node-path`
+abbrev pub node_of_front : FrontBlock → List ℕ → Node
+node_of_front front path = node_from_headers front.headers front.properties.now path
