@@ -1,16 +1,15 @@
+mod CameFromItself
 mod HistoryTo
-mod Locations
-mod Makings
+mod NamedRevisions
 mod Operative
-mod Places
 mod Prefixes
 mod Pushed
+mod RecordEffects
 mod Rising
-mod Runs
-mod RunsUpTo
+mod Segments
+mod SegmentsUpTo
+mod Spans
 mod Steps
-mod Stretches
-mod Touched
 mod Traces
 mod Walks
 pub mod Histories

@@ -1,6 +1,7 @@
--- The operative revisions of a path's runs, by the records that name the path.
+-- The operative revisions of a path's segments, by the records that name the path.
 use Rattle.std.proofs.Common.{◌≡◌, ℕ, zero, suc, pred, ◌+◌, ◌-◌, ◌<◌, ◌≤◌, nat_lt, Bool, true, false, not, ◌&&◌, ◌||◌, if◌then◌else◌, List, [], ◌∷◌, ◌++◌, Option, None, Some, map, filter, refl, sym, ap, ◌∙◌, arith}
 use Rattle.std.proofs.lemmas.Bool.{false_from_ne_true, lt-ltb, or_right}
+use Rattle.std.proofs.Math.Bool.{or-false}
 use Rattle.std.proofs.lemmas.List.Elements.{filter-append}
 use Rattle.svn_path.specs.Below.{IsSame}
 use Rattle.svn_path.specs.Path.{same_name}
@@ -11,18 +12,20 @@ use Rattle.svn_dump.specs.Location.{origin_of, location}
 use Rattle.svn_dump.specs.Tree.{Tree, is_there, tree_of}
 use Rattle.svn_dump.specs.declared.record.NodeRecord.{NodeRecord}
 use Rattle.svn_dump.specs.declared.record.ValueId.{ValueId}
-use Rattle.svn_dump.proofs.Locations.{location_is_there}
+use Rattle.svn_dump.proofs.Locations.{location_is_there, location_through}
 use Rattle.svn_dump.proofs.Origins.{OriginsFall, OriginsAreThere, OriginsFall-trees_of, OriginsAreThere-trees_of}
-use Rattle.path_index.specs.History.{history_to, records_of, trees_to}
-use Rattle.path_index.specs.Operative.{names_below, came_from_itself, records_in, is_operative, down_from, operative_in, operative_from, operative_of, Touch}
-use Rattle.path_index.specs.Segment.{AreRuns, IsRun, Run, segments_of}
-use Rattle.path_index.specs.Shown.{IsThere}
+use Rattle.path_index.specs.History.{history_to, records_of, trees_to, records_up_to}
+use Rattle.path_index.specs.Operative.{names_below, came_from_itself, records_in, is_operative, down_from, operative_in, operative_from, operative_of, hit_at}
+use Rattle.path_index.specs.declared.hit.Hit.{Hit}
+use Rattle.path_index.specs.Segment.{AreSegments, IsSegment, Segment, segments_of}
+use Rattle.path_index.specs.Index.{IsThere}
 use Rattle.path_index.proofs.HistoryTo.{records_in-history_to}
-use Rattle.path_index.proofs.Places.{location_through, came-from_location, location-from_came}
-use Rattle.path_index.proofs.Pushed.{placed}
-use Rattle.path_index.proofs.Rising.{up_to, records_of-up_to}
-use Rattle.path_index.proofs.Runs.{AreRuns-segments_of}
-use Rattle.path_index.proofs.Touched.{is_named, touched, or_false, filter_down-same}
+use Rattle.path_index.proofs.CameFromItself.{came-from_location, location-from_came}
+use Rattle.path_index.proofs.Pushed.{hits_at}
+use Rattle.path_index.proofs.Rising.{records_of-records_up_to}
+use Rattle.path_index.proofs.Segments.{AreSegments-segments_of}
+use Rattle.path_index.proofs.NamedRevisions.{filter_down-same}
+use Rattle.path_index.specs.NamedRevisions.{is_named, named_revisions}
 
 -- one number more, at the end
 down_from_more : (n top : ℕ) → down_from (suc n) top ≡ down_from n top ++ (top - n) ∷ []
@@ -35,9 +38,9 @@ there_by_origin : (later there named came : Bool) → later ≡ true → there �
 there_by_origin later there named came a b c = (λ i. a i && b i && (named || not (c i))) ∙ or_right named true refl
 
 there_by_record : (later there named came : Bool) → later ≡ true → there ≡ true → came ≡ true → (later && there && (named || not came)) ≡ named
-there_by_record later there named came a b c = (λ i. a i && b i && (named || not (c i))) ∙ or_false named
+there_by_record later there named came a b c = (λ i. a i && b i && (named || not (c i))) ∙ or-false named
 
--- the first revision of a run, unless it is revision 0
+-- the first revision of a segment, unless it is revision 0
 abbrev pub first_of : ℕ → List ℕ
 first_of lo = if nat_lt 0 lo then lo ∷ [] else []
 
@@ -47,20 +50,20 @@ module _ {C M : Type 0} (same : C → C → Bool) (is : IsSame same) (history : 
   abbrev place : ℕ → Option (List C)
   place k = location same trees path rev k
 
-  module _ (run : Run C) (q : List C) (so : IsRun place run) (at : run.path ≡ Some q) where
-    stood : (k : ℕ) → run.lo ≤ k → k ≤ run.hi → place k ≡ Some q
+  module _ (segment : Segment C) (q : List C) (so : IsSegment place segment) (at : segment.path ≡ Some q) where
+    stood : (k : ℕ) → segment.lo ≤ k → k ≤ segment.hi → place k ≡ Some q
     stood k from to = so.stays k from to ∙ at
 
-    there_in : (k : ℕ) → run.lo ≤ k → k ≤ run.hi → is_there same (tree_of trees k) q ≡ true
+    there_in : (k : ℕ) → segment.lo ≤ k → k ≤ segment.hi → is_there same (tree_of trees k) q ≡ true
     there_in k from to = location_is_there same trees origins path q rev k there (stood k from to)
 
-    -- revision 0 touches nothing
+    -- revision 0 is not an operative one
     operative_zero : is_operative same history trees q 0 ≡ false
     unfolding is_operative
     operative_zero = refl
 
-    -- another revision with which a run begins touches the path
-    operative_first : (k : ℕ) → run.lo ≡ suc k → is_operative same history trees q (suc k) ≡ true
+    -- another revision with which a segment begins is
+    operative_first : (k : ℕ) → segment.lo ≡ suc k → is_operative same history trees q (suc k) ≡ true
     unfolding is_operative
     operative_first k begins =
         let here = stood (suc k) (omega arith) (omega (arith, so.ordered)) in
@@ -72,7 +75,7 @@ module _ {C M : Type 0} (same : C → C → Bool) (is : IsSame same) (history : 
         (came_from_itself same q (suc k) origin) (lt-ltb 0 (suc k) (omega arith)) (there_in (suc k) (omega arith) (omega (arith, so.ordered))) other
 
     -- a later one where a record names the path or a path below it
-    operative_later : (k : ℕ) → run.lo ≤ k → suc k ≤ run.hi → is_operative same history trees q (suc k) ≡ names_below same q (records_in history (suc k))
+    operative_later : (k : ℕ) → segment.lo ≤ k → suc k ≤ segment.hi → is_operative same history trees q (suc k) ≡ names_below same q (records_in history (suc k))
     unfolding is_operative
     operative_later k from to =
         let here = stood (suc k) (omega arith) to in
@@ -82,48 +85,48 @@ module _ {C M : Type 0} (same : C → C → Bool) (is : IsSame same) (history : 
         there_by_record (nat_lt 0 (suc k)) (is_there same (tree_of trees (suc k)) q) (names_below same q (records_in history (suc k)))
         (came_from_itself same q (suc k) (origin_of same trees q (suc k))) (lt-ltb 0 (suc k) (omega arith)) (there_in (suc k) (omega arith) to) came
 
-    operative_lo : (lo : ℕ) → run.lo ≡ lo → filter (is_operative same history trees q) (lo ∷ []) ≡ first_of lo
+    operative_lo : (lo : ℕ) → segment.lo ≡ lo → filter (is_operative same history trees q) (lo ∷ []) ≡ first_of lo
     operative_lo zero begins = rw operative_zero refl
     operative_lo (suc k) begins = rw (operative_first k begins, lt-ltb 0 (suc k) (omega arith)) refl
 
-    operative_after : (p : ℕ → Bool) → ((k : ℕ) → k ≤ run.hi → p k ≡ names_below same q (records_in history k)) → (k : ℕ) → k ≤ run.hi → run.lo < k
+    operative_after : (p : ℕ → Bool) → ((k : ℕ) → k ≤ segment.hi → p k ≡ names_below same q (records_in history k)) → (k : ℕ) → k ≤ segment.hi → segment.lo < k
         → is_operative same history trees q k ≡ p k
     operative_after p named zero to from = absurd (omega arith)
     operative_after p named (suc k) to from = operative_later k (omega arith) to ∙ sym (named (suc k) to)
 
-    -- so those of the run are these
-    pub operative_in-run : (p : ℕ → Bool) → ((k : ℕ) → k ≤ run.hi → p k ≡ names_below same q (records_in history k))
-        → operative_in same history trees run (Some q) ≡ filter p (down_from (run.hi - run.lo) run.hi) ++ first_of run.lo
-    operative_in-run p named =
+    -- so those of the segment are these
+    pub operative_in-segment : (p : ℕ → Bool) → ((k : ℕ) → k ≤ segment.hi → p k ≡ names_below same q (records_in history k))
+        → operative_in same history trees segment (Some q) ≡ filter p (down_from (segment.hi - segment.lo) segment.hi) ++ first_of segment.lo
+    operative_in-segment p named =
         let test = is_operative same history trees q in
-        let n = run.hi - run.lo in
-        let one_more : run.hi + 1 - run.lo ≡ suc n = omega (arith, so.ordered) in
-        let last : run.hi - n ≡ run.lo = omega (arith, so.ordered) in
-        ap (λ count. filter test (down_from count run.hi)) one_more
-        ∙ ap (filter test) (down_from_more n run.hi)
-        ∙ filter-append test (down_from n run.hi) ((run.hi - n) ∷ [])
-        ∙ ap (λ lo. filter test (down_from n run.hi) ++ filter test (lo ∷ [])) last
-        ∙ ap (λ revs. filter test (down_from n run.hi) ++ revs) (operative_lo run.lo refl)
-        ∙ ap (λ revs. revs ++ first_of run.lo)
-        (filter_down-same test p n run.hi (omega arith) (λ k up within. operative_after p named k up (omega arith)))
+        let n = segment.hi - segment.lo in
+        let one_more : segment.hi + 1 - segment.lo ≡ suc n = omega (arith, so.ordered) in
+        let last : segment.hi - n ≡ segment.lo = omega (arith, so.ordered) in
+        ap (λ count. filter test (down_from count segment.hi)) one_more
+        ∙ ap (filter test) (down_from_more n segment.hi)
+        ∙ filter-append test (down_from n segment.hi) ((segment.hi - n) ∷ [])
+        ∙ ap (λ lo. filter test (down_from n segment.hi) ++ filter test (lo ∷ [])) last
+        ∙ ap (λ revs. filter test (down_from n segment.hi) ++ revs) (operative_lo segment.lo refl)
+        ∙ ap (λ revs. revs ++ first_of segment.lo)
+        (filter_down-same test p n segment.hi (omega arith) (λ k up within. operative_after p named k up (omega arith)))
 
--- ---- the walk over the records, beside the runs
+-- ---- the walk over the records, beside the segments
 
--- what is touched in a run, given its path and the records up to it
-abbrev pub touched_in : ℕ → List NodeRecord → Run NameId → Option (List NameId) → List Touch
-touched_in place records run None = []
-touched_in place records run (Some path) = placed place (touched path run.lo run.hi records ++ first_of run.lo)
+-- the hits in a segment, given its path and the records up to it
+abbrev pub hits_in : ℕ → List NodeRecord → Segment NameId → Option (List NameId) → List Hit
+hits_in place records segment None = []
+hits_in place records segment (Some path) = hits_at place (named_revisions path segment.lo segment.hi records ++ first_of segment.lo)
 
--- the records left below a run
-abbrev pub left_by : List NodeRecord → Run NameId → Option (List NameId) → List NodeRecord
-left_by records run None = records
-left_by records run (Some path) = up_to run.lo records
+-- the records left below a segment
+abbrev pub left_by : List NodeRecord → Segment NameId → Option (List NameId) → List NodeRecord
+left_by records segment None = records
+left_by records segment (Some path) = records_up_to segment.lo records
 
--- what is touched in the runs, each walked after the one before
-abbrev pub touched_from : ℕ → List NodeRecord → List (Run NameId) → List Touch
-touched_from place records [] = []
-touched_from place records (run ∷ runs) =
-    touched_in place (up_to run.hi records) run run.path ++ touched_from (place + 1) (left_by (up_to run.hi records) run run.path) runs
+-- the hits in the segments, each walked after the one before
+abbrev pub hits_from : ℕ → List NodeRecord → List (Segment NameId) → List Hit
+hits_from place records [] = []
+hits_from place records (segment ∷ segments) =
+    hits_in place (records_up_to segment.hi records) segment segment.path ++ hits_from (place + 1) (left_by (records_up_to segment.hi records) segment segment.path) segments
 
 module _ (is : IsSame same_name) (history : History NameId ValueId) (trees : List (Tree NameId ValueId))
     (fall : OriginsFall same_name trees) (origins : OriginsAreThere same_name trees)
@@ -133,41 +136,41 @@ module _ (is : IsSame same_name) (history : History NameId ValueId) (trees : Lis
   abbrev AreLeft : ℕ → List NodeRecord → Type 0
   AreLeft bound rest = (k : ℕ) → k < bound → records_of rest k ≡ records_of records k
 
-  in_run : (place : ℕ) (run : Run NameId) → IsRun (λ k. location same_name trees path rev k) run → run.hi ≤ rev → (rest : List NodeRecord)
-      → AreLeft (run.hi + 1) rest → (o : Option (List NameId)) → run.path ≡ o
-      → touched_in place rest run o ≡ map (λ k. (k, place)) (operative_in same_name history trees run o)
-  in_run place run so up rest left None at = refl
-  in_run place run so up rest left (Some q) at =
-      ap (placed place) (sym (operative_in-run same_name is history trees fall origins path rev there run q so at (is_named q rest)
+  in_segment : (place : ℕ) (segment : Segment NameId) → IsSegment (λ k. location same_name trees path rev k) segment → segment.hi ≤ rev → (rest : List NodeRecord)
+      → AreLeft (segment.hi + 1) rest → (o : Option (List NameId)) → segment.path ≡ o
+      → hits_in place rest segment o ≡ map (hit_at place) (operative_in same_name history trees segment o)
+  in_segment place segment so up rest left None at = refl
+  in_segment place segment so up rest left (Some q) at =
+      ap (hits_at place) (sym (operative_in-segment same_name is history trees fall origins path rev there segment q so at (is_named q rest)
       (λ k to. ap (names_below same_name q) (left k (omega arith) ∙ sym (are k (omega arith))))))
 
-  left_in : (run : Run NameId) (rest : List NodeRecord) → run.lo ≤ run.hi → AreLeft (run.hi + 1) rest → (o : Option (List NameId))
-      → AreLeft run.lo (left_by rest run o)
-  left_in run rest ordered left None k before = left k (omega arith)
-  left_in run rest ordered left (Some q) k before = records_of-up_to k run.lo rest (omega arith) ∙ left k (omega arith)
+  left_in : (segment : Segment NameId) (rest : List NodeRecord) → segment.lo ≤ segment.hi → AreLeft (segment.hi + 1) rest → (o : Option (List NameId))
+      → AreLeft segment.lo (left_by rest segment o)
+  left_in segment rest ordered left None k before = left k (omega arith)
+  left_in segment rest ordered left (Some q) k before = records_of-records_up_to k segment.lo rest (omega arith) ∙ left k (omega arith)
 
-  from_runs : (place bound : ℕ) (runs : List (Run NameId)) (rest : List NodeRecord) → AreRuns (λ k. location same_name trees path rev k) bound runs
-      → bound ≤ rev + 1 → AreLeft bound rest → touched_from place rest runs ≡ operative_from same_name history trees place runs
+  from_segments : (place bound : ℕ) (segments : List (Segment NameId)) (rest : List NodeRecord) → AreSegments (λ k. location same_name trees path rev k) bound segments
+      → bound ≤ rev + 1 → AreLeft bound rest → hits_from place rest segments ≡ operative_from same_name history trees place segments
   unfolding operative_from
-  from_runs place bound [] rest all few left = refl
-  from_runs place bound (run ∷ runs) rest all few left =
-      let within = up_to run.hi rest in
-      let left_within : AreLeft (run.hi + 1) within = λ k before. records_of-up_to k run.hi rest (omega arith) ∙ left k (omega (arith, all.0)) in
-      let here = in_run place run all.1 (omega (arith, all.0)) within left_within run.path refl in
-      let onward = from_runs (place + 1) run.lo runs (left_by within run run.path) all.2 (omega (arith, all.0, all.1.ordered))
-      (left_in run within all.1.ordered left_within run.path) in
+  from_segments place bound [] rest all few left = refl
+  from_segments place bound (segment ∷ segments) rest all few left =
+      let within = records_up_to segment.hi rest in
+      let left_within : AreLeft (segment.hi + 1) within = λ k before. records_of-records_up_to k segment.hi rest (omega arith) ∙ left k (omega (arith, all.0)) in
+      let here = in_segment place segment all.1 (omega (arith, all.0)) within left_within segment.path refl in
+      let onward = from_segments (place + 1) segment.lo segments (left_by within segment segment.path) all.2 (omega (arith, all.0, all.1.ordered))
+      (left_in segment within all.1.ordered left_within segment.path) in
       λ i. here i ++ onward i
 
 -- ---- at the trees of a list of records
 
--- the touched revisions of a path's runs are the operative ones
-pub touched_from-operative_of : (records : List NodeRecord) (path : List NameId) (rev : ℕ) → IsThere records path rev → (runs : List (Run NameId))
-    → runs ≡ segments_of same_name (trees_to records rev) path rev
-    → touched_from 0 records runs ≡ operative_of same_name (history_to records rev) (trees_to records rev) runs
-touched_from-operative_of records path rev there runs so =
+-- the hits in a path's segments are the operative revisions
+pub hits_from-operative_of : (records : List NodeRecord) (path : List NameId) (rev : ℕ) → IsThere records path rev → (segments : List (Segment NameId))
+    → segments ≡ segments_of same_name (trees_to records rev) path rev
+    → hits_from 0 records segments ≡ operative_of same_name (history_to records rev) (trees_to records rev) segments
+hits_from-operative_of records path rev there segments so =
     let history = history_to records rev in
     let trees = trees_to records rev in
-    from_runs IsSame-same_name history trees (OriginsFall-trees_of same_name history) (OriginsAreThere-trees_of same_name IsSame-same_name history) path rev there records
-    (records_in-history_to records rev) 0 (rev + 1) runs records
-    (AreRuns-segments_of records path rev runs so)
+    from_segments IsSame-same_name history trees (OriginsFall-trees_of same_name history) (OriginsAreThere-trees_of same_name IsSame-same_name history) path rev there records
+    (records_in-history_to records rev) 0 (rev + 1) segments records
+    (AreSegments-segments_of records path rev segments so)
     (omega arith) (λ k before. refl)

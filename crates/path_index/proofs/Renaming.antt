@@ -7,8 +7,8 @@ use Rattle.svn_dump.specs.Tree.{Tree, is_there, tree_of, rename_tree}
 use Rattle.svn_dump.proofs.Renaming.Locations.{origin_of-rename, location-rename}
 use Rattle.svn_dump.proofs.Renaming.Paths.{KeepsSame, is_below-rename, same_path-rename}
 use Rattle.svn_dump.proofs.Renaming.Trees.{rename_origin, tree_of-rename, is_there-rename}
-use Rattle.path_index.specs.Operative.{names_below, came_from_itself, records_in, is_operative, down_from, operative_in, operative_from, operative_of}
-use Rattle.path_index.specs.Segment.{Run, rename_run, same_place, with_place, runs_up_to, segments_of}
+use Rattle.path_index.specs.Operative.{names_below, came_from_itself, records_in, is_operative, down_from, operative_in, operative_from, operative_of, hit_at}
+use Rattle.path_index.specs.Segment.{Segment, rename_segment, same_place, with_place, segments_up_to, segments_of}
 
 -- the records of a revision are renamed
 pub records_in-rename : {C D M N : Type 0} (name : C → D) (text : M → N) (history : History C M) (rev : ℕ)
@@ -18,46 +18,46 @@ records_in-rename name text (records ∷ history) zero = refl
 records_in-rename name text (records ∷ history) (suc rev) = records_in-rename name text history rev
 
 module _ {C D : Type 0} (name : C → D) (sameC : C → C → Bool) (sameD : D → D → Bool) (alike : KeepsSame name sameC sameD) where
-  -- ---- runs
+  -- ---- segments
 
-  -- renamed places are the same where the places were
+  -- renamed places are the same exactly where the places are
   pub same_place-rename : (a b : Option (List C)) → same_place sameD (option_map (map name) a) (option_map (map name) b) ≡ same_place sameC a b
   same_place-rename None None = refl
   same_place-rename None (Some q) = refl
   same_place-rename (Some p) None = refl
   same_place-rename (Some p) (Some q) = same_path-rename name sameC sameD alike p q
 
-  joined-rename : (b : Bool) (rev : ℕ) (place : Option (List C)) (run : Run C) (runs : List (Run C))
-      → (if b then record (rename_run name run) { hi = rev } ∷ map (rename_run name) runs
-      else record { lo = rev; hi = rev; path = option_map (map name) place } ∷ rename_run name run ∷ map (rename_run name) runs)
-      ≡ map (rename_run name) (if b then record run { hi = rev } ∷ runs else record { lo = rev; hi = rev; path = place } ∷ run ∷ runs)
-  joined-rename true rev place run runs = refl
-  joined-rename false rev place run runs = refl
+  joined-rename : (b : Bool) (rev : ℕ) (place : Option (List C)) (segment : Segment C) (segments : List (Segment C))
+      → (if b then record (rename_segment name segment) { hi = rev } ∷ map (rename_segment name) segments
+      else record { lo = rev; hi = rev; path = option_map (map name) place } ∷ rename_segment name segment ∷ map (rename_segment name) segments)
+      ≡ map (rename_segment name) (if b then record segment { hi = rev } ∷ segments else record { lo = rev; hi = rev; path = place } ∷ segment ∷ segments)
+  joined-rename true rev place segment segments = refl
+  joined-rename false rev place segment segments = refl
 
   -- one more revision goes before or after renaming
-  pub with_place-rename : (rev : ℕ) (place : Option (List C)) (runs : List (Run C))
-      → with_place sameD rev (option_map (map name) place) (map (rename_run name) runs) ≡ map (rename_run name) (with_place sameC rev place runs)
+  pub with_place-rename : (rev : ℕ) (place : Option (List C)) (segments : List (Segment C))
+      → with_place sameD rev (option_map (map name) place) (map (rename_segment name) segments) ≡ map (rename_segment name) (with_place sameC rev place segments)
   unfolding with_place
   with_place-rename rev None [] = refl
   with_place-rename rev (Some path) [] = refl
-  with_place-rename rev None (run ∷ runs) =
-      ap (λ b. if b then record (rename_run name run) { hi = rev } ∷ map (rename_run name) runs
-      else record { lo = rev; hi = rev; path = None } ∷ rename_run name run ∷ map (rename_run name) runs) (same_place-rename None run.path)
-      ∙ joined-rename (same_place sameC None run.path) rev None run runs
-  with_place-rename rev (Some path) (run ∷ runs) =
-      ap (λ b. if b then record (rename_run name run) { hi = rev } ∷ map (rename_run name) runs
-      else record { lo = rev; hi = rev; path = Some (map name path) } ∷ rename_run name run ∷ map (rename_run name) runs) (same_place-rename (Some path) run.path)
-      ∙ joined-rename (same_place sameC (Some path) run.path) rev (Some path) run runs
+  with_place-rename rev None (segment ∷ segments) =
+      ap (λ b. if b then record (rename_segment name segment) { hi = rev } ∷ map (rename_segment name) segments
+      else record { lo = rev; hi = rev; path = None } ∷ rename_segment name segment ∷ map (rename_segment name) segments) (same_place-rename None segment.path)
+      ∙ joined-rename (same_place sameC None segment.path) rev None segment segments
+  with_place-rename rev (Some path) (segment ∷ segments) =
+      ap (λ b. if b then record (rename_segment name segment) { hi = rev } ∷ map (rename_segment name) segments
+      else record { lo = rev; hi = rev; path = Some (map name path) } ∷ rename_segment name segment ∷ map (rename_segment name) segments) (same_place-rename (Some path) segment.path)
+      ∙ joined-rename (same_place sameC (Some path) segment.path) rev (Some path) segment segments
 
   -- so do the revisions up to one
-  pub runs_up_to-rename : (placeC : ℕ → Option (List C)) (placeD : ℕ → Option (List D)) → ((rev : ℕ) → placeD rev ≡ option_map (map name) (placeC rev))
-      → (top : ℕ) → runs_up_to sameD placeD top ≡ map (rename_run name) (runs_up_to sameC placeC top)
-  unfolding runs_up_to
-  runs_up_to-rename placeC placeD renamed zero =
+  pub segments_up_to-rename : (placeC : ℕ → Option (List C)) (placeD : ℕ → Option (List D)) → ((rev : ℕ) → placeD rev ≡ option_map (map name) (placeC rev))
+      → (top : ℕ) → segments_up_to sameD placeD top ≡ map (rename_segment name) (segments_up_to sameC placeC top)
+  unfolding segments_up_to
+  segments_up_to-rename placeC placeD renamed zero =
       ap (λ place. with_place sameD zero place []) (renamed zero) ∙ with_place-rename zero (placeC zero) []
-  runs_up_to-rename placeC placeD renamed (suc rev) =
-      (λ i. with_place sameD (suc rev) (renamed (suc rev) i) (runs_up_to-rename placeC placeD renamed rev i))
-      ∙ with_place-rename (suc rev) (placeC (suc rev)) (runs_up_to sameC placeC rev)
+  segments_up_to-rename placeC placeD renamed (suc rev) =
+      (λ i. with_place sameD (suc rev) (renamed (suc rev) i) (segments_up_to-rename placeC placeD renamed rev i))
+      ∙ with_place-rename (suc rev) (placeC (suc rev)) (segments_up_to sameC placeC rev)
 
   -- ---- records and origins
 
@@ -77,16 +77,16 @@ module _ {C D : Type 0} (name : C → D) (sameC : C → C → Bool) (sameD : D �
 module _ {C D M N : Type 0} (name : C → D) (text : M → N) (sameC : C → C → Bool) (sameD : D → D → Bool) (alike : KeepsSame name sameC sameD) where
   -- the segments of a renamed path are the renamed ones
   pub segments_of-rename : (trees : List (Tree C M)) (path : List C) (peg : ℕ)
-      → segments_of sameD (map (rename_tree name text) trees) (map name path) peg ≡ map (rename_run name) (segments_of sameC trees path peg)
+      → segments_of sameD (map (rename_tree name text) trees) (map name path) peg ≡ map (rename_segment name) (segments_of sameC trees path peg)
   segments_of-rename trees path peg =
-      runs_up_to-rename name sameC sameD alike (λ rev. location sameC trees path peg rev)
+      segments_up_to-rename name sameC sameD alike (λ rev. location sameC trees path peg rev)
       (λ rev. location sameD (map (rename_tree name text) trees) (map name path) peg rev)
       (λ rev. location-rename name text sameC sameD alike trees path peg rev) peg
 
   -- ---- operative revisions
 
   module _ (history : History C M) (trees : List (Tree C M)) where
-    -- a revision touched a renamed path where it touched the path
+    -- a revision is an operative one of a renamed path where it is one of the path
     pub is_operative-rename : (path : List C) (rev : ℕ)
         → is_operative sameD (rename_history name text history) (map (rename_tree name text) trees) (map name path) rev
         ≡ is_operative sameC history trees path rev
@@ -100,30 +100,30 @@ module _ {C D M N : Type 0} (name : C → D) (text : M → N) (sameC : C → C �
         ∙ came_from_itself-rename name sameC sameD alike path rev (origin_of sameC trees path rev) in
         λ i. nat_lt 0 rev && there i && (named i || not (came i))
 
-    operative_at-rename : (run : Run C) (path : Option (List C))
-        → operative_in sameD (rename_history name text history) (map (rename_tree name text) trees) (rename_run name run) (option_map (map name) path)
-        ≡ operative_in sameC history trees run path
-    operative_at-rename run None = refl
-    operative_at-rename run (Some path) =
+    operative_at-rename : (segment : Segment C) (path : Option (List C))
+        → operative_in sameD (rename_history name text history) (map (rename_tree name text) trees) (rename_segment name segment) (option_map (map name) path)
+        ≡ operative_in sameC history trees segment path
+    operative_at-rename segment None = refl
+    operative_at-rename segment (Some path) =
         filter_agree (is_operative sameD (rename_history name text history) (map (rename_tree name text) trees) (map name path))
-        (is_operative sameC history trees path) (is_operative-rename path) (down_from (run.hi + 1 - run.lo) run.hi)
+        (is_operative sameC history trees path) (is_operative-rename path) (down_from (segment.hi + 1 - segment.lo) segment.hi)
 
-    -- the same revisions touched the path of a renamed run
-    pub operative_in-rename : (run : Run C)
-        → operative_in sameD (rename_history name text history) (map (rename_tree name text) trees) (rename_run name run) (rename_run name run).path
-        ≡ operative_in sameC history trees run run.path
-    operative_in-rename run = operative_at-rename run run.path
+    -- the operative revisions of a renamed segment are the same
+    pub operative_in-rename : (segment : Segment C)
+        → operative_in sameD (rename_history name text history) (map (rename_tree name text) trees) (rename_segment name segment) (rename_segment name segment).path
+        ≡ operative_in sameC history trees segment segment.path
+    operative_in-rename segment = operative_at-rename segment segment.path
 
-    operative_from-rename : (place : ℕ) (runs : List (Run C))
-        → operative_from sameD (rename_history name text history) (map (rename_tree name text) trees) place (map (rename_run name) runs)
-        ≡ operative_from sameC history trees place runs
+    operative_from-rename : (place : ℕ) (segments : List (Segment C))
+        → operative_from sameD (rename_history name text history) (map (rename_tree name text) trees) place (map (rename_segment name) segments)
+        ≡ operative_from sameC history trees place segments
     unfolding operative_from
     operative_from-rename place [] = refl
-    operative_from-rename place (run ∷ runs) =
-        λ i. map (λ rev. (rev, place)) (operative_in-rename run i) ++ operative_from-rename (place + 1) runs i
+    operative_from-rename place (segment ∷ segments) =
+        λ i. map (hit_at place) (operative_in-rename segment i) ++ operative_from-rename (place + 1) segments i
 
-    -- and of renamed runs
-    pub operative_of-rename : (runs : List (Run C))
-        → operative_of sameD (rename_history name text history) (map (rename_tree name text) trees) (map (rename_run name) runs)
-        ≡ operative_of sameC history trees runs
-    operative_of-rename runs = operative_from-rename 0 runs
+    -- and of renamed segments
+    pub operative_of-rename : (segments : List (Segment C))
+        → operative_of sameD (rename_history name text history) (map (rename_tree name text) trees) (map (rename_segment name) segments)
+        ≡ operative_of sameC history trees segments
+    operative_of-rename segments = operative_from-rename 0 segments

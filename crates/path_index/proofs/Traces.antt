@@ -1,5 +1,5 @@
 -- The walk back over the records, from one origin to the next.
-use Rattle.std.proofs.Common.{◌≡◌, ◌≢◌, ℕ, suc, ◌+◌, ◌-◌, ◌<◌, ◌≤◌, nat_lt, if◌then◌else◌, List, [], ◌∷◌, ◌++◌, append_assoc, append-nil, ◌⊎◌, ⊎_elim, Option, None, Some, option_and_then, inl, inr, refl, sym, ap, subst, ◌∙◌, arith}
+use Rattle.std.proofs.Common.{◌≡◌, ◌≢◌, ℕ, suc, ◌+◌, ◌-◌, ◌<◌, ◌≤◌, nat_lt, if◌then◌else◌, List, [], ◌∷◌, ◌++◌, map, append_assoc, append-nil, ◌⊎◌, ⊎_elim, Option, None, Some, inl, inr, refl, sym, ap, subst, ◌∙◌, arith}
 use Rattle.std.proofs.lemmas.Bool.{cases_lt, lt-ltb, le-ltb}
 use Rattle.std.proofs.lemmas.Option.{none-some, same_Some}
 use Rattle.svn_path.specs.Path.{same_name}
@@ -10,12 +10,14 @@ use Rattle.svn_dump.specs.declared.record.NodeRecord.{NodeRecord}
 use Rattle.svn_dump.proofs.Locations.{location_here, location_later}
 use Rattle.svn_dump.proofs.Origins.{OriginsFall-trees_of}
 use Rattle.path_index.specs.History.{AreRising, history_to, trees_to}
-use Rattle.path_index.specs.Segment.{Run, runs_up_to}
-use Rattle.path_index.specs.Shown.{IsThere}
-use Rattle.path_index.specs.declared.origin.Origin.{Origin}
-use Rattle.path_index.proofs.RunsUpTo.{runs_up_to-next, runs_up_to-first}
+use Rattle.path_index.specs.Segment.{Segment, segments_up_to}
+use Rattle.path_index.specs.Index.{IsThere, gap_between, segment_view}
+use Rattle.path_index.specs.Span.{location_before}
+use Rattle.svn_dump.specs.declared.origin.Origin.{Origin}
+use Rattle.path_index.specs.declared.segment.Segment.{Segment as KeptSegment}
+use Rattle.path_index.proofs.SegmentsUpTo.{segments_up_to-next, segments_up_to-first}
 
--- an earlier place stood nowhere later
+-- a path of an earlier revision stood nowhere later
 pub location_past : (records : List NodeRecord) (path : List NameId) (at wanted : ℕ) → at < wanted → location same_name (trees_to records at) path at wanted ≡ None
 location_past records path at wanted past = location_later same_name (trees_to records at) (OriginsFall-trees_of same_name (history_to records at)) path at wanted past
 
@@ -23,7 +25,7 @@ location_past records path at wanted past = location_later same_name (trees_to r
 pub location_now : (records : List NodeRecord) (path : List NameId) (at : ℕ) → location same_name (trees_to records at) path at at ≡ Some path
 location_now records path at = location_here same_name (trees_to records at) (OriginsFall-trees_of same_name (history_to records at)) path at
 
--- so the test before a step back says nothing new
+-- so the test before a step back changes nothing
 pub location_tested : (records : List NodeRecord) (path : List NameId) (at wanted : ℕ)
     → (if nat_lt at wanted then None else location same_name (trees_to records at) path at wanted) ≡ location same_name (trees_to records at) path at wanted
 location_tested records path at wanted = elim (cases_lt at wanted) [
@@ -31,13 +33,13 @@ location_tested records path at wanted = elim (cases_lt at wanted) [
   | inr within ↦ ap (λ b. if b then None else location same_name (trees_to records at) path at wanted) (le-ltb at wanted within)
 ]
 
--- this is found from this place of this revision
+-- from this place in this revision the walk finds this
 pub record IsTraced (wanted : ℕ) (found : Option (List NameId)) (records : List NodeRecord) (place : List NameId) (at : ℕ) : Type 0 where
   pub rising : AreRising records
   pub there : IsThere records place at
   pub finds : location same_name (trees_to records at) place at wanted ≡ found
 
--- the whole history's records are there at first
+-- at first, by the records of the whole history
 pub IsTraced-whole : (wanted : ℕ) (all records : List NodeRecord) (path place : List NameId) (peg : ℕ) → records ≡ all → place ≡ path → AreRising all → IsThere all path peg
     → IsTraced wanted (location same_name (trees_to all peg) path peg wanted) records place peg
 IsTraced-whole wanted all records path place peg same here rising there =
@@ -45,28 +47,23 @@ IsTraced-whole wanted all records path place peg same here rising there =
     subst (λ some. IsTraced wanted found some place peg) (sym same)
     (subst (λ p. IsTraced wanted found all p peg) (sym here) (record { rising = rising; there = there; finds = refl }))
 
--- what an origin leads to in the wanted revision, given the records before it
-abbrev pub led_to : List NodeRecord → ℕ → Option Origin → Option (List NameId)
-led_to before wanted origin =
-    option_and_then (λ from. if nat_lt from.rev wanted then None else location same_name (trees_to before from.rev) from.path from.rev wanted) origin
-
 -- without the test
-pub led_to-Some : (before : List NodeRecord) (wanted : ℕ) (o : Option Origin) (origin : Origin) → o ≡ Some origin
-    → led_to before wanted o ≡ location same_name (trees_to before origin.rev) origin.path origin.rev wanted
-led_to-Some before wanted o origin is = ap (led_to before wanted) is ∙ location_tested before origin.path origin.rev wanted
+pub location_before-Some : (before : List NodeRecord) (wanted : ℕ) (o : Option Origin) (origin : Origin) → o ≡ Some origin
+    → location_before before wanted o ≡ location same_name (trees_to before origin.rev) origin.path origin.rev wanted
+location_before-Some before wanted o origin is = ap (location_before before wanted) is ∙ location_tested before origin.path origin.rev wanted
 
--- ---- the runs of the places
+-- ---- the segments of the places
 
--- the runs above this place's are gathered, and its own goes up to `hi`; below, the places are traced from here
-pub record IsGathered (place_in : ℕ → Option (List NameId)) (peg : ℕ) (runs : List (Run NameId)) (hi : ℕ) (records : List NodeRecord) (place : List NameId) (at : ℕ) : Type 0 where
+-- the segments above this place's are complete, and its own ends at `hi`; below, the places are traced from here
+pub record IsGathered (place_in : ℕ → Option (List NameId)) (peg : ℕ) (segments : List (Segment NameId)) (hi : ℕ) (records : List NodeRecord) (place : List NameId) (at : ℕ) : Type 0 where
   pub rising : AreRising records
   pub there : IsThere records place at
   pub traced : (rev : ℕ) → rev ≤ at → place_in rev ≡ location same_name (trees_to records at) place at rev
   pub same : (rev : ℕ) → at ≤ rev → rev ≤ hi → place_in rev ≡ Some place
   pub high : at ≤ hi
-  pub gathered : runs ++ runs_up_to same_name place_in hi ≡ runs_up_to same_name place_in peg
+  pub gathered : segments ++ segments_up_to same_name place_in hi ≡ segments_up_to same_name place_in peg
 
--- no run is gathered yet
+-- at first, without a segment
 pub IsGathered-none : (all records : List NodeRecord) (path place : List NameId) (peg : ℕ) → records ≡ all → place ≡ path → AreRising all → IsThere all path peg
     → IsGathered (λ rev. location same_name (trees_to all peg) path peg rev) peg [] peg records place peg
 IsGathered-none all records path place peg same here rising there =
@@ -82,26 +79,26 @@ IsGathered-none all records path place peg same here rising there =
       gathered = refl;
     }))
 
-module _ (place_in : ℕ → Option (List NameId)) (peg : ℕ) (runs : List (Run NameId)) (hi : ℕ) (records : List NodeRecord) (place : List NameId) (at : ℕ)
-    (so_far : IsGathered place_in peg runs hi records place at) (lo : ℕ) (low : lo ≤ at)
+module _ (place_in : ℕ → Option (List NameId)) (peg : ℕ) (segments : List (Segment NameId)) (hi : ℕ) (records : List NodeRecord) (place : List NameId) (at : ℕ)
+    (so_far : IsGathered place_in peg segments hi records place at) (lo : ℕ) (low : lo ≤ at)
     (stays : (rev : ℕ) → lo ≤ rev → rev ≤ at → location same_name (trees_to records at) place at rev ≡ Some place) where
-  in_run : (rev : ℕ) → lo ≤ rev → rev ≤ hi → place_in rev ≡ Some place
-  in_run rev from to = elim (cases_lt rev at) [
+  in_segment : (rev : ℕ) → lo ≤ rev → rev ≤ hi → place_in rev ≡ Some place
+  in_segment rev from to = elim (cases_lt rev at) [
     | inl before ↦ so_far.traced rev (omega arith) ∙ stays rev from (omega arith)
     | inr after ↦ so_far.same rev after to
   ]
 
-  -- where the path came from nowhere its run is the oldest
+  -- where the path has no origin its segment is the oldest
   pub IsGathered-all : ((rev : ℕ) → rev < lo → location same_name (trees_to records at) place at rev ≡ None)
-      → runs ++ record { lo = lo; hi = hi; path = Some place } ∷ [] ≡ runs_up_to same_name place_in peg
+      → segments ++ record { lo = lo; hi = hi; path = Some place } ∷ [] ≡ segments_up_to same_name place_in peg
   IsGathered-all none =
-      ap (λ more. runs ++ more)
-      (sym (runs_up_to-first same_name IsSame-same_name place_in lo hi place (let high = so_far.high in omega arith) in_run
+      ap (λ more. segments ++ more)
+      (sym (segments_up_to-first same_name IsSame-same_name place_in lo hi place (let high = so_far.high in omega arith) in_segment
       (λ rev past. so_far.traced rev (omega arith) ∙ none rev past)))
       ∙ so_far.gathered
 
   module _ (before : List NodeRecord) (origin : Origin) (rising : AreRising before) (there : IsThere before origin.path origin.rev) (earlier : origin.rev < lo)
-      (back : (rev : ℕ) → rev < lo → location same_name (trees_to records at) place at rev ≡ led_to before rev (Some origin)) where
+      (back : (rev : ℕ) → rev < lo → location same_name (trees_to records at) place at rev ≡ location_before before rev (Some origin)) where
     traced_on : (rev : ℕ) → rev ≤ origin.rev → place_in rev ≡ location same_name (trees_to before origin.rev) origin.path origin.rev rev
     traced_on rev within = so_far.traced rev (omega arith) ∙ back rev (omega arith) ∙ location_tested before origin.path origin.rev rev
 
@@ -112,75 +109,75 @@ module _ (place_in : ℕ → Option (List NameId)) (peg : ℕ) (runs : List (Run
     in_gap rev past within =
         so_far.traced rev (omega arith) ∙ back rev within ∙ location_tested before origin.path origin.rev rev ∙ location_past before origin.path origin.rev rev past
 
-    -- where the path came from itself in the revision before its run goes on
-    pub IsGathered-on : origin.path ≡ place → lo ≤ origin.rev + 1 → IsGathered place_in peg runs hi before place origin.rev
+    -- where the path came from itself in the revision before, its segment continues
+    pub IsGathered-on : origin.path ≡ place → lo ≤ origin.rev + 1 → IsGathered place_in peg segments hi before place origin.rev
     IsGathered-on same near =
-        subst (λ p. IsGathered place_in peg runs hi before p origin.rev) same (record {
+        subst (λ p. IsGathered place_in peg segments hi before p origin.rev) same (record {
           rising = rising;
           there = there;
           traced = traced_on;
           same = λ rev from to. elim (cases_lt rev lo) [
             | inl under ↦ (let here : rev ≡ origin.rev = omega arith in ap place_in here) ∙ at_origin
-            | inr over ↦ in_run rev over to ∙ ap Some (sym same)
+            | inr over ↦ in_segment rev over to ∙ ap Some (sym same)
           ];
           high = let high = so_far.high in omega arith;
           gathered = so_far.gathered;
         })
 
-    next : (more : List (Run NameId)) → runs ++ (more ++ runs_up_to same_name place_in origin.rev) ≡ runs_up_to same_name place_in peg
-        → IsGathered place_in peg (runs ++ more) origin.rev before origin.path origin.rev
+    next : (more : List (Segment NameId)) → segments ++ (more ++ segments_up_to same_name place_in origin.rev) ≡ segments_up_to same_name place_in peg
+        → IsGathered place_in peg (segments ++ more) origin.rev before origin.path origin.rev
     next more gathered = record {
       rising = rising;
       there = there;
       traced = traced_on;
       same = λ rev from to. (let here : rev ≡ origin.rev = omega arith in ap place_in here) ∙ at_origin;
       high = omega arith;
-      gathered = append_assoc runs more (runs_up_to same_name place_in origin.rev) ∙ gathered;
+      gathered = append_assoc segments more (segments_up_to same_name place_in origin.rev) ∙ gathered;
     }
 
-    -- where it came from another place its run is gathered
+    -- where it came from another place its segment is complete
     pub IsGathered-next : origin.path ≢ place → lo ≤ origin.rev + 1
-        → IsGathered place_in peg (runs ++ record { lo = lo; hi = hi; path = Some place } ∷ []) origin.rev before origin.path origin.rev
+        → IsGathered place_in peg (segments ++ record { lo = lo; hi = hi; path = Some place } ∷ []) origin.rev before origin.path origin.rev
     IsGathered-next other near =
         let here : suc origin.rev ≡ lo = omega arith in
         next (record { lo = lo; hi = hi; path = Some place } ∷ [])
-        (ap (λ more. runs ++ more)
-        (sym (runs_up_to-next same_name IsSame-same_name place_in origin.rev hi (Some place) (let high = so_far.high in omega arith)
-        (λ rev past to. in_run rev (omega arith) to) (λ e. let is : Some place ≡ Some origin.path = e ∙ at_origin in other (sym (same_Some place origin.path is)))
-        ∙ ap (λ n. record { lo = n; hi = hi; path = Some place } ∷ runs_up_to same_name place_in origin.rev) here))
+        (ap (λ more. segments ++ more)
+        (sym (segments_up_to-next same_name IsSame-same_name place_in origin.rev hi (Some place) (let high = so_far.high in omega arith)
+        (λ rev past to. in_segment rev (omega arith) to) (λ e. let is : Some place ≡ Some origin.path = e ∙ at_origin in other (sym (same_Some place origin.path is)))
+        ∙ ap (λ n. record { lo = n; hi = hi; path = Some place } ∷ segments_up_to same_name place_in origin.rev) here))
         ∙ so_far.gathered)
 
     -- and so is the gap below it
     pub IsGathered-gap : origin.rev + 1 < lo
-        → IsGathered place_in peg (runs ++ record { lo = lo; hi = hi; path = Some place } ∷ record { lo = origin.rev + 1; hi = lo - 1; path = None } ∷ []) origin.rev before origin.path origin.rev
+        → IsGathered place_in peg (segments ++ record { lo = lo; hi = hi; path = Some place } ∷ record { lo = origin.rev + 1; hi = lo - 1; path = None } ∷ []) origin.rev before origin.path origin.rev
     IsGathered-gap far =
         let below : suc (lo - 1) ≡ lo = omega arith in
         let first : suc origin.rev ≡ origin.rev + 1 = omega arith in
         let none = in_gap (lo - 1) (omega arith) (omega arith) in
-        let old = runs_up_to same_name place_in origin.rev in
-        let gap = runs_up_to-next same_name IsSame-same_name place_in origin.rev (lo - 1) None (omega arith) (λ rev past to. in_gap rev past (omega arith))
+        let old = segments_up_to same_name place_in origin.rev in
+        let gap = segments_up_to-next same_name IsSame-same_name place_in origin.rev (lo - 1) None (omega arith) (λ rev past to. in_gap rev past (omega arith))
         (λ e. let never : None ≡ Some origin.path = e ∙ at_origin in absurd (none-some origin.path never)) in
-        let run = runs_up_to-next same_name IsSame-same_name place_in (lo - 1) hi (Some place) (let high = so_far.high in omega arith)
-        (λ rev past to. in_run rev (omega arith) to) (λ e. none-some place (sym (e ∙ none))) in
+        let segment = segments_up_to-next same_name IsSame-same_name place_in (lo - 1) hi (Some place) (let high = so_far.high in omega arith)
+        (λ rev past to. in_segment rev (omega arith) to) (λ e. none-some place (sym (e ∙ none))) in
         next (record { lo = lo; hi = hi; path = Some place } ∷ record { lo = origin.rev + 1; hi = lo - 1; path = None } ∷ [])
-        (ap (λ more. runs ++ more)
-        (sym (run ∙ (λ i. record { lo = below i; hi = hi; path = Some place } ∷ gap i) ∙ ap (λ n. record { lo = lo; hi = hi; path = Some place } ∷ record { lo = n; hi = lo - 1; path = None } ∷ old) first))
+        (ap (λ more. segments ++ more)
+        (sym (segment ∙ (λ i. record { lo = below i; hi = hi; path = Some place } ∷ gap i) ∙ ap (λ n. record { lo = lo; hi = hi; path = Some place } ∷ record { lo = n; hi = lo - 1; path = None } ∷ old) first))
         ∙ so_far.gathered)
 
-    -- both, as they are put
+    -- both, as they are appended
     pub IsGathered_push : (origin.path ≢ place) ⊎ (origin.rev + 1 < lo)
-        → IsGathered place_in peg ((runs ++ record { lo = lo; hi = hi; path = Some place } ∷ [])
-        ++ (if nat_lt (origin.rev + 1) lo then record { lo = origin.rev + 1; hi = lo - 1; path = None } ∷ [] else [])) origin.rev before origin.path origin.rev
+        → IsGathered place_in peg ((segments ++ record { lo = lo; hi = hi; path = Some place } ∷ [])
+        ++ map segment_view (gap_between origin.rev lo)) origin.rev before origin.path origin.rev
     IsGathered_push ends =
-        let run : Run NameId = record { lo = lo; hi = hi; path = Some place } in
-        let gap : Run NameId = record { lo = origin.rev + 1; hi = lo - 1; path = None } in
-        let Wanted = λ (more : List (Run NameId)). IsGathered place_in peg ((runs ++ run ∷ []) ++ more) origin.rev before origin.path origin.rev in
+        let segment : Segment NameId = record { lo = lo; hi = hi; path = Some place } in
+        let gap : KeptSegment = record { lo = origin.rev + 1; hi = lo - 1; path = None } in
+        let Wanted = λ (more : List (Segment NameId)). IsGathered place_in peg ((segments ++ segment ∷ []) ++ more) origin.rev before origin.path origin.rev in
         elim (cases_lt (origin.rev + 1) lo) [
           | inl far ↦
-              subst (λ b. Wanted (if b then gap ∷ [] else [])) (sym (lt-ltb (origin.rev + 1) lo far))
-              (subst (λ all. IsGathered place_in peg all origin.rev before origin.path origin.rev) (sym (append_assoc runs (run ∷ []) (gap ∷ []))) (IsGathered-gap far))
+              subst (λ b. Wanted (map segment_view (if b then gap ∷ [] else []))) (sym (lt-ltb (origin.rev + 1) lo far))
+              (subst (λ all. IsGathered place_in peg all origin.rev before origin.path origin.rev) (sym (append_assoc segments (segment ∷ []) (segment_view gap ∷ []))) (IsGathered-gap far))
           | inr near ↦
-              subst (λ b. Wanted (if b then gap ∷ [] else [])) (sym (le-ltb (origin.rev + 1) lo near))
-              (subst (λ all. IsGathered place_in peg all origin.rev before origin.path origin.rev) (sym (append-nil (runs ++ run ∷ [])))
+              subst (λ b. Wanted (map segment_view (if b then gap ∷ [] else []))) (sym (le-ltb (origin.rev + 1) lo near))
+              (subst (λ all. IsGathered place_in peg all origin.rev before origin.path origin.rev) (sym (append-nil (segments ++ segment ∷ [])))
               (IsGathered-next (⊎_elim (λ other. other) (λ far. absurd (omega arith)) ends) near))
         ]

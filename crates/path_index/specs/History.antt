@@ -1,15 +1,15 @@
 -- The history of a list of records: each revision has the records that bear its number.
-use Rattle.std.specs.Prelude.{ℕ, zero, suc, ◌≤◌, ◌==◌, List, [], ◌∷◌, ◌++◌, AllPairs, filter, map}
+use Rattle.std.specs.Prelude.{ℕ, zero, suc, ◌≤◌, ◌==◌, nat_le, List, [], ◌∷◌, ◌++◌, All, AllPairs, filter, map}
 use Rattle.svn_path.specs.Path.{same_name}
 use Rattle.svn_path.specs.declared.names.NameId.{NameId}
-use Rattle.svn_dump.specs.Dump.{record_shown}
+use Rattle.svn_dump.specs.Dump.{record_view}
 use Rattle.svn_dump.specs.History.{History, Record}
 use Rattle.svn_dump.specs.Tree.{Tree, trees_of}
 use Rattle.svn_dump.specs.declared.record.NodeRecord.{NodeRecord}
 use Rattle.svn_dump.specs.declared.record.ValueId.{ValueId}
 
 abbrev pub records_of : List NodeRecord → ℕ → List (Record NameId ValueId)
-records_of records rev = map record_shown (filter (λ each. each.rev == rev) records)
+records_of records rev = map record_view (filter (λ each. each.rev == rev) records)
 
 -- the revisions up to this one
 unfoldable pub history_to : List NodeRecord → ℕ → History NameId ValueId
@@ -18,6 +18,13 @@ history_to records (suc rev) = history_to records rev ++ records_of records (suc
 
 abbrev pub trees_to : List NodeRecord → ℕ → List (Tree NameId ValueId)
 trees_to records rev = trees_of same_name (history_to records rev)
+
+-- no record is of a later revision
+abbrev pub AreUpTo : ℕ → List NodeRecord → Type 0
+AreUpTo rev records = All (λ each. each.rev ≤ rev) records
+
+abbrev pub records_up_to : ℕ → List NodeRecord → List NodeRecord
+records_up_to rev records = filter (λ each. nat_le each.rev rev) records
 
 -- the records stand in the order of their revisions
 abbrev pub AreRising : List NodeRecord → Type 0

@@ -1,6 +1,6 @@
-//! A revision that touched a path.
+//! An operative revision of a path.
 
-/// A revision that touched the path of a segment, by the segment's place in the list.
+/// An operative revision of the path of a segment, and the segment's place in the list.
 #[derive(Clone, Copy, Debug, PartialEq, Eq)]
 pub struct Hit {
     pub rev: u32,

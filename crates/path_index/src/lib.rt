@@ -1,12 +1,11 @@
-//! Where paths stood through the revisions of a history, and which revisions touched them.
+//! Where paths stood through the revisions of a history, and their operative revisions.
 #![tactic(auto)]
 
 mod hit;
 mod index;
-mod making;
-mod origin;
+mod record_effect;
 mod segment;
-mod stretch;
+mod span;
 
 pub use hit::Hit;
 pub use index::Index;

@@ -1,8 +1,8 @@
-//! A run of revisions in which a path stood at one place.
+//! A location segment of a path.
 
 use svn_path::Path;
 
-/// A run of neighbouring revisions, from `lo` to `hi`, in which a path stood at one place, or nowhere.
+/// The neighbouring revisions from `lo` to `hi`, in which a path stood at one place, or nowhere.
 #[derive(Drop)]
 pub struct Segment {
     pub lo: u32,

@@ -1,8 +1,9 @@
-//! An index of two records: `a` is added in revision 1 and copied to `b` in revision 2.
+//! An index of two records: `a` is added in revision 1 and copied to `b` in revision 2; and one of six records, in
+//! which `a` is deleted before it is copied, and `b` is replaced by itself and by a new directory.
 ghost use Rattle.std.specs.Prelude.{◌≡◌, [], ◌∷◌, IfOk};
-ghost use Rattle.path_index.specs.Shown.{IsThere, IsWhole};
+ghost use Rattle.path_index.specs.Index.{IsThere, IsWhole};
 
-use crate::{Hit, Index};
+use crate::{Hit, Index, Segment};
 use std::alloc::Global;
 use std::test::Fail;
 use svn_dump::{Act, Kind, Mi, NodeRecord};
@@ -42,7 +43,7 @@ fn index_of_copy(alloc: Global) -> Result<Index, Fail>
 }
 
 #[test]
-fn locates_a_copy_at_its_source(rt: HostRuntime) -> Result<(), Fail> {
+fn copies_are_located_at_their_source(rt: HostRuntime) -> Result<(), Fail> {
     let index = index_of_copy(rt.alloc())?;
     let b = path_of(rt.alloc(), NameId(1))?;
     let found = index.locate(&b, 2, 1)?.ok_or("nowhere")?;
@@ -52,7 +53,7 @@ fn locates_a_copy_at_its_source(rt: HostRuntime) -> Result<(), Fail> {
 }
 
 #[test]
-fn parts_the_revisions_at_the_copy(rt: HostRuntime) -> Result<(), Fail> {
+fn segments_end_at_a_copy(rt: HostRuntime) -> Result<(), Fail> {
     let index = index_of_copy(rt.alloc())?;
     let b = path_of(rt.alloc(), NameId(1))?;
     let segments = index.segments(&b, 2)?;
@@ -63,12 +64,145 @@ fn parts_the_revisions_at_the_copy(rt: HostRuntime) -> Result<(), Fail> {
 }
 
 #[test]
-fn tells_the_revisions_of_both_places(rt: HostRuntime) -> Result<(), Fail> {
+fn operative_revisions_of_both_segments_are_found(rt: HostRuntime) -> Result<(), Fail> {
     let index = index_of_copy(rt.alloc())?;
     let b = path_of(rt.alloc(), NameId(1))?;
     let segments = index.segments(&b, 2)?;
     let hits = index.operative(segments.as_slice())?;
-    let told = [Hit { rev: 2, segment: 0 }, Hit { rev: 1, segment: 1 }];
-    assert_eq!(rt; hits.as_slice(), told.as_slice());
+    let wanted = [Hit { rev: 2, segment: 0 }, Hit { rev: 1, segment: 1 }];
+    assert_eq!(rt; hits.as_slice(), wanted.as_slice());
+    Ok(())
+}
+
+// `b` in revisions 3, 5 and 6 of: `a` added; `a` deleted; `b` copied from `a` of revision 1; `b` replaced by a copy of
+// itself; `b` changed; `b` replaced by a new directory.
+fn index_of_replacements(alloc: Global) -> Result<Index, Fail>
+    ensures whole { IfOk result IsWhole }
+    ensures copied { IfOk result (λ index. IsThere index.records (record { 0 = 1 } ∷ []) 3) }
+    ensures changed { IfOk result (λ index. IsThere index.records (record { 0 = 1 } ∷ []) 5) }
+    ensures replaced { IfOk result (λ index. IsThere index.records (record { 0 = 1 } ∷ []) 6) }
+{
+    let a = path_of(alloc, NameId(0))?;
+    let b = path_of(alloc, NameId(1))?;
+    let mi = Mi::Keep;
+    let records = [
+        NodeRecord {
+            rev: 1,
+            path: a.dup()?,
+            act: Act::Add {
+                replace: false,
+                kind: Kind::Dir,
+                mi,
+            },
+        },
+        NodeRecord {
+            rev: 2,
+            path: a.dup()?,
+            act: Act::Delete,
+        },
+        NodeRecord {
+            rev: 3,
+            path: b.dup()?,
+            act: Act::Copy {
+                replace: false,
+                from: a,
+                from_rev: 1,
+                mi,
+            },
+        },
+        NodeRecord {
+            rev: 4,
+            path: b.dup()?,
+            act: Act::Copy {
+                replace: true,
+                from: b.dup()?,
+                from_rev: 3,
+                mi,
+            },
+        },
+        NodeRecord {
+            rev: 5,
+            path: b.dup()?,
+            act: Act::Change { mi },
+        },
+        NodeRecord {
+            rev: 6,
+            path: b,
+            act: Act::Add {
+                replace: true,
+                kind: Kind::Dir,
+                mi,
+            },
+        },
+    ];
+    Ok(Index::build(alloc, records.as_slice(), 0)?)
+}
+
+// The bounds of a segment, and the first number of its path.
+fn shape(segment: &Segment) -> (u32, u32, Option<NameId>) {
+    let name = segment
+        .path
+        .as_ref()
+        .and_then(|path| path.parts().first().copied());
+    (segment.lo, segment.hi, name)
+}
+
+fn shapes(alloc: Global, segments: &[Segment]) -> Result<Vec<(u32, u32, Option<NameId>)>, Fail> {
+    let mut shapes = Vec::new(alloc);
+    for segment in segments {
+        shapes.push(shape(segment))?;
+    }
+    Ok(shapes)
+}
+
+#[test]
+fn a_gap_is_a_segment(rt: HostRuntime) -> Result<(), Fail> {
+    let index = index_of_replacements(rt.alloc())?;
+    let b = path_of(rt.alloc(), NameId(1))?;
+    let segments = index.segments(&b, 3)?;
+    let found = shapes(rt.alloc(), segments.as_slice())?;
+    let wanted = [
+        (3, 3, Some(NameId(1))),
+        (2, 2, None),
+        (1, 1, Some(NameId(0))),
+    ];
+    assert_eq!(rt; found.as_slice(), wanted.as_slice());
+    Ok(())
+}
+
+#[test]
+fn a_copy_of_itself_ends_no_segment(rt: HostRuntime) -> Result<(), Fail> {
+    let index = index_of_replacements(rt.alloc())?;
+    let b = path_of(rt.alloc(), NameId(1))?;
+    let segments = index.segments(&b, 5)?;
+    let found = shapes(rt.alloc(), segments.as_slice())?;
+    let wanted = [
+        (3, 5, Some(NameId(1))),
+        (2, 2, None),
+        (1, 1, Some(NameId(0))),
+    ];
+    assert_eq!(rt; found.as_slice(), wanted.as_slice());
+    Ok(())
+}
+
+#[test]
+fn a_replacement_begins_a_segment(rt: HostRuntime) -> Result<(), Fail> {
+    let index = index_of_replacements(rt.alloc())?;
+    let b = path_of(rt.alloc(), NameId(1))?;
+    let segments = index.segments(&b, 6)?;
+    let found = shapes(rt.alloc(), segments.as_slice())?;
+    assert_eq!(rt; found.as_slice(), [(6, 6, Some(NameId(1)))].as_slice());
+    assert!(rt; index.locate(&b, 6, 5)?.is_none());
+    Ok(())
+}
+
+#[test]
+fn a_log_covers_all_segments(rt: HostRuntime) -> Result<(), Fail> {
+    let index = index_of_replacements(rt.alloc())?;
+    let b = path_of(rt.alloc(), NameId(1))?;
+    let segments = index.segments(&b, 5)?;
+    let hits = index.operative(segments.as_slice())?;
+    let wanted = [(5, 0), (4, 0), (3, 0), (1, 2)].map(|(rev, segment)| Hit { rev, segment });
+    assert_eq!(rt; hits.as_slice(), wanted.as_slice());
     Ok(())
 }

@@ -4,9 +4,9 @@ use Rattle.svn_dump.specs.declared.kind.Kind.{Kind}
 use Rattle.svn_dump.specs.declared.record.Act.{Act}
 use Rattle.svn_dump.specs.declared.record.Mi.{Mi}
 use Rattle.svn_dump.specs.declared.record.NodeRecord.{NodeRecord}
-use Rattle.svn_dump.specs.Tree.{apply_action, entry_at, opening, trees_of}
+use Rattle.svn_dump.specs.Tree.{tree_after_action, entry_at, start_tree, trees_of}
 use Rattle.path_index.specs.History.{history_to}
-use Rattle.path_index.specs.Shown.{IsThere}
+use Rattle.path_index.specs.Index.{IsThere}
 use Rattle.path_index.proofs.tests.index_of_copy.Goals as goal
 
 abbrev the_records : List NameId → List NameId → List NameId → List NodeRecord
@@ -20,7 +20,7 @@ abbrev b : List NameId
 b = record { 0 = 1 } ∷ []
 
 there : (added source top : List NameId) → added ≡ a → source ≡ a → top ≡ b → IsThere (the_records added source top) b 2
-unfolding entry_at trees_of history_to apply_action opening
+unfolding entry_at trees_of history_to tree_after_action start_tree
 there added source top is-added is-source is-top =
     subst (λ each. IsThere (the_records each source top) b 2) (sym is-added)
     (subst (λ each. IsThere (the_records a each top) b 2) (sym is-source)

@@ -1,7 +1,8 @@
 use Rattle.std.proofs.Common.{Some, IfSome, refl, sym, ap, subst, ◌∙◌}
-use Rattle.path_index.specs.Shown.{IndexValue, IsThere}
-use Rattle.path_index.specs.declared.origin.Origin.{Origin}
-use Rattle.path_index.proofs.Traces.{IsTraced-whole, location_past, led_to, led_to-Some}
+use Rattle.path_index.specs.Index.{IndexValue, IsThere}
+use Rattle.svn_dump.specs.declared.origin.Origin.{Origin}
+use Rattle.path_index.proofs.Traces.{IsTraced-whole, location_past, location_before-Some}
+use Rattle.path_index.specs.Span.{location_before}
 use Rattle.path_index.proofs.index.Index.locate.Goals as goal
 
 pub loop-at-init : goal.loop-at-init
@@ -21,15 +22,15 @@ returns-then-lo-rev c =
 
 pub returns-in_default : goal.returns-in_default
 returns-in_default c =
-    sym (c.in_ok-lo.ensures.back c.args.rev c.if-lo-rev.false ∙ ap (led_to c.in_ok-lo.field-0.before.now c.args.rev) c.in_default.is) ∙ c.loop-at.invariant.finds
+    sym (c.in_ok-lo.ensures.back c.args.rev c.if-lo-rev.false ∙ ap (location_before c.in_ok-lo.field-0.before.now c.args.rev) c.in_default.is) ∙ c.loop-at.invariant.finds
 
 pub loop-at-preserved : goal.loop-at-preserved
 loop-at-preserved c =
     let before = c.in_ok-lo.field-0.before.now in
     record {
-      rising = c.in_ok-lo.ensures.before;
-      there = subst (λ o. IfSome o (λ (origin : Origin). IsThere before origin.path origin.rev)) c.in-Some.is c.in_ok-lo.ensures.origin;
-      finds = sym (c.in_ok-lo.ensures.back c.args.rev c.if-lo-rev.false ∙ led_to-Some before c.args.rev c.in_ok-lo.field-0.origin c.in-Some.origin c.in-Some.is) ∙ c.loop-at.invariant.finds;
+      rising = c.in_ok-lo.ensures.rising;
+      there = subst (λ o. IfSome o (λ (origin : Origin). IsThere before origin.path origin.rev)) c.in-Some.is c.in_ok-lo.ensures.there;
+      finds = sym (c.in_ok-lo.ensures.back c.args.rev c.if-lo-rev.false ∙ location_before-Some before c.args.rev c.in_ok-lo.field-0.origin c.in-Some.origin c.in-Some.is) ∙ c.loop-at.invariant.finds;
     }
 
 pub returns : goal.returns

@@ -1,4 +1,4 @@
-use Rattle.std.proofs.Common.{◌≡◌, ◌≢◌, ℕ, ◌+◌, ◌<◌, List, None, Some, IfSome, [], ◌∷◌, ◌++◌, ◌⊎◌, inl, inr, map, refl, sym, ap, subst, ◌∙◌, arith, true≢false, Bool, true, false, not, nat_lt, if◌then◌else◌, ◌-◌}
+use Rattle.std.proofs.Common.{◌≡◌, ◌≢◌, ℕ, ◌+◌, ◌<◌, List, Some, IfSome, [], ◌∷◌, ◌++◌, ◌⊎◌, inl, inr, map, refl, sym, ap, subst, ◌∙◌, arith, true≢false, Bool, true, false, not}
 use Rattle.std.proofs.lemmas.List.{map-append}
 use Rattle.std.specs.Cmp.Lexicographic.{pointwise}
 use Rattle.svn_dump.specs.Location.{location}
@@ -6,11 +6,12 @@ use Rattle.svn_path.specs.Path.{same_name}
 use Rattle.svn_path.specs.declared.names.NameId.{NameId}
 use Rattle.svn_path.proofs.Orders.{paths_eq-Decides}
 use Rattle.path_index.specs.History.{trees_to}
-use Rattle.path_index.specs.Segment.{Run, segments_of}
-use Rattle.path_index.specs.Shown.{IndexValue, IsThere, segment_shown}
-use Rattle.path_index.specs.declared.origin.Origin.{Origin}
-use Rattle.path_index.proofs.Runs.{AreRuns-segments_of}
-use Rattle.path_index.proofs.Traces.{IsGathered, IsGathered-none, IsGathered-all, IsGathered-on, IsGathered_push, led_to}
+use Rattle.path_index.specs.Segment.{segments_of}
+use Rattle.path_index.specs.Index.{IndexValue, IsThere, gap_between, segment_view}
+use Rattle.svn_dump.specs.declared.origin.Origin.{Origin}
+use Rattle.path_index.proofs.Segments.{AreSegments-segments_of}
+use Rattle.path_index.proofs.Traces.{IsGathered, IsGathered-none, IsGathered-all, IsGathered-on, IsGathered_push}
+use Rattle.path_index.specs.Span.{location_before}
 use Rattle.path_index.proofs.index.Index.segments.Goals as goal
 use Rattle.path_index.proofs.index.Index.segments.Goals.{then-ne-via-then-ne, then-ne-via-else-ne+then-at-lo}
 
@@ -29,7 +30,7 @@ pub loop-place-init : goal.loop-place-init
 loop-place-init c =
     let all = c.args.self.now.records in
     let place_in = λ (rev : ℕ). location same_name (trees_to all c.args.rev) c.args.path.now c.args.rev rev in
-    subst (λ items. IsGathered place_in c.args.rev (map segment_shown items) c.args.rev c.as_slice-records.result.now c.in_ok-place.place c.args.rev) (sym c.new-segments.ensures.items)
+    subst (λ items. IsGathered place_in c.args.rev (map segment_view items) c.args.rev c.as_slice-records.result.now c.in_ok-place.place c.args.rev) (sym c.new-segments.ensures.items)
     (IsGathered-none all c.as_slice-records.result.now c.args.path.now c.in_ok-place.place c.args.rev
     (c.as_slice-records.ensures.value ∙ ap (λ (index : IndexValue). index.records) c.self.view_is) c.in_ok-place.ensures c.requires.whole.rising c.requires.there)
 
@@ -39,22 +40,22 @@ up_to-requires-clause-rising c = c.loop-place.invariant.rising
 pub up_to-requires-clause-there : goal.up_to-requires-clause-there
 up_to-requires-clause-there c = c.loop-place.invariant.there
 
-all_gathered : (c : goal.In_ok-push) → map segment_shown c.push.new.self.items ≡ segments_of same_name (trees_to c.args.self.now.records c.args.rev) c.args.path.now c.args.rev
+all_gathered : (c : goal.In_ok-push) → map segment_view c.push.new.self.items ≡ segments_of same_name (trees_to c.args.self.now.records c.args.rev) c.args.path.now c.args.rev
 all_gathered c =
     let all = c.args.self.now.records in
     let place_in = λ (rev : ℕ). location same_name (trees_to all c.args.rev) c.args.path.now c.args.rev rev in
     let lo = c.in_ok-lo.field-0.lo in
-    ap (map segment_shown) c.in_ok-push.ensures.items
-    ∙ map-append segment_shown c.loop-place.segments.items (record { lo = lo; hi = c.loop-place.hi; path = Some c.loop-place.place } ∷ [])
-    ∙ IsGathered-all place_in c.args.rev (map segment_shown c.loop-place.segments.items) c.loop-place.hi c.loop-place.records.now c.loop-place.place c.loop-place.at
+    ap (map segment_view) c.in_ok-push.ensures.items
+    ∙ map-append segment_view c.loop-place.segments.items (record { lo = lo; hi = c.loop-place.hi; path = Some c.loop-place.place } ∷ [])
+    ∙ IsGathered-all place_in c.args.rev (map segment_view c.loop-place.segments.items) c.loop-place.hi c.loop-place.records.now c.loop-place.place c.loop-place.at
     c.loop-place.invariant lo c.in_ok-lo.ensures.within c.in_ok-lo.ensures.stays
-    (λ rev past. c.in_ok-lo.ensures.back rev past ∙ ap (led_to c.in_ok-lo.field-0.before.now rev) c.in_default.is)
+    (λ rev past. c.in_ok-lo.ensures.back rev past ∙ ap (location_before c.in_ok-lo.field-0.before.now rev) c.in_default.is)
 
 pub returns-in_default-clause-exact : goal.returns-in_default-clause-exact
 returns-in_default-clause-exact c = all_gathered c
 
 pub returns-in_default-clause-maximal : goal.returns-in_default-clause-maximal
-returns-in_default-clause-maximal c = AreRuns-segments_of c.args.self.now.records c.args.path.now c.args.rev (map segment_shown c.push.new.self.items) (all_gathered c)
+returns-in_default-clause-maximal c = AreSegments-segments_of c.args.self.now.records c.args.path.now c.args.rev (map segment_view c.push.new.self.items) (all_gathered c)
 
 pub loop-place-smaller-in-loop-place : goal.loop-place-smaller-in-loop-place
 loop-place-smaller-in-loop-place c =
@@ -68,19 +69,19 @@ loop-place-preserved-in-loop-place c =
     let lo = c.in_ok-lo.field-0.lo in
     let before = c.in_ok-lo.field-0.before.now in
     let origin = c.in-Some.origin in
-    let there = subst (λ o. IfSome o (λ (o : Origin). IsThere before o.path o.rev)) c.in-Some.is c.in_ok-lo.ensures.origin in
+    let there = subst (λ o. IfSome o (λ (o : Origin). IsThere before o.path o.rev)) c.in-Some.is c.in_ok-lo.ensures.there in
     let earlier = subst (λ o. IfSome o (λ (o : Origin). o.rev < lo)) c.in-Some.is c.in_ok-lo.ensures.earlier in
     let ends : (origin.path ≢ c.loop-place.place) ⊎ (origin.rev + 1 < lo) = elim c.then-ne.branch [
       | then-ne-via-then-ne w ↦ inl (other_by_ne origin.path c.loop-place.place w.if-ne.ensures)
       | then-ne-via-else-ne+then-at-lo w ↦ inr w.if-at-lo.true
     ] in
-    let pushed = ap (map segment_shown) c.in_ok-push-2.ensures.items
-    ∙ map-append segment_shown c.loop-place.segments.items (record { lo = lo; hi = c.loop-place.hi; path = Some c.loop-place.place } ∷ []) in
-    let gap : List (Run NameId) = if nat_lt (origin.rev + 1) lo then record { lo = origin.rev + 1; hi = lo - 1; path = None } ∷ [] else [] in
-    subst (λ runs. IsGathered place_in c.args.rev runs origin.rev before origin.path origin.rev) (sym (c.in_ok-push_gap.ensures ∙ ap (λ front. front ++ gap) pushed))
-    (IsGathered_push place_in c.args.rev (map segment_shown c.loop-place.segments.items) c.loop-place.hi c.loop-place.records.now c.loop-place.place c.loop-place.at
-    c.loop-place.invariant lo c.in_ok-lo.ensures.within c.in_ok-lo.ensures.stays before origin c.in_ok-lo.ensures.before there earlier
-    (λ rev past. c.in_ok-lo.ensures.back rev past ∙ ap (led_to before rev) c.in-Some.is) ends)
+    let pushed = ap (map segment_view) c.in_ok-push-2.ensures.items
+    ∙ map-append segment_view c.loop-place.segments.items (record { lo = lo; hi = c.loop-place.hi; path = Some c.loop-place.place } ∷ []) in
+    let gap = gap_between origin.rev lo in
+    subst (λ segments. IsGathered place_in c.args.rev segments origin.rev before origin.path origin.rev) (sym (ap (map segment_view) c.in_ok-push_gap.ensures ∙ map-append segment_view c.push-then-ne.new.self.items gap ∙ ap (λ front. front ++ map segment_view gap) pushed))
+    (IsGathered_push place_in c.args.rev (map segment_view c.loop-place.segments.items) c.loop-place.hi c.loop-place.records.now c.loop-place.place c.loop-place.at
+    c.loop-place.invariant lo c.in_ok-lo.ensures.within c.in_ok-lo.ensures.stays before origin c.in_ok-lo.ensures.rising there earlier
+    (λ rev past. c.in_ok-lo.ensures.back rev past ∙ ap (location_before before rev) c.in-Some.is) ends)
 
 pub loop-place-smaller : goal.loop-place-smaller
 loop-place-smaller c =
@@ -94,8 +95,8 @@ loop-place-preserved c =
     let lo = c.in_ok-lo.field-0.lo in
     let before = c.in_ok-lo.field-0.before.now in
     let origin = c.in-Some.origin in
-    let there = subst (λ o. IfSome o (λ (o : Origin). IsThere before o.path o.rev)) c.in-Some.is c.in_ok-lo.ensures.origin in
+    let there = subst (λ o. IfSome o (λ (o : Origin). IsThere before o.path o.rev)) c.in-Some.is c.in_ok-lo.ensures.there in
     let earlier = subst (λ o. IfSome o (λ (o : Origin). o.rev < lo)) c.in-Some.is c.in_ok-lo.ensures.earlier in
-    IsGathered-on place_in c.args.rev (map segment_shown c.loop-place.segments.items) c.loop-place.hi c.loop-place.records.now c.loop-place.place c.loop-place.at
-    c.loop-place.invariant lo c.in_ok-lo.ensures.within c.in_ok-lo.ensures.stays before origin c.in_ok-lo.ensures.before there earlier
-    (λ rev past. c.in_ok-lo.ensures.back rev past ∙ ap (led_to before rev) c.in-Some.is) (same_by_ne origin.path c.loop-place.place c.if-ne.ensures) c.if-at-lo.false
+    IsGathered-on place_in c.args.rev (map segment_view c.loop-place.segments.items) c.loop-place.hi c.loop-place.records.now c.loop-place.place c.loop-place.at
+    c.loop-place.invariant lo c.in_ok-lo.ensures.within c.in_ok-lo.ensures.stays before origin c.in_ok-lo.ensures.rising there earlier
+    (λ rev past. c.in_ok-lo.ensures.back rev past ∙ ap (location_before before rev) c.in-Some.is) (same_by_ne origin.path c.loop-place.place c.if-ne.ensures) c.if-at-lo.false

@@ -1,20 +1,22 @@
--- The revisions whose records name a path or a path below it, the newest first, and what one more record makes of them.
+-- The revisions whose records name a path or a path below it, the newest first, and how one more record changes them.
 use Rattle.std.proofs.Common.{◌≡◌, ℕ, zero, suc, pred, ◌+◌, ◌-◌, ◌<◌, ◌≤◌, ◌==◌, Bool, true, false, if◌then◌else◌, ◌&&◌, ◌||◌, List, [], ◌∷◌, ◌++◌, map, filter, inl, inr, refl, sym, ap, ◌∙◌, arith}
 use Rattle.std.specs.List.{list_any}
 use Rattle.std.proofs.lemmas.Bool.{cases_order, eq-eqb, ne_eqb, or_from, or_right}
+use Rattle.std.proofs.Math.Bool.{or-false}
 use Rattle.std.proofs.lemmas.List.{map-append}
 use Rattle.std.proofs.lemmas.List.Elements.{filter-append, filter_agree}
 use Rattle.std.proofs.lemmas.List.Folds.{list_any-append}
 use Rattle.svn_path.specs.Below.{is_below}
 use Rattle.svn_path.specs.Path.{same_name}
 use Rattle.svn_path.specs.declared.names.NameId.{NameId}
-use Rattle.svn_dump.specs.Dump.{record_shown}
+use Rattle.svn_dump.specs.Dump.{record_view}
 use Rattle.svn_dump.specs.History.{Record}
 use Rattle.svn_dump.specs.declared.record.NodeRecord.{NodeRecord}
 use Rattle.svn_dump.specs.declared.record.ValueId.{ValueId}
-use Rattle.path_index.specs.History.{AreRising, records_of}
+use Rattle.path_index.specs.History.{AreRising, records_of, AreUpTo, records_up_to}
 use Rattle.path_index.specs.Operative.{names_below, down_from}
-use Rattle.path_index.proofs.Rising.{AreUpTo, up_to, AreUpTo-up_to, AreUpTo-last, records_of-up_to, records_of_past}
+use Rattle.path_index.specs.NamedRevisions.{is_named, named_revisions}
+use Rattle.path_index.proofs.Rising.{AreUpTo-records_up_to, AreUpTo-before, records_of-records_up_to, records_of_past}
 
 -- ---- numbers downwards
 
@@ -54,20 +56,7 @@ filter_down-first p q first (suc n) top few up within above past here agree =
           rw (above top after, past top (omega arith), rest) refl
     ]
 
--- ---- the revisions that records name a path in
-
--- a record of the revision names the path or a path below it
-abbrev pub is_named : List NameId → List NodeRecord → ℕ → Bool
-is_named path records rev = names_below same_name path (records_of records rev)
-
--- the revisions after `lo` and up to `hi`
-abbrev pub touched : List NameId → ℕ → ℕ → List NodeRecord → List ℕ
-touched path lo hi records = filter (is_named path records) (down_from (hi - lo) hi)
-
--- nothing more to `or`
-pub or_false : (b : Bool) → (b || false) ≡ b
-or_false true = refl
-or_false false = refl
+-- ---- the revisions whose records name a path
 
 module _ (path : List NameId) where
   abbrev names : NodeRecord → Bool
@@ -78,12 +67,12 @@ module _ (path : List NameId) where
       → is_named path (records ++ last ∷ []) rev ≡ (is_named path records rev || (names last && (last.rev == rev)))
   is_named-push records last rev =
       let test : Record NameId ValueId → Bool = λ each. is_below same_name path each.path in
-      ap (λ some. list_any test (map record_shown some)) (filter-append (λ each. each.rev == rev) records (last ∷ []))
-      ∙ ap (list_any test) (map-append record_shown (filter (λ each. each.rev == rev) records) (filter (λ each. each.rev == rev) (last ∷ [])))
+      ap (λ some. list_any test (map record_view some)) (filter-append (λ each. each.rev == rev) records (last ∷ []))
+      ∙ ap (list_any test) (map-append record_view (filter (λ each. each.rev == rev) records) (filter (λ each. each.rev == rev) (last ∷ [])))
       ∙ list_any-append test (records_of records rev) (records_of (last ∷ []) rev)
       ∙ ap (λ b. is_named path records rev || b) (one (last.rev == rev))
     where
-      one : (b : Bool) → list_any (λ each. is_below same_name path each.path) (map record_shown (if b then last ∷ [] else [])) ≡ (names last && b)
+      one : (b : Bool) → list_any (λ each. is_below same_name path each.path) (map record_view (if b then last ∷ [] else [])) ≡ (names last && b)
       one true = grind arith
       one false = grind arith
 
@@ -92,33 +81,33 @@ module _ (path : List NameId) where
   is_named_past records before rev all past =
       ap (list_any (λ (each : Record NameId ValueId). is_below same_name path each.path)) (records_of_past rev before records all past)
 
-  is_named-up_to : (records : List NodeRecord) (rev later : ℕ) → rev ≤ later → is_named path (up_to later records) rev ≡ is_named path records rev
-  is_named-up_to records rev later before = ap (names_below same_name path) (records_of-up_to rev later records before)
+  is_named-records_up_to : (records : List NodeRecord) (rev later : ℕ) → rev ≤ later → is_named path (records_up_to later records) rev ≡ is_named path records rev
+  is_named-records_up_to records rev later before = ap (names_below same_name path) (records_of-records_up_to rev later records before)
 
   -- where the last record does not name it, the others do
-  pub touched-front : (lo hi : ℕ) (records : List NodeRecord) (last : NodeRecord) → names last ≡ false
-      → touched path lo hi (records ++ last ∷ []) ≡ touched path lo hi records
-  touched-front lo hi records last other =
+  pub named_revisions-front : (lo hi : ℕ) (records : List NodeRecord) (last : NodeRecord) → names last ≡ false
+      → named_revisions path lo hi (records ++ last ∷ []) ≡ named_revisions path lo hi records
+  named_revisions-front lo hi records last other =
       filter_agree (is_named path (records ++ last ∷ [])) (is_named path records)
-      (λ rev. is_named-push records last rev ∙ ap (λ b. is_named path records rev || (b && (last.rev == rev))) other ∙ or_false (is_named path records rev))
+      (λ rev. is_named-push records last rev ∙ ap (λ b. is_named path records rev || (b && (last.rev == rev))) other ∙ or-false (is_named path records rev))
       (down_from (hi - lo) hi)
 
   -- where it does, its revision is the newest
-  pub touched-last : (lo hi : ℕ) (records : List NodeRecord) (last : NodeRecord) → AreRising (records ++ last ∷ []) → lo < last.rev → last.rev ≤ hi
-      → names last ≡ true → touched path lo hi (records ++ last ∷ []) ≡ last.rev ∷ touched path lo hi (up_to (last.rev - 1) records)
-  touched-last lo hi records last rising after before named =
-      let earlier = up_to (last.rev - 1) records in
-      let all = AreUpTo-last records last rising in
+  pub named_revisions-last : (lo hi : ℕ) (records : List NodeRecord) (last : NodeRecord) → AreRising (records ++ last ∷ []) → lo < last.rev → last.rev ≤ hi
+      → names last ≡ true → named_revisions path lo hi (records ++ last ∷ []) ≡ last.rev ∷ named_revisions path lo hi (records_up_to (last.rev - 1) records)
+  named_revisions-last lo hi records last rising after before named =
+      let earlier = records_up_to (last.rev - 1) records in
+      let all = AreUpTo-before records last [] rising in
       let pushed : (rev : ℕ) → is_named path (records ++ last ∷ []) rev ≡ (is_named path records rev || (last.rev == rev)) =
       λ rev. is_named-push records last rev ∙ ap (λ b. is_named path records rev || (b && (last.rev == rev))) named in
       filter_down-first (is_named path (records ++ last ∷ [])) (is_named path earlier) last.rev (hi - lo) hi (omega arith) before (omega arith)
       (λ k past. pushed k ∙ or_from _ _ (is_named_past records last.rev k all past) (ne_eqb last.rev k (λ e. omega (arith, e))))
-      (λ k from. is_named_past earlier (last.rev - 1) k (AreUpTo-up_to (last.rev - 1) records) (omega arith))
+      (λ k from. is_named_past earlier (last.rev - 1) k (AreUpTo-records_up_to (last.rev - 1) records) (omega arith))
       (pushed last.rev ∙ or_right _ _ (eq-eqb last.rev last.rev refl))
-      (λ k below. pushed k ∙ ap (λ b. is_named path records k || b) (ne_eqb last.rev k (λ e. omega (arith, e))) ∙ or_false (is_named path records k)
-      ∙ sym (is_named-up_to records k (last.rev - 1) (omega arith)))
+      (λ k below. pushed k ∙ ap (λ b. is_named path records k || b) (ne_eqb last.rev k (λ e. omega (arith, e))) ∙ or-false (is_named path records k)
+      ∙ sym (is_named-records_up_to records k (last.rev - 1) (omega arith)))
 
   -- records up to `lo` name it nowhere after that
-  pub touched_past : (lo hi : ℕ) (records : List NodeRecord) → AreUpTo lo records → touched path lo hi records ≡ []
-  touched_past lo hi records all =
+  pub named_revisions_past : (lo hi : ℕ) (records : List NodeRecord) → AreUpTo lo records → named_revisions path lo hi records ≡ []
+  named_revisions_past lo hi records all =
       filter_down-none (is_named path records) (hi - lo) hi (omega arith) (λ k up within. is_named_past records lo k all (omega arith))

@@ -1,0 +1,61 @@
+-- What a record of a dump does to the origin of a path, by its act.
+use Rattle.std.proofs.Common.{◌≡◌, ◌≢◌, ℕ, Bool, true, List, ◌++◌, length, drop, Option, None, Some, is_some, refl, sym, ap, subst, ◌∙◌, true≢false}
+use Rattle.svn_path.specs.Below.{below, is_below}
+use Rattle.svn_path.specs.Path.{same_name}
+use Rattle.svn_path.specs.declared.names.NameId.{NameId}
+use Rattle.svn_path.proofs.Belows.{IsSame-same_name, drop-from_below}
+use Rattle.svn_dump.specs.Dump.{record_view, action_view, setting_view}
+use Rattle.svn_dump.specs.declared.kind.Kind.{Kind}
+use Rattle.svn_dump.specs.declared.record.Act.{Act}
+use Rattle.svn_dump.specs.declared.record.Act.TheVariants as act
+use Rattle.svn_dump.specs.declared.record.Mi.{Mi}
+use Rattle.svn_dump.specs.declared.record.NodeRecord.{NodeRecord}
+use Rattle.path_index.specs.RecordEffect.{KeepsOrigin, SetsOrigin}
+use Rattle.path_index.proofs.Steps.{KeepsOrigin-delete, KeepsOrigin-change, KeepsOrigin-add, SetsOrigin-add, KeepsOrigin-copy, SetsOrigin-copy}
+
+module _ (each : NodeRecord) (path : List NameId) where
+  keeps_as : (a : Act) → each.act ≡ a → KeepsOrigin same_name path (record { path = each.path; action = action_view a }) → KeepsOrigin same_name path (record_view each)
+  keeps_as a is keeps = subst (λ b. KeepsOrigin same_name path (record { path = each.path; action = action_view b })) (sym is) keeps
+
+  sets_as : (origin : Option (List NameId × ℕ)) (a : Act) → each.act ≡ a → SetsOrigin same_name path origin (record { path = each.path; action = action_view a }) → SetsOrigin same_name path origin (record_view each)
+  sets_as origin a is sets = subst (λ b. SetsOrigin same_name path origin (record { path = each.path; action = action_view b })) (sym is) sets
+
+  -- a record that is not an addition or a copy keeps it
+  pub KeepsOrigin-other : ((replace : Bool) (kind : Kind) (mi : Mi) → each.act ≢ act.Add replace kind mi)
+      → ((replace : Bool) (from : List NameId) (from_rev : ℕ) (mi : Mi) → each.act ≢ act.Copy replace from from_rev mi) → KeepsOrigin same_name path (record_view each)
+  KeepsOrigin-other no_add no_copy = by each.act refl
+    where
+      by : (a : Act) → each.act ≡ a → KeepsOrigin same_name path (record_view each)
+      by act.Delete is = keeps_as act.Delete is (KeepsOrigin-delete same_name IsSame-same_name path each.path)
+      by (act.Change mi) is = keeps_as (act.Change mi) is (KeepsOrigin-change same_name IsSame-same_name path each.path (setting_view mi))
+      by (act.Add replace kind mi) is = absurd (no_add replace kind mi is)
+      by (act.Copy replace from from_rev mi) is = absurd (no_copy replace from from_rev mi is)
+
+  -- an addition elsewhere keeps it
+  pub KeepsOrigin-Add : (replace : Bool) (kind : Kind) (mi : Mi) → each.act ≡ act.Add replace kind mi → each.path ≢ path → KeepsOrigin same_name path (record_view each)
+  KeepsOrigin-Add replace kind mi is other =
+      keeps_as (act.Add replace kind mi) is (KeepsOrigin-add same_name IsSame-same_name path each.path replace kind (setting_view mi) (λ here. other (sym here)))
+
+  -- one of the path leaves it without an origin
+  pub SetsOrigin-Add : (replace : Bool) (kind : Kind) (mi : Mi) → each.act ≡ act.Add replace kind mi → each.path ≡ path → SetsOrigin same_name path None (record_view each)
+  SetsOrigin-Add replace kind mi is here =
+      sets_as None (act.Add replace kind mi) is (SetsOrigin-add same_name IsSame-same_name path each.path replace kind (setting_view mi) (sym here))
+
+  module _ (replace : Bool) (from : List NameId) (from_rev : ℕ) (mi : Mi) (is : each.act ≡ act.Copy replace from from_rev mi) where
+    -- a copy to elsewhere keeps it
+    pub KeepsOrigin-Copy : (is_below same_name each.path path ≡ true → ⊥) → KeepsOrigin same_name path (record_view each)
+    KeepsOrigin-Copy other =
+        keeps_as (act.Copy replace from from_rev mi) is (KeepsOrigin-copy same_name IsSame-same_name path each.path replace from from_rev (setting_view mi) other)
+
+    -- after another copy it is as far below the source as the path is below the copy
+    pub SetsOrigin-Copy : (source : List NameId) → is_below same_name each.path path ≡ true → source ≡ from ++ drop (length each.path) path
+        → SetsOrigin same_name path (Some (source, from_rev)) (record_view each)
+    SetsOrigin-Copy source under at = by (below same_name each.path path) refl under
+      where
+        by : (b : Option (List NameId)) → below same_name each.path path ≡ b → is_some b ≡ true → SetsOrigin same_name path (Some (source, from_rev)) (record_view each)
+        by None apart some = absurd (true≢false (sym some))
+        by (Some rest) left some =
+            subst (λ p. SetsOrigin same_name path (Some (p, from_rev)) (record_view each))
+            (sym (at ∙ ap (λ more. from ++ more) (drop-from_below IsSame-same_name each.path path rest left)))
+            (sets_as (Some (from ++ rest, from_rev)) (act.Copy replace from from_rev mi) is
+            (SetsOrigin-copy same_name IsSame-same_name path each.path replace from from_rev (setting_view mi) rest left))
