@@ -6,7 +6,7 @@ use Rattle.std.proofs.lemmas.List.Sums.{AllPass-from_list_all}
 use Rattle.std.specs.Cmp.{first_so}
 use Rattle.std.proofs.Math.Seq.{get_or-append_seam}
 use Rattle.std.proofs.lemmas.Grind.{flat_map-append}
-use Rattle.std.proofs.lemmas.List.Folds.{list_any_at, list_any_none}
+use Rattle.std.proofs.lemmas.List.Folds.{list_any_none}
 use Rattle.std.proofs.lemmas.List.Splits.{slice_split_at, slice_split_none}
 use Rattle.std.specs.List.{list_all, list_any, slice_split}
 use Rattle.svn_dump.specs.Block.{is_newline, line_text}
@@ -14,8 +14,9 @@ use Rattle.svn_dump.specs.Number.{is_digit, number_up_to, greatest_revision}
 use Rattle.svn_path.specs.Components.{is_not_empty}
 use Rattle.svnhist.specs.Bundle.{AreLines, BundleValue, IsBundle, most_workers}
 use Rattle.svnhist.specs.Report.{most_queries}
-use Rattle.svnhist.specs.Cut.{Lacks, CutsFirst}
-use Rattle.svnhist.proofs.Queries.{slice_split-some}
+use Rattle.query_answer.specs.Cut.{Lacks}
+use Rattle.query_answer.proofs.Cuts.{CutsFirst, Lacks-list_any}
+use Rattle.query_answer.proofs.Queries.{slice_split-some}
 
 -- bytes that lack one are not cut at it
 pub Lacks-cut : (byte : ℕ) (front back : List ℕ) → Lacks byte (front ++ byte ∷ back) → ⊥
@@ -71,11 +72,6 @@ one_number byte most least digits rest others more n m low found again same =
     cut_once byte digits rest others more (Lacks-number byte most digits n low found) (Lacks-number byte least others m low again) same
 
 -- ---- lines
-
-Lacks-list_any : (byte : ℕ) (bytes : List ℕ) → list_any (λ each. each == byte) bytes ≡ false → Lacks byte bytes
-Lacks-list_any byte bytes none =
-    All-from_get_or (λ each. (each == byte) ≡ false) bytes 0 (λ i below.
-    false_from_ne_true _ (λ hit. both_ways _ none (list_any_at (λ each. each == byte) bytes i 0 below hit)))
 
 -- lines, each ended by a newline, are the first parts round newlines
 slice_split-lines : (lines : List (List ℕ)) (more : List ℕ) → All (λ line. IsFalse (list_any is_newline line)) lines → slice_split is_newline (flat_map line_text lines ++ more) ≡ lines ++ slice_split is_newline more

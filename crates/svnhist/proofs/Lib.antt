@@ -1,11 +1,4 @@
-pub mod Answers
 pub mod Bundles
-pub mod Cuts
-pub mod Queries
+pub mod QueryLines
 pub mod Reports
-pub mod Shown
 pub mod Statuses
-pub mod TreePaths
-pub mod TreeReads
-pub mod TreeSame
-pub mod TreesBuilt

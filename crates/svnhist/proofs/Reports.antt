@@ -1,44 +1,45 @@
 -- The report on a dump that was read.
-use Rattle.std.proofs.Common.{◌≡◌, ℕ, List, None, bytes_eq, sym, ap₂, subst, ◌∙◌}
-use Rattle.path_index.specs.Shown.{IndexValue}
+use Rattle.std.proofs.Common.{◌≡◌, ℕ, ◌+◌, List, [], ◌∷◌, ◌++◌, None, append-nil, append_assoc, sym, ap, ap₂, ◌∙◌}
+use Rattle.path_index.specs.Index.{IndexValue}
 use Rattle.svn_path.specs.Path.{same_name}
-use Rattle.svn_dump.specs.Dump.{DumpValue, IsDump, history_by_number, history_shown}
+use Rattle.svn_dump.specs.Dump.{DumpValue, IsDump, history_view, history_in_bytes}
 use Rattle.svn_dump.specs.DumpText.{IsDumpText}
 use Rattle.svn_dump.specs.Fault.{first_fault}
 use Rattle.svn_dump.specs.Record.{HistoryOfBytes}
-use Rattle.svn_dump.specs.Tree.{trees_of}
-use Rattle.svnhist.specs.AnswerShown.{FindsIn, Shows}
-use Rattle.svnhist.specs.Query.{query_lines}
-use Rattle.svnhist.specs.Report.{TreesOfBytes, IsReport, answers_from}
-use Rattle.svnhist.specs.RunFault.{IsRunError, faulty_as}
-use Rattle.svnhist.specs.TreeShown.{TreeOfNumbers, SameTrees}
-use Rattle.svnhist.specs.TreesFault.{IsFaultOf}
-use Rattle.svnhist.specs.declared.trees.TreesError.{TreesError}
-use Rattle.svnhist.specs.declared.trees.TreesError.TheVariants as error
-use Rattle.svnhist.proofs.Shown.{FindsIn-dump, Shows-dump, first_fault-shown, index_of}
+use Rattle.query_answer.specs.Answer.{TreesOfBytes, answer_of, answer_text}
+use Rattle.query_answer.specs.Query.{query_of}
+use Rattle.query_answer.specs.Repo.{index_of}
+use Rattle.query_answer.specs.TreesError.{IsFaultOf}
+use Rattle.query_answer.specs.declared.trees.TreesError.{TreesError}
+use Rattle.query_answer.specs.declared.trees.TreesError.TheVariants as error
+use Rattle.query_answer.proofs.InBytes.{first_fault-in_bytes}
+use Rattle.svnhist.specs.Report.{IsReport, answers, answers_from}
+use Rattle.svnhist.specs.ReportError.{IsRunError, run_error_of_trees}
 
-module _ (bytes queries : List ℕ) (dump : DumpValue) (kept : IsDump dump) (read : IsDumpText bytes (history_shown dump)) where
-  -- the fault for which it has no trees is the one that is told
-  pub IsRunError-faulty : (refused : TreesError) → IsFaultOf (history_by_number dump) refused → IsRunError bytes queries (faulty_as refused)
-  IsRunError-faulty (error.Fault fault) first = record { history = history_shown dump; read = read; first = first_fault-shown dump kept ∙ first }
+module _ (bytes queries : List ℕ) (dump : DumpValue) (kept : IsDump dump) (read : IsDumpText bytes (history_in_bytes dump)) where
+  -- the fault for which it has no trees is the first one
+  pub IsRunError-faulty : (refused : TreesError) → IsFaultOf (history_view dump) refused → IsRunError bytes queries (run_error_of_trees refused)
+  IsRunError-faulty (error.Fault fault) first = record { history = history_in_bytes dump; read = read; first = first_fault-in_bytes dump kept ∙ first }
   IsRunError-faulty error.Memory first = tt
 
-  -- what was written by its trees and its index is the report
-  pub IsReport-answers :
-      (trees : List TreeOfNumbers) (index : IndexValue) → SameTrees trees (trees_of same_name (history_by_number dump)) → index ≡ index_of dump → first_fault same_name (history_by_number dump) ≡ None → (report : List ℕ) →
-      ((history : HistoryOfBytes) (shown : TreesOfBytes) → Shows dump.names trees index history shown → report ≡ answers_from 1 history shown (query_lines queries)) → IsReport bytes queries report
-  IsReport-answers trees index same is lawful report answered = record {
-    history = history_shown dump;
-    read = read;
-    lawful = first_fault-shown dump kept ∙ lawful;
-    answered = answered (history_shown dump) (trees_of bytes_eq (history_shown dump))
-        (subst (λ one. Shows dump.names trees one (history_shown dump) (trees_of bytes_eq (history_shown dump))) (sym is) (Shows-dump dump kept trees same));
-  }
-
-  -- what is found is of its names
-  pub FindsIn-index : (trees : List TreeOfNumbers) (index : IndexValue) → SameTrees trees (trees_of same_name (history_by_number dump)) → index ≡ index_of dump → FindsIn dump.names trees index
-  FindsIn-index trees index same is = subst (FindsIn dump.names trees) (sym is) (FindsIn-dump dump kept trees same)
+  -- the answers to its queries are the report
+  pub IsReport-answers : first_fault same_name (history_view dump) ≡ None → (report : List ℕ) → report ≡ answers (history_in_bytes dump) queries → IsReport bytes queries report
+  IsReport-answers lawful report answered =
+      record { history = history_in_bytes dump; read = read; lawful = first_fault-in_bytes dump kept ∙ lawful; answered = answered }
 
 -- an index of a dump's records
 pub index_is : (index : IndexValue) (dump : DumpValue) → index.records ≡ dump.records → index.first ≡ 0 → index ≡ index_of dump
 index_is index dump records first = ap₂ (λ all n. let one : IndexValue = record { records = all; first = n } in one) records first
+
+-- ---- all answers
+
+-- one more line answered
+pub answers_from-more : (history : HistoryOfBytes) (trees : TreesOfBytes) (place : ℕ) (old new line : List ℕ) (rest : List (List ℕ)) (all : List ℕ) → new ≡ old ++ answer_text (place + 1) (answer_of history trees (query_of line))
+    → old ++ answers_from (place + 1) history trees (line ∷ rest) ≡ all → new ++ answers_from (place + 1 + 1) history trees rest ≡ all
+unfolding answers_from
+answers_from-more history trees place old new line rest all wrote before =
+    ap (λ front. front ++ answers_from (place + 1 + 1) history trees rest) wrote ∙ append_assoc old _ _ ∙ before
+
+pub answers_from-all : (history : HistoryOfBytes) (trees : TreesOfBytes) (place : ℕ) (out : List ℕ) (lines : List (List ℕ)) (all : List ℕ) → lines ≡ [] → out ++ answers_from (place + 1) history trees lines ≡ all → out ≡ all
+unfolding answers_from
+answers_from-all history trees place out lines all none before = sym (append-nil out) ∙ rw none at before

@@ -1,64 +1,79 @@
--- What the status of a run tells of its input, and which line is told with it.
-use Rattle.std.proofs.Common.{◌≡◌, ◌⊎◌, ℕ, Bool, List, Option, inl, inr, sym, subst, ◌∙◌, arith}
+-- What the status of a run says of its input, and which line is printed with it.
+use Rattle.std.proofs.Common.{◌≡◌, ℕ, List, inl, inr, sym, subst, ◌∙◌, arith}
 use Rattle.svn_dump.specs.declared.error.DumpError.TheVariants as refusal
+use Rattle.svnhist.specs.Device.{PullState, PushState}
 use Rattle.svnhist.specs.Load.{IsLoadError, IsReadError}
-use Rattle.svnhist.specs.Program.{IsInputError, IsRefusedRun, IsTold}
+use Rattle.svnhist.specs.Program.{IsFilesError, IsInputError, IsRefusal, IsRefusedFilesRun, IsRefusedRun, PrintsLine}
 use Rattle.svnhist.specs.RunError.{line_of, status_of}
-use Rattle.svnhist.specs.RunFault.{IsRunError}
+use Rattle.svnhist.specs.ReportError.{IsRunError}
 use Rattle.svnhist.specs.declared.run_error.RunError.{RunError}
 use Rattle.svnhist.specs.declared.run_error.RunError.TheVariants as run
-use Rattle.svnhist.specs.declared.run_error.Source.TheVariants.{Input}
+use Rattle.svnhist.specs.declared.run_error.Source.{Source}
+use Rattle.svnhist.specs.declared.run_error.Source.TheVariants as source
 
 -- an input that was not read is not refused
-not_refused : (error : RunError) → IsLoadError Input error → status_of error ≡ 1 → ⊥
+not_refused : (error : RunError) → IsLoadError source.Input error → status_of error ≡ 1 → ⊥
 not_refused run.TooMany unread one = unread
 not_refused (run.Dump refused) unread one = unread
 not_refused (run.Fault fault) unread one = unread
 not_refused (run.Read source) unread one = omega (arith, one)
 not_refused run.Memory unread one = omega (arith, one)
 
--- the error was told; or there was no memory for its line, and that was told
-abbrev pub IsRefusal : (List ℕ → Type 0) → RunError → ℕ → Type 0
-IsRefusal told error status = ((status ≡ status_of error) × told (line_of error)) ⊎ ((status ≡ 4) × told (line_of run.Memory))
+-- no error has status 0
+pub error_status : (error : RunError) (status : ℕ) (old new : PushState) → IsRefusal status error old new → status ≡ 0 → ⊥
+error_status error status old new (inr (memory, line)) zero = omega (arith, memory, zero)
+error_status error status old new (inl (same, line)) zero = by error (sym same ∙ zero)
+  where
+    by : (error : RunError) → status_of error ≡ 0 → ⊥
+    by run.TooMany none = omega (arith, none)
+    by (run.Dump (refusal.Refused number at)) none = omega (arith, none)
+    by (run.Dump refusal.Memory) none = omega (arith, none)
+    by (run.Fault fault) none = omega (arith, none)
+    by (run.Read source) none = omega (arith, none)
+    by run.Memory none = omega (arith, none)
 
-module _ (has_failed : Bool) (told_old told_new : Option (List ℕ)) where
-  -- with status 4 it is told that memory ran out
-  pub IsTold-from_status : (error : RunError) (status : ℕ) → IsRefusal (IsTold has_failed told_old told_new) error status
-      → status ≡ 4 → IsTold has_failed told_old told_new (line_of run.Memory)
-  IsTold-from_status error status (inr (memory, told)) four = told
-  IsTold-from_status error status (inl (same, told)) four = by error (sym same ∙ four) told
+module _ (old new : PushState) where
+  -- with status 4 the line says that memory ran out
+  pub PrintsLine-from_status : (error : RunError) (status : ℕ) → IsRefusal status error old new → status ≡ 4 → PrintsLine old new (line_of run.Memory)
+  PrintsLine-from_status error status (inr (memory, line)) four = line
+  PrintsLine-from_status error status (inl (same, line)) four = by error (sym same ∙ four) line
     where
-      by : (error : RunError) → status_of error ≡ 4 → IsTold has_failed told_old told_new (line_of error) → IsTold has_failed told_old told_new (line_of run.Memory)
-      by run.TooMany four told = absurd (omega (arith, four))
-      by (run.Dump (refusal.Refused number at)) four told = absurd (omega (arith, four))
-      by (run.Dump refusal.Memory) four told = told
-      by (run.Fault fault) four told = absurd (omega (arith, four))
-      by (run.Read source) four told = absurd (omega (arith, four))
-      by run.Memory four told = told
+      by : (error : RunError) → status_of error ≡ 4 → PrintsLine old new (line_of error) → PrintsLine old new (line_of run.Memory)
+      by run.TooMany four line = absurd (omega (arith, four))
+      by (run.Dump (refusal.Refused number at)) four line = absurd (omega (arith, four))
+      by (run.Dump refusal.Memory) four line = line
+      by (run.Fault fault) four line = absurd (omega (arith, four))
+      by (run.Read source) four line = absurd (omega (arith, four))
+      by run.Memory four line = line
 
-module _ (old new : Option (List ℕ)) (has_failed : Bool) (told_old told_new : Option (List ℕ)) where
+  -- an error of a run on files, or that memory ran out for its line
+  pub IsRefusedFilesRun-refusal : (error : RunError) (status : ℕ) → IsFilesError error → IsRefusal status error old new → IsRefusedFilesRun status old new
+  IsRefusedFilesRun-refusal error status files (inl (same, line)) = record { error = error; files = files; same = same; line = line }
+  IsRefusedFilesRun-refusal error status files (inr (memory, line)) = record { error = run.Memory; files = tt; same = memory; line = line }
+
+module _ (input_old input_new : PullState) (old new : PushState) where
   -- status 1 is that of an input that was read and is refused
-  pub IsRefusedRun-from_status : (error : RunError) (status : ℕ) → IsInputError old new error → IsRefusal (IsTold has_failed told_old told_new) error status
-      → status ≡ 1 → IsRefusedRun old new has_failed told_old told_new
-  IsRefusedRun-from_status error status (inl unread) (inl (same, told)) one = absurd (not_refused error unread (sym same ∙ one))
-  IsRefusedRun-from_status error status (inr (bytes, read, end, refused)) (inl (same, told)) one =
-      record { bytes = bytes; error = error; read = read; end = end; refused = refused; status = sym same ∙ one; told = told }
-  IsRefusedRun-from_status error status why (inr (memory, told)) one = absurd (omega (arith, memory, one))
+  pub IsRefusedRun-from_status : (error : RunError) (status : ℕ) → IsInputError input_old input_new error → IsRefusal status error old new
+      → status ≡ 1 → IsRefusedRun input_old input_new old new
+  IsRefusedRun-from_status error status (inl unread) (inl (same, line)) one = absurd (not_refused error unread (sym same ∙ one))
+  IsRefusedRun-from_status error status (inr (bytes, read, refused)) (inl (same, line)) one =
+      record { bytes = bytes; error = error; read = read; refused = refused; status = sym same ∙ one; line = line }
+  IsRefusedRun-from_status error status why (inr (memory, line)) one = absurd (omega (arith, memory, one))
 
   -- status 3 is that of an input that was not read
-  pub IsReadError-from_status : (error : RunError) (status : ℕ) → IsInputError old new error → IsRefusal (IsTold has_failed told_old told_new) error status
-      → status ≡ 3 → IsReadError error × IsTold has_failed told_old told_new (line_of (run.Read Input))
-  IsReadError-from_status error status why (inr (memory, told)) three = absurd (omega (arith, memory, three))
-  IsReadError-from_status error status (inl unread) (inl (same, told)) three = by error unread (sym same ∙ three) told
+  pub IsReadError-from_status : (error : RunError) (status : ℕ) → IsInputError input_old input_new error → IsRefusal status error old new
+      → status ≡ 3 → IsReadError error × PrintsLine old new (line_of (run.Read source.Input))
+  IsReadError-from_status error status why (inr (memory, line)) three = absurd (omega (arith, memory, three))
+  IsReadError-from_status error status (inl unread) (inl (same, line)) three = by error unread (sym same ∙ three) line
     where
-      by : (error : RunError) → IsLoadError Input error → status_of error ≡ 3 → IsTold has_failed told_old told_new (line_of error)
-          → IsReadError error × IsTold has_failed told_old told_new (line_of (run.Read Input))
-      by run.TooMany unread three told = absurd unread
-      by (run.Dump refused) unread three told = absurd unread
-      by (run.Fault fault) unread three told = absurd unread
-      by (run.Read source) unread three told = (tt, subst (λ each. IsTold has_failed told_old told_new (line_of (run.Read each))) unread told)
-      by run.Memory unread three told = absurd (omega (arith, three))
-  IsReadError-from_status error status (inr (bytes, read, end, wrong)) (inl (same, told)) three = absurd (by error wrong.2 (sym same ∙ three))
+      by : (error : RunError) → IsLoadError source.Input error → status_of error ≡ 3 → PrintsLine old new (line_of error)
+          → IsReadError error × PrintsLine old new (line_of (run.Read source.Input))
+      by run.TooMany unread three line = absurd unread
+      by (run.Dump refused) unread three line = absurd unread
+      by (run.Fault fault) unread three line = absurd unread
+      by (run.Read source) unread three line = (tt, subst (λ each. PrintsLine old new (line_of (run.Read each))) unread line)
+      by run.Memory unread three line = absurd (omega (arith, three))
+  IsReadError-from_status error status (inr (bytes, read, wrong)) (inl (same, line)) three = absurd (by error wrong.2 (sym same ∙ three))
     where
       by : (error : RunError) → IsRunError wrong.0.dump wrong.0.queries error → status_of error ≡ 3 → ⊥
       by run.TooMany refused three = omega (arith, three)
@@ -67,3 +82,23 @@ module _ (old new : Option (List ℕ)) (has_failed : Bool) (told_old told_new : 
       by (run.Fault fault) refused three = omega (arith, three)
       by (run.Read source) refused three = refused
       by run.Memory refused three = omega (arith, three)
+
+-- a source that is a file's
+pub IsFilesError-load : (which : Source) (error : RunError) → (which ≡ source.Input → ⊥) → IsLoadError which error → IsFilesError error
+IsFilesError-load which run.TooMany file wrong = tt
+IsFilesError-load which (run.Dump refused) file wrong = absurd wrong
+IsFilesError-load which (run.Fault fault) file wrong = tt
+IsFilesError-load which (run.Read source.Dump) file wrong = tt
+IsFilesError-load which (run.Read source.Queries) file wrong = tt
+IsFilesError-load which (run.Read source.Input) file wrong = file (sym wrong)
+IsFilesError-load which run.Memory file wrong = tt
+
+pub IsFilesError-run : (dump queries : List ℕ) (error : RunError) → IsRunError dump queries error → IsFilesError error
+IsFilesError-run dump queries run.TooMany wrong = tt
+IsFilesError-run dump queries (run.Dump (refusal.Refused number at)) wrong = tt
+IsFilesError-run dump queries (run.Dump refusal.Memory) wrong = wrong
+IsFilesError-run dump queries (run.Fault fault) wrong = tt
+IsFilesError-run dump queries (run.Read source.Dump) wrong = tt
+IsFilesError-run dump queries (run.Read source.Queries) wrong = tt
+IsFilesError-run dump queries (run.Read source.Input) wrong = wrong
+IsFilesError-run dump queries run.Memory wrong = tt

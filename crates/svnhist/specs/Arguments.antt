@@ -11,8 +11,8 @@ pub record ArgumentsValue : Type 0 where
   pub block : ℕ
   pub workers : ℕ
 
-abbrev pub arguments_shown : Arguments → ArgumentsValue
-arguments_shown a = record { dump = a.dump.now; queries = a.queries.now; block = a.block; workers = a.workers }
+abbrev pub arguments_view : Arguments → ArgumentsValue
+arguments_view a = record { dump = a.dump.now; queries = a.queries.now; block = a.block; workers = a.workers }
 
 -- the two numbers as they are written
 pub record IsArguments (texts : List (List ℕ)) (value : ArgumentsValue) : Type 0 where

@@ -17,8 +17,8 @@ pub record BundleValue : Type 0 where
   pub queries : List ℕ
   pub dump : List ℕ
 
-abbrev pub bundle_shown : Bundle → BundleValue
-bundle_shown b = record { block = b.block; workers = b.workers; queries = b.queries.now; dump = b.dump.now }
+abbrev pub bundle_view : Bundle → BundleValue
+bundle_view b = record { block = b.block; workers = b.workers; queries = b.queries.now; dump = b.dump.now }
 
 -- so many lines, each ended by a newline
 pub record AreLines (count : ℕ) (bytes : List ℕ) : Type 0 where
@@ -39,3 +39,12 @@ pub record IsBundle (bytes : List ℕ) (value : BundleValue) : Type 0 where
   pub some_worker : 0 < value.workers
   pub few : number_up_to most_queries third ≡ Some count
   pub lines : AreLines count value.queries
+
+-- the bytes begin with a number and this byte, and the rest follows
+abbrev pub IsNumberBefore : ℕ → ℕ → List ℕ → ℕ → List ℕ → Type 0
+IsNumberBefore end most bytes value rest =
+    (digits : List ℕ) × (bytes ≡ digits ++ end ∷ rest) × (number_up_to most digits ≡ Some value)
+
+abbrev pub HasNoNumberBefore : ℕ → ℕ → List ℕ → Type 0
+HasNoNumberBefore end most bytes =
+    (digits rest : List ℕ) (n : ℕ) → bytes ≡ digits ++ end ∷ rest → number_up_to most digits ≡ Some n → ⊥

@@ -1,6 +1,7 @@
--- How a run tells that an input could not be read.
-use Rattle.std.specs.Prelude.{◌≡◌, ◌⊎◌, ℕ, ◌+◌, ◌≤◌, Bool, IsTrue, List, Option, length}
+-- How a run reports that an input could not be read.
+use Rattle.std.specs.Prelude.{◌≡◌, ◌⊎◌, ℕ, ◌+◌, ◌≤◌, IsTrue, List, Option, length}
 use Rattle.std.specs.Io.KnownBytes.{Consumes}
+use Rattle.svnhist.specs.Device.{PullState}
 use Rattle.svnhist.specs.declared.run_error.RunError.{RunError}
 use Rattle.svnhist.specs.declared.run_error.RunError.TheVariants.{TooMany, Dump, Fault as Faulty, Read, Memory}
 use Rattle.svnhist.specs.declared.run_error.Source.{Source}
@@ -14,9 +15,12 @@ abbrev pub GivesMore : Option (List ℕ) → Option (List ℕ) → Type 0
 GivesMore old new = (bytes : List ℕ) × (most_reads ≤ length bytes) × Consumes old new bytes
 
 -- an input was not read to its end: a call of it failed, or so many calls reached no end
-abbrev pub IsUnread : Bool → ℕ → ℕ → Option (List ℕ) → Option (List ℕ) → Type 0
-IsUnread has_failed calls_old calls_new left_old left_new =
-    IsTrue has_failed ⊎ ((calls_new ≡ calls_old + most_reads) × GivesMore left_old left_new)
+abbrev pub IsUnread : PullState → PullState → Type 0
+IsUnread old new = IsTrue new.has_failed ⊎ ((new.calls ≡ old.calls + most_reads) × GivesMore old.left new.left)
+
+-- a device that has failed had failed before
+abbrev pub FailsNoMore : PullState → PullState → Type 0
+FailsNoMore old new = IsTrue new.has_failed → IsTrue old.has_failed
 
 abbrev pub IsReadError : RunError → Type 0
 IsReadError TooMany = ⊥
@@ -30,5 +34,5 @@ abbrev pub IsLoadError : Source → RunError → Type 0
 IsLoadError source TooMany = ⊥
 IsLoadError source (Dump refused) = ⊥
 IsLoadError source (Faulty fault) = ⊥
-IsLoadError source (Read told) = told ≡ source
+IsLoadError source (Read unread) = unread ≡ source
 IsLoadError source Memory = Unit {0}

@@ -1,14 +1,25 @@
--- What the program answers to its input, and what its status tells.
-use Rattle.std.specs.Prelude.{◌≡◌, ◌⊎◌, ℕ, Bool, IsTrue, List, Option, Some, None, Vec, take}
+-- What the program answers to its input, and what each of its statuses says.
+use Rattle.std.specs.Prelude.{◌≡◌, ◌⊎◌, ℕ, ◌<◌, IsFalse, IsTrue, List, Option, Some, None, Vec, take}
 use Rattle.std.specs.Io.KnownBytes.{Appends, Consumes, IsAtEnd}
 use Rattle.std.specs.declared.alloc.Global.{Global}
+use Rattle.svn_dump.specs.declared.error.DumpError.TheVariants.{Refused, Memory as RefusedMemory}
 use Rattle.svnhist.specs.Bundle.{BundleValue, IsBundle}
-use Rattle.svnhist.specs.Load.{IsLoadError}
+use Rattle.svnhist.specs.Device.{PullState, PushState}
+use Rattle.svnhist.specs.Load.{IsLoadError, IsUnread}
 use Rattle.svnhist.specs.Report.{IsReport}
-use Rattle.svnhist.specs.RunError.{line_of, status_of}
-use Rattle.svnhist.specs.RunFault.{IsRunError}
+use Rattle.svnhist.specs.ReportError.{IsRunError}
+use Rattle.svnhist.specs.RunError.{line_of, status_of, unsent_line, usage_line}
 use Rattle.svnhist.specs.declared.run_error.RunError.{RunError}
-use Rattle.svnhist.specs.declared.run_error.Source.TheVariants.{Input}
+use Rattle.svnhist.specs.declared.run_error.RunError.TheVariants.{TooMany, Dump, Fault as Faulty, Read, Memory}
+use Rattle.svnhist.specs.declared.run_error.Source.TheVariants.{Dump as DumpFile, Queries, Input}
+
+-- ---- what was read
+
+-- all bytes of an input were read, to its end
+pub record IsReadWhole (old new : PullState) (bytes : List ℕ) : Type 0 where
+  pub read : Consumes old.left new.left bytes
+  pub end : IsAtEnd new.left
+  pub sound : IsFalse new.has_failed
 
 -- the report on the bundle that the bytes are, or none where they are no bundle
 abbrev pub IsBundleAnswer : List ℕ → Option (Vec ℕ Global) → Type 0
@@ -20,58 +31,122 @@ abbrev pub IsBundleError : List ℕ → RunError → Type 0
 IsBundleError bytes error = (value : BundleValue) × IsBundle bytes value × IsRunError value.dump value.queries error
 
 -- all of an input was read, and what it is as a bundle is answered
-abbrev pub IsInputAnswer : Option (List ℕ) → Option (List ℕ) → Option (Vec ℕ Global) → Type 0
-IsInputAnswer old new answer = (bytes : List ℕ) × Consumes old new bytes × IsAtEnd new × IsBundleAnswer bytes answer
+abbrev pub IsInputAnswer : PullState → PullState → Option (Vec ℕ Global) → Type 0
+IsInputAnswer old new answer = (bytes : List ℕ) × IsReadWhole old new bytes × IsBundleAnswer bytes answer
 
 -- all of an input was read, and there is no report on it for this reason; or it was not read
-abbrev pub IsInputError : Option (List ℕ) → Option (List ℕ) → RunError → Type 0
-IsInputError old new error = IsLoadError Input error ⊎ ((bytes : List ℕ) × Consumes old new bytes × IsAtEnd new × IsBundleError bytes error)
+abbrev pub IsInputError : PullState → PullState → RunError → Type 0
+IsInputError old new error = IsLoadError Input error ⊎ ((bytes : List ℕ) × IsReadWhole old new bytes × IsBundleError bytes error)
+
+-- ---- what went out
+
+-- a line went out and was flushed, unless the device has failed
+abbrev pub PrintsLine : PushState → PushState → List ℕ → Type 0
+PrintsLine old new line = IsTrue new.has_failed ⊎ (Appends old.gone new.gone line × IsTrue new.is_flushed)
+
+-- some front of the bytes went out, before the device failed
+pub record IsCutAfter (old new : PushState) (bytes : List ℕ) : Type 0 where
+  pub count : ℕ
+  pub sent : Appends old.gone new.gone (take count bytes)
+  pub failed : IsTrue new.has_failed
+  pub called : old.calls < new.calls
+
+-- the line of an error was printed and its status answered; or memory for the line ran out, and that was
+abbrev pub IsRefusal : ℕ → RunError → PushState → PushState → Type 0
+IsRefusal status error old new =
+    ((status ≡ status_of error) × PrintsLine old new (line_of error)) ⊎ ((status ≡ 4) × PrintsLine old new (line_of Memory))
 
 -- a report went out whole
-pub record IsSent (old new : Option (List ℕ)) (dump queries : List ℕ) : Type 0 where
+pub record IsSent (old new : PushState) (dump queries : List ℕ) : Type 0 where
   pub report : List ℕ
   pub right : IsReport dump queries report
-  pub sent : Appends old new report
+  pub sent : Appends old.gone new.gone report
+  pub flushed : IsTrue new.is_flushed
+  pub sound : IsFalse new.has_failed
 
 -- the front of a report went out, before the output failed
-pub record IsCutShort (old new : Option (List ℕ)) (dump queries : List ℕ) : Type 0 where
+pub record IsCutShort (old new : PushState) (dump queries : List ℕ) : Type 0 where
   pub report : List ℕ
-  pub count : ℕ
   pub right : IsReport dump queries report
-  pub sent : Appends old new (take count report)
+  pub cut : IsCutAfter old new report
 
--- all of an input was read, it is a bundle, and its report went out
-pub record IsRun (left_old left_new gone_old gone_new : Option (List ℕ)) : Type 0 where
+-- ---- the statuses of a run on a bundle
+
+-- 0: all of the input was read, it is a bundle, and its report went out whole
+pub record IsRun (input_old input_new : PullState) (output_old output_new : PushState) : Type 0 where
   pub bytes : List ℕ
   pub value : BundleValue
-  pub read : Consumes left_old left_new bytes
-  pub end : IsAtEnd left_new
+  pub read : IsReadWhole input_old input_new bytes
   pub bundle : IsBundle bytes value
-  pub sent : IsSent gone_old gone_new value.dump value.queries
+  pub sent : IsSent output_old output_new value.dump value.queries
 
--- the same with the front of its report
-pub record IsCutRun (left_old left_new gone_old gone_new : Option (List ℕ)) : Type 0 where
-  pub bytes : List ℕ
-  pub value : BundleValue
-  pub read : Consumes left_old left_new bytes
-  pub end : IsAtEnd left_new
-  pub bundle : IsBundle bytes value
-  pub cut : IsCutShort gone_old gone_new value.dump value.queries
-
--- all of an input was read, and it is no bundle
-abbrev pub IsNoBundle : Option (List ℕ) → Option (List ℕ) → Type 0
-IsNoBundle old new = (bytes : List ℕ) × Consumes old new bytes × IsAtEnd new × IsBundleAnswer bytes None
-
--- a line went out on standard error, unless that failed
-abbrev pub IsTold : Bool → Option (List ℕ) → Option (List ℕ) → List ℕ → Type 0
-IsTold has_failed old new line = IsTrue has_failed ⊎ Appends old new line
-
--- all of an input was read, it is a bundle, and its queries or its dump are refused, as is told
-pub record IsRefusedRun (old new : Option (List ℕ)) (has_failed : Bool) (told_old told_new : Option (List ℕ)) : Type 0 where
+-- 1: all of the input was read, it is a bundle, and its queries or its dump are refused, as the line says
+pub record IsRefusedRun (input_old input_new : PullState) (errors_old errors_new : PushState) : Type 0 where
   pub bytes : List ℕ
   pub error : RunError
-  pub read : Consumes old new bytes
-  pub end : IsAtEnd new
+  pub read : IsReadWhole input_old input_new bytes
   pub refused : IsBundleError bytes error
   pub status : status_of error ≡ 1
-  pub told : IsTold has_failed told_old told_new (line_of error)
+  pub line : PrintsLine errors_old errors_new (line_of error)
+
+-- 2: all of the input was read, and it is not a bundle
+pub record IsUsageRun (input_old input_new : PullState) (errors_old errors_new : PushState) : Type 0 where
+  pub bytes : List ℕ
+  pub read : IsReadWhole input_old input_new bytes
+  pub no_bundle : (value : BundleValue) → IsBundle bytes value → ⊥
+  pub line : PrintsLine errors_old errors_new usage_line
+
+-- the input was read as for 0, and the front of its report went out
+pub record IsCutRun (input_old input_new : PullState) (output_old output_new : PushState) : Type 0 where
+  pub bytes : List ℕ
+  pub value : BundleValue
+  pub read : IsReadWhole input_old input_new bytes
+  pub bundle : IsBundle bytes value
+  pub cut : IsCutShort output_old output_new value.dump value.queries
+
+-- 3: the output failed, or the input was not read and nothing went out
+abbrev pub IsFailedRun : PullState → PullState → PushState → PushState → Type 0
+IsFailedRun input_old input_new output_old output_new =
+    IsCutRun input_old input_new output_old output_new ⊎ (IsUnread input_old input_new × (output_new ≡ output_old))
+
+-- the line for 3: it speaks of the output where that was called, and else of the input
+abbrev pub IsFailureLine : PushState → PushState → PushState → PushState → Type 0
+IsFailureLine output_old output_new errors_old errors_new =
+    ((output_old.calls < output_new.calls) × PrintsLine errors_old errors_new unsent_line)
+    ⊎ ((output_new ≡ output_old) × PrintsLine errors_old errors_new (line_of (Read Input)))
+
+-- ---- the statuses of a run on two files, of which nothing is known
+
+-- 0: a report went out whole
+abbrev pub IsFilesRun : PushState → PushState → Type 0
+IsFilesRun old new = (dump queries : List ℕ) × IsSent old new dump queries
+
+-- the output failed, and the line says so
+pub record IsCutFilesRun (output_old output_new errors_old errors_new : PushState) : Type 0 where
+  pub dump : List ℕ
+  pub queries : List ℕ
+  pub cut : IsCutShort output_old output_new dump queries
+  pub line : PrintsLine errors_old errors_new unsent_line
+
+-- 3: the output failed, or nothing went out
+abbrev pub IsFailedFilesRun : PushState → PushState → PushState → PushState → Type 0
+IsFailedFilesRun output_old output_new errors_old errors_new =
+    IsCutFilesRun output_old output_new errors_old errors_new ⊎ (output_new ≡ output_old)
+
+-- an error that a run on files can have: a file can't be read, or its bytes are refused
+abbrev pub IsFilesError : RunError → Type 0
+IsFilesError TooMany = Unit {0}
+IsFilesError (Dump (Refused number at)) = Unit {0}
+IsFilesError (Dump RefusedMemory) = ⊥
+IsFilesError (Faulty fault) = Unit {0}
+IsFilesError (Read DumpFile) = Unit {0}
+IsFilesError (Read Queries) = Unit {0}
+IsFilesError (Read Input) = ⊥
+IsFilesError Memory = Unit {0}
+
+-- 1, 3 and 4: nothing went out, and the line is that of an error of this status
+pub record IsRefusedFilesRun (status : ℕ) (errors_old errors_new : PushState) : Type 0 where
+  pub error : RunError
+  pub files : IsFilesError error
+  pub same : status ≡ status_of error
+  pub line : PrintsLine errors_old errors_new (line_of error)

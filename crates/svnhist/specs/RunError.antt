@@ -1,9 +1,9 @@
--- The line and the status by which the program tells why there is no report.
+-- The line and the status by which the program reports why there is no report.
 use Rattle.std.specs.Prelude.{ℕ, List, [], ◌∷◌, ◌++◌, codes, decimal, slice_index_or}
 use Rattle.svn_dump.specs.declared.error.DumpError.{DumpError}
 use Rattle.svn_dump.specs.declared.error.DumpError.TheVariants as refusal
-use Rattle.svnhist.specs.declared.fault.FaultKind.{FaultKind}
-use Rattle.svnhist.specs.declared.fault.FaultKind.TheVariants.{NoParent, Exists, Missing, NoSource}
+use Rattle.query_answer.specs.declared.fault.FaultKind.{FaultKind}
+use Rattle.query_answer.specs.declared.fault.FaultKind.TheVariants.{NoParent, Exists, Missing, NoSource}
 use Rattle.svnhist.specs.declared.run_error.RunError.{RunError}
 use Rattle.svnhist.specs.declared.run_error.RunError.TheVariants as run
 use Rattle.svnhist.specs.declared.run_error.Source.{Source}
@@ -42,19 +42,26 @@ refused_at number name what place =
     codes "dump refused: " ++ decimal number ++ codes " " ++ name ++ codes " at " ++ what ++ codes " " ++ decimal place
 
 -- what stands between `svnhist: ` and the end of the line
-abbrev pub refusal_told : DumpError → List ℕ
-refusal_told (refusal.Refused number at) = refused_at number (refusal_name_of number) (codes "byte") at
-refusal_told refusal.Memory = codes "out of memory"
+abbrev pub refusal_text : DumpError → List ℕ
+refusal_text (refusal.Refused number at) = refused_at number (refusal_name_of number) (codes "byte") at
+refusal_text refusal.Memory = codes "out of memory"
 
-abbrev pub told : RunError → List ℕ
-told run.TooMany = codes "more than 1000000 queries"
-told (run.Dump refused) = refusal_told refused
-told (run.Fault fault) = refused_at (fault_number fault.kind) (fault_name_of fault.kind) (codes "record") fault.number
-told (run.Read source) = codes "cannot read " ++ source_name_of source
-told run.Memory = codes "out of memory"
+abbrev pub error_text : RunError → List ℕ
+error_text run.TooMany = codes "more than 1000000 queries"
+error_text (run.Dump refused) = refusal_text refused
+error_text (run.Fault fault) = refused_at (fault_number fault.kind) (fault_name_of fault.kind) (codes "record") fault.number
+error_text (run.Read source) = codes "cannot read " ++ source_name_of source
+error_text run.Memory = codes "out of memory"
 
 abbrev pub line_of : RunError → List ℕ
-line_of error = codes "svnhist: " ++ told error ++ 10 ∷ []
+line_of error = codes "svnhist: " ++ error_text error ++ 10 ∷ []
+
+-- the lines of a refused dump and of a source that was not read
+abbrev pub refused_text : ℕ → List ℕ → List ℕ → ℕ → List ℕ
+refused_text number name what place = codes "svnhist: " ++ refused_at number name what place ++ 10 ∷ []
+
+abbrev pub unread_text : Source → List ℕ
+unread_text source = codes "svnhist: " ++ (codes "cannot read " ++ source_name_of source) ++ 10 ∷ []
 
 -- the other lines that the program prints on standard error
 abbrev pub usage_line : List ℕ

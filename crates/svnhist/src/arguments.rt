@@ -1,8 +1,8 @@
 //! The arguments of a run on two files.
 ghost use Rattle.std.specs.Prelude.{map, string_bytes, IfNone, IfSome};
-ghost use Rattle.svnhist.specs.Arguments.{ArgumentsValue, IsArguments, arguments_shown};
+ghost use Rattle.svnhist.specs.Arguments.{ArgumentsValue, IsArguments, arguments_view};
 
-use svn_dump::number_up_to;
+use svn_dump::{GREATEST_REVISION, number_up_to};
 
 /// What a run is asked to do, lent by its arguments.
 #[derive(Clone, Copy, Debug)]
@@ -17,15 +17,15 @@ pub(crate) struct Arguments<'a> {
     pub workers: usize,
 }
 
-/// What the arguments behind the program's name ask for, or `None` where they are wrong.
+/// What the arguments after the program's name ask for, or `None` where they are wrong.
 pub(crate) fn read_arguments(texts: &[String]) -> Option<Arguments<'_>>
-    ensures found { IfSome result (λ asked. IsArguments (map string_bytes texts.now) (arguments_shown asked)) }
+    ensures found { IfSome result (λ asked. IsArguments (map string_bytes texts.now) (arguments_view asked)) }
     ensures none { IfNone result ((value : ArgumentsValue) → IsArguments (map string_bytes texts.now) value → ⊥) }
 {
     let [dump, queries, block, workers] = texts else {
         return None;
     };
-    let block = number_up_to(2_147_483_647, block.as_bytes())?;
+    let block = number_up_to(GREATEST_REVISION, block.as_bytes())?;
     let workers = number_up_to(64, workers.as_bytes())?;
     if workers == 0 {
         return None;

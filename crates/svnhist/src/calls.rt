@@ -1,4 +1,4 @@
-//! How many calls a device had, for contracts alone.
+//! A count of the calls of a device, for contracts alone.
 ghost use Rattle.std.specs.Prelude.{◌≡◌, ℕ, ◌+◌};
 
 use std::marker::Model;

@@ -1,7 +1,7 @@
 //! Where bytes come from and where they go: two small traits, and std's readers and writers as both.
-ghost use Rattle.std.specs.Prelude.{◌≡◌, ℕ, ◌+◌, ◌<◌, ◌≤◌, ◌↔◌, Bool, false, List, Option, length, IfOk, OnOk, IsErr, IsTrue};
+ghost use Rattle.std.specs.Prelude.{◌≡◌, ◌+◌, ◌<◌, ◌≤◌, ◌↔◌, false, length, IfOk, OnOk, IsErr, IsFalse, IsTrue};
 ghost use Rattle.std.specs.Io.KnownBytes.{Keeps, ReadConsumes, WriteAppends};
-ghost use Rattle.svnhist.specs.Device.{device_inner, device_calls, device_has_failed, device_is_flushed};
+ghost use Rattle.svnhist.specs.Device.{PullState, PushState, failure_count, device_calls, device_has_failed, device_inner, device_is_flushed, pull_state, push_state};
 
 use crate::calls::Calls;
 use std::io::{Read, Write};
@@ -12,51 +12,41 @@ pub struct Failed;
 
 /// What bytes come from.
 pub trait Pull {
-    // The bytes that are left, where the device tells them, how many calls were made, and whether one failed.
-    ghost left: { Self → Option (List ℕ) };
-
-    ghost calls: { Self → ℕ };
-
-    ghost has_failed: { Self → Bool };
+    ghost state: { Self → PullState };
 
     /// Puts bytes at the front of the slice and says how many: 0 is the end of the input.
     fn pull(&mut self, slice: &mut [u8]) -> Result<usize, Failed>
         requires { 0 < length slice.old }
         ensures bound { IfOk result (λ n. n ≤ length slice.new) }
-        ensures bytes { ReadConsumes (left self.old) (left self.new) result slice.new }
-        ensures counted { calls self.new ≡ calls self.old + 1 }
-        ensures failed { IsErr result ↔ IsTrue (has_failed self.new) }
-        ensures stays { IsTrue (has_failed self.old) → IsTrue (has_failed self.new) };
+        ensures bytes { ReadConsumes (state self.old).left (state self.new).left result slice.new }
+        ensures counted { (state self.new).calls ≡ (state self.old).calls + 1 }
+        ensures failed { IsErr result ↔ IsTrue (state self.new).has_failed }
+        ensures stays { IsTrue (state self.old).has_failed → IsTrue (state self.new).has_failed };
 }
 
 /// What bytes go to.
 pub trait Push {
-    // The bytes that went out, where the device tells them, how many calls were made, whether one failed, and whether
-    // all that it took was sent on.
-    ghost gone: { Self → Option (List ℕ) };
-
-    ghost calls: { Self → ℕ };
-
-    ghost has_failed: { Self → Bool };
-
-    ghost is_flushed: { Self → Bool };
+    ghost state: { Self → PushState };
 
     /// Takes bytes off the front of the slice, at least one, and says how many.
     fn push(&mut self, slice: &[u8]) -> Result<usize, Failed>
         requires { 0 < length slice.now }
         ensures bound { IfOk result (λ n. (0 < n) × (n ≤ length slice.now)) }
-        ensures bytes { WriteAppends (gone self.old) (gone self.new) result slice.now }
-        ensures counted { calls self.new ≡ calls self.old + 1 }
-        ensures failed { IsErr result ↔ IsTrue (has_failed self.new) }
-        ensures stays { IsTrue (has_failed self.old) → IsTrue (has_failed self.new) };
+        ensures bytes { WriteAppends (state self.old).gone (state self.new).gone result slice.now }
+        ensures unflushed { OnOk result (IsFalse (state self.new).is_flushed) }
+        ensures counted { (state self.new).calls ≡ (state self.old).calls + 1 }
+        ensures failures { (state self.new).failures ≡ (state self.old).failures + failure_count result }
+        ensures failed { IsErr result ↔ IsTrue (state self.new).has_failed }
+        ensures stays { IsTrue (state self.old).has_failed → IsTrue (state self.new).has_failed };
 
     /// Sends on what the device still holds back.
     fn flush(&mut self) -> Result<(), Failed>
-        ensures bytes { Keeps (gone self.old) (gone self.new) }
-        ensures flushed { OnOk result (IsTrue (is_flushed self.new)) }
-        ensures counted { calls self.new ≡ calls self.old + 1 }
-        ensures failed { IsErr result ↔ IsTrue (has_failed self.new) }
-        ensures stays { IsTrue (has_failed self.old) → IsTrue (has_failed self.new) };
+        ensures bytes { Keeps (state self.old).gone (state self.new).gone }
+        ensures flushed { OnOk result (IsTrue (state self.new).is_flushed) }
+        ensures counted { (state self.new).calls ≡ (state self.old).calls + 1 }
+        ensures failures { (state self.new).failures ≡ (state self.old).failures + failure_count result }
+        ensures failed { IsErr result ↔ IsTrue (state self.new).has_failed }
+        ensures stays { IsTrue (state self.old).has_failed → IsTrue (state self.new).has_failed };
 }
 
 /// A reader or a writer of std as a device. Any error of it is a failure, an interruption too.
@@ -66,6 +56,7 @@ pub struct Device<D> {
     failed: bool,
     flushed: bool,
     calls: Calls,
+    failures: Calls,
 }
 
 impl<D> Device<D> {
@@ -74,22 +65,20 @@ impl<D> Device<D> {
         ensures inner { device_inner result ≡ inner }
         ensures calls { device_calls result ≡ 0 }
         ensures failed { device_has_failed result ≡ false }
+        ensures flushed { device_is_flushed result ≡ false }
     {
         Device {
             inner,
             failed: false,
             flushed: false,
             calls: Calls::new(),
+            failures: Calls::new(),
         }
     }
 }
 
 impl<D: Read> Pull for Device<D> {
-    ghost left = { λ d. D.remaining (device_inner d) };
-
-    ghost calls = { device_calls };
-
-    ghost has_failed = { device_has_failed };
+    ghost state = { pull_state D.remaining };
 
     fn pull(&mut self, slice: &mut [u8]) -> Result<usize, Failed> {
         self.calls.add();
@@ -107,17 +96,12 @@ impl<D: Read> Pull for Device<D> {
 }
 
 impl<D: Write> Push for Device<D> {
-    ghost gone = { λ d. D.contents (device_inner d) };
-
-    ghost calls = { device_calls };
-
-    ghost has_failed = { device_has_failed };
-
-    ghost is_flushed = { device_is_flushed };
+    ghost state = { push_state D.contents };
 
     fn push(&mut self, slice: &[u8]) -> Result<usize, Failed> {
         self.calls.add();
         if self.failed {
+            self.failures.add();
             return Err(Failed);
         }
         self.flushed = false;
@@ -125,6 +109,7 @@ impl<D: Write> Push for Device<D> {
             Ok(n) if n > 0 => Ok(n),
             _ => {
                 self.failed = true;
+                self.failures.add();
                 Err(Failed)
             }
         }
@@ -133,6 +118,7 @@ impl<D: Write> Push for Device<D> {
     fn flush(&mut self) -> Result<(), Failed> {
         self.calls.add();
         if self.failed {
+            self.failures.add();
             return Err(Failed);
         }
         match self.inner.flush() {
@@ -142,6 +128,7 @@ impl<D: Write> Push for Device<D> {
             }
             Err(_) => {
                 self.failed = true;
+                self.failures.add();
                 Err(Failed)
             }
         }

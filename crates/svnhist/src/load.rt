@@ -1,7 +1,7 @@
 //! Reading all of an input or a file.
-ghost use Rattle.std.specs.Prelude.{◌+◌, ◌≤◌, IfErr, IfOk, OnOk, IsFalse};
+ghost use Rattle.std.specs.Prelude.{◌≡◌, ◌+◌, ◌≤◌, IfErr, IfOk, IsErrOf, OnOk, IsFalse};
 ghost use Rattle.std.specs.Io.KnownBytes.{Consumes, IsAtEnd};
-ghost use Rattle.svnhist.specs.Load.{most_reads, IsLoadError, IsReadError, IsUnread};
+ghost use Rattle.svnhist.specs.Load.{most_reads, FailsNoMore, IsLoadError, IsReadError, IsUnread};
 
 use crate::device::{Device, Pull};
 use crate::run_error::{RunError, Source};
@@ -9,23 +9,25 @@ use std::alloc::Global;
 use std::fs;
 use std::rt::Files;
 
-// How many reads one call makes at the most, and how many bytes one read gives.
+/// How many reads one call makes at most.
 const MOST_READS: u64 = 4_294_967_296;
 
+/// How many bytes one read gives at most.
 const PIECE: usize = 65_536;
 
 /// All bytes of an input.
 ///
 /// A device that fails, or that isn't at its end after 4,294,967,296 reads, gives `Read`.
 pub fn load<P: Pull>(alloc: Global, input: &mut P, source: Source) -> Result<Vec<u8>, RunError>
-    ensures bytes { IfOk result (λ bytes. Consumes (P.left input.old) (P.left input.new) bytes.items) }
-    ensures end { OnOk result (IsAtEnd (P.left input.new)) }
-    ensures sound { OnOk result (IsFalse (P.has_failed input.new)) }
+    ensures bytes { IfOk result (λ bytes. Consumes (P.state input.old).left (P.state input.new).left bytes.items) }
+    ensures end { OnOk result (IsAtEnd (P.state input.new).left) }
+    ensures sound { OnOk result (IsFalse (P.state input.new).has_failed) }
     ensures error { IfErr result (IsLoadError source) }
 
     // `Read` comes only where the device failed, or where the reads are used up and each gave some bytes.
-    ensures honest { IfErr result (λ e. IsReadError e → IsUnread (P.has_failed input.new) (P.calls input.old) (P.calls input.new) (P.left input.old) (P.left input.new)) }
-    ensures reads { P.calls input.new ≤ P.calls input.old + most_reads }
+    ensures unread { IfErr result (λ e. IsReadError e → IsUnread (P.state input.old) (P.state input.new)) }
+    ensures memory { IsErrOf result RunError.Memory → FailsNoMore (P.state input.old) (P.state input.new) }
+    ensures reads { (P.state input.new).calls ≤ (P.state input.old).calls + most_reads }
 {
     let mut piece = Vec::with_capacity(alloc, PIECE)?;
     piece.resize(PIECE, 0)?;

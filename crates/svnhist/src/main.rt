@@ -1,29 +1,20 @@
-//! Answers questions about the history of a Subversion repository, told by a dump.
+//! Answers questions about the history of a Subversion repository, given its dump.
 #![tactic(auto)]
 
-mod answer;
 mod arguments;
 mod bundle;
 mod bundle_reader;
 mod calls;
-mod cut;
 mod device;
-mod entry;
-mod fault;
 mod gate;
 mod load;
 mod program;
-mod query;
-mod repo;
+mod query_lines;
 mod report;
 mod run_error;
 mod send;
-mod status;
 #[cfg(test)]
 mod tests;
-mod text;
-mod tree;
-mod trees;
 
 use arguments::read_arguments;
 use device::Device;
@@ -49,7 +40,7 @@ fn main(rt: HostRuntime) -> ExitCode {
     ExitCode::from(status)
 }
 
-// The arguments behind the program's name.
+/// The arguments after the program's name.
 fn arguments_of<R: Env + AllocGlobal>(rt: &R) -> io::Result<Vec<String>> {
     let mut args = env::args(rt)?;
     let _ = args.next();

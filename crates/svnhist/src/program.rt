@@ -1,11 +1,11 @@
 //! The program: a bundle or two files in, their report out.
-ghost use Rattle.std.specs.Prelude.{◌≡◌, ℕ, ◌<◌, ◌≤◌, ◌⊎◌, List, IfErr, IfOk, IsFalse, IsTrue, take};
+ghost use Rattle.std.specs.Prelude.{◌≡◌, ◌≢◌, ℕ, ◌<◌, ◌≤◌, ◌⊎◌, List, IfErr, IfOk, IsFalse, IsTrue};
 ghost use Rattle.std.specs.Io.KnownBytes.{Appends};
 ghost use Rattle.svnhist.specs.Load.{IsReadError, IsUnread};
-ghost use Rattle.svnhist.specs.Program.{IsBundleAnswer, IsBundleError, IsCutRun, IsCutShort, IsInputAnswer, IsInputError, IsNoBundle, IsRefusedRun, IsRun, IsSent, IsTold};
+ghost use Rattle.svnhist.specs.Program.{IsBundleAnswer, IsBundleError, IsCutAfter, IsFailedFilesRun, IsFailedRun, IsFailureLine, IsFilesError, IsFilesRun, IsInputAnswer, IsInputError, IsRefusal, IsRefusedFilesRun, IsRefusedRun, IsRun, IsUsageRun, PrintsLine};
 ghost use Rattle.svnhist.specs.Report.{IsReport};
-ghost use Rattle.svnhist.specs.RunError.{line_of, status_of, unsent_line, usage_line};
-ghost use Rattle.svnhist.specs.RunFault.{IsRunError};
+ghost use Rattle.svnhist.specs.ReportError.{IsRunError};
+ghost use Rattle.svnhist.specs.RunError.{line_of, unsent_line, usage_line};
 
 use crate::arguments::Arguments;
 use crate::bundle_reader::bundle;
@@ -26,8 +26,8 @@ const UNSENT: &[u8] = b"svnhist: cannot write the report\n";
 
 const NO_MEMORY: &[u8] = b"svnhist: out of memory\n";
 
-/// Reads a bundle, sends its report and answers the status with which the program ends. What went wrong is one line
-/// for `errors`.
+/// Reads a bundle, sends its report and answers the status with which the program ends. Where there is no report, one
+/// line for `errors` says why.
 pub(crate) fn run<R: Threads + Wait + Sync, I: Pull, O: Push, E: Push>(
     rt: &R,
     alloc: Global,
@@ -35,15 +35,21 @@ pub(crate) fn run<R: Threads + Wait + Sync, I: Pull, O: Push, E: Push>(
     output: &mut O,
     errors: &mut E,
 ) -> u8
-    ensures sent { result ≡ 0 → IsRun (I.left input.old) (I.left input.new) (O.gone output.old) (O.gone output.new) }
-    ensures refused { result ≡ 1 → IsRefusedRun (I.left input.old) (I.left input.new) (E.has_failed errors.new) (E.gone errors.old) (E.gone errors.new) }
-    ensures no_bundle { result ≡ 2 → IsNoBundle (I.left input.old) (I.left input.new) × IsTold (E.has_failed errors.new) (E.gone errors.old) (E.gone errors.new) usage_line }
-    ensures failed { result ≡ 3 → (IsTrue (O.has_failed output.new) × IsCutRun (I.left input.old) (I.left input.new) (O.gone output.old) (O.gone output.new) × IsTold (E.has_failed errors.new) (E.gone errors.old) (E.gone errors.new) unsent_line)
-        ⊎ (IsUnread (I.has_failed input.new) (I.calls input.old) (I.calls input.new) (I.left input.old) (I.left input.new) × (output.new ≡ output.old) × IsTold (E.has_failed errors.new) (E.gone errors.old) (E.gone errors.new) (line_of (RunError.Read Source.Input))) }
-    ensures memory { result ≡ 4 → IsTold (E.has_failed errors.new) (E.gone errors.old) (E.gone errors.new) (line_of RunError.Memory) }
-    ensures flushed { result ≡ 0 → IsTrue (O.is_flushed output.new) × IsFalse (O.has_failed output.new) × (errors.new ≡ errors.old) }
-    ensures other { result ≤ 4 }
+    ensures done { result ≡ 0 →
+        IsRun (I.state input.old) (I.state input.new) (O.state output.old) (O.state output.new) }
+    ensures refused { result ≡ 1 →
+        IsRefusedRun (I.state input.old) (I.state input.new) (E.state errors.old) (E.state errors.new) }
+    ensures usage { result ≡ 2 →
+        IsUsageRun (I.state input.old) (I.state input.new) (E.state errors.old) (E.state errors.new) }
+    ensures failed { result ≡ 3 →
+        IsFailedRun (I.state input.old) (I.state input.new) (O.state output.old) (O.state output.new) }
+    ensures failure_line { result ≡ 3 →
+        IsFailureLine (O.state output.old) (O.state output.new) (E.state errors.old) (E.state errors.new) }
+    ensures memory { result ≡ 4 → PrintsLine (E.state errors.old) (E.state errors.new) (line_of RunError.Memory) }
+    ensures known { result ≤ 4 }
+    ensures silent { result ≡ 0 → errors.new ≡ errors.old }
     ensures quiet { (result ≡ 0) ⊎ (result ≡ 3) ⊎ (output.new ≡ output.old) }
+    ensures untouched { (output.new ≡ output.old) ⊎ ((O.state output.old).calls < (O.state output.new).calls) }
 {
     match answer_input(rt, alloc, input) {
         Ok(Some(report)) => deliver(output, errors, report.as_slice()),
@@ -62,11 +68,14 @@ pub(crate) fn run_files<R: Files + Threads + Wait + Sync, O: Push, E: Push>(
 ) -> u8
     requires some_worker { 0 < asked.now.workers }
     requires few_workers { asked.now.workers ≤ 64 }
-    ensures sent { result ≡ 0 → (dump queries : List ℕ) × IsSent (O.gone output.old) (O.gone output.new) dump queries }
-    ensures failed { result ≡ 3 → (IsTrue (O.has_failed output.new) × ((dump queries : List ℕ) × IsCutShort (O.gone output.old) (O.gone output.new) dump queries) × IsTold (E.has_failed errors.new) (E.gone errors.old) (E.gone errors.new) unsent_line) ⊎ (output.new ≡ output.old) }
-    ensures flushed { result ≡ 0 → IsTrue (O.is_flushed output.new) × IsFalse (O.has_failed output.new) × (errors.new ≡ errors.old) }
-    ensures told { (result ≡ 0) ⊎ ((result ≡ 3) × IsTrue (O.has_failed output.new)) ⊎ ((error : RunError) × (result ≡ status_of error) × IsTold (E.has_failed errors.new) (E.gone errors.old) (E.gone errors.new) (line_of error)) }
+    ensures done { result ≡ 0 → IsFilesRun (O.state output.old) (O.state output.new) }
+    ensures failed { result ≡ 3 →
+        IsFailedFilesRun (O.state output.old) (O.state output.new) (E.state errors.old) (E.state errors.new) }
+    ensures refused { result ≢ 0 → output.new ≡ output.old →
+        IsRefusedFilesRun result (E.state errors.old) (E.state errors.new) }
+    ensures silent { result ≡ 0 → errors.new ≡ errors.old }
     ensures quiet { (result ≡ 0) ⊎ (result ≡ 3) ⊎ (output.new ≡ output.old) }
+    ensures untouched { (output.new ≡ output.old) ⊎ ((O.state output.old).calls < (O.state output.new).calls) }
 {
     match answer_files(rt, alloc, asked) {
         Ok(report) => deliver(output, errors, report.as_slice()),
@@ -74,36 +83,38 @@ pub(crate) fn run_files<R: Files + Threads + Wait + Sync, O: Push, E: Push>(
     }
 }
 
-/// Tells how the program is used.
+/// Prints how the program is used.
 pub(crate) fn refuse_usage<E: Push>(errors: &mut E) -> u8
     ensures status { result ≡ 2 }
-    ensures told { IsTold (E.has_failed errors.new) (E.gone errors.old) (E.gone errors.new) usage_line }
+    ensures line { PrintsLine (E.state errors.old) (E.state errors.new) usage_line }
 {
-    tell(errors, USAGE);
+    print_line(errors, USAGE);
     2
 }
 
-/// Tells that memory ran out.
+/// Prints that memory ran out.
 pub(crate) fn refuse_memory<E: Push>(errors: &mut E) -> u8
     ensures status { result ≡ 4 }
-    ensures told { IsTold (E.has_failed errors.new) (E.gone errors.old) (E.gone errors.new) (line_of RunError.Memory) }
+    ensures line { PrintsLine (E.state errors.old) (E.state errors.new) (line_of RunError.Memory) }
 {
-    tell(errors, NO_MEMORY);
+    print_line(errors, NO_MEMORY);
     4
 }
 
+/// Prints the line of an error, and answers its status.
 fn refuse<E: Push>(alloc: Global, errors: &mut E, error: &RunError) -> u8
-    ensures { ((result ≡ status_of error.now) × IsTold (E.has_failed errors.new) (E.gone errors.old) (E.gone errors.new) (line_of error.now)) ⊎ ((result ≡ 4) × IsTold (E.has_failed errors.new) (E.gone errors.old) (E.gone errors.new) (line_of RunError.Memory)) }
+    ensures { IsRefusal result error.now (E.state errors.old) (E.state errors.new) }
 {
     match error_line(alloc, error) {
         Ok(line) => {
-            tell(errors, line.as_slice());
+            print_line(errors, line.as_slice());
             error.status()
         }
         Err(AllocError) => refuse_memory(errors),
     }
 }
 
+/// The line of an error.
 fn error_line(alloc: Global, error: &RunError) -> Result<Vec<u8>, AllocError>
     ensures { IfOk result (λ line. line.items ≡ line_of error.now) }
 {
@@ -112,43 +123,48 @@ fn error_line(alloc: Global, error: &RunError) -> Result<Vec<u8>, AllocError>
     Ok(line)
 }
 
+/// Sends a report.
 fn deliver<O: Push, E: Push>(output: &mut O, errors: &mut E, report: &[u8]) -> u8
-    ensures sent { result ≡ 0 → Appends (O.gone output.old) (O.gone output.new) report.now }
     ensures status { (result ≡ 0) ⊎ (result ≡ 3) }
-    ensures failed { result ≡ 3 → IsTrue (O.has_failed output.new) × ((count : ℕ) × Appends (O.gone output.old) (O.gone output.new) (take count report.now)) }
-    ensures told { result ≡ 3 → IsTold (E.has_failed errors.new) (E.gone errors.old) (E.gone errors.new) unsent_line }
-    ensures flushed { result ≡ 0 → IsTrue (O.is_flushed output.new) × IsFalse (O.has_failed output.new) × (errors.new ≡ errors.old) }
+    ensures called { (O.state output.old).calls < (O.state output.new).calls }
+    ensures sent { result ≡ 0 → Appends (O.state output.old).gone (O.state output.new).gone report.now }
+    ensures flushed { result ≡ 0 → IsTrue (O.state output.new).is_flushed }
+    ensures sound { result ≡ 0 → IsFalse (O.state output.new).has_failed }
+    ensures silent { result ≡ 0 → errors.new ≡ errors.old }
+    ensures cut { result ≡ 3 → IsCutAfter (O.state output.old) (O.state output.new) report.now }
+    ensures line { result ≡ 3 → PrintsLine (E.state errors.old) (E.state errors.new) unsent_line }
 {
     match send(output, report) {
         Ok(()) => 0,
         Err(_) => {
-            tell(errors, UNSENT);
+            print_line(errors, UNSENT);
             3
         }
     }
 }
 
-// Nobody is left to hear that a line on standard error did not go out.
-fn tell<E: Push>(errors: &mut E, line: &[u8])
-    ensures { IsTold (E.has_failed errors.new) (E.gone errors.old) (E.gone errors.new) line.now }
+/// Prints a line on standard error. Where that fails there is nowhere left to say so.
+fn print_line<E: Push>(errors: &mut E, line: &[u8])
+    ensures { PrintsLine (E.state errors.old) (E.state errors.new) line.now }
 {
     let _ = send(errors, line);
 }
 
+/// The report on the bundle that an input is, or `None` where it is not a bundle.
 fn answer_input<R: Threads + Wait + Sync, I: Pull>(
     rt: &R,
     alloc: Global,
     input: &mut I,
 ) -> Result<Option<Vec<u8>>, RunError>
-    ensures ok { IfOk result (IsInputAnswer (I.left input.old) (I.left input.new)) }
-    ensures error { IfErr result (IsInputError (I.left input.old) (I.left input.new)) }
-    ensures honest { IfErr result (λ e. IsReadError e → IsUnread (I.has_failed input.new) (I.calls input.old) (I.calls input.new) (I.left input.old) (I.left input.new)) }
+    ensures ok { IfOk result (IsInputAnswer (I.state input.old) (I.state input.new)) }
+    ensures error { IfErr result (IsInputError (I.state input.old) (I.state input.new)) }
+    ensures unread { IfErr result (λ e. IsReadError e → IsUnread (I.state input.old) (I.state input.new)) }
 {
     let bytes = load(alloc, input, Source::Input)?;
     answer_bundle(rt, alloc, bytes.as_slice())
 }
 
-// The report on a bundle, or `None` where the bytes are no bundle.
+/// The report on a bundle, or `None` where the bytes are not a bundle.
 fn answer_bundle<R: Threads + Wait + Sync>(
     rt: &R,
     alloc: Global,
@@ -171,7 +187,7 @@ fn answer_bundle<R: Threads + Wait + Sync>(
     Ok(Some(report))
 }
 
-// The report on two files, of which the queries are read first.
+/// The report on two files, of which the queries are read first.
 fn answer_files<R: Files + Threads + Wait + Sync>(
     rt: &R,
     alloc: Global,
@@ -179,7 +195,8 @@ fn answer_files<R: Files + Threads + Wait + Sync>(
 ) -> Result<Vec<u8>, RunError>
     requires some_worker { 0 < asked.now.workers }
     requires few_workers { asked.now.workers ≤ 64 }
-    ensures { IfOk result (λ report. (dump queries : List ℕ) × IsReport dump queries report.items) }
+    ensures ok { IfOk result (λ report. (dump queries : List ℕ) × IsReport dump queries report.items) }
+    ensures error { IfErr result IsFilesError }
 {
     let queries = load_file(rt, alloc, asked.queries, Source::Queries)?;
     let dump = load_file(rt, alloc, asked.dump, Source::Dump)?;
@@ -193,7 +210,7 @@ fn answer_files<R: Files + Threads + Wait + Sync>(
     )
 }
 
-// The report over blocks of one length, where 0 is one block.
+/// The report over blocks of one length, where 0 is one block.
 fn answer_blocks<R: Threads + Wait + Sync>(
     rt: &R,
     alloc: Global,

@@ -1,10 +1,8 @@
-//! Why a run gave no report, and how the program tells it.
-ghost use Rattle.std.specs.Prelude.{◌≡◌, ◌++◌, IfOk, OnOk, OnErr, codes, [], ◌∷◌};
-ghost use Rattle.svnhist.specs.RunError.{line_of, status_of, refused_at, refusal_name_of, fault_name_of, source_name_of};
+//! Why a run gave no report, and how the program reports that.
+ghost use Rattle.std.specs.Prelude.{◌≡◌, ◌++◌, IfOk, OnOk, OnErr};
+ghost use Rattle.svnhist.specs.RunError.{line_of, status_of, refused_text, refusal_name_of, fault_name_of, source_name_of, unread_text};
 
-use crate::fault::{Fault, FaultKind};
-use crate::text::push_number;
-use crate::trees::TreesError;
+use query_answer::{Fault, FaultKind, TreesError, push_number};
 use std::alloc::{AllocError, AllocFailed, Global};
 use svn_dump::DumpError;
 use thiserror::Error;
@@ -56,9 +54,9 @@ impl<T: Drop> From<AllocFailed<T>> for RunError {
 }
 
 impl From<DumpError> for RunError {
-    ghost use Rattle.svnhist.specs.RunFault.{refused_as};
+    ghost use Rattle.svnhist.specs.ReportError.{run_error_of_dump};
 
-    ghost from_gives = { λ e told_as. told_as ≡ refused_as e };
+    ghost from_gives = { λ e reported. reported ≡ run_error_of_dump e };
 
     fn from(e: DumpError) -> RunError {
         match e {
@@ -69,9 +67,9 @@ impl From<DumpError> for RunError {
 }
 
 impl From<TreesError> for RunError {
-    ghost use Rattle.svnhist.specs.RunFault.{faulty_as};
+    ghost use Rattle.svnhist.specs.ReportError.{run_error_of_trees};
 
-    ghost from_gives = { λ e told_as. told_as ≡ faulty_as e };
+    ghost from_gives = { λ e reported. reported ≡ run_error_of_trees e };
 
     fn from(e: TreesError) -> RunError {
         match e {
@@ -102,6 +100,7 @@ impl RunError {
         out.extend_from_slice(line.as_slice())
     }
 
+    /// The line that the program prints on standard error.
     fn line(&self, alloc: Global) -> Result<Vec<u8>, AllocError>
         ensures { IfOk result (λ line. line.items ≡ line_of self.now) }
     {
@@ -137,6 +136,7 @@ impl RunError {
     }
 }
 
+/// The line of a dump that is refused at a byte or a record.
 fn refused_line(
     alloc: Global,
     number: u8,
@@ -144,7 +144,7 @@ fn refused_line(
     what: &[u8],
     place: u64,
 ) -> Result<Vec<u8>, AllocError>
-    ensures { IfOk result (λ line. line.items ≡ codes "svnhist: " ++ refused_at number name.now what.now place ++ 10 ∷ []) }
+    ensures { IfOk result (λ line. line.items ≡ refused_text number name.now what.now place) }
 {
     let mut line = Vec::from_slice(alloc, b"svnhist: dump refused: ".as_slice())?;
     push_number(&mut line, u64::from(number))?;
@@ -158,8 +158,9 @@ fn refused_line(
     Ok(line)
 }
 
+/// The line of a source that can't be read.
 fn unread_line(alloc: Global, source: Source) -> Result<Vec<u8>, AllocError>
-    ensures { IfOk result (λ line. line.items ≡ codes "svnhist: " ++ (codes "cannot read " ++ source_name_of source) ++ 10 ∷ []) }
+    ensures { IfOk result (λ line. line.items ≡ unread_text source) }
 {
     let mut line = Vec::from_slice(alloc, b"svnhist: cannot read ".as_slice())?;
     line.extend_from_slice(source_name(source))?;
@@ -167,6 +168,7 @@ fn unread_line(alloc: Global, source: Source) -> Result<Vec<u8>, AllocError>
     Ok(line)
 }
 
+/// The name of a refusal of the reader.
 fn refusal_name(number: u8) -> &'static [u8]
     ensures { result.now ≡ refusal_name_of number }
 {
@@ -189,6 +191,7 @@ fn refusal_name(number: u8) -> &'static [u8]
     }
 }
 
+/// The name of a fault of a record.
 fn fault_name(kind: FaultKind) -> &'static [u8]
     ensures { result.now ≡ fault_name_of kind }
 {
@@ -200,6 +203,7 @@ fn fault_name(kind: FaultKind) -> &'static [u8]
     }
 }
 
+/// What a source is called.
 fn source_name(source: Source) -> &'static [u8]
     ensures { result.now ≡ source_name_of source }
 {

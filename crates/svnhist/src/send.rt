@@ -1,6 +1,7 @@
 //! Sending a report.
-ghost use Rattle.std.specs.Prelude.{◌≡◌, ◌+◌, ◌≤◌, ◌↔◌, take, length, IfErr, OnOk, OnErr, IsErr, IsTrue};
+ghost use Rattle.std.specs.Prelude.{◌+◌, ◌<◌, ◌≤◌, ◌↔◌, take, length, IfErr, OnOk, IsErr, IsTrue};
 ghost use Rattle.std.specs.Io.KnownBytes.{Appends};
+ghost use Rattle.svnhist.specs.Send.{sent_count};
 
 use crate::device::Push;
 use thiserror::Error;
@@ -14,16 +15,15 @@ pub struct SendError {
 
 /// Sends all the bytes, and flushes the device. The first failure ends it.
 pub fn send<W: Push>(output: &mut W, bytes: &[u8]) -> Result<(), SendError>
-    ensures ok { OnOk result (Appends (W.gone output.old) (W.gone output.new) bytes.now) }
-    ensures flushed { OnOk result (IsTrue (W.is_flushed output.new)) }
+    ensures ok { OnOk result (Appends (W.state output.old).gone (W.state output.new).gone bytes.now) }
+    ensures flushed { OnOk result (IsTrue (W.state output.new).is_flushed) }
     ensures within { IfErr result (λ e. e.sent ≤ length bytes.now) }
-    ensures sent { IfErr result (λ e. Appends (W.gone output.old) (W.gone output.new) (take e.sent bytes.now)) }
+    ensures sent { IfErr result (λ e. Appends (W.state output.old).gone (W.state output.new).gone (take e.sent bytes.now)) }
+    ensures failed { IsErr result ↔ IsTrue (W.state output.new).has_failed }
+    ensures called { (W.state output.old).calls < (W.state output.new).calls }
 
-    // It fails just where the device does, and that call is the last: before it the device had not failed, unless it
-    // had when `send` began.
-    ensures honest { IsErr result ↔ IsTrue (W.has_failed output.new) }
-    ensures last { OnErr result ((before : W) × (W.calls output.new ≡ W.calls before + 1)
-        × (IsTrue (W.has_failed before) → W.calls before ≡ W.calls output.old)) }
+    // The device is not called again after a failure, since each call of a failed device fails.
+    ensures fails_once { (W.state output.new).failures ≤ (W.state output.old).failures + 1 }
 {
     let mut sent = 0;
     while sent < bytes.len() {

@@ -42,7 +42,7 @@ impl Write for Trickle<'_> {
 const REPORT: &[u8] = b"#1 ok\n/trunk\n#2 ok\n/trunk\n#3 ok\n-\n";
 
 #[test]
-fn says_how_much_went_out(rt: HostRuntime) -> Result<(), Fail> {
+fn a_failed_send_counts_what_went_out(rt: HostRuntime) -> Result<(), Fail> {
     for (most, good_calls, flushes, sent) in [
         (7, 2, true, 14),
         (7, 0, true, 0),
@@ -70,7 +70,7 @@ fn says_how_much_went_out(rt: HostRuntime) -> Result<(), Fail> {
 }
 
 #[test]
-fn sends_all_in_pieces(rt: HostRuntime) -> Result<(), Fail> {
+fn all_bytes_are_sent_in_pieces(rt: HostRuntime) -> Result<(), Fail> {
     let mut taken = Vec::new(rt.alloc());
     let error = io::ErrorKind::Other;
     let mut whole = Device::new(Trickle {
@@ -112,7 +112,7 @@ impl Read for Pieces {
 }
 
 #[test]
-fn loads_all_bytes(rt: HostRuntime) -> Result<(), Fail> {
+fn all_bytes_are_loaded(rt: HostRuntime) -> Result<(), Fail> {
     for most in [1, 7, usize::MAX] {
         let error = io::ErrorKind::Other;
         let mut input = Device::new(Pieces {
@@ -128,7 +128,7 @@ fn loads_all_bytes(rt: HostRuntime) -> Result<(), Fail> {
 }
 
 #[test]
-fn tells_a_failed_read(rt: HostRuntime) {
+fn a_failed_read_is_reported(rt: HostRuntime) {
     for error in [io::ErrorKind::Other, io::ErrorKind::Interrupted] {
         let mut failing = Device::new(Pieces {
             bytes: MERGED,

@@ -1,9 +1,9 @@
-//! What is told where there is no report.
+//! What is printed where there is no report.
 
-use crate::fault::{Fault, FaultKind};
 use crate::run_error::{RunError, Source};
 use crate::tests::histories::FIRST;
 use crate::tests::reports::report_of;
+use query_answer::{Fault, FaultKind};
 use std::alloc::Global;
 use std::test::Fail;
 use svn_dump::DumpError;
@@ -15,7 +15,7 @@ fn error_line(alloc: Global, error: &RunError) -> Result<Vec<u8>, Fail> {
 }
 
 #[test]
-fn counts_queries_before_it_reads(rt: HostRuntime) -> Result<(), Fail> {
+fn queries_are_counted_before_the_dump_is_read(rt: HostRuntime) -> Result<(), Fail> {
     let queries = vec![in rt.alloc(); b'\n'; 1_000_001]?;
     for dump in [FIRST, b"".as_slice()] {
         let refused = report_of(&rt, rt.alloc(), dump, queries.as_slice());
@@ -25,7 +25,7 @@ fn counts_queries_before_it_reads(rt: HostRuntime) -> Result<(), Fail> {
 }
 
 #[test]
-fn refuses_what_is_no_dump(rt: HostRuntime) -> Result<(), Fail> {
+fn other_bytes_are_not_a_dump(rt: HostRuntime) -> Result<(), Fail> {
     let skipping = b"SVN-fs-dump-format-version: 2\n\nRevision-number: 0\n\nRevision-number: 2\n\n";
     for (dump, wanted) in [
         (
@@ -48,20 +48,24 @@ fn refuses_what_is_no_dump(rt: HostRuntime) -> Result<(), Fail> {
 }
 
 #[test]
-fn prints_errors(rt: HostRuntime) -> Result<(), Fail> {
-    let fault = Fault {
-        number: 2,
-        kind: FaultKind::NoParent,
-    };
+fn each_error_has_its_line(rt: HostRuntime) -> Result<(), Fail> {
     for (error, wanted) in [
         (RunError::TooMany, "abcsvnhist: more than 1000000 queries\n"),
         (
-            RunError::Fault(fault),
-            "abcsvnhist: dump refused: 16 NoParent at record 2\n",
+            RunError::Read(Source::Dump),
+            "abcsvnhist: cannot read the dump\n",
+        ),
+        (
+            RunError::Read(Source::Queries),
+            "abcsvnhist: cannot read the queries\n",
         ),
         (
             RunError::Read(Source::Input),
             "abcsvnhist: cannot read standard input\n",
+        ),
+        (
+            RunError::Dump(DumpError::Memory),
+            "abcsvnhist: out of memory\n",
         ),
         (RunError::Memory, "abcsvnhist: out of memory\n"),
     ] {
@@ -72,7 +76,34 @@ fn prints_errors(rt: HostRuntime) -> Result<(), Fail> {
 }
 
 #[test]
-fn prints_refusals(rt: HostRuntime) -> Result<(), Fail> {
+fn each_fault_has_its_line(rt: HostRuntime) -> Result<(), Fail> {
+    for (kind, wanted) in [
+        (
+            FaultKind::NoParent,
+            "abcsvnhist: dump refused: 16 NoParent at record 2\n",
+        ),
+        (
+            FaultKind::Exists,
+            "abcsvnhist: dump refused: 17 Exists at record 2\n",
+        ),
+        (
+            FaultKind::Missing,
+            "abcsvnhist: dump refused: 18 Missing at record 2\n",
+        ),
+        (
+            FaultKind::NoSource,
+            "abcsvnhist: dump refused: 19 NoSource at record 2\n",
+        ),
+    ] {
+        let error = RunError::Fault(Fault { number: 2, kind });
+        let line = error_line(rt.alloc(), &error)?;
+        assert_eq!(rt; line.as_slice(), wanted.as_bytes());
+    }
+    Ok(())
+}
+
+#[test]
+fn each_refusal_has_its_line(rt: HostRuntime) -> Result<(), Fail> {
     for (number, wanted) in [
         (1, "abcsvnhist: dump refused: 1 Magic at byte 51\n"),
         (8, "abcsvnhist: dump refused: 8 Revision at byte 51\n"),
@@ -88,7 +119,7 @@ fn prints_refusals(rt: HostRuntime) -> Result<(), Fail> {
 }
 
 #[test]
-fn ends_with_a_status(rt: HostRuntime) {
+fn each_error_has_its_status(rt: HostRuntime) {
     let fault = Fault {
         number: 1,
         kind: FaultKind::Exists,

@@ -1,13 +1,13 @@
 //! Histories with a faulty record.
 ghost use Rattle.std.specs.Prelude.{◌<◌, ◌≤◌, All};
 
-use crate::fault::{Fault, FaultKind};
 use crate::gate::NoGate;
 use crate::report::report;
 use crate::run_error::RunError;
 use crate::tests::histories::{
     EXISTS, MISSING, NO_PARENT, NO_PARENT_OF_COPY, NO_SOURCE, REPLACED_BY_NOTHING, REPLACES_NOTHING,
 };
+use query_answer::{Fault, FaultKind};
 use std::alloc::Global;
 use std::sync::Wait;
 use std::thread::Threads;
@@ -30,7 +30,7 @@ fn fault_of<R: Threads + Wait + Sync>(
 }
 
 #[test]
-fn names_the_first_faulty_record(rt: HostRuntime) {
+fn the_first_faulty_record_is_named(rt: HostRuntime) {
     for (dump, number, kind) in [
         (NO_PARENT, 2, FaultKind::NoParent),
         (EXISTS, 2, FaultKind::Exists),
@@ -47,8 +47,9 @@ fn names_the_first_faulty_record(rt: HostRuntime) {
     }
 }
 
+// This cannot fail yet: `report` does not use the cuts and the workers.
 #[test]
-fn names_it_for_every_cutting(rt: HostRuntime) {
+fn every_cutting_names_the_same_record(rt: HostRuntime) {
     let wanted = Some(Fault {
         number: 2,
         kind: FaultKind::NoParent,

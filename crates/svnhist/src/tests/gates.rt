@@ -31,7 +31,7 @@ impl Gate for Counting {
 }
 
 #[test]
-fn calls_the_gate_round_each_query(rt: HostRuntime) -> Result<(), Fail> {
+fn the_gate_is_called_around_each_query(rt: HostRuntime) -> Result<(), Fail> {
     let gate = Counting {
         entered: AtomicUsize::new(0),
         left: AtomicUsize::new(0),

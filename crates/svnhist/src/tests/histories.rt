@@ -1,52 +1,534 @@
-//! The dumps that the tests ask.
+//! The dumps on which the tests ask queries.
 
-pub(crate) const FIRST: &[u8] =
-    b"SVN-fs-dump-format-version: 2\n\nRevision-number: 0\n\nRevision-number: 1\n\nNode-path: trunk\nNode-kind: dir\nNode-action: add\n\nRevision-number: 2\n\nNode-path: b\nNode-action: add\nNode-copyfrom-rev: 1\nNode-copyfrom-path: trunk\n\n";
+pub(crate) const FIRST: &[u8] = b"SVN-fs-dump-format-version: 2
 
-pub(crate) const NO_PARENT: &[u8] =
-    b"SVN-fs-dump-format-version: 2\n\nRevision-number: 0\n\nRevision-number: 1\n\nNode-path: a\nNode-kind: dir\nNode-action: add\n\nRevision-number: 2\n\nNode-path: x/y\nNode-kind: file\nNode-action: add\n\n";
+Revision-number: 0
 
-pub(crate) const EXISTS: &[u8] =
-    b"SVN-fs-dump-format-version: 2\n\nRevision-number: 0\n\nRevision-number: 1\n\nNode-path: a\nNode-kind: dir\nNode-action: add\n\nNode-path: a\nNode-kind: dir\nNode-action: add\n\n";
+Revision-number: 1
 
-pub(crate) const MISSING: &[u8] =
-    b"SVN-fs-dump-format-version: 2\n\nRevision-number: 0\n\nRevision-number: 1\n\nNode-path: a\nNode-action: change\n\n";
+Node-path: trunk
+Node-kind: dir
+Node-action: add
 
-pub(crate) const NO_SOURCE: &[u8] =
-    b"SVN-fs-dump-format-version: 2\n\nRevision-number: 0\n\nRevision-number: 1\n\nNode-path: a\nNode-action: add\nNode-copyfrom-rev: 0\nNode-copyfrom-path: b\n\n";
+Revision-number: 2
 
-pub(crate) const NO_PARENT_OF_COPY: &[u8] =
-    b"SVN-fs-dump-format-version: 2\n\nRevision-number: 0\n\nRevision-number: 1\n\nNode-path: x/a\nNode-action: add\nNode-copyfrom-rev: 0\nNode-copyfrom-path: b\n\n";
+Node-path: b
+Node-action: add
+Node-copyfrom-rev: 1
+Node-copyfrom-path: trunk
 
-pub(crate) const AT_SIGN: &[u8] =
-    b"SVN-fs-dump-format-version: 2\n\nRevision-number: 0\n\nRevision-number: 1\n\nNode-path: a@b\nNode-kind: file\nNode-action: add\n\n";
+";
 
-pub(crate) const MOVES: &[u8] =
-    b"SVN-fs-dump-format-version: 2\n\nRevision-number: 0\n\nRevision-number: 1\n\nNode-path: T\nNode-kind: dir\nNode-action: add\n\nNode-path: A\nNode-kind: dir\nNode-action: add\n\nNode-path: T/b\nNode-kind: file\nNode-action: add\n\nRevision-number: 2\n\nNode-path: A/b\nNode-kind: file\nNode-action: add\n\nNode-path: A\nNode-action: delete\n\nNode-path: A\nNode-action: add\nNode-copyfrom-rev: 1\nNode-copyfrom-path: T\n\n";
+pub(crate) const NO_PARENT: &[u8] = b"SVN-fs-dump-format-version: 2
 
-pub(crate) const NESTED: &[u8] =
-    b"SVN-fs-dump-format-version: 2\n\nRevision-number: 0\n\nRevision-number: 1\n\nNode-path: p\nNode-kind: dir\nNode-action: add\n\nNode-path: p/q\nNode-kind: dir\nNode-action: add\n\nNode-path: z\nNode-kind: dir\nNode-action: add\n\nNode-path: z/s\nNode-kind: file\nNode-action: add\n\nRevision-number: 2\n\nNode-path: p/q/s\nNode-action: add\nNode-copyfrom-rev: 1\nNode-copyfrom-path: z/s\n\nRevision-number: 3\n\nNode-path: n\nNode-action: add\nNode-copyfrom-rev: 2\nNode-copyfrom-path: p\n\nNode-path: m\nNode-action: add\nNode-copyfrom-rev: 1\nNode-copyfrom-path: p\n\n";
+Revision-number: 0
 
-pub(crate) const GONE: &[u8] =
-    b"SVN-fs-dump-format-version: 2\n\nRevision-number: 0\n\nRevision-number: 1\n\nNode-path: a\nNode-kind: dir\nNode-action: add\n\nNode-path: a/x\nNode-kind: file\nNode-action: add\n\nRevision-number: 2\n\nNode-path: a\nNode-action: delete\n\nRevision-number: 3\n\nNode-path: b\nNode-action: add\nNode-copyfrom-rev: 1\nNode-copyfrom-path: a\n\n";
+Revision-number: 1
 
-pub(crate) const MERGED: &[u8] =
-    b"SVN-fs-dump-format-version: 2\n\nRevision-number: 0\n\nRevision-number: 1\n\nNode-path: trunk\nNode-kind: dir\nNode-action: add\n\nNode-path: branches\nNode-kind: dir\nNode-action: add\n\nRevision-number: 2\n\nNode-path: trunk/f\nNode-kind: file\nNode-action: add\n\nRevision-number: 3\n\nNode-path: trunk/f\nNode-action: change\n\nRevision-number: 4\n\nNode-path: branches/b\nNode-action: add\nNode-copyfrom-rev: 2\nNode-copyfrom-path: trunk\n\nRevision-number: 5\n\nNode-path: branches/b/f\nNode-action: change\n\nRevision-number: 6\n\nNode-path: trunk/f\nNode-action: change\n\nRevision-number: 7\n\nNode-path: trunk\nNode-action: change\nProp-content-length: 48\nContent-length: 48\n\nK 13\nsvn:mergeinfo\nV 13\n/branches/b:5\nPROPS-END\nRevision-number: 8\n\nNode-path: trunk/f\nNode-action: delete\n\nRevision-number: 9\n\nNode-path: branches\nNode-action: change\nProp-content-length: 46\nContent-length: 46\n\nK 13\nsvn:mergeinfo\nV 11\n/trunk:3*,6\nPROPS-END\nRevision-number: 10\n\nNode-path: branches/b\nNode-action: change\nProp-content-length: 34\nContent-length: 34\n\nK 13\nsvn:mergeinfo\nV 0\n\nPROPS-END\n";
+Node-path: a
+Node-kind: dir
+Node-action: add
 
-pub(crate) const REPLACED: &[u8] =
-    b"SVN-fs-dump-format-version: 2\n\nRevision-number: 0\n\nRevision-number: 1\n\nNode-path: a\nNode-kind: dir\nNode-action: add\n\nNode-path: a/x\nNode-kind: file\nNode-action: add\n\nRevision-number: 2\n\nNode-path: a\nNode-action: replace\nNode-copyfrom-rev: 1\nNode-copyfrom-path: a\n\n";
+Revision-number: 2
 
-pub(crate) const REPLACES_NOTHING: &[u8] =
-    b"SVN-fs-dump-format-version: 2\n\nRevision-number: 0\n\nRevision-number: 1\n\nNode-path: a\nNode-kind: dir\nNode-action: replace\n\n";
+Node-path: x/y
+Node-kind: file
+Node-action: add
 
-pub(crate) const REPLACED_BY_NOTHING: &[u8] =
-    b"SVN-fs-dump-format-version: 2\n\nRevision-number: 0\n\nRevision-number: 1\n\nNode-path: a\nNode-kind: dir\nNode-action: add\n\nRevision-number: 2\n\nNode-path: a\nNode-action: replace\nNode-copyfrom-rev: 1\nNode-copyfrom-path: b\n\n";
+";
+
+pub(crate) const EXISTS: &[u8] = b"SVN-fs-dump-format-version: 2
+
+Revision-number: 0
+
+Revision-number: 1
+
+Node-path: a
+Node-kind: dir
+Node-action: add
+
+Node-path: a
+Node-kind: dir
+Node-action: add
+
+";
+
+pub(crate) const MISSING: &[u8] = b"SVN-fs-dump-format-version: 2
+
+Revision-number: 0
+
+Revision-number: 1
+
+Node-path: a
+Node-action: change
+
+";
+
+pub(crate) const NO_SOURCE: &[u8] = b"SVN-fs-dump-format-version: 2
+
+Revision-number: 0
+
+Revision-number: 1
+
+Node-path: a
+Node-action: add
+Node-copyfrom-rev: 0
+Node-copyfrom-path: b
+
+";
+
+pub(crate) const NO_PARENT_OF_COPY: &[u8] = b"SVN-fs-dump-format-version: 2
+
+Revision-number: 0
+
+Revision-number: 1
+
+Node-path: x/a
+Node-action: add
+Node-copyfrom-rev: 0
+Node-copyfrom-path: b
+
+";
+
+pub(crate) const AT_SIGN: &[u8] = b"SVN-fs-dump-format-version: 2
+
+Revision-number: 0
+
+Revision-number: 1
+
+Node-path: a@b
+Node-kind: file
+Node-action: add
+
+";
+
+pub(crate) const MOVES: &[u8] = b"SVN-fs-dump-format-version: 2
+
+Revision-number: 0
+
+Revision-number: 1
+
+Node-path: T
+Node-kind: dir
+Node-action: add
+
+Node-path: A
+Node-kind: dir
+Node-action: add
+
+Node-path: T/b
+Node-kind: file
+Node-action: add
+
+Revision-number: 2
+
+Node-path: A/b
+Node-kind: file
+Node-action: add
+
+Node-path: A
+Node-action: delete
+
+Node-path: A
+Node-action: add
+Node-copyfrom-rev: 1
+Node-copyfrom-path: T
+
+";
+
+pub(crate) const NESTED: &[u8] = b"SVN-fs-dump-format-version: 2
+
+Revision-number: 0
+
+Revision-number: 1
+
+Node-path: p
+Node-kind: dir
+Node-action: add
+
+Node-path: p/q
+Node-kind: dir
+Node-action: add
+
+Node-path: z
+Node-kind: dir
+Node-action: add
+
+Node-path: z/s
+Node-kind: file
+Node-action: add
+
+Revision-number: 2
+
+Node-path: p/q/s
+Node-action: add
+Node-copyfrom-rev: 1
+Node-copyfrom-path: z/s
+
+Revision-number: 3
+
+Node-path: n
+Node-action: add
+Node-copyfrom-rev: 2
+Node-copyfrom-path: p
+
+Node-path: m
+Node-action: add
+Node-copyfrom-rev: 1
+Node-copyfrom-path: p
+
+";
+
+pub(crate) const GONE: &[u8] = b"SVN-fs-dump-format-version: 2
+
+Revision-number: 0
+
+Revision-number: 1
+
+Node-path: a
+Node-kind: dir
+Node-action: add
+
+Node-path: a/x
+Node-kind: file
+Node-action: add
+
+Revision-number: 2
+
+Node-path: a
+Node-action: delete
+
+Revision-number: 3
+
+Node-path: b
+Node-action: add
+Node-copyfrom-rev: 1
+Node-copyfrom-path: a
+
+";
+
+pub(crate) const MERGED: &[u8] = b"SVN-fs-dump-format-version: 2
+
+Revision-number: 0
+
+Revision-number: 1
+
+Node-path: trunk
+Node-kind: dir
+Node-action: add
+
+Node-path: branches
+Node-kind: dir
+Node-action: add
+
+Revision-number: 2
+
+Node-path: trunk/f
+Node-kind: file
+Node-action: add
+
+Revision-number: 3
+
+Node-path: trunk/f
+Node-action: change
+
+Revision-number: 4
+
+Node-path: branches/b
+Node-action: add
+Node-copyfrom-rev: 2
+Node-copyfrom-path: trunk
+
+Revision-number: 5
+
+Node-path: branches/b/f
+Node-action: change
+
+Revision-number: 6
+
+Node-path: trunk/f
+Node-action: change
+
+Revision-number: 7
+
+Node-path: trunk
+Node-action: change
+Prop-content-length: 48
+Content-length: 48
+
+K 13
+svn:mergeinfo
+V 13
+/branches/b:5
+PROPS-END
+Revision-number: 8
+
+Node-path: trunk/f
+Node-action: delete
+
+Revision-number: 9
+
+Node-path: branches
+Node-action: change
+Prop-content-length: 46
+Content-length: 46
+
+K 13
+svn:mergeinfo
+V 11
+/trunk:3*,6
+PROPS-END
+Revision-number: 10
+
+Node-path: branches/b
+Node-action: change
+Prop-content-length: 34
+Content-length: 34
+
+K 13
+svn:mergeinfo
+V 0
+
+PROPS-END
+";
+
+pub(crate) const REPLACED: &[u8] = b"SVN-fs-dump-format-version: 2
+
+Revision-number: 0
+
+Revision-number: 1
+
+Node-path: a
+Node-kind: dir
+Node-action: add
+
+Node-path: a/x
+Node-kind: file
+Node-action: add
+
+Revision-number: 2
+
+Node-path: a
+Node-action: replace
+Node-copyfrom-rev: 1
+Node-copyfrom-path: a
+
+";
+
+pub(crate) const REPLACES_NOTHING: &[u8] = b"SVN-fs-dump-format-version: 2
+
+Revision-number: 0
+
+Revision-number: 1
+
+Node-path: a
+Node-kind: dir
+Node-action: replace
+
+";
+
+pub(crate) const REPLACED_BY_NOTHING: &[u8] = b"SVN-fs-dump-format-version: 2
+
+Revision-number: 0
+
+Revision-number: 1
+
+Node-path: a
+Node-kind: dir
+Node-action: add
+
+Revision-number: 2
+
+Node-path: a
+Node-action: replace
+Node-copyfrom-rev: 1
+Node-copyfrom-path: b
+
+";
 
 // What `svnadmin dump` writes, where a path is replaced by a delete and an add, and the same with one record for it.
-pub(crate) const DUMPED: &[u8] =
-    b"SVN-fs-dump-format-version: 2\n\nUUID: 7bf7a5ef-cabf-0310-b7d4-93df341afa7e\n\nRevision-number: 0\nProp-content-length: 56\nContent-length: 56\n\nK 8\nsvn:date\nV 27\n2026-01-01T00:00:00.000000Z\nPROPS-END\n\nRevision-number: 1\nProp-content-length: 78\nContent-length: 78\n\nK 8\nsvn:date\nV 27\n2026-01-01T00:00:01.000000Z\nK 7\nsvn:log\nV 5\nfirst\nPROPS-END\n\nNode-path: trunk\nNode-kind: dir\nNode-action: add\nProp-content-length: 10\nContent-length: 10\n\nPROPS-END\n\n\nNode-path: trunk/f\nNode-kind: file\nNode-action: add\nProp-content-length: 10\nText-content-length: 6\nText-content-md5: b1946ac92492d2347c6235b4d2611184\nText-content-sha1: f572d396fae9206628714fb2ce00f72e94f2258f\nContent-length: 16\n\nPROPS-END\nhello\n\n\nRevision-number: 2\nProp-content-length: 56\nContent-length: 56\n\nK 8\nsvn:date\nV 27\n2026-01-01T00:00:02.000000Z\nPROPS-END\n\nNode-path: b\nNode-kind: dir\nNode-action: add\nNode-copyfrom-rev: 1\nNode-copyfrom-path: trunk\n\n\nRevision-number: 3\nProp-content-length: 56\nContent-length: 56\n\nK 8\nsvn:date\nV 27\n2026-01-01T00:00:03.000000Z\nPROPS-END\n\nNode-path: b\nNode-kind: dir\nNode-action: delete\n\nNode-path: b\nNode-kind: dir\nNode-action: add\nNode-copyfrom-rev: 2\nNode-copyfrom-path: trunk\n\n\n\n\n";
+pub(crate) const DUMPED: &[u8] = b"SVN-fs-dump-format-version: 2
 
-pub(crate) const DUMPED_AS_ONE: &[u8] =
-    b"SVN-fs-dump-format-version: 2\n\nUUID: 7bf7a5ef-cabf-0310-b7d4-93df341afa7e\n\nRevision-number: 0\nProp-content-length: 56\nContent-length: 56\n\nK 8\nsvn:date\nV 27\n2026-01-01T00:00:00.000000Z\nPROPS-END\n\nRevision-number: 1\nProp-content-length: 78\nContent-length: 78\n\nK 8\nsvn:date\nV 27\n2026-01-01T00:00:01.000000Z\nK 7\nsvn:log\nV 5\nfirst\nPROPS-END\n\nNode-path: trunk\nNode-kind: dir\nNode-action: add\nProp-content-length: 10\nContent-length: 10\n\nPROPS-END\n\n\nNode-path: trunk/f\nNode-kind: file\nNode-action: add\nProp-content-length: 10\nText-content-length: 6\nText-content-md5: b1946ac92492d2347c6235b4d2611184\nText-content-sha1: f572d396fae9206628714fb2ce00f72e94f2258f\nContent-length: 16\n\nPROPS-END\nhello\n\n\nRevision-number: 2\nProp-content-length: 56\nContent-length: 56\n\nK 8\nsvn:date\nV 27\n2026-01-01T00:00:02.000000Z\nPROPS-END\n\nNode-path: b\nNode-kind: dir\nNode-action: add\nNode-copyfrom-rev: 1\nNode-copyfrom-path: trunk\n\n\nRevision-number: 3\nProp-content-length: 56\nContent-length: 56\n\nK 8\nsvn:date\nV 27\n2026-01-01T00:00:03.000000Z\nPROPS-END\n\nNode-path: b\nNode-kind: dir\nNode-action: replace\nNode-copyfrom-rev: 2\nNode-copyfrom-path: trunk\n\n\n\n\n";
+UUID: 7bf7a5ef-cabf-0310-b7d4-93df341afa7e
 
-pub(crate) const EMPTY: &[u8] = b"SVN-fs-dump-format-version: 2\n\nRevision-number: 0\n\n";
+Revision-number: 0
+Prop-content-length: 56
+Content-length: 56
+
+K 8
+svn:date
+V 27
+2026-01-01T00:00:00.000000Z
+PROPS-END
+
+Revision-number: 1
+Prop-content-length: 78
+Content-length: 78
+
+K 8
+svn:date
+V 27
+2026-01-01T00:00:01.000000Z
+K 7
+svn:log
+V 5
+first
+PROPS-END
+
+Node-path: trunk
+Node-kind: dir
+Node-action: add
+Prop-content-length: 10
+Content-length: 10
+
+PROPS-END
+
+
+Node-path: trunk/f
+Node-kind: file
+Node-action: add
+Prop-content-length: 10
+Text-content-length: 6
+Text-content-md5: b1946ac92492d2347c6235b4d2611184
+Text-content-sha1: f572d396fae9206628714fb2ce00f72e94f2258f
+Content-length: 16
+
+PROPS-END
+hello
+
+
+Revision-number: 2
+Prop-content-length: 56
+Content-length: 56
+
+K 8
+svn:date
+V 27
+2026-01-01T00:00:02.000000Z
+PROPS-END
+
+Node-path: b
+Node-kind: dir
+Node-action: add
+Node-copyfrom-rev: 1
+Node-copyfrom-path: trunk
+
+
+Revision-number: 3
+Prop-content-length: 56
+Content-length: 56
+
+K 8
+svn:date
+V 27
+2026-01-01T00:00:03.000000Z
+PROPS-END
+
+Node-path: b
+Node-kind: dir
+Node-action: delete
+
+Node-path: b
+Node-kind: dir
+Node-action: add
+Node-copyfrom-rev: 2
+Node-copyfrom-path: trunk
+
+
+
+
+";
+
+pub(crate) const DUMPED_AS_ONE: &[u8] = b"SVN-fs-dump-format-version: 2
+
+UUID: 7bf7a5ef-cabf-0310-b7d4-93df341afa7e
+
+Revision-number: 0
+Prop-content-length: 56
+Content-length: 56
+
+K 8
+svn:date
+V 27
+2026-01-01T00:00:00.000000Z
+PROPS-END
+
+Revision-number: 1
+Prop-content-length: 78
+Content-length: 78
+
+K 8
+svn:date
+V 27
+2026-01-01T00:00:01.000000Z
+K 7
+svn:log
+V 5
+first
+PROPS-END
+
+Node-path: trunk
+Node-kind: dir
+Node-action: add
+Prop-content-length: 10
+Content-length: 10
+
+PROPS-END
+
+
+Node-path: trunk/f
+Node-kind: file
+Node-action: add
+Prop-content-length: 10
+Text-content-length: 6
+Text-content-md5: b1946ac92492d2347c6235b4d2611184
+Text-content-sha1: f572d396fae9206628714fb2ce00f72e94f2258f
+Content-length: 16
+
+PROPS-END
+hello
+
+
+Revision-number: 2
+Prop-content-length: 56
+Content-length: 56
+
+K 8
+svn:date
+V 27
+2026-01-01T00:00:02.000000Z
+PROPS-END
+
+Node-path: b
+Node-kind: dir
+Node-action: add
+Node-copyfrom-rev: 1
+Node-copyfrom-path: trunk
+
+
+Revision-number: 3
+Prop-content-length: 56
+Content-length: 56
+
+K 8
+svn:date
+V 27
+2026-01-01T00:00:03.000000Z
+PROPS-END
+
+Node-path: b
+Node-kind: dir
+Node-action: replace
+Node-copyfrom-rev: 2
+Node-copyfrom-path: trunk
+
+
+
+
+";
+
+pub(crate) const EMPTY: &[u8] = b"SVN-fs-dump-format-version: 2
+
+Revision-number: 0
+
+";

@@ -10,7 +10,7 @@ use std::test::Fail;
 use std::{env, fs};
 
 #[test]
-fn takes_a_bundle_apart(rt: HostRuntime) -> Result<(), Fail> {
+fn a_bundle_has_its_parts(rt: HostRuntime) -> Result<(), Fail> {
     let parts = bundle(b"0 064 02\na\n\nrest").ok_or("a bundle")?;
     assert_eq!(rt; (parts.block, parts.workers), (0, 64));
     assert_eq!(rt; parts.queries, b"a\n\n".as_slice());
@@ -19,7 +19,7 @@ fn takes_a_bundle_apart(rt: HostRuntime) -> Result<(), Fail> {
 }
 
 #[test]
-fn refuses_what_is_no_bundle(rt: HostRuntime) {
+fn other_bytes_are_not_a_bundle(rt: HostRuntime) {
     for bytes in [
         b"".as_slice(),
         b"1 0 0\n".as_slice(),
@@ -44,7 +44,7 @@ fn texts(alloc: Global, texts: &[&str]) -> Result<Vec<String>, Fail> {
 }
 
 #[test]
-fn reads_arguments(rt: HostRuntime) -> Result<(), Fail> {
+fn arguments_are_read(rt: HostRuntime) -> Result<(), Fail> {
     let all = texts(rt.alloc(), &["a dump", "-", "2147483647", "064"])?;
     let asked = read_arguments(all.as_slice()).ok_or("arguments")?;
     assert_eq!(rt; (asked.dump, asked.queries), ("a dump", "-"));
@@ -53,7 +53,7 @@ fn reads_arguments(rt: HostRuntime) -> Result<(), Fail> {
 }
 
 #[test]
-fn refuses_wrong_arguments(rt: HostRuntime) -> Result<(), Fail> {
+fn wrong_arguments_are_refused(rt: HostRuntime) -> Result<(), Fail> {
     for wrong in [
         ["d", "q", "0", "0"],
         ["d", "q", "0", "65"],
@@ -76,7 +76,7 @@ fn refuses_wrong_arguments(rt: HostRuntime) -> Result<(), Fail> {
 }
 
 #[test]
-fn loads_a_file(rt: HostRuntime) -> Result<(), Fail> {
+fn a_file_is_loaded_whole(rt: HostRuntime) -> Result<(), Fail> {
     let mut path = env::temp_dir(&rt)?;
     path.push("svnhist-loads-a-file")?;
     fs::write(&rt, path.as_path(), FIRST)?;

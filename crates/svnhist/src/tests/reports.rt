@@ -33,14 +33,14 @@ fn reports<R: Threads + Wait + Sync>(
 }
 
 #[test]
-fn answers_nothing_to_no_queries(rt: HostRuntime) -> Result<(), Fail> {
+fn an_empty_history_has_the_root(rt: HostRuntime) -> Result<(), Fail> {
     assert!(rt; reports(&rt, rt.alloc(), EMPTY, b"", b"")?);
     assert!(rt; reports(&rt, rt.alloc(), EMPTY, b"locate\t@0\t0", b"#1 ok\n/\n")?);
     Ok(())
 }
 
 #[test]
-fn follows_a_copy(rt: HostRuntime) -> Result<(), Fail> {
+fn copies_are_located_at_their_source(rt: HostRuntime) -> Result<(), Fail> {
     let queries = b"locate\ttrunk@2\t1\nlocate\t/b@2\t1\nlocate\tb@2\t0\n";
     assert!(rt;
         reports(
@@ -55,7 +55,7 @@ fn follows_a_copy(rt: HostRuntime) -> Result<(), Fail> {
 }
 
 #[test]
-fn tells_bad_queries(rt: HostRuntime) -> Result<(), Fail> {
+fn other_lines_are_bad_queries(rt: HostRuntime) -> Result<(), Fail> {
     let queries = b"\nblame\ttrunk@2\nlocate\ttrunk@2\nlocate\ttrunk\t1\nlocate\ta/../b@2\t1\n";
     let wanted = b"#1 bad-query\n#2 bad-query\n#3 bad-query\n#4 bad-query\n#5 bad-query\n";
     assert!(rt; reports(&rt, rt.alloc(), FIRST, queries, wanted)?);
@@ -66,7 +66,7 @@ fn tells_bad_queries(rt: HostRuntime) -> Result<(), Fail> {
 }
 
 #[test]
-fn tells_pegs_that_are_not_there(rt: HostRuntime) -> Result<(), Fail> {
+fn pegs_have_a_revision_and_a_path(rt: HostRuntime) -> Result<(), Fail> {
     let queries = b"locate\ttrunk@3\t1\nlocate\tnope@2\t1\nlocate\ttrunk@2\t9\nlocate\tb@1\t1";
     let wanted = b"#1 no-such-revision\n#2 no-such-path\n#3 ok\n-\n#4 no-such-path\n";
     assert!(rt; reports(&rt, rt.alloc(), FIRST, queries, wanted)?);
@@ -74,7 +74,7 @@ fn tells_pegs_that_are_not_there(rt: HostRuntime) -> Result<(), Fail> {
 }
 
 #[test]
-fn splits_a_peg_at_its_last_at_sign(rt: HostRuntime) -> Result<(), Fail> {
+fn the_revision_follows_the_last_at_sign(rt: HostRuntime) -> Result<(), Fail> {
     let queries = b"locate\ta@b@1\t1\nlocate\t//a@b/@01\t1\n";
     assert!(rt;
         reports(
@@ -89,7 +89,7 @@ fn splits_a_peg_at_its_last_at_sign(rt: HostRuntime) -> Result<(), Fail> {
 }
 
 #[test]
-fn takes_along_what_is_below_a_copy(rt: HostRuntime) -> Result<(), Fail> {
+fn copies_take_along_what_is_below(rt: HostRuntime) -> Result<(), Fail> {
     assert!(rt;
         reports(
             &rt,
@@ -113,7 +113,7 @@ fn takes_along_what_is_below_a_copy(rt: HostRuntime) -> Result<(), Fail> {
 }
 
 #[test]
-fn copies_what_was_deleted(rt: HostRuntime) -> Result<(), Fail> {
+fn a_deleted_path_can_be_copied(rt: HostRuntime) -> Result<(), Fail> {
     let queries = b"locate\tb/x@3\t1\nlocate\tb/x@3\t2\nlocate\ta/x@2\t1";
     assert!(rt;
         reports(
@@ -128,7 +128,7 @@ fn copies_what_was_deleted(rt: HostRuntime) -> Result<(), Fail> {
 }
 
 #[test]
-fn answers_on_a_history_with_mergeinfo(rt: HostRuntime) -> Result<(), Fail> {
+fn a_history_with_mergeinfo_is_answered(rt: HostRuntime) -> Result<(), Fail> {
     let queries =
         b"locate\tbranches/b@8\t3\nlocate\tbranches/b@8\t2\nlocate\tbranches/b@8\t0\nlocate\tbranches/b@8\t9\nlocate\tbranches/b@8\t8\n";
     let wanted = b"#1 ok\n-\n#2 ok\n/trunk\n#3 ok\n-\n#4 ok\n-\n#5 ok\n/branches/b\n";
@@ -137,7 +137,7 @@ fn answers_on_a_history_with_mergeinfo(rt: HostRuntime) -> Result<(), Fail> {
 }
 
 #[test]
-fn follows_a_replacement(rt: HostRuntime) -> Result<(), Fail> {
+fn replacements_are_located_at_their_source(rt: HostRuntime) -> Result<(), Fail> {
     let queries = b"locate\ta/x@2\t1\n";
     assert!(rt; reports(&rt, rt.alloc(), REPLACED, queries, b"#1 ok\n/a/x\n")?);
     let queries = b"locate\tb@3\t3\nlocate\tb@3\t2\nlocate\tb@3\t1\nlocate\tb@3\t0\n";
@@ -148,7 +148,7 @@ fn follows_a_replacement(rt: HostRuntime) -> Result<(), Fail> {
 }
 
 #[test]
-fn tells_where_paths_stood(rt: HostRuntime) -> Result<(), Fail> {
+fn segments_are_listed_from_the_newest(rt: HostRuntime) -> Result<(), Fail> {
     for (dump, queries, wanted) in [
         (
             MERGED,
@@ -179,7 +179,7 @@ fn tells_where_paths_stood(rt: HostRuntime) -> Result<(), Fail> {
 }
 
 #[test]
-fn tells_which_revisions_touched_paths(rt: HostRuntime) -> Result<(), Fail> {
+fn operative_revisions_are_listed_from_the_newest(rt: HostRuntime) -> Result<(), Fail> {
     for (dump, queries, wanted) in [
         (
             MERGED,
@@ -214,7 +214,7 @@ fn tells_which_revisions_touched_paths(rt: HostRuntime) -> Result<(), Fail> {
 }
 
 #[test]
-fn tells_wrong_pegs_of_each_verb(rt: HostRuntime) -> Result<(), Fail> {
+fn each_verb_refuses_wrong_pegs(rt: HostRuntime) -> Result<(), Fail> {
     let queries =
         b"\nblame\t/trunk@8\nlog\ttrunk\nlog\ttrunk@\nlocate\ttrunk@8\nlog\ta/../b@8\nlog\ttrunk@11\nlog\tnope@8\nsegments\t/trunk@8\t1\nsegments";
     let wanted =
@@ -223,8 +223,23 @@ fn tells_wrong_pegs_of_each_verb(rt: HostRuntime) -> Result<(), Fail> {
     Ok(())
 }
 
+// What is in the source's revision is all that a copy takes along.
 #[test]
-fn reports_alike_for_every_cutting(rt: HostRuntime) -> Result<(), Fail> {
+fn a_copy_of_an_older_revision_lacks_later_paths(rt: HostRuntime) -> Result<(), Fail> {
+    let queries = b"segments\t/m/q/s@3\n";
+    for cuts in [[].as_slice(), &[1], &[2, 1], &[3]] {
+        let found = report(&rt, rt.alloc(), NESTED, queries, cuts, 1, &NoGate)?;
+        assert!(rt;
+            found.as_slice() == b"#1 no-such-path\n".as_slice(),
+            "{cuts:?}"
+        );
+    }
+    Ok(())
+}
+
+// This cannot fail yet: `report` does not use the cuts and the workers.
+#[test]
+fn every_cutting_gives_the_same_report(rt: HostRuntime) -> Result<(), Fail> {
     let queries = b"segments\t/n/q/s@3\nlog\t/n/q/s@3\nlocate\t/n/q/s@3\t1\n";
     let wanted = report_of(&rt, rt.alloc(), NESTED, queries)?;
     for cuts in [[2, 1].as_slice(), &[1], &[3]] {
@@ -237,7 +252,7 @@ fn reports_alike_for_every_cutting(rt: HostRuntime) -> Result<(), Fail> {
 }
 
 #[test]
-fn answers_a_million_queries(rt: HostRuntime) -> Result<(), Fail> {
+fn a_million_queries_are_answered(rt: HostRuntime) -> Result<(), Fail> {
     let queries = vec![in rt.alloc(); b'\n'; 1_000_000]?;
     let found = report_of(&rt, rt.alloc(), FIRST, queries.as_slice())?;
     assert!(rt; found.ends_with(b"#1000000 bad-query\n"));

@@ -1,4 +1,5 @@
 use Rattle.std.proofs.Common.{refl, []}
+use Rattle.query_answer.proofs.Cuts.{CutsFirst-IsCutAt, Lacks-list_any}
 use Rattle.svnhist.proofs.Bundles.{too_few_lines, AreLines-none, AreLines_push, moved_line}
 use Rattle.svnhist.proofs.bundle_reader.split_lines.Goals as goal
 
@@ -8,11 +9,11 @@ loop-init c = ([], refl, AreLines-none)
 pub loop-preserved : goal.loop-preserved
 loop-preserved c =
     let (taken, whole, lines) = c.loop.invariant in
-    let cut = c.in_ok-more.ensures.found in
+    let cut = CutsFirst-IsCutAt 10 c.loop.rest.now _ _ c.in_ok-more.ensures in
     (_, moved_line _ _ _ _ _ whole cut, AreLines_push _ _ _ _ _ lines cut)
 
 pub returns-in_err-more-clause-none : goal.returns-in_err-more-clause-none
 returns-in_err-more-clause-none c =
     let (taken, whole, lines) = c.loop.invariant in
     rw c.from_residual.ensures (λ queries dump given many.
-    too_few_lines _ _ _ _ _ _ _ whole lines c.in_err-more.ensures.none c.loop-test.true given many)
+    too_few_lines _ _ _ _ _ _ _ whole lines (Lacks-list_any 10 c.loop.rest.now c.in_err-more.ensures) c.loop-test.true given many)

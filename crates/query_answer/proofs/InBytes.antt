@@ -1,0 +1,168 @@
+-- The history of a dump by numbers and by bytes: what holds of the one holds of the other, renamed.
+use Rattle.std.proofs.Common.{◌≡◌, ℕ, zero, suc, ◌+◌, ◌<◌, Bool, true, false, List, [], ◌∷◌, All, map, length, take, bytes_eq, is_some, Option, Some, None, option_map, if◌then◌else◌, refl, sym, ap, ◌∙◌, subst, arith}
+use Rattle.std.proofs.lemmas.List.{length-map}
+use Rattle.std.proofs.lemmas.List.Elements.{All-cons, All-get_or, All-head, All-nil, All-tail}
+use Rattle.path_index.specs.History.{history_to, trees_to}
+use Rattle.path_index.specs.Operative.{operative_of}
+use Rattle.path_index.specs.Segment.{Segment, rename_segment, segments_up_to, same_place, segments_of, with_place}
+use Rattle.path_index.specs.Index.{IsThere, IsWhole}
+use Rattle.path_index.proofs.Histories.{AreRising-from_revisions, history_to-take, operative_of-take, segments_of-take, segments_of-up}
+use Rattle.path_index.proofs.Renaming.{operative_of-rename, segments_of-rename}
+use Rattle.svn_path.specs.Components.{IsComponent}
+use Rattle.svn_path.specs.Names.{name_of}
+use Rattle.svn_path.specs.Path.{same_name, components_of, HasUnknown, IsPathOf}
+use Rattle.svn_path.specs.declared.names.NameId.{NameId}
+use Rattle.svn_path.proofs.Tables.{bytes_eq-name_of, bytes_eq-unknown}
+use Rattle.svn_dump.specs.Dump.{DumpValue, IsDump, history_view, history_in_bytes, record_view, text_of}
+use Rattle.svn_dump.specs.Fault.{first_fault}
+use Rattle.svn_dump.specs.Location.{location}
+use Rattle.svn_dump.specs.Tree.{is_there, tree_of, trees_of, rename_tree}
+use Rattle.svn_dump.specs.declared.record.ValueId.{ValueId}
+use Rattle.svn_dump.proofs.FirstRevisions.{is_there-take, location-take}
+use Rattle.svn_dump.proofs.Grouped.{length-records_by_revision}
+use Rattle.svn_dump.proofs.Revisions.{length-trees_of}
+use Rattle.svn_dump.proofs.Renaming.Trees.{trees_of-rename, tree_of-rename, is_there-rename, tree_of_unnamed}
+use Rattle.svn_dump.proofs.Renaming.Faults.{first_fault-rename}
+use Rattle.svn_dump.proofs.Renaming.Locations.{location-rename}
+use Rattle.query_answer.specs.Answer.{IsPlaceOf}
+use Rattle.query_answer.specs.Repo.{index_of, trees_in_bytes}
+use Rattle.query_answer.specs.Tree.{TreeOfNumbers, SameTrees}
+use Rattle.query_answer.proofs.TreePaths.{IsOf-location}
+
+-- what holds of each place, and of none, holds of the path of each segment
+module _ {C : Type 0} (same : C → C → Bool) (P : Option (List C) → Type 0) (nowhere : P None) where
+  by_test : (b : Bool) (rev : ℕ) (place : Option (List C)) (segment : Segment C) (segments : List (Segment C)) → P place → All (λ one. P one.path) (segment ∷ segments)
+      → All (λ one. P one.path) (if b then record segment { hi = rev } ∷ segments else record { lo = rev; hi = rev; path = place } ∷ segment ∷ segments)
+  by_test true rev place segment segments here all =
+      All-cons (λ one. P one.path) (record segment { hi = rev }) segments (All-head (λ one. P one.path) segment segments all) (All-tail (λ one. P one.path) segment segments all)
+  by_test false rev place segment segments here all = All-cons (λ one. P one.path) (record { lo = rev; hi = rev; path = place }) (segment ∷ segments) here all
+
+  with_place-All : (rev : ℕ) (place : Option (List C)) (segments : List (Segment C)) → P place → All (λ one. P one.path) segments → All (λ one. P one.path) (with_place same rev place segments)
+  unfolding with_place
+  with_place-All rev None [] here all = all
+  with_place-All rev (Some path) [] here all = All-cons (λ one. P one.path) (record { lo = rev; hi = rev; path = Some path }) [] here all
+  with_place-All rev None (segment ∷ segments) here all = by_test (same_place same None segment.path) rev None segment segments here all
+  with_place-All rev (Some path) (segment ∷ segments) here all = by_test (same_place same (Some path) segment.path) rev (Some path) segment segments here all
+
+  segments_up_to-All : (place : ℕ → Option (List C)) → ((rev : ℕ) → P (place rev)) → (rev : ℕ) → All (λ one. P one.path) (segments_up_to same place rev)
+  unfolding segments_up_to
+  segments_up_to-All place each zero = with_place-All 0 (place 0) [] (each 0) (All-nil (λ one. P one.path))
+  segments_up_to-All place each (suc rev) = with_place-All (suc rev) (place (suc rev)) (segments_up_to same place rev) (each (suc rev)) (segments_up_to-All place each rev)
+
+module _ (dump : DumpValue) (kept : IsDump dump) where
+  abbrev name : NameId → List ℕ
+  name id = name_of dump.names id.0
+
+  abbrev text : ValueId → List ℕ
+  text id = text_of dump.values id.0
+
+  alike : (a b : NameId) → bytes_eq (name a) (name b) ≡ same_name a b
+  alike a b = bytes_eq-name_of kept.names a.0 b.0
+
+  abbrev trees_by_number : List TreeOfNumbers
+  trees_by_number = trees_of same_name (history_view dump)
+
+  -- the trees by bytes are those by numbers, renamed
+  trees-renamed : trees_in_bytes dump ≡ map (rename_tree name text) trees_by_number
+  trees-renamed = trees_of-rename name text same_name bytes_eq alike (history_view dump)
+
+  -- and the same record is faulty first
+  pub first_fault-in_bytes : first_fault bytes_eq (history_in_bytes dump) ≡ first_fault same_name (history_view dump)
+  first_fault-in_bytes = first_fault-rename name text same_name bytes_eq alike (history_view dump)
+
+  length-trees : length trees_by_number ≡ length dump.counts
+  length-trees = length-trees_of same_name (history_view dump) ∙ length-records_by_revision dump.counts (map record_view dump.records)
+
+  pub length-trees_in_bytes : length (trees_in_bytes dump) ≡ length dump.counts
+  length-trees_in_bytes = ap length trees-renamed ∙ length-map trees_by_number (rename_tree name text) ∙ length-trees
+
+  -- the index is of a whole history
+  pub IsWhole-index_of : IsWhole (index_of dump)
+  IsWhole-index_of = record { first = refl; rising = AreRising-from_revisions dump.records dump.counts kept.revisions }
+
+  module _ (peg : ℕ) (within : peg < length dump.counts) where
+    in_history : peg < length (history_view dump)
+    in_history = omega (arith, within, length-records_by_revision dump.counts (map record_view dump.records))
+
+    front_is : history_to dump.records peg ≡ take (peg + 1) (history_view dump)
+    front_is = history_to-take dump kept.revisions peg within
+
+    -- what the records tell up to a revision is what the trees of all revisions tell
+    is_there-index : (path : List NameId) → is_there same_name (tree_of (trees_to dump.records peg) peg) path ≡ is_there same_name (tree_of trees_by_number peg) path
+    is_there-index path =
+        ap (λ front. is_there same_name (tree_of (trees_of same_name front) peg) path) front_is
+        ∙ is_there-take same_name (history_view dump) peg in_history path peg (omega arith)
+
+    location-index : (path : List NameId) (rev : ℕ) → location same_name (trees_to dump.records peg) path peg rev ≡ location same_name trees_by_number path peg rev
+    location-index path rev =
+        ap (λ front. location same_name (trees_of same_name front) path peg rev) front_is ∙ location-take same_name (history_view dump) peg in_history path peg rev (omega arith)
+
+    segments-index : (path : List NameId) → segments_of same_name (trees_to dump.records peg) path peg ≡ segments_of same_name trees_by_number path peg
+    segments-index path =
+        ap (λ front. segments_of same_name (trees_of same_name front) path peg) front_is ∙ segments_of-take same_name (history_view dump) peg in_history path peg (omega arith)
+
+    hits-index : (path : List NameId) → operative_of same_name (history_to dump.records peg) (trees_to dump.records peg) (segments_of same_name (trees_to dump.records peg) path peg)
+        ≡ operative_of same_name (history_view dump) trees_by_number (segments_of same_name trees_by_number path peg)
+    hits-index path =
+        ap (λ front. operative_of same_name front (trees_of same_name front) (segments_of same_name (trees_to dump.records peg) path peg)) front_is
+        ∙ operative_of-take same_name (history_view dump) peg in_history (segments_of same_name (trees_to dump.records peg) path peg) (segments_of-up same_name (trees_to dump.records peg) path peg)
+        ∙ ap (operative_of same_name (history_view dump) trees_by_number) (segments-index path)
+
+    -- so the index answers as the history in bytes does
+    pub location-in_bytes : (path : List NameId) (rev : ℕ) → location bytes_eq (trees_in_bytes dump) (components_of dump.names path) peg rev
+        ≡ option_map (components_of dump.names) (location same_name (trees_to dump.records peg) path peg rev)
+    location-in_bytes path rev =
+        ap (λ trees. location bytes_eq trees (map name path) peg rev) trees-renamed
+        ∙ location-rename name text same_name bytes_eq alike trees_by_number path peg rev
+        ∙ ap (option_map (map name)) (sym (location-index path rev))
+
+    segments-renamed : (path : List NameId) → segments_of bytes_eq (trees_in_bytes dump) (map name path) peg ≡ map (rename_segment name) (segments_of same_name trees_by_number path peg)
+    segments-renamed path =
+        ap (λ trees. segments_of bytes_eq trees (map name path) peg) trees-renamed ∙ segments_of-rename name text same_name bytes_eq alike trees_by_number path peg
+
+    pub segments-in_bytes : (path : List NameId) → segments_of bytes_eq (trees_in_bytes dump) (components_of dump.names path) peg
+        ≡ map (rename_segment name) (segments_of same_name (trees_to dump.records peg) path peg)
+    segments-in_bytes path = segments-renamed path ∙ ap (map (rename_segment name)) (sym (segments-index path))
+
+    pub hits-in_bytes : (path : List NameId) → operative_of bytes_eq (history_in_bytes dump) (trees_in_bytes dump) (segments_of bytes_eq (trees_in_bytes dump) (components_of dump.names path) peg)
+        ≡ operative_of same_name (history_to dump.records peg) (trees_to dump.records peg) (segments_of same_name (trees_to dump.records peg) path peg)
+    hits-in_bytes path =
+        ap (operative_of bytes_eq (history_in_bytes dump) (trees_in_bytes dump)) (segments-renamed path)
+        ∙ ap (λ trees. operative_of bytes_eq (history_in_bytes dump) trees (map (rename_segment name) (segments_of same_name trees_by_number path peg))) trees-renamed
+        ∙ operative_of-rename name text same_name bytes_eq alike (history_view dump) trees_by_number (segments_of same_name trees_by_number path peg)
+        ∙ sym (hits-index path)
+
+    -- and what is found is of the dump's names
+    pub location-of_names : (path : List NameId) (rev : ℕ) → IsPathOf dump.names path → IsPlaceOf dump.names (location same_name (trees_to dump.records peg) path peg rev)
+    location-of_names path rev of = by_place (location same_name (trees_to dump.records peg) path peg rev) refl
+      where
+        by_place : (found : Option (List NameId)) → location same_name (trees_to dump.records peg) path peg rev ≡ found → IsPlaceOf dump.names found
+        by_place None at = tt
+        by_place (Some place) at = IsOf-location dump kept path peg rev place of (sym (location-index path rev) ∙ at)
+
+    pub segments-of_names : (path : List NameId) → IsPathOf dump.names path → All (λ segment. IsPlaceOf dump.names segment.path) (segments_of same_name (trees_to dump.records peg) path peg)
+    segments-of_names path of =
+        segments_up_to-All same_name (IsPlaceOf dump.names) tt (λ rev. location same_name (trees_to dump.records peg) path peg rev) (λ rev. location-of_names path rev of) peg
+
+  -- ---- by the kept trees
+
+  module _ (trees : List TreeOfNumbers) (same : SameTrees trees trees_by_number) where
+    pub length-kept : length trees ≡ length dump.counts
+    length-kept = same.length ∙ length-trees
+
+    pub there-in_bytes : (path : List NameId) (rev : ℕ) → is_there bytes_eq (tree_of (trees_in_bytes dump) rev) (components_of dump.names path) ≡ is_there same_name (tree_of trees rev) path
+    there-in_bytes path rev =
+        ap (λ all. is_there bytes_eq (tree_of all rev) (map name path)) trees-renamed
+        ∙ ap (λ tree. is_there bytes_eq tree (map name path)) (tree_of-rename name text trees_by_number rev)
+        ∙ is_there-rename name text same_name bytes_eq alike (tree_of trees_by_number rev) path
+        ∙ sym (ap is_some (same.each rev path))
+
+    pub unknown-in_bytes : (parts : List (List ℕ)) (rev : ℕ) → All IsComponent parts → HasUnknown dump.names parts → is_there bytes_eq (tree_of (trees_in_bytes dump) rev) parts ≡ false
+    unknown-in_bytes parts rev components other =
+        let (k, part, within, at, lacked) = other in
+        let component : IsComponent part = subst IsComponent at (All-get_or IsComponent parts k part within components) in
+        ap (λ all. is_there bytes_eq (tree_of all rev) parts) trees-renamed
+        ∙ ap is_some (tree_of_unnamed name text bytes_eq part (λ id. bytes_eq-unknown dump.names part component lacked id.0) trees_by_number parts rev (k, within, at))
+
+    pub IsThere-kept : (path : List NameId) (peg : ℕ) → peg < length dump.counts → is_there same_name (tree_of trees peg) path ≡ true → IsThere dump.records path peg
+    IsThere-kept path peg within there = is_there-index peg within path ∙ sym (ap is_some (same.each peg path)) ∙ there

@@ -1,0 +1,8 @@
+pub mod AnswerTexts
+pub mod Cuts
+pub mod InBytes
+pub mod Queries
+pub mod TreePaths
+pub mod TreeReads
+pub mod TreeSame
+pub mod TreesBuilt

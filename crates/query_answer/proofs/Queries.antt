@@ -1,0 +1,54 @@
+-- What a line asks, by the cuts of the line.
+use Rattle.std.proofs.Common.{◌≡◌, ℕ, ◌==◌, Bool, List, [], ◌∷◌, Option, None, option_map, refl, sym, ap, ◌∙◌, inl, inr}
+use Rattle.std.proofs.lemmas.Bool.{cases_Bool, false_from_ne_true}
+use Rattle.std.specs.List.{slice_split}
+use Rattle.svn_path.specs.Components.{HasDot}
+use Rattle.svn_dump.specs.Number.{number_up_to, greatest_revision}
+use Rattle.query_answer.specs.Cut.{CutsLast, Lacks}
+use Rattle.query_answer.specs.Query.{bad, query_of, query_of_fields, query_of_peg, query_of_revision, read_peg}
+use Rattle.query_answer.proofs.Cuts.{CutsFirst, slice_split-cut, slice_split-uncut, list_any-cut, list_any-uncut, before_last-cut, after_last-cut}
+
+-- the parts of bytes are never none
+pub slice_split-some : (p : ℕ → Bool) (bytes : List ℕ) → (first : List ℕ) × (more : List (List ℕ)) × (slice_split p bytes ≡ first ∷ more)
+slice_split-some p [] = ([], [], refl)
+slice_split-some p (byte ∷ bytes) = elim (cases_Bool (p byte)) [
+  | inl ends ↦ ([], slice_split p bytes, rw ends refl)
+  | inr goes ↦ let (first, more, same) = slice_split-some p bytes in (byte ∷ first, more, rw (goes, same) refl)
+]
+
+-- the peg of a field, by the number that stands behind its last `@`
+pub read_peg-cut : (field path rev : List ℕ) → CutsLast 64 field path rev → (HasDot path → ⊥) → (found : Option ℕ) → found ≡ number_up_to greatest_revision rev → option_map (λ n. (path, n)) found ≡ read_peg field
+read_peg-cut field path rev cut fine found number =
+    sym (rw (list_any-cut 64 field path rev cut, after_last-cut 64 field path rev cut, before_last-cut 64 field path rev cut, false_from_ne_true _ fine)
+    (ap (option_map (λ n. (path, n))) (sym number)))
+
+pub read_peg-dot : (field path rev : List ℕ) → CutsLast 64 field path rev → HasDot path → None ≡ read_peg field
+read_peg-dot field path rev cut dot = sym (rw (list_any-cut 64 field path rev cut, before_last-cut 64 field path rev cut, dot) refl)
+
+pub read_peg-uncut : (field : List ℕ) → Lacks 64 field → None ≡ read_peg field
+read_peg-uncut field none = sym (rw (list_any-uncut 64 field none) refl)
+
+-- ---- fields
+
+two_fields : (line first rest : List ℕ) → CutsFirst 9 line first rest → Lacks 9 rest → slice_split (λ each. each == 9) line ≡ first ∷ rest ∷ []
+two_fields line first rest cut none = rw (slice_split-cut 9 line first rest cut, slice_split-uncut 9 rest none) refl
+
+-- a line without a tab
+pub query_of-uncut : (line : List ℕ) → Lacks 9 line → query_of line ≡ bad
+query_of-uncut line none = ap query_of_fields (slice_split-uncut 9 line none)
+
+-- a line with one
+pub query_of-two : (line verb peg : List ℕ) → CutsFirst 9 line verb peg → Lacks 9 peg → query_of line ≡ query_of_peg verb peg
+query_of-two line verb peg cut none = ap query_of_fields (two_fields line verb peg cut none)
+
+-- a line with two
+pub query_of-three : (line verb rest peg rev : List ℕ) → CutsFirst 9 line verb rest → CutsFirst 9 rest peg rev → Lacks 9 rev → query_of line ≡ query_of_revision verb peg rev
+query_of-three line verb rest peg rev cut again none =
+    ap query_of_fields (slice_split-cut 9 line verb rest cut ∙ ap (λ more. verb ∷ more) (two_fields rest peg rev again none))
+
+-- a line with more
+pub query_of-four : (line verb rest peg more rev last : List ℕ) → CutsFirst 9 line verb rest → CutsFirst 9 rest peg more → CutsFirst 9 more rev last → query_of line ≡ bad
+query_of-four line verb rest peg more rev last cut again third =
+    let (next, others, same) = slice_split-some (λ each. each == 9) last in
+    ap query_of_fields (slice_split-cut 9 line verb rest cut ∙ ap (λ fields. verb ∷ fields) (slice_split-cut 9 rest peg more again
+    ∙ ap (λ fields. peg ∷ fields) (slice_split-cut 9 more rev last third ∙ ap (λ fields. rev ∷ fields) same)))

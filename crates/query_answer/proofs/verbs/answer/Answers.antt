@@ -1,0 +1,22 @@
+use Rattle.query_answer.specs.Query.{kept_peg}
+use Rattle.query_answer.specs.Repo.{trees_in_bytes}
+use Rattle.query_answer.specs.declared.status.Status.TheVariants as status
+use Rattle.svn_dump.specs.Dump.{history_in_bytes}
+use Rattle.query_answer.proofs.AnswerTexts.{IsAnswer-Refused, answer_of-bad, answer_of-locate, answer_of-segments, answer_of-log}
+use Rattle.query_answer.proofs.verbs.answer.Goals as goal
+
+pub returns-in-Bad : goal.returns-in-Bad
+returns-in-Bad c =
+    rw c.in-Bad.is (IsAnswer-Refused c.args.repo.now.names _ status.BadQuery (answer_of-bad (history_in_bytes c.args.repo.now) (trees_in_bytes c.args.repo.now)))
+
+pub returns-in-Locate : goal.returns-in-Locate
+returns-in-Locate c =
+    rw (c.in-Locate.is, answer_of-locate (history_in_bytes c.args.repo.now) (trees_in_bytes c.args.repo.now) (kept_peg c.in-Locate.of) c.in-Locate.rev) c.answer_locate.ensures
+
+pub returns-in-Segments : goal.returns-in-Segments
+returns-in-Segments c =
+    rw (c.in-Segments.is, answer_of-segments (history_in_bytes c.args.repo.now) (trees_in_bytes c.args.repo.now) (kept_peg c.in-Segments.of)) c.answer_segments.ensures
+
+pub returns-in-Log : goal.returns-in-Log
+returns-in-Log c =
+    rw (c.in-Log.is, answer_of-log (history_in_bytes c.args.repo.now) (trees_in_bytes c.args.repo.now) (kept_peg c.in-Log.of)) c.answer_log.ensures

@@ -1,0 +1,19 @@
+use Rattle.std.proofs.Common.{◌≡◌, ◌++◌, ap, sym, ◌∙◌, option_map}
+use Rattle.std.specs.Prelude.{codes, decimal}
+use Rattle.std.proofs.lemmas.Grind.{common_steps}
+use Rattle.std.proofs.Common.{arith}
+use Rattle.svn_path.specs.Path.{components_of}
+use Rattle.svn_dump.specs.Block.{line_text}
+use Rattle.query_answer.specs.Answer.{location_line}
+use Rattle.query_answer.proofs.AnswerTexts.{location_line-lent, path_at-in_bytes}
+use Rattle.query_answer.proofs.verbs.log.write_hit.Goals as goal
+
+pub returns : goal.returns
+returns c =
+    let place =
+    location_line-lent c.args.names.now c.path_at.result _ c.path_at.ensures
+    ∙ sym (ap location_line (path_at-in_bytes c.args.names.now c.args.segments.now c.args.hit.segment)) in
+    let wrote : c.push-3.new.self.items
+    ≡ c.args.out.now.items ++ line_text (codes "r" ++ decimal c.args.hit.rev ++ codes " " ++ location_line (option_map (λ path. components_of c.args.names.now path.now) c.path_at.result)) =
+    grind (arith, common_steps) in
+    wrote ∙ ap (λ line. c.args.out.now.items ++ line_text (codes "r" ++ decimal c.args.hit.rev ++ codes " " ++ line)) place

@@ -1,0 +1,171 @@
+-- The answer to a query on a history in bytes: a status, and for `ok` the result lines.
+use Rattle.std.specs.Prelude.{◌≡◌, ℕ, ◌+◌, nat_le, List, [], ◌∷◌, ◌++◌, Option, Some, None, All, IfSome, codes, decimal, flat_map, length, map, option_and_then, option_map, slice_get, bytes_eq, if◌then◌else◌}
+use Rattle.std.specs.Borrow.{Bor}
+use Rattle.path_index.specs.Index.{segment_view}
+use Rattle.path_index.specs.Operative.{operative_of}
+use Rattle.path_index.specs.Segment.{Segment, rename_segment, segments_of}
+use Rattle.path_index.specs.declared.hit.Hit.{Hit}
+use Rattle.path_index.specs.declared.segment.Segment.{Segment as KeptSegment}
+use Rattle.svn_path.specs.Components.{path_text}
+use Rattle.svn_path.specs.Names.{name_of}
+use Rattle.svn_path.specs.Path.{IsPathOf, components_of}
+use Rattle.svn_path.specs.declared.names.NameId.{NameId}
+use Rattle.svn_dump.specs.Block.{line_text}
+use Rattle.svn_dump.specs.Location.{location}
+use Rattle.svn_dump.specs.Record.{HistoryOfBytes}
+use Rattle.svn_dump.specs.Tree.{Tree, tree_of, is_there}
+use Rattle.query_answer.specs.Query as query
+use Rattle.query_answer.specs.Query.{Peg, Query}
+use Rattle.query_answer.specs.declared.answers.Answer.{Answer as KeptAnswer}
+use Rattle.query_answer.specs.declared.answers.Answer.TheVariants as kept
+use Rattle.query_answer.specs.declared.status.Status.{Status}
+use Rattle.query_answer.specs.declared.status.Status.TheVariants as status
+
+abbrev pub TreesOfBytes : Type 0
+TreesOfBytes = List (Tree (List ℕ) (List ℕ))
+
+abbrev pub status_text : Status → List ℕ
+status_text status.Ok = codes "ok"
+status_text status.BadQuery = codes "bad-query"
+status_text status.NoSuchRevision = codes "no-such-revision"
+status_text status.NoSuchPath = codes "no-such-path"
+
+pub record Answer : Type 0 where
+  pub status : Status
+  pub lines : List (List ℕ)
+
+abbrev pub refused_answer : Status → Answer
+refused_answer status = record { status = status; lines = [] }
+
+-- ---- the peg
+
+-- the peg revision has to exist, and the path in it
+abbrev pub peg_status : TreesOfBytes → Peg → Status
+peg_status trees peg =
+    if nat_le (length trees) peg.rev then status.NoSuchRevision
+    else (if is_there bytes_eq (tree_of trees peg.rev) peg.path then status.Ok else status.NoSuchPath)
+
+-- the lines of an answer that nothing stands against
+abbrev pub answer_if_ok : Status → List (List ℕ) → Answer
+answer_if_ok status.Ok lines = record { status = status.Ok; lines = lines }
+answer_if_ok status.BadQuery lines = refused_answer status.BadQuery
+answer_if_ok status.NoSuchRevision lines = refused_answer status.NoSuchRevision
+answer_if_ok status.NoSuchPath lines = refused_answer status.NoSuchPath
+
+-- the answer about a peg, given its result lines
+abbrev pub answer_at : TreesOfBytes → Peg → List (List ℕ) → Answer
+answer_at trees peg lines = answer_if_ok (peg_status trees peg) lines
+
+-- the answer about a peg that may name no path
+abbrev pub answer_about : TreesOfBytes → Option Peg → (Peg → List (List ℕ)) → Answer
+answer_about trees None lines = refused_answer status.BadQuery
+answer_about trees (Some peg) lines = answer_at trees peg (lines peg)
+
+-- ---- result lines
+
+abbrev pub location_line : Option (List (List ℕ)) → List ℕ
+location_line None = codes "-"
+location_line (Some path) = path_text path
+
+-- the revisions and the path of a segment
+abbrev pub segment_line : Segment (List ℕ) → List ℕ
+segment_line segment = decimal segment.lo ++ codes "-" ++ decimal segment.hi ++ codes " " ++ location_line segment.path
+
+-- an operative revision, and the path of its segment
+abbrev pub hit_line : List (Segment (List ℕ)) → Hit → List ℕ
+hit_line segments hit =
+    codes "r" ++ decimal hit.rev ++ codes " " ++ location_line (option_and_then (λ segment. segment.path) (slice_get segments hit.segment))
+
+abbrev pub locate_lines : TreesOfBytes → ℕ → Peg → List (List ℕ)
+locate_lines trees rev peg = location_line (location bytes_eq trees peg.path peg.rev rev) ∷ []
+
+abbrev pub segments_lines : TreesOfBytes → Peg → List (List ℕ)
+segments_lines trees peg = map segment_line (segments_of bytes_eq trees peg.path peg.rev)
+
+abbrev pub log_lines : HistoryOfBytes → TreesOfBytes → Peg → List (List ℕ)
+log_lines history trees peg =
+    let segments = segments_of bytes_eq trees peg.path peg.rev in
+    map (hit_line segments) (operative_of bytes_eq history trees segments)
+
+-- ---- the answer
+
+unfoldable pub answer_of : HistoryOfBytes → TreesOfBytes → Query → Answer
+answer_of history trees query.bad = refused_answer status.BadQuery
+answer_of history trees (query.locate peg rev) = answer_at trees peg (locate_lines trees rev peg)
+answer_of history trees (query.segments peg) = answer_at trees peg (segments_lines trees peg)
+answer_of history trees (query.log peg) = answer_at trees peg (log_lines history trees peg)
+
+-- `#`, the number of the query, and the status
+abbrev pub answer_head : ℕ → Status → List ℕ
+answer_head number status = codes "#" ++ decimal number ++ codes " " ++ status_text status ++ 10 ∷ []
+
+-- the result lines follow that
+abbrev pub answer_text : ℕ → Answer → List ℕ
+answer_text number answer = answer_head number answer.status ++ flat_map line_text answer.lines
+
+-- ---- what is kept of an answer, whose paths are numbers of a table of names
+
+-- the path, if there is one, is of the table
+abbrev pub IsPlaceOf : List (List ℕ) → Option (List NameId) → Type 0
+IsPlaceOf names place = IfSome place (IsPathOf names)
+
+abbrev pub IsSegmentOf : List (List ℕ) → KeptSegment → Type 0
+IsSegmentOf names segment = IsPlaceOf names segment.path
+
+abbrev pub segment_in_bytes : List (List ℕ) → KeptSegment → Segment (List ℕ)
+segment_in_bytes names segment = rename_segment (λ id. name_of names id.0) (segment_view segment)
+
+abbrev pub segments_in_bytes : List (List ℕ) → List KeptSegment → List (Segment (List ℕ))
+segments_in_bytes names segments = map (segment_in_bytes names) segments
+
+abbrev pub answer_in_bytes : List (List ℕ) → KeptAnswer → Answer
+answer_in_bytes names (kept.Refused status) = refused_answer status
+answer_in_bytes names (kept.Location place) =
+    record { status = status.Ok; lines = location_line (option_map (components_of names) place) ∷ [] }
+answer_in_bytes names (kept.Segments segments) =
+    record { status = status.Ok; lines = map segment_line (segments_in_bytes names segments.items) }
+answer_in_bytes names (kept.Log segments hits) =
+    record { status = status.Ok; lines = map (hit_line (segments_in_bytes names segments.items)) hits.items }
+
+-- the path of a reference
+abbrev pub lent_place : Option (Bor (List NameId)) → Option (List NameId)
+lent_place place = option_map (λ path. path.now) place
+
+-- the path of the segment at a place of the list
+abbrev pub place_at : List KeptSegment → ℕ → Option (List NameId)
+place_at segments n = option_and_then (λ segment. segment.path) (slice_get segments n)
+
+-- what is written of a path, and the result lines of the verbs
+abbrev pub place_text : List (List ℕ) → Option (List NameId) → List ℕ
+place_text names place = location_line (option_map (components_of names) place)
+
+abbrev pub locate_text : List (List ℕ) → Option (List NameId) → List ℕ
+locate_text names place = line_text (place_text names place)
+
+abbrev pub segment_text : List (List ℕ) → KeptSegment → List ℕ
+segment_text names segment = line_text (segment_line (segment_in_bytes names segment))
+
+abbrev pub segments_text : List (List ℕ) → List KeptSegment → List ℕ
+segments_text names segments = flat_map line_text (map segment_line (segments_in_bytes names segments))
+
+abbrev pub hit_text : List (List ℕ) → List KeptSegment → Hit → List ℕ
+hit_text names segments hit = line_text (hit_line (segments_in_bytes names segments) hit)
+
+abbrev pub log_text : List (List ℕ) → List KeptSegment → List Hit → List ℕ
+log_text names segments hits = flat_map line_text (map (hit_line (segments_in_bytes names segments)) hits)
+
+-- the whole text of the answer to the query of a place
+abbrev pub text_at : List (List ℕ) → ℕ → KeptAnswer → List ℕ
+text_at names place answer = answer_text (place + 1) (answer_in_bytes names answer)
+
+-- each path of the answer is of the table
+abbrev pub IsAnswerOf : List (List ℕ) → KeptAnswer → Type 0
+IsAnswerOf names (kept.Refused status) = Unit {0}
+IsAnswerOf names (kept.Location place) = IsPlaceOf names place
+IsAnswerOf names (kept.Segments segments) = All (IsSegmentOf names) segments.items
+IsAnswerOf names (kept.Log segments hits) = All (IsSegmentOf names) segments.items
+
+-- the answer is this one, with paths of the table
+pub record IsAnswer (names : List (List ℕ)) (answer : Answer) (each : KeptAnswer) : Type 0 where
+  pub names_of : IsAnswerOf names each
+  pub same : answer_in_bytes names each ≡ answer

@@ -1,0 +1,7 @@
+pub mod Answer
+pub mod Cut
+pub mod FaultKind
+pub mod Query
+pub mod Repo
+pub mod Tree
+pub mod TreesError

@@ -1,0 +1,93 @@
+-- What a query line asks. Pegs are those of Subversion (Subversion book, "Peg and operative revisions").
+use Rattle.std.specs.Prelude.{ℕ, ◌==◌, Bool, List, [], ◌∷◌, Option, Some, None, codes, bytes_eq, option_map, option_and_then, if◌then◌else◌}
+use Rattle.std.specs.List.{list_any, before_last, after_last, slice_split}
+use Rattle.svn_path.specs.Components.{parts_of, is_dot}
+use Rattle.svn_dump.specs.Number.{number_up_to, greatest_revision}
+use Rattle.query_answer.specs.declared.query.Peg.{Peg as KeptPeg}
+use Rattle.query_answer.specs.declared.query.Query.{Query as KeptQuery}
+use Rattle.query_answer.specs.declared.query.Query.TheVariants.{Bad, Locate, Log, Segments}
+
+abbrev pub is_tab : ℕ → Bool
+is_tab byte = byte == 9
+
+abbrev pub is_at_sign : ℕ → Bool
+is_at_sign byte = byte == 64
+
+-- a path in the revision that its last `@` names
+pub record Peg : Type 0 where
+  pub path : List (List ℕ)
+  pub rev : ℕ
+
+pub data Query : Type 0 where
+  bad : Query
+  locate : Peg → ℕ → Query
+  segments : Peg → Query
+  log : Peg → Query
+
+-- the components of a queried path, none of them `.` or `..`
+abbrev pub queried_path : List ℕ → Option (List (List ℕ))
+queried_path bytes = if list_any is_dot (parts_of bytes) then None else Some (parts_of bytes)
+
+-- the peg of a path's bytes and a revision
+abbrev pub peg_at : List ℕ → ℕ → Option Peg
+peg_at path rev = option_map (λ parts. let peg : Peg = record { path = parts; rev = rev } in peg) (queried_path path)
+
+abbrev pub peg_of : List ℕ → Option Peg
+peg_of field =
+    if list_any is_at_sign field
+    then option_and_then
+    (λ path. option_map (λ rev. record { path = path; rev = rev }) (number_up_to greatest_revision (after_last is_at_sign field)))
+    (queried_path (before_last is_at_sign field))
+    else None
+
+abbrev pub query_or_bad : Option Query → Query
+query_or_bad None = bad
+query_or_bad (Some query) = query
+
+-- a verb and a peg
+abbrev pub query_of_peg : List ℕ → List ℕ → Query
+query_of_peg verb peg =
+    if bytes_eq verb (codes "segments") then query_or_bad (option_map segments (peg_of peg))
+    else (if bytes_eq verb (codes "log") then query_or_bad (option_map log (peg_of peg))
+    else bad)
+
+-- a verb, a peg and a revision
+abbrev pub query_of_revision : List ℕ → List ℕ → List ℕ → Query
+query_of_revision verb peg rev =
+    if bytes_eq verb (codes "locate")
+    then query_or_bad (option_and_then (λ of. option_map (locate of) (number_up_to greatest_revision rev)) (peg_of peg))
+    else bad
+
+-- a verb and its fields
+abbrev pub query_of_fields : List (List ℕ) → Query
+query_of_fields [] = bad
+query_of_fields (verb ∷ []) = bad
+query_of_fields (verb ∷ peg ∷ []) = query_of_peg verb peg
+query_of_fields (verb ∷ peg ∷ rev ∷ []) = query_of_revision verb peg rev
+query_of_fields (verb ∷ peg ∷ rev ∷ more ∷ fields) = bad
+
+-- what a line asks: fields separated by one tab each
+abbrev pub query_of : List ℕ → Query
+query_of line = query_of_fields (slice_split is_tab line)
+
+-- ---- what is kept of a query, whose paths are still bytes
+
+abbrev pub peg_view : KeptPeg → List ℕ × ℕ
+peg_view peg = (peg.path.now, peg.rev)
+
+-- the bytes of a field's path, none of whose components is `.` or `..`, and its revision
+abbrev pub read_peg : List ℕ → Option (List ℕ × ℕ)
+read_peg field =
+    if list_any is_at_sign field
+    then (if list_any is_dot (parts_of (before_last is_at_sign field)) then None
+    else option_map (λ rev. (before_last is_at_sign field, rev)) (number_up_to greatest_revision (after_last is_at_sign field)))
+    else None
+
+abbrev pub kept_peg : KeptPeg → Option Peg
+kept_peg peg = peg_at peg.path.now peg.rev
+
+abbrev pub query_view : KeptQuery → Query
+query_view Bad = bad
+query_view (Locate of rev) = query_or_bad (option_map (λ peg. locate peg rev) (kept_peg of))
+query_view (Segments of) = query_or_bad (option_map segments (kept_peg of))
+query_view (Log of) = query_or_bad (option_map log (kept_peg of))

@@ -1,0 +1,91 @@
+//! Query lines.
+ghost use Rattle.std.specs.Prelude.{◌≡◌, option_map};
+ghost use Rattle.query_answer.specs.Query.{peg_view, query_of, query_of_peg, query_of_revision, query_view, read_peg};
+
+use crate::cut::split_at_last;
+use svn_dump::{GREATEST_REVISION, number_up_to, split_at_byte};
+use svn_path::has_dot;
+
+/// A path in a revision, lent by a query's field.
+#[derive(Clone, Copy, Debug)]
+pub struct Peg<'a> {
+    pub path: &'a [u8],
+    pub rev: u32,
+}
+
+/// What a line asks, lent by the line.
+#[derive(Clone, Copy, Debug)]
+pub enum Query<'a> {
+    /// No query of the other forms.
+    Bad,
+    /// Where the path was located in a revision.
+    Locate { of: Peg<'a>, rev: u32 },
+    /// Where it was located in all revisions.
+    Segments { of: Peg<'a> },
+    /// Its operative revisions.
+    Log { of: Peg<'a> },
+}
+
+impl<'a> Peg<'a> {
+    /// The path before the last `@` of a field, and the revision after it.
+    fn read(field: &'a [u8]) -> Option<Self>
+        ensures { option_map peg_view result ≡ read_peg field.now }
+    {
+        let (path, rev) = split_at_last(b'@', field)?;
+        if has_dot(path) {
+            return None;
+        }
+        let rev = number_up_to(GREATEST_REVISION, rev)? as u32;
+        Some(Peg { path, rev })
+    }
+}
+
+impl<'a> Query<'a> {
+    /// What a line asks. A newline is a byte like any other.
+    pub fn read(line: &'a [u8]) -> Self
+        ensures { query_view result ≡ query_of line.now }
+    {
+        let Some((verb, rest)) = split_at_byte(b'\t', line) else {
+            return Query::Bad;
+        };
+        let Some((peg, rest)) = split_at_byte(b'\t', rest) else {
+            return Query::of_peg(verb, rest);
+        };
+        match split_at_byte(b'\t', rest) {
+            None => Query::of_revision(verb, peg, rest),
+            Some(_) => Query::Bad,
+        }
+    }
+
+    /// What a verb and a peg ask.
+    fn of_peg(verb: &[u8], peg: &'a [u8]) -> Self
+        ensures { query_view result ≡ query_of_peg verb.now peg.now }
+    {
+        let Some(of) = Peg::read(peg) else {
+            return Query::Bad;
+        };
+        if verb == b"segments".as_slice() {
+            Query::Segments { of }
+        } else if verb == b"log".as_slice() {
+            Query::Log { of }
+        } else {
+            Query::Bad
+        }
+    }
+
+    /// What a verb, a peg and a revision ask.
+    fn of_revision(verb: &[u8], peg: &'a [u8], rev: &[u8]) -> Self
+        ensures { query_view result ≡ query_of_revision verb.now peg.now rev.now }
+    {
+        if verb != b"locate".as_slice() {
+            return Query::Bad;
+        }
+        match (Peg::read(peg), number_up_to(GREATEST_REVISION, rev)) {
+            (Some(of), Some(rev)) => Query::Locate {
+                of,
+                rev: rev as u32,
+            },
+            _ => Query::Bad,
+        }
+    }
+}

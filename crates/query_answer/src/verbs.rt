@@ -1,0 +1,31 @@
+//! The verbs of queries, each in a file of its own: its answer, and its result lines.
+ghost use Rattle.std.specs.Prelude.{IfOk};
+ghost use Rattle.query_answer.specs.Answer.{IsAnswer};
+ghost use Rattle.query_answer.specs.Query.{query_view};
+ghost use Rattle.query_answer.specs.Repo.{answer_by};
+
+mod locate;
+mod log;
+mod place;
+mod segments;
+
+use crate::answers::Answer;
+use crate::query::Query;
+use crate::repo::Repo;
+use crate::status::Status;
+pub(crate) use locate::write_location;
+pub(crate) use log::write_log;
+pub(crate) use segments::write_segments;
+use std::alloc::{AllocError, Global};
+
+/// The answer to a query.
+pub fn answer(alloc: Global, repo: &Repo, query: Query<'_>) -> Result<Answer, AllocError>
+    ensures { IfOk result (IsAnswer repo.now.names (answer_by repo.now (query_view query.entry))) }
+{
+    match query {
+        Query::Bad => Ok(Answer::Refused(Status::BadQuery)),
+        Query::Locate { of, rev } => locate::answer_locate(alloc, repo, of, rev),
+        Query::Segments { of } => segments::answer_segments(alloc, repo, of),
+        Query::Log { of } => log::answer_log(alloc, repo, of),
+    }
+}

@@ -1,9 +1,0 @@
-use Rattle.std.proofs.Common.{◌≡◌, ◌++◌, map, take}
-use Rattle.std.specs.Prelude.{flat_map}
-use Rattle.svn_dump.specs.Block.{line_text}
-use Rattle.svnhist.specs.AnswerShown.{run_in_bytes}
-use Rattle.svnhist.specs.Report.{segment_line}
-use Rattle.svnhist.proofs.answer.write_runs.Given as goal
-
-abbrev pub invariant-loop-segment : goal.invariant-loop-segment
-invariant-loop-segment l = l.out.items ≡ l.initial.out.items ++ flat_map line_text (map segment_line (map (run_in_bytes l.names) (take l.segment-index l.segments)))
