@@ -1,0 +1,5 @@
+mod Canonical
+mod Only
+mod Places
+mod Pushed
+mod Same

@@ -1,0 +1,2 @@
+pub mod Rangelist
+pub mod Sweep

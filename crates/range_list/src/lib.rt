@@ -1,0 +1,12 @@
+//! The rangelists of Subversion's mergeinfo: sets of revision numbers, each inheritable or not.
+#![tactic(auto)]
+
+mod ranges;
+mod run;
+mod sweep;
+
+pub use ranges::Ranges;
+pub use run::Run;
+
+#[cfg(test)]
+mod tests;

@@ -1,0 +1,132 @@
+//! A set of revision numbers, each inheritable or not.
+ghost use Rattle.std.specs.Prelude.{◌≡◌, ◌≤◌, ◌<◌, ◌↔◌, List, [], ◌∷◌, ◌++◌, All, IfOk, OnOk, OnErr, IsTrue};
+ghost use Rattle.range_list.specs.Rangelist.{sort_of, greatest_revision, IsRun, IsCanonical, HasSame, IsInheritablePart, IsOnlyCanonical, AddsRun};
+
+use crate::run::Run;
+use crate::sweep::Sweep;
+use std::alloc::{AllocError, Global};
+use std::marker::Model;
+
+/// A set of revision numbers, each inheritable or not, as a rangelist of `svn:mergeinfo` gives it. It is seen as the
+/// canonical list of its runs.
+#[derive(Drop)]
+pub struct Ranges {
+    runs: Vec<Run>,
+}
+
+impl Model for Ranges {
+    ghost use Rattle.std.specs.Prelude.{List};
+    ghost use Rattle.range_list.specs.declared.run.Run.{Run};
+    ghost use Rattle.range_list.specs.Rangelist.{IsCanonical};
+
+    ghost Value = { List Run };
+
+    ghost view = { λ r. r.runs.items };
+
+    ghost invariant = { λ r. IsCanonical r.runs.items };
+}
+
+impl Ranges {
+    /// The empty set. It takes no memory.
+    pub fn new(alloc: Global) -> Self
+        ensures { result ≡ [] }
+    {
+        Ranges {
+            runs: Vec::new(alloc),
+        }
+    }
+
+    /// The union of the runs, which may come in any order and overlap. A number given both ways is inheritable.
+    pub fn of_runs(mut runs: Vec<Run>) -> Result<Self, AllocError>
+        requires { All IsRun runs.items }
+        ensures { IfOk result (λ ranges. HasSame ranges runs.items) }
+    {
+        runs.sort_by_key(|run| run.lo)?;
+        let mut sweep = Sweep::new(*runs.allocator());
+        for run in &runs {
+            sweep.take(*run)?;
+        }
+        Ok(Ranges {
+            runs: sweep.finish()?,
+        })
+    }
+
+    /// Adds the numbers from `lo` to `hi`.
+    pub fn add(&mut self, lo: u32, hi: u32, inheritable: bool) -> Result<(), AllocError>
+        requires first { 1 ≤ lo }
+        requires ordered { lo ≤ hi }
+        requires last { hi ≤ greatest_revision }
+        ensures ok { OnOk result (AddsRun self.old self.new lo hi inheritable) }
+        ensures err { OnErr result (self.new ≡ self.old) }
+    {
+        let mut runs = Vec::with_capacity(*self.runs.allocator(), self.runs.len() + 1)?;
+        runs.extend_from_slice(&self.runs)?;
+        runs.push(Run {
+            lo,
+            hi,
+            inheritable,
+        })?;
+        *self = Ranges::of_runs(runs)?;
+        Ok(())
+    }
+
+    /// The numbers of this set and of the other one.
+    pub fn union(&self, other: &Ranges) -> Result<Self, AllocError>
+        ensures { IfOk result (λ both. HasSame both (self.now ++ other.now)) }
+    {
+        let mut runs = Vec::with_capacity(
+            *self.runs.allocator(),
+            self.runs.len() + other.runs.len(),
+        )?;
+        runs.extend_from_slice(&self.runs)?;
+        runs.extend_from_slice(&other.runs)?;
+        Ranges::of_runs(runs)
+    }
+
+    /// The inheritable numbers of this set.
+    pub fn inheritable(&self) -> Result<Self, AllocError>
+        ensures { IfOk result (IsInheritablePart self.now) }
+    {
+        let alloc = *self.runs.allocator();
+        let runs = self.runs.iter().copied().filter(|run| run.inheritable);
+        Ok(Ranges {
+            runs: runs.collect(alloc)?,
+        })
+    }
+
+    /// Whether the number is inheritable, if the set has it.
+    pub fn has(&self, rev: u32) -> Option<bool>
+        ensures { result ≡ sort_of self.now rev }
+    {
+        let place = self.runs.partition_point(|run| run.hi < rev);
+        match self.runs.get(place) {
+            Some(run) if run.lo <= rev => Some(run.inheritable),
+            _ => None,
+        }
+    }
+
+    /// The runs, in rising order.
+    pub fn runs(&self) -> &[Run]
+        ensures value { result.now ≡ self.now }
+        ensures canonical { IsCanonical result.now }
+        ensures only { IsOnlyCanonical result.now }
+    {
+        self.runs.as_slice()
+    }
+
+    /// Whether the set has no number.
+    pub fn is_empty(&self) -> bool
+        ensures { IsTrue result ↔ (self.now ≡ []) }
+    {
+        self.runs.is_empty()
+    }
+
+    /// An equal set.
+    pub fn dup(&self) -> Result<Self, AllocError>
+        ensures { IfOk result (λ same. same ≡ self.now) }
+    {
+        Ok(Ranges {
+            runs: Vec::from_slice(*self.runs.allocator(), &self.runs)?,
+        })
+    }
+}

@@ -1,0 +1,20 @@
+//! A run of revision numbers.
+ghost use Rattle.std.specs.Prelude.{◌≡◌, ◌+◌, ◌<◌, ◌↔◌, IsTrue};
+
+/// The revision numbers from `lo` to `hi`, all of them inheritable or none.
+#[derive(Clone, Copy, Debug, PartialEq, Eq)]
+pub struct Run {
+    pub lo: u32,
+    pub hi: u32,
+    pub inheritable: bool,
+}
+
+impl Run {
+    /// Whether a later run is of the same sort and begins right after the end of this one.
+    pub(crate) fn continues_with(self, next: Run) -> bool
+        requires { self.hi < next.lo }
+        ensures { IsTrue result ↔ ((self.hi + 1 ≡ next.lo) × (self.inheritable ≡ next.inheritable)) }
+    {
+        self.hi + 1 == next.lo && self.inheritable == next.inheritable
+    }
+}
