@@ -28,6 +28,10 @@ abbrev pub entry_view : Entry → EntryOfNumbers
 entry_view entry =
     record { kind = entry.kind; mergeinfo = entry.mergeinfo; origin = option_map origin_view entry.origin }
 
+-- the same entry, come from this path of an earlier revision
+abbrev pub entry_from_origin : List NameId → ℕ → Entry → EntryOfNumbers
+entry_from_origin path rev entry = record (entry_view entry) { origin = Some (path, rev) }
+
 abbrev pub pair_view : List NameId × Entry → List NameId × EntryOfNumbers
 pair_view each = (each.0, entry_view each.1)
 

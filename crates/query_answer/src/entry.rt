@@ -1,6 +1,6 @@
 //! What the trees keep of a path.
-ghost use Rattle.std.specs.Prelude.{◌≡◌, Some, IfOk};
-ghost use Rattle.query_answer.specs.Tree.{entry_view};
+ghost use Rattle.std.specs.Prelude.{◌≡◌, IfOk};
+ghost use Rattle.query_answer.specs.Tree.{entry_from_origin, entry_view};
 
 use std::alloc::AllocError;
 use svn_dump::{Kind, Origin, ValueId};
@@ -17,7 +17,7 @@ pub(crate) struct Entry {
 impl Entry {
     /// The same entry, come from this path of an earlier revision.
     pub(crate) fn come_from(&self, path: &Path, rev: u32) -> Result<Self, AllocError>
-        ensures { IfOk result (λ entry. entry_view entry ≡ record (entry_view self.now) { origin = Some (path.now, rev) }) }
+        ensures { IfOk result (λ entry. entry_view entry ≡ entry_from_origin path.now rev self.now) }
     {
         let origin = Origin {
             path: path.dup()?,

@@ -178,7 +178,8 @@ impl Tree {
         from_rev: u32,
         path: &Path,
     ) -> Result<Vec<(Path, Entry)>, AllocError>
-        ensures entries { IfOk result (λ entries. map pair_view entries.items ≡ entries_of_copy from.now from_rev path.now self.now) }
+        ensures entries { IfOk result
+            (λ entries. map pair_view entries.items ≡ entries_of_copy from.now from_rev path.now self.now) }
         ensures found { IfOk result (λ entries. ListsEachOnce (map pair_view entries.items)) }
     {
         let mut entries = Vec::new(alloc);

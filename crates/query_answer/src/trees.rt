@@ -102,7 +102,8 @@ impl Trees {
 
 /// What stands at a path of a revision.
 fn entry_of<'a>(trees: &'a [Tree], rev: u32, path: &Path) -> Option<&'a Entry>
-    ensures { option_map (λ entry. entry_view entry.now) result ≡ entry_at same_name (tree_of trees.now rev) path.now }
+    ensures { option_map (λ entry. entry_view entry.now) result
+        ≡ entry_at same_name (tree_of trees.now rev) path.now }
 {
     match trees.get(rev as usize) {
         Some(tree) => tree.get(path),

@@ -57,7 +57,8 @@ fn headers_of(bytes: &[u8]) -> Result<(Headers<'_>, Option<&[u8]>), Refusal>
 pub(crate) fn first_block(bytes: &[u8]) -> Result<FrontBlock<'_>, Refusal>
     requires some { IsTrue (is_not_empty bytes.now) }
     requires not_empty_line { IsFalse (begins_with_newline bytes.now) }
-    ensures found { IfOk result (λ found. BeginsWithBlock bytes.now found.headers found.properties.now found.rest.now) }
+    ensures found { IfOk result
+        (λ found. BeginsWithBlock bytes.now found.headers found.properties.now found.rest.now) }
     ensures refused { IfErr result (λ refusal. first_holding (front_refusals bytes.now) ≡ Some refusal) }
 {
     let (headers, rest) = headers_of(bytes)?;

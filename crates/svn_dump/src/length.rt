@@ -42,7 +42,8 @@ fn whole_length(properties: u64, text: u64, value: Option<&[u8]>) -> Option<u64>
 /// How long the property section and the whole body of a block with these headers are.
 pub(crate) fn lengths_of(headers: &Headers) -> Option<(u64, u64)>
     ensures whole { option_map (λ lengths. lengths.1) result ≡ body_length_from_headers headers.now }
-    ensures section { IfSome result (λ lengths. length_or_zero (value_of headers.now PropertiesLength) ≡ Some lengths.0) }
+    ensures section { IfSome result
+        (λ lengths. length_or_zero (value_of headers.now PropertiesLength) ≡ Some lengths.0) }
     ensures within { IfSome result (λ lengths. lengths.0 ≤ lengths.1) }
 {
     let properties = length_or_zero(headers.get(Field::PropertiesLength))?;

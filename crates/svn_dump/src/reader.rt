@@ -26,7 +26,8 @@ use std::alloc::Global;
 /// A refusal has the number of the first reason against the first faulty block, and the offset of that block.
 pub fn read(alloc: Global, bytes: &[u8]) -> Result<Dump, DumpError>
     // The bytes are a dump exactly where there is no reason against them, and then of one history.
-    ensures exactly { (first_refusal bytes.now ≡ None) ↔ ((history : HistoryOfBytes) × IsDumpText bytes.now history) }
+    ensures exactly { (first_refusal bytes.now ≡ None)
+        ↔ ((history : HistoryOfBytes) × IsDumpText bytes.now history) }
     ensures one { (a b : HistoryOfBytes) → IsDumpText bytes.now a → IsDumpText bytes.now b → a ≡ b }
 
     // A property section is read as its form says.
@@ -75,7 +76,8 @@ fn add_block<'a>(alloc: Global, draft: &mut Draft, bytes: &'a [u8]) -> Result<&'
     requires not_empty_line { IsFalse (begins_with_newline bytes.now) }
     ensures added { IfOk result (λ rest. AddsBlockTo draft.old draft.new bytes.now rest.now) }
     ensures keeps { OnOk result (IsWhole draft.old → IsWhole draft.new) }
-    ensures refused { IfErr result (λ e. IsWhole draft.old → IsBlockRefusal (history_in_bytes draft.old) bytes.now e) }
+    ensures refused { IfErr result
+        (λ e. IsWhole draft.old → IsBlockRefusal (history_in_bytes draft.old) bytes.now e) }
 {
     let found = first_block(bytes)?;
     draft.add(alloc, &found)?;

@@ -21,7 +21,8 @@ fn split_counted(bytes: &[u8], count: u64) -> Option<(&[u8], &[u8])>
 
 /// What follows the letter and the space at the front of a piece.
 fn after_letter(letter: u8, bytes: &[u8]) -> Option<&[u8]>
-    ensures { MatchOption result (BeginsOtherwise letter bytes.now) (λ rest. bytes.now ≡ letter ∷ 32 ∷ rest.now) }
+    ensures { MatchOption result (BeginsOtherwise letter bytes.now)
+        (λ rest. bytes.now ≡ letter ∷ 32 ∷ rest.now) }
 {
     match bytes {
         [first, b' ', rest @ ..] if *first == letter => Some(rest),

@@ -1,6 +1,5 @@
 -- The report on a dump that was read.
-use Rattle.std.proofs.Common.{◌≡◌, ℕ, ◌+◌, List, [], ◌∷◌, ◌++◌, None, append-nil, append_assoc, sym, ap, ap₂, ◌∙◌}
-use Rattle.path_index.specs.Index.{IndexValue}
+use Rattle.std.proofs.Common.{◌≡◌, ℕ, ◌+◌, List, [], ◌∷◌, ◌++◌, None, append-nil, append_assoc, sym, ap, ◌∙◌}
 use Rattle.svn_path.specs.Path.{same_name}
 use Rattle.svn_dump.specs.Dump.{DumpValue, IsDump, history_view, history_in_bytes}
 use Rattle.svn_dump.specs.DumpText.{IsDumpText}
@@ -8,7 +7,6 @@ use Rattle.svn_dump.specs.Fault.{first_fault}
 use Rattle.svn_dump.specs.Record.{HistoryOfBytes}
 use Rattle.query_answer.specs.Answer.{TreesOfBytes, answer_of, answer_text}
 use Rattle.query_answer.specs.Query.{query_of}
-use Rattle.query_answer.specs.Repo.{index_of}
 use Rattle.query_answer.specs.TreesError.{IsFaultOf}
 use Rattle.query_answer.specs.declared.trees.TreesError.{TreesError}
 use Rattle.query_answer.specs.declared.trees.TreesError.TheVariants as error
@@ -26,10 +24,6 @@ module _ (bytes queries : List ℕ) (dump : DumpValue) (kept : IsDump dump) (rea
   pub IsReport-answers : first_fault same_name (history_view dump) ≡ None → (report : List ℕ) → report ≡ answers (history_in_bytes dump) queries → IsReport bytes queries report
   IsReport-answers lawful report answered =
       record { history = history_in_bytes dump; read = read; lawful = first_fault-in_bytes dump kept ∙ lawful; answered = answered }
-
--- an index of a dump's records
-pub index_is : (index : IndexValue) (dump : DumpValue) → index.records ≡ dump.records → index.first ≡ 0 → index ≡ index_of dump
-index_is index dump records first = ap₂ (λ all n. let one : IndexValue = record { records = all; first = n } in one) records first
 
 -- ---- all answers
 

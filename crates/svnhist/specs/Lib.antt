@@ -8,4 +8,3 @@ pub mod QueryLines
 pub mod Report
 pub mod ReportError
 pub mod RunError
-pub mod Send

@@ -20,7 +20,8 @@ fn number_before(bytes: &[u8], end: u8, most: u64) -> Option<(u64, &[u8])>
 /// The first `count` lines, and what follows them.
 fn split_lines(bytes: &[u8], count: u64) -> Option<(&[u8], &[u8])>
     ensures found { IfSome result (λ found. (bytes.now ≡ found.0.now ++ found.1.now) × AreLines count found.0.now) }
-    ensures none { IfNone result ((queries dump : List ℕ) → bytes.now ≡ queries ++ dump → AreLines count queries → ⊥) }
+    ensures none { IfNone result
+        ((queries dump : List ℕ) → bytes.now ≡ queries ++ dump → AreLines count queries → ⊥) }
 {
     let mut rest = bytes;
     for _ in 0..count {

@@ -1,7 +1,6 @@
 //! Sending a report.
 ghost use Rattle.std.specs.Prelude.{◌+◌, ◌<◌, ◌≤◌, ◌↔◌, take, length, IfErr, OnOk, IsErr, IsTrue};
 ghost use Rattle.std.specs.Io.KnownBytes.{Appends};
-ghost use Rattle.svnhist.specs.Send.{sent_count};
 
 use crate::device::Push;
 use thiserror::Error;
@@ -18,7 +17,8 @@ pub fn send<W: Push>(output: &mut W, bytes: &[u8]) -> Result<(), SendError>
     ensures ok { OnOk result (Appends (W.state output.old).gone (W.state output.new).gone bytes.now) }
     ensures flushed { OnOk result (IsTrue (W.state output.new).is_flushed) }
     ensures within { IfErr result (λ e. e.sent ≤ length bytes.now) }
-    ensures sent { IfErr result (λ e. Appends (W.state output.old).gone (W.state output.new).gone (take e.sent bytes.now)) }
+    ensures sent { IfErr result
+        (λ e. Appends (W.state output.old).gone (W.state output.new).gone (take e.sent bytes.now)) }
     ensures failed { IsErr result ↔ IsTrue (W.state output.new).has_failed }
     ensures called { (W.state output.old).calls < (W.state output.new).calls }
 
