@@ -25,7 +25,7 @@ use Rattle.query_answer.specs.Query.{Peg, query_or_bad, bad, locate, log, segmen
 use Rattle.query_answer.specs.Repo.{IsPathFound, IsRepo, index_of, locate_answer, log_answer, segments_answer, trees_in_bytes}
 use Rattle.query_answer.specs.declared.answers.Answer.TheVariants as kept
 use Rattle.query_answer.specs.declared.query.Peg.{Peg as KeptPeg}
-use Rattle.query_answer.specs.Tree.{TreeOfNumbers}
+use Rattle.query_answer.specs.TreeOfNumbers.{TreeOfNumbers}
 use Rattle.query_answer.specs.declared.status.Status.{Status}
 use Rattle.query_answer.specs.declared.status.Status.TheVariants as status
 use Rattle.query_answer.proofs.InBytes.{IsWhole-index_of, hits-in_bytes, location-in_bytes, location-of_names, segments-in_bytes, segments-of_names}

@@ -1,16 +1,17 @@
 -- What the words on parts of a list say of bytes that were cut.
 use Rattle.std.proofs.Common.{◌≡◌, ℕ, ◌+◌, ◌-◌, ◌<◌, ◌≤◌, ◌==◌, Bool, true, false, not, List, [], ◌∷◌, ◌++◌, length, get_or, take, drop, refl, sym, ap, ◌∙◌, arith, length-append, length-drop, eq-eqb, rules, tests, suc, Some, take-append-drop}
-use Rattle.std.proofs.lemmas.Bool.{both_ways, false_from_ne_true, not_from_false, not_from_true}
+use Rattle.std.proofs.lemmas.Bool.{false_from_ne_true, not_from_false, not_from_true}
 use Rattle.std.proofs.lemmas.List.{get_or-drop}
 use Rattle.std.proofs.lemmas.List.Elements.{All-from_get_or, All-get_or}
 use Rattle.std.proofs.lemmas.List.Splits.{slice_split_none, slice_split_at}
 use Rattle.std.proofs.lemmas.List.Sums.{suffix_len_is}
 use Rattle.std.proofs.Math.Seq.{drop-cons, take-append_seam, drop-append-add, get_or-append_seam, get_or-append_right}
 use Rattle.std.specs.List.{slice_split, suffix_len, before_last, after_last, list_any}
-use Rattle.std.proofs.lemmas.List.Folds.{list_any_none, list_any_at}
+use Rattle.std.proofs.lemmas.List.Folds.{list_any_at}
 use Rattle.memchr.specs.Find.{IsLastByte, is_byte}
-use Rattle.svn_dump.specs.Line.{IsCutAt}
-use Rattle.query_answer.specs.Cut.{Lacks, CutsLast}
+use Rattle.svn_dump.specs.Line.{IsCutAt, Lacks}
+use Rattle.svn_dump.proofs.Lines.{Lacks-list_any}
+use Rattle.query_answer.specs.Cut.{CutsLast}
 
 -- bytes cut at the first of a byte
 pub record CutsFirst (byte : ℕ) (bytes front back : List ℕ) : Type 0 where
@@ -19,11 +20,6 @@ pub record CutsFirst (byte : ℕ) (bytes front back : List ℕ) : Type 0 where
 
 abbrev is : ℕ → ℕ → Bool
 is byte each = each == byte
-
-pub Lacks-list_any : (byte : ℕ) (bytes : List ℕ) → list_any (λ each. each == byte) bytes ≡ false → Lacks byte bytes
-Lacks-list_any byte bytes none =
-    All-from_get_or (λ each. (each == byte) ≡ false) bytes 0 (λ i below.
-    false_from_ne_true _ (λ hit. both_ways _ none (list_any_at (λ each. each == byte) bytes i 0 below hit)))
 
 pub CutsFirst-IsCutAt : (byte : ℕ) (bytes front back : List ℕ) → IsCutAt byte bytes front back → CutsFirst byte bytes front back
 CutsFirst-IsCutAt byte bytes front back cut = record { whole = cut.whole; first = Lacks-list_any byte front cut.first }
@@ -46,9 +42,6 @@ slice_split-uncut byte bytes none = slice_split_none (λ each. each == byte) byt
 pub list_any-cut : (byte : ℕ) (bytes front back : List ℕ) → CutsLast byte bytes front back → list_any (λ each. each == byte) bytes ≡ true
 list_any-cut byte bytes front back cut =
     rw cut.whole (list_any_at (λ each. each == byte) (front ++ byte ∷ back) (length front) 0 (omega (arith, length-append front (byte ∷ back))) (rw get_or-append_seam (eq-eqb byte byte refl)))
-
-pub list_any-uncut : (byte : ℕ) (bytes : List ℕ) → Lacks byte bytes → list_any (λ each. each == byte) bytes ≡ false
-list_any-uncut byte bytes none = list_any_none (λ each. each == byte) bytes none
 
 module _ (byte : ℕ) (front back : List ℕ) (last : Lacks byte back) where
   behind : (k : ℕ) → length front + 1 ≤ k → k < length (front ++ byte ∷ back) → not (get_or (front ++ byte ∷ back) k 0 == byte) ≡ true

@@ -26,7 +26,7 @@ use Rattle.svn_dump.proofs.Renaming.Faults.{first_fault-rename}
 use Rattle.svn_dump.proofs.Renaming.Locations.{location-rename}
 use Rattle.query_answer.specs.Answer.{IsPlaceOf}
 use Rattle.query_answer.specs.Repo.{index_of, trees_in_bytes}
-use Rattle.query_answer.specs.Tree.{TreeOfNumbers, SameTrees}
+use Rattle.query_answer.specs.TreeOfNumbers.{TreeOfNumbers, SameTrees}
 use Rattle.query_answer.proofs.TreePaths.{IsOf-location}
 
 -- what holds of each place, and of none, holds of the path of each segment

@@ -16,7 +16,7 @@ use Rattle.svn_path.specs.Below.{IsSame, below, same_path}
 use Rattle.svn_path.specs.Path.{same_name, IsPathOf}
 use Rattle.svn_path.specs.declared.names.NameId.{NameId}
 use Rattle.svn_path.proofs.Belows.{IsSame-same_name, same_path-is}
-use Rattle.query_answer.specs.Tree.{TreeOfNumbers, SameTrees}
+use Rattle.query_answer.specs.TreeOfNumbers.{TreeOfNumbers, SameTrees}
 use Rattle.query_answer.proofs.TreeReads.{All-filter_map}
 use Rattle.query_answer.proofs.TreeSame.{location-same}
 

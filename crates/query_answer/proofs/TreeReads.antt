@@ -10,7 +10,7 @@ use Rattle.std.specs.Map.{lookup}
 use Rattle.svn_dump.proofs.Belows.{same_path_comm, same_path_apart}
 use Rattle.svn_dump.proofs.Trees.{settled_entry, entry_at-nil, entry_at-cons, entry_at-append, entry_at-changed, entry_at-without, entry_at-add, entry_at-tree_from_revision, entry_at-moved_apart, entry_at-moved_under, new_entry, entry_from}
 use Rattle.svn_dump.specs.History.{Setting, keep}
-use Rattle.svn_dump.specs.Tree.{entry_at, tree_with_mergeinfo, tree_without, entry_of_copy, tree_from_revision, tree_of, tree_after_action}
+use Rattle.svn_dump.specs.Tree.{entry_at, tree_with_mergeinfo, tree_without, entry_of_copy, tree_from_revision, tree_of, tree_after_action, tree_after_add, tree_after_copy}
 use Rattle.svn_dump.specs.declared.kind.Kind.{Kind}
 use Rattle.svn_dump.specs.declared.record.ValueId.{ValueId}
 use Rattle.svn_path.proofs.Belows.{IsSame-same_name, IsSame-same_path, append-from_below, below-append, drop-from_below, same_path-is}
@@ -19,7 +19,7 @@ use Rattle.svn_path.specs.Below.{below, is_below, same_path}
 use Rattle.svn_path.specs.Path.{same_name}
 use Rattle.svn_path.specs.PathOrder.{name_cmp, paths_total, paths_ties}
 use Rattle.svn_path.specs.declared.names.NameId.{NameId}
-use Rattle.query_answer.specs.Tree.{EntryOfNumbers, TreeOfNumbers, ListsEachOnce, SameTree, entry_view, pair_view, tree_after_add, tree_after_copy}
+use Rattle.query_answer.specs.TreeOfNumbers.{EntryOfNumbers, TreeOfNumbers, ListsEachOnce, SameTree, entry_view, pair_view}
 use Rattle.query_answer.specs.declared.entry.Entry.{Entry}
 
 abbrev MapOfEntries : Type 0
@@ -130,15 +130,15 @@ All-filter_map {X} {Y} h P (x ∷ xs) each =
 -- the new entry, put in where the path was cleared
 pub entry_at-tree_after_add : (old cleared next : TreeOfNumbers) (path : List NameId) (kind : Kind) (setting : Setting ValueId) (entry : EntryOfNumbers)
     → SameTree cleared (tree_without same_name path old) → entry ≡ new_entry kind setting → SameTree next ((path, entry) ∷ cleared)
-    → SameTree next (tree_after_add path kind setting old)
+    → SameTree next (tree_after_add same_name path kind setting old)
+unfolding tree_after_action
 entry_at-tree_after_add old cleared next path kind setting entry clear new put_in at =
     grind (arith, new, clear at, put_in at, entry_at-cons same_name path entry cleared at, entry_at-without same_name IsSame-same_name path old at, entry_at-add same_name IsSame-same_name [] path false kind setting old at)
 
 -- the copied entries, put in where the path was cleared, and settled
 pub entry_at-tree_after_copy : (trees : List TreeOfNumbers) (old cleared full : TreeOfNumbers) (from : List NameId) (from_rev : ℕ) (path : List NameId) (setting : Setting ValueId)
     → SameTree cleared (tree_without same_name path old) → SameTree full (filter_map (entry_of_copy same_name from from_rev path) (tree_of trees from_rev) ++ cleared)
-    → SameTree (tree_with_mergeinfo same_name path setting full) (tree_after_copy trees from from_rev path setting old)
-unfolding tree_after_action
+    → SameTree (tree_with_mergeinfo same_name path setting full) (tree_after_copy same_name trees from from_rev path setting old)
 entry_at-tree_after_copy trees old cleared full from from_rev path setting clear put_in at =
     let source = tree_of trees from_rev in
     let copies = filter_map (entry_of_copy same_name from from_rev path) source in

@@ -14,7 +14,7 @@ use Rattle.svn_path.specs.Below.{below, parent_of}
 use Rattle.svn_path.specs.Path.{same_name}
 use Rattle.svn_path.specs.declared.names.NameId.{NameId}
 use Rattle.svn_path.proofs.Belows.{IsSame-same_name}
-use Rattle.query_answer.specs.Tree.{EntryOfNumbers, TreeOfNumbers, SameTree, SameTrees}
+use Rattle.query_answer.specs.TreeOfNumbers.{EntryOfNumbers, TreeOfNumbers, SameTree, SameTrees}
 
 -- ---- lists of trees
 

@@ -15,7 +15,7 @@ use Rattle.svn_dump.proofs.Origins.{OriginsFall-trees_of}
 use Rattle.svn_dump.proofs.Revisions.{end_tree_push, length-trees_of, trees_of-nil, trees_of_push}
 use Rattle.svn_path.specs.Path.{same_name}
 use Rattle.svn_path.specs.declared.names.NameId.{NameId}
-use Rattle.query_answer.specs.Tree.{TreeOfNumbers, SameTree, SameTrees, FallingOrigins}
+use Rattle.query_answer.specs.TreeOfNumbers.{TreeOfNumbers, SameTree, SameTrees, FallingOrigins}
 use Rattle.query_answer.specs.FaultKind.{kind_view}
 use Rattle.query_answer.specs.TreesError.{IsFaultIn, IsFaultOf}
 use Rattle.query_answer.specs.declared.trees.TreesError.{TreesError}

@@ -76,6 +76,7 @@ abbrev pub hit_line : List (Segment (List ℕ)) → Hit → List ℕ
 hit_line segments hit =
     codes "r" ++ decimal hit.rev ++ codes " " ++ location_line (option_and_then (λ segment. segment.path) (slice_get segments hit.segment))
 
+-- where the path was located in the revision; `-` in each one above the peg revision
 abbrev pub locate_lines : TreesOfBytes → ℕ → Peg → List (List ℕ)
 locate_lines trees rev peg = location_line (location bytes_eq trees peg.path peg.rev rev) ∷ []
 

@@ -3,5 +3,5 @@ pub mod Cut
 pub mod FaultKind
 pub mod Query
 pub mod Repo
-pub mod Tree
+pub mod TreeOfNumbers
 pub mod TreesError

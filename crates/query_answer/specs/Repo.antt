@@ -8,7 +8,7 @@ use Rattle.svn_dump.specs.Fault.{first_fault}
 use Rattle.svn_dump.specs.Tree.{trees_of}
 use Rattle.query_answer.specs.Answer.{Answer, TreesOfBytes, answer_about, answer_of, locate_lines, log_lines, refused_answer, segments_lines}
 use Rattle.query_answer.specs.Query.{Peg, Query, kept_peg}
-use Rattle.query_answer.specs.Tree.{TreeOfNumbers, SameTrees}
+use Rattle.query_answer.specs.TreeOfNumbers.{TreeOfNumbers, SameTrees}
 use Rattle.query_answer.specs.declared.query.Peg.{Peg as KeptPeg}
 use Rattle.query_answer.specs.declared.status.Status.{Status}
 use Rattle.query_answer.specs.declared.status.Status.TheVariants as status

@@ -7,7 +7,7 @@ use Rattle.svn_dump.specs.History.{History, Record}
 use Rattle.svn_dump.specs.Tree.{start_tree}
 use Rattle.svn_dump.specs.declared.record.ValueId.{ValueId}
 use Rattle.query_answer.specs.FaultKind.{kind_view}
-use Rattle.query_answer.specs.Tree.{TreeOfNumbers}
+use Rattle.query_answer.specs.TreeOfNumbers.{TreeOfNumbers}
 use Rattle.query_answer.specs.declared.trees.TreesError.{TreesError}
 use Rattle.query_answer.specs.declared.trees.TreesError.TheVariants as error
 

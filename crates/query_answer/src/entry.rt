@@ -1,6 +1,6 @@
 //! What the trees keep of a path.
 ghost use Rattle.std.specs.Prelude.{◌≡◌, IfOk};
-ghost use Rattle.query_answer.specs.Tree.{entry_from_origin, entry_view};
+ghost use Rattle.query_answer.specs.TreeOfNumbers.{entry_from_origin, entry_view};
 
 use std::alloc::AllocError;
 use svn_dump::{Kind, Origin, ValueId};

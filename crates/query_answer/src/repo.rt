@@ -35,7 +35,7 @@ impl Model for Repo {
 
 impl Repo {
     ghost use Rattle.query_answer.specs.Repo.{IsPegFound};
-    ghost use Rattle.query_answer.specs.Tree.{SameTrees};
+    ghost use Rattle.query_answer.specs.TreeOfNumbers.{SameTrees};
 
     /// The repository of a dump. The index and the trees are those of the dump.
     pub fn new(dump: Dump, index: Index, trees: Trees) -> Self
@@ -45,6 +45,7 @@ impl Repo {
         requires lawful { first_fault same_name (history_view dump) ≡ None }
         ensures { result ≡ dump }
     {
+        // The contract of `names` gives the proof what is true of each dump.
         let _ = dump.names();
         Repo { dump, index, trees }
     }

@@ -2,8 +2,8 @@
 ghost use Rattle.std.specs.Prelude.{◌≡◌, [], ◌∷◌, ◌++◌, IfOk, OnOk, map, filter_map, option_map};
 ghost use Rattle.svn_path.specs.Path.{same_name};
 ghost use Rattle.svn_dump.specs.Dump.{action_view, setting_view};
-ghost use Rattle.svn_dump.specs.Tree.{first_tree, tree_from_revision, tree_without, tree_with_mergeinfo, entry_of_copy, tree_after_action, entry_at};
-ghost use Rattle.query_answer.specs.Tree.{entries_of_copy, entry_view, pair_view, tree_after_node, tree_after_add, tree_after_copy, ListsEachOnce, SameTree};
+ghost use Rattle.svn_dump.specs.Tree.{first_tree, tree_from_revision, tree_without, tree_with_mergeinfo, entry_of_copy, tree_after_action, tree_after_add, tree_after_copy, entry_at};
+ghost use Rattle.query_answer.specs.TreeOfNumbers.{entries_of_copy, entry_view, pair_view, tree_after_node, ListsEachOnce, SameTree};
 
 use crate::entry::Entry;
 use std::alloc::{AllocError, Global};
@@ -20,7 +20,7 @@ pub(crate) struct Tree {
 
 impl Model for Tree {
     ghost use Rattle.std.specs.Prelude.{map};
-    ghost use Rattle.query_answer.specs.Tree.{TreeOfNumbers, pair_view};
+    ghost use Rattle.query_answer.specs.TreeOfNumbers.{TreeOfNumbers, pair_view};
 
     ghost Value = { TreeOfNumbers };
 
@@ -66,7 +66,7 @@ impl Tree {
     }
 
     /// The tree with which the revision after this one begins.
-    pub(crate) fn carried(&self, alloc: Global, rev: u32) -> Result<Self, AllocError>
+    pub(crate) fn start_of_next(&self, alloc: Global, rev: u32) -> Result<Self, AllocError>
         ensures { IfOk result (λ tree. SameTree tree (tree_from_revision rev self.now)) }
     {
         let mut tree = Tree::empty(alloc);
@@ -123,7 +123,7 @@ impl Tree {
     }
 
     fn add(&mut self, path: &Path, kind: Kind, mi: Mi) -> Result<(), AllocError>
-        ensures { OnOk result (SameTree self.new (tree_after_add path.now kind (setting_view mi) self.old)) }
+        ensures { OnOk result (SameTree self.new (tree_after_add same_name path.now kind (setting_view mi) self.old)) }
     {
         self.remove(path);
         let mergeinfo = match mi {
@@ -149,11 +149,11 @@ impl Tree {
         mi: Mi,
     ) -> Result<(), AllocError>
         ensures { OnOk result (SameTree self.new
-            (tree_after_copy earlier.now from.now from_rev path.now (setting_view mi) self.old)) }
+            (tree_after_copy same_name earlier.now from.now from_rev path.now (setting_view mi) self.old)) }
     {
         self.remove(path);
         if let Some(source) = earlier.get(from_rev as usize) {
-            self.put_all(source.moved(alloc, from, from_rev, path)?)?;
+            self.put_all(source.entries_of_copy(alloc, from, from_rev, path)?)?;
         }
         self.set_mergeinfo(path, mi);
         Ok(())
@@ -170,8 +170,8 @@ impl Tree {
         Ok(())
     }
 
-    /// The entries at a path and below it, at their places below another.
-    fn moved(
+    /// The entries that a copy puts: those at a path and below it, at their places below another.
+    fn entries_of_copy(
         &self,
         alloc: Global,
         from: &Path,

@@ -5,7 +5,7 @@ ghost use Rattle.svn_dump.specs.Dump.{history_view, record_view};
 ghost use Rattle.svn_dump.specs.Fault.{fault_of, fault_if_missing as missing_fault, fault_of_target as target_fault, fault_of_source as source_fault, has_parent as parent_is_there, first_fault, first_fault_in};
 ghost use Rattle.svn_dump.specs.Tree.{entry_at, is_there, tree_of, trees_of, start_tree, end_tree};
 ghost use Rattle.query_answer.specs.FaultKind.{kind_view};
-ghost use Rattle.query_answer.specs.Tree.{AreLawful, FallingOrigins, fault_of_node, SameTree, SameTrees, entry_view, origin_view};
+ghost use Rattle.query_answer.specs.TreeOfNumbers.{AreLawful, FallingOrigins, fault_of_node, SameTree, SameTrees, entry_view, origin_view};
 ghost use Rattle.query_answer.specs.TreesError.{IsFaultOf, IsFaultIn};
 
 use crate::entry::Entry;
@@ -56,7 +56,7 @@ pub struct Trees {
 
 impl Model for Trees {
     ghost use Rattle.std.specs.Prelude.{List};
-    ghost use Rattle.query_answer.specs.Tree.{TreeOfNumbers, FallingOrigins};
+    ghost use Rattle.query_answer.specs.TreeOfNumbers.{TreeOfNumbers, FallingOrigins};
 
     ghost Value = { List TreeOfNumbers };
 
@@ -143,7 +143,7 @@ fn opening_tree(alloc: Global, earlier: &[Tree]) -> Result<Tree, AllocError>
 {
     match earlier.split_last() {
         None => Tree::first(alloc),
-        Some((last, before)) => last.carried(alloc, before.len() as u32),
+        Some((last, before)) => last.start_of_next(alloc, before.len() as u32),
     }
 }
 

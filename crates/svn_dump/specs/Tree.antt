@@ -48,14 +48,22 @@ entry_of_copy same from from_rev path each =
 abbrev pub tree_of : {C M : Type 0} → List (Tree C M) → ℕ → Tree C M
 tree_of trees rev = slice_index_or trees rev []
 
+-- the tree after an addition or a replacement, which takes out what was there
+abbrev pub tree_after_add : {C M : Type 0} → (C → C → Bool) → List C → Kind → Setting M → Tree C M → Tree C M
+tree_after_add same path kind setting tree =
+    tree_without same path tree ++ (path, record { kind = kind; mergeinfo = mergeinfo_after setting None; origin = None }) ∷ []
+
+-- the tree after a copy, given the finished trees of the revisions before
+abbrev pub tree_after_copy : {C M : Type 0} → (C → C → Bool) → List (Tree C M) → List C → ℕ → List C → Setting M → Tree C M → Tree C M
+tree_after_copy same trees from from_rev path setting tree =
+    tree_without same path tree ++ tree_with_mergeinfo same path setting (filter_map (entry_of_copy same from from_rev path) (tree_of trees from_rev))
+
 -- the tree after a record, given the finished trees of the revisions before
 unfoldable pub tree_after_action : {C M : Type 0} → (C → C → Bool) → List (Tree C M) → List C → Action C M → Tree C M → Tree C M
 tree_after_action same trees path delete tree = tree_without same path tree
 tree_after_action same trees path (change setting) tree = tree_with_mergeinfo same path setting tree
-tree_after_action same trees path (add replace kind setting) tree =
-    tree_without same path tree ++ (path, record { kind = kind; mergeinfo = mergeinfo_after setting None; origin = None }) ∷ []
-tree_after_action same trees path (copy replace from from_rev setting) tree =
-    tree_without same path tree ++ tree_with_mergeinfo same path setting (filter_map (entry_of_copy same from from_rev path) (tree_of trees from_rev))
+tree_after_action same trees path (add replace kind setting) tree = tree_after_add same path kind setting tree
+tree_after_action same trees path (copy replace from from_rev setting) tree = tree_after_copy same trees from from_rev path setting tree
 
 abbrev pub tree_after_record : {C M : Type 0} → (C → C → Bool) → List (Tree C M) → Tree C M → Record C M → Tree C M
 tree_after_record same trees tree each = tree_after_action same trees each.path each.action tree

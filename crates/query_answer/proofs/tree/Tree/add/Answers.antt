@@ -3,7 +3,7 @@ use Rattle.std.proofs.Common.{◌≡◌, ◌∷◌, None, Option, OnOk, ap, sym,
 use Rattle.svn_dump.specs.Dump.{setting_view}
 use Rattle.svn_dump.specs.declared.record.ValueId.{ValueId}
 use Rattle.svn_dump.proofs.Trees.{new_entry}
-use Rattle.query_answer.specs.Tree.{EntryOfNumbers, SameTree, entry_view}
+use Rattle.query_answer.specs.TreeOfNumbers.{EntryOfNumbers, SameTree, entry_view}
 use Rattle.query_answer.specs.declared.entry.Entry.{Entry}
 use Rattle.query_answer.proofs.TreeReads.{entry_at-tree_after_add}
 use Rattle.query_answer.proofs.tree.Tree.add.Goals as goal

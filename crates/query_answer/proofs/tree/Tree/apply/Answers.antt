@@ -2,7 +2,7 @@ use Rattle.std.proofs.Common.{OnOk, sym, subst, ap, ◌∙◌}
 use Rattle.svn_dump.specs.Dump.{action_view}
 use Rattle.svn_dump.specs.Tree.{tree_after_action, entry_at}
 use Rattle.svn_path.specs.Path.{same_name}
-use Rattle.query_answer.specs.Tree.{SameTree}
+use Rattle.query_answer.specs.TreeOfNumbers.{SameTree}
 use Rattle.query_answer.proofs.tree.Tree.apply.Goals as goal
 
 pub returns-in-Delete : goal.returns-in-Delete

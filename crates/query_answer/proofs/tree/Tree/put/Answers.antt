@@ -1,7 +1,7 @@
 use Rattle.std.proofs.Common.{◌∷◌, ap, ◌∙◌}
 use Rattle.svn_dump.specs.Tree.{entry_at}
 use Rattle.svn_path.specs.Path.{same_name}
-use Rattle.query_answer.specs.Tree.{pair_view}
+use Rattle.query_answer.specs.TreeOfNumbers.{pair_view}
 use Rattle.query_answer.proofs.TreeReads.{entry_at-inserted}
 use Rattle.query_answer.proofs.tree.Tree.put.Goals as goal
 

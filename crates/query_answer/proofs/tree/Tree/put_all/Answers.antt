@@ -3,7 +3,7 @@ use Rattle.std.proofs.lemmas.List.{map-append}
 use Rattle.svn_dump.specs.Tree.{entry_at}
 use Rattle.svn_path.specs.Path.{same_name}
 use Rattle.svn_path.specs.declared.names.NameId.{NameId}
-use Rattle.query_answer.specs.Tree.{pair_view}
+use Rattle.query_answer.specs.TreeOfNumbers.{pair_view}
 use Rattle.query_answer.specs.declared.entry.Entry.{Entry}
 use Rattle.query_answer.proofs.TreeReads.{ListsEachOnce-cut, put_next_found}
 use Rattle.query_answer.proofs.tree.Tree.put_all.Goals as goal

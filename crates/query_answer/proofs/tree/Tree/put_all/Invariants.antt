@@ -1,5 +1,5 @@
 use Rattle.std.proofs.Common.{◌≡◌, ◌++◌, map}
-use Rattle.query_answer.specs.Tree.{pair_view, SameTree}
+use Rattle.query_answer.specs.TreeOfNumbers.{pair_view, SameTree}
 use Rattle.query_answer.proofs.tree.Tree.put_all.Given as goal
 
 abbrev pub invariant-loop-path : goal.invariant-loop-path

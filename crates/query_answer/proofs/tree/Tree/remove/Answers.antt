@@ -4,7 +4,7 @@ use Rattle.svn_dump.specs.Tree.{entry_at, tree_without}
 use Rattle.svn_path.specs.Below.{is_below}
 use Rattle.svn_path.specs.Path.{same_name}
 use Rattle.svn_path.specs.declared.names.NameId.{NameId}
-use Rattle.query_answer.specs.Tree.{pair_view}
+use Rattle.query_answer.specs.TreeOfNumbers.{pair_view}
 use Rattle.query_answer.proofs.TreeReads.{map_shown-filter}
 use Rattle.query_answer.proofs.tree.Tree.remove.Goals as goal
 

@@ -3,7 +3,7 @@ use Rattle.svn_dump.specs.Dump.{setting_view}
 use Rattle.svn_dump.specs.History.{put}
 use Rattle.svn_dump.specs.Tree.{tree_with_mergeinfo, entry_at}
 use Rattle.svn_path.specs.Path.{same_name}
-use Rattle.query_answer.specs.Tree.{pair_view, entry_view}
+use Rattle.query_answer.specs.TreeOfNumbers.{pair_view, entry_view}
 use Rattle.query_answer.proofs.TreeReads.{tree_with_mergeinfo-keep, tree_with_mergeinfo-absent, entry_at-get, entry_at-written}
 use Rattle.query_answer.proofs.tree.Tree.set_mergeinfo.Goals as goal
 

@@ -3,7 +3,7 @@ use Rattle.svn_dump.specs.Dump.{history_view, record_view}
 use Rattle.svn_dump.specs.Fault.{first_fault_in}
 use Rattle.svn_dump.specs.Tree.{start_tree, end_tree}
 use Rattle.svn_path.specs.Path.{same_name}
-use Rattle.query_answer.specs.Tree.{SameTree}
+use Rattle.query_answer.specs.TreeOfNumbers.{SameTree}
 use Rattle.query_answer.specs.TreesError.{IsFaultIn, IsFaultOf}
 use Rattle.std.proofs.lemmas.Result.{err_from_is_err_and}
 use Rattle.query_answer.proofs.TreesBuilt.{IsUpTo, IsUpTo-none, IsUpTo-all, few_records, few_trees, IsUpTo_next, IsUpTo_fault, FallingOrigins-built}

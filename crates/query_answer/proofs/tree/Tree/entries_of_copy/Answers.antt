@@ -6,10 +6,10 @@ use Rattle.svn_dump.specs.Tree.{entry_of_copy}
 use Rattle.svn_path.specs.Path.{same_name}
 use Rattle.svn_path.specs.declared.names.NameId.{NameId}
 use Rattle.svn_path.specs.declared.path.Path.{Path}
-use Rattle.query_answer.specs.Tree.{ListsEachOnce, TreeOfNumbers, entry_view, pair_view}
+use Rattle.query_answer.specs.TreeOfNumbers.{ListsEachOnce, TreeOfNumbers, entry_view, pair_view}
 use Rattle.query_answer.specs.declared.entry.Entry.{Entry}
 use Rattle.query_answer.proofs.TreeReads.{ListsEachOnce-view, ListsEachOnce-entry_of_copy, moved_next}
-use Rattle.query_answer.proofs.tree.Tree.moved.Goals as goal
+use Rattle.query_answer.proofs.tree.Tree.entries_of_copy.Goals as goal
 
 pub loop-each-preserved-in_ok-push : goal.loop-each-preserved-in_ok-push
 loop-each-preserved-in_ok-push c =

@@ -1,5 +1,6 @@
--- What the kept trees show, and when they show the trees of a history.
-use Rattle.std.specs.Prelude.{◌≡◌, ◌<◌, ℕ, false, List, [], Option, None, Some, All, filter_map, length, map, option_map}
+-- The kept trees, by the numbers of names and of texts, and when they show the trees of a history. What a record does to a
+-- tree is defined in svn_dump, in Tree.antt.
+use Rattle.std.specs.Prelude.{◌≡◌, ◌<◌, ℕ, List, Option, None, Some, All, filter_map, length, map, option_map}
 use Rattle.svn_path.specs.Path.{same_name}
 use Rattle.svn_path.specs.declared.names.NameId.{NameId}
 use Rattle.svn_dump.specs.Location.{origin_of}
@@ -7,8 +8,6 @@ use Rattle.svn_dump.specs.Tree as trees
 use Rattle.svn_dump.specs.Dump.{action_view, record_view}
 use Rattle.svn_dump.specs.Fault.{Fault, fault_of, first_fault_in}
 use Rattle.svn_dump.specs.Tree.{entry_at, entry_of_copy, start_tree, tree_of, tree_after_action}
-use Rattle.svn_dump.specs.History.{Setting, add, copy}
-use Rattle.svn_dump.specs.declared.kind.Kind.{Kind}
 use Rattle.svn_dump.specs.declared.record.NodeRecord.{NodeRecord}
 use Rattle.svn_dump.specs.declared.record.ValueId.{ValueId}
 use Rattle.query_answer.specs.declared.entry.Entry.{Entry}
@@ -50,13 +49,6 @@ pub record SameTrees (some others : List TreeOfNumbers) : Type 0 where
 -- each entry came from a smaller revision
 pub record FallingOrigins (some : List TreeOfNumbers) : Type 0 where
   pub falls : (path : List NameId) (rev : ℕ) (from : List NameId) (from_rev : ℕ) → origin_of same_name some path rev ≡ Some (from, from_rev) → from_rev < rev
-
--- the trees after an addition and after a copy
-abbrev pub tree_after_add : List NameId → Kind → Setting ValueId → TreeOfNumbers → TreeOfNumbers
-tree_after_add path kind setting tree = tree_after_action same_name [] path (add false kind setting) tree
-
-abbrev pub tree_after_copy : List TreeOfNumbers → List NameId → ℕ → List NameId → Setting ValueId → TreeOfNumbers → TreeOfNumbers
-tree_after_copy earlier from from_rev path setting tree = tree_after_action same_name earlier path (copy false from from_rev setting) tree
 
 -- the tree after a record, given the trees of the revisions before
 abbrev pub tree_after_node : List TreeOfNumbers → NodeRecord → TreeOfNumbers → TreeOfNumbers

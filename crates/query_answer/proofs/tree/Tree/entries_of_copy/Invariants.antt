@@ -1,8 +1,8 @@
 use Rattle.std.proofs.Common.{◌≡◌, ◌++◌, map, filter_map}
 use Rattle.svn_dump.specs.Tree.{entry_of_copy}
 use Rattle.svn_path.specs.Path.{same_name}
-use Rattle.query_answer.specs.Tree.{pair_view}
-use Rattle.query_answer.proofs.tree.Tree.moved.Given as goal
+use Rattle.query_answer.specs.TreeOfNumbers.{pair_view}
+use Rattle.query_answer.proofs.tree.Tree.entries_of_copy.Given as goal
 
 abbrev pub invariant-loop-each : goal.invariant-loop-each
 invariant-loop-each l =

@@ -8,9 +8,9 @@ use Rattle.svn_path.specs.Path.{same_name}
 use Rattle.svn_path.specs.declared.names.NameId.{NameId}
 use Rattle.svn_path.specs.declared.path.Path.{Path}
 use Rattle.query_answer.specs.declared.entry.Entry.{Entry}
-use Rattle.query_answer.specs.Tree.{SameTree, entry_view, pair_view}
+use Rattle.query_answer.specs.TreeOfNumbers.{SameTree, entry_view, pair_view}
 use Rattle.query_answer.proofs.TreeReads.{ListsEachOnce-cut, ListsEachOnce-view, put_next_carried}
-use Rattle.query_answer.proofs.tree.Tree.carried.Goals as goal
+use Rattle.query_answer.proofs.tree.Tree.start_of_next.Goals as goal
 
 pub loop-path-preserved : goal.loop-path-preserved
 loop-path-preserved c at =
