@@ -1,6 +1,7 @@
 //! Bytes cut at the last of a byte.
 ghost use Rattle.std.specs.Prelude.{IfNone, IfSome};
-ghost use Rattle.query_answer.specs.Cut.{CutsLast, Lacks};
+ghost use Rattle.svn_dump.specs.Line.{Lacks};
+ghost use Rattle.query_answer.specs.Cut.{CutsLast};
 
 use memchr::memrchr;
 

@@ -4,7 +4,6 @@ mod Fields
 mod FirstLines
 mod FirstRefusals
 mod Fronts
-mod Lines
 mod Mergeinfos
 mod Nodes
 mod Pieces
@@ -19,6 +18,7 @@ pub mod FirstRevisions
 pub mod Grouped
 pub mod Growing
 pub mod Histories
+pub mod Lines
 pub mod Locations
 pub mod Origins
 pub mod Renaming

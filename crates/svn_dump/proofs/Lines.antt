@@ -1,20 +1,30 @@
 -- Where a byte stands first, and what stands before and after it.
 use Rattle.std.proofs.Common.{◌≡◌, ℕ, ◌+◌, ◌-◌, ◌<◌, false, List, ◌∷◌, ◌++◌, length, get_or, take, drop, sym, ap, ap₂, ◌∙◌, eqb-true, arith}
-use Rattle.std.specs.Prelude.{IsFalse, ◌==◌}
+use Rattle.std.specs.Borrow.{Bor}
+use Rattle.std.specs.Prelude.{IsFalse, MatchOption, Option, Some, None, ◌==◌}
 use Rattle.std.specs.List.{list_any, position_or_len}
-use Rattle.std.proofs.lemmas.Bool.{false_from_ne_true}
+use Rattle.std.proofs.lemmas.Bool.{both_ways, false_from_ne_true}
 use Rattle.std.proofs.lemmas.List.{get_or_default, get_or-take, length-take, drop_more, take-append-drop, take_rest}
+use Rattle.std.proofs.lemmas.List.Elements.{All-from_get_or}
 use Rattle.std.proofs.lemmas.List.Folds.{list_any_none, list_any_at}
 use Rattle.std.proofs.lemmas.List.Sums.{position_or_len_is}
-use Rattle.svn_dump.specs.Line.{IsCutAt}
+use Rattle.svn_dump.specs.Line.{HasNoLine, IsCutAt, IsFirstLine, Lacks}
 use Rattle.memchr.specs.Find.{is_byte, NoneBefore, Nowhere, Passes}
 
 module _ (byte : ℕ) (bytes : List ℕ) where
   fails : (j k : ℕ) → Nowhere (Passes (is_byte byte) bytes) 0 j → k < j → (get_or bytes k 0 == byte) ≡ false
   fails j k none high = false_from_ne_true _ (none k (omega arith) high)
 
-  pub list_any-nowhere : Nowhere (Passes (is_byte byte) bytes) 0 (length bytes) → IsFalse (list_any (λ each. each == byte) bytes)
-  list_any-nowhere none = list_any_none _ bytes (λ k d h. ap (λ each. each == byte) (get_or_default bytes k d 0 h) ∙ fails (length bytes) k none h)
+  pub Lacks-nowhere : Nowhere (Passes (is_byte byte) bytes) 0 (length bytes) → Lacks byte bytes
+  Lacks-nowhere none = All-from_get_or (λ each. (each == byte) ≡ false) bytes 0 (λ k h. fails (length bytes) k none h)
+
+  pub Lacks-list_any : list_any (λ each. each == byte) bytes ≡ false → Lacks byte bytes
+  Lacks-list_any none =
+      All-from_get_or (λ each. (each == byte) ≡ false) bytes 0 (λ i below.
+      false_from_ne_true _ (λ hit. both_ways _ none (list_any_at (λ each. each == byte) bytes i 0 below hit)))
+
+  pub list_any-Lacks : Lacks byte bytes → list_any (λ each. each == byte) bytes ≡ false
+  list_any-Lacks none = list_any_none (λ each. each == byte) bytes none
 
   module _ (at : ℕ) (first : NoneBefore (Passes (is_byte byte) bytes) 0 (length bytes) at) (passes : Passes (is_byte byte) bytes at) where
     position : position_or_len (λ each. each == byte) bytes ≡ at
@@ -34,3 +44,9 @@ module _ (byte : ℕ) (bytes : List ℕ) where
       whole = sym (take-append-drop at bytes) ∙ ap (λ from. take at bytes ++ from)
           (drop_more bytes at 0 first.high ∙ ap₂ (λ each more. each ∷ more) (eqb-true _ _ passes) (sym (take_rest bytes (at + 1))));
     }
+
+-- a cut at the first newline gives the first line
+pub IsFirstLine-IsCutAt : (bytes : List ℕ) (found : Option (Bor (List ℕ) × Bor (List ℕ))) → MatchOption found (Lacks 10 bytes) (λ parts. IsCutAt 10 bytes parts.0.now parts.1.now)
+    → MatchOption found (HasNoLine bytes) (λ parts. IsFirstLine bytes parts.0.now parts.1.now)
+IsFirstLine-IsCutAt bytes None none = list_any-Lacks 10 bytes none
+IsFirstLine-IsCutAt bytes (Some parts) cut = (cut.first, cut.whole)

@@ -103,8 +103,8 @@ length-skipped rest block front =
     let skipped = without_empty_lines-front rest in
     omega (arith, ap length skipped.1, length-append (replicate skipped.0 10) (without_empty_lines rest), ap length front)
 
-pub length-tree_after_add : (rest block after : List ℕ) (old new : HistoryOfBytes) → block ≡ without_empty_lines rest → AddsBlock block after old new → length after < length rest
-length-tree_after_add rest block after old new front added = omega (arith, length-skipped rest block front, length-block [] added.block after block added.whole)
+pub length-after_block : (rest block after : List ℕ) (old new : HistoryOfBytes) → block ≡ without_empty_lines rest → AddsBlock block after old new → length after < length rest
+length-after_block rest block after old new front added = omega (arith, length-skipped rest block front, length-block [] added.block after block added.whole)
 
 module _ (bytes rest block : List ℕ) (old : DumpValue) (before : IsRead bytes rest old) (front : block ≡ without_empty_lines rest) where
   -- what stands against the bytes stands against this block or what follows it

@@ -1,11 +1,11 @@
 -- What cutting bytes at a newline or a colon gives.
-use Rattle.std.specs.Prelude.{◌≡◌, ℕ, ◌==◌, List, ◌∷◌, ◌++◌, IsTrue, IsFalse}
+use Rattle.std.specs.Prelude.{◌≡◌, ℕ, ◌==◌, false, List, ◌∷◌, ◌++◌, All, IsTrue, IsFalse}
 use Rattle.std.specs.List.{list_any, before_first, after_first}
 use Rattle.svn_dump.specs.Block.{IsHeader, header_name, header_value, is_newline}
 
 -- none of the bytes is that one
 abbrev pub Lacks : ℕ → List ℕ → Type 0
-Lacks byte bytes = IsFalse (list_any (λ each. each == byte) bytes)
+Lacks byte bytes = All (λ each. (each == byte) ≡ false) bytes
 
 -- the bytes are a front without such a byte, that byte, and what stands after it
 pub record IsCutAt (byte : ℕ) (bytes front rest : List ℕ) : Type 0 where

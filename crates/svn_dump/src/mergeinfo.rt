@@ -32,7 +32,7 @@ impl<'a> Mergeinfo<'a> {
     }
 
     /// The same by the number of the text, which the table takes where it is new.
-    pub(crate) fn numbered(self, texts: &mut Texts) -> Result<Mi, ReadError>
+    pub(crate) fn into_mi(self, texts: &mut Texts) -> Result<Mi, ReadError>
         ensures setting { IfOk result (IsNumberedSetting (mergeinfo_view self.entry) texts.old texts.new) }
         ensures refused { IfErr result
             (IsTooLarge (is_full_with texts.old (texts_of_setting (mergeinfo_view self.entry)))) }

@@ -120,12 +120,12 @@ fn act_of(
     Ok(match action {
         NodeAction::Delete => Act::Delete,
         NodeAction::Change => Act::Change {
-            mi: mergeinfo.numbered(texts)?,
+            mi: mergeinfo.into_mi(texts)?,
         },
         NodeAction::Add { replace, kind } => Act::Add {
             replace,
             kind,
-            mi: mergeinfo.numbered(texts)?,
+            mi: mergeinfo.into_mi(texts)?,
         },
         NodeAction::Copy {
             replace,
@@ -135,7 +135,7 @@ fn act_of(
             replace,
             from: path_of(alloc, names, from)?,
             from_rev,
-            mi: mergeinfo.numbered(texts)?,
+            mi: mergeinfo.into_mi(texts)?,
         },
     })
 }

@@ -3,7 +3,7 @@ use Rattle.std.proofs.Common.{◌≡◌, ℕ, List, inl, inr, sym, subst, ◌∙
 use Rattle.svn_dump.specs.declared.error.DumpError.TheVariants as refusal
 use Rattle.svnhist.specs.Device.{PullState, PushState}
 use Rattle.svnhist.specs.Load.{IsLoadError, IsReadError}
-use Rattle.svnhist.specs.Program.{IsFilesError, IsInputError, IsRefusal, IsRefusedFilesRun, IsRefusedRun, PrintsLine}
+use Rattle.svnhist.specs.ExitStatus.{IsFilesError, IsInputError, IsErrorLine, IsRefusedFilesRun, IsRefusedRun, PrintsLine}
 use Rattle.svnhist.specs.RunError.{line_of, status_of}
 use Rattle.svnhist.specs.ReportError.{IsRunError}
 use Rattle.svnhist.specs.declared.run_error.RunError.{RunError}
@@ -20,7 +20,7 @@ not_refused (run.Read source) unread one = omega (arith, one)
 not_refused run.Memory unread one = omega (arith, one)
 
 -- no error has status 0
-pub error_status : (error : RunError) (status : ℕ) (old new : PushState) → IsRefusal status error old new → status ≡ 0 → ⊥
+pub error_status : (error : RunError) (status : ℕ) (old new : PushState) → IsErrorLine status error old new → status ≡ 0 → ⊥
 error_status error status old new (inr (memory, line)) zero = omega (arith, memory, zero)
 error_status error status old new (inl (same, line)) zero = by error (sym same ∙ zero)
   where
@@ -34,7 +34,7 @@ error_status error status old new (inl (same, line)) zero = by error (sym same �
 
 module _ (old new : PushState) where
   -- with status 4 the line says that memory ran out
-  pub PrintsLine-from_status : (error : RunError) (status : ℕ) → IsRefusal status error old new → status ≡ 4 → PrintsLine old new (line_of run.Memory)
+  pub PrintsLine-from_status : (error : RunError) (status : ℕ) → IsErrorLine status error old new → status ≡ 4 → PrintsLine old new (line_of run.Memory)
   PrintsLine-from_status error status (inr (memory, line)) four = line
   PrintsLine-from_status error status (inl (same, line)) four = by error (sym same ∙ four) line
     where
@@ -47,13 +47,13 @@ module _ (old new : PushState) where
       by run.Memory four line = line
 
   -- an error of a run on files, or that memory ran out for its line
-  pub IsRefusedFilesRun-refusal : (error : RunError) (status : ℕ) → IsFilesError error → IsRefusal status error old new → IsRefusedFilesRun status old new
+  pub IsRefusedFilesRun-refusal : (error : RunError) (status : ℕ) → IsFilesError error → IsErrorLine status error old new → IsRefusedFilesRun status old new
   IsRefusedFilesRun-refusal error status files (inl (same, line)) = record { error = error; files = files; same = same; line = line }
   IsRefusedFilesRun-refusal error status files (inr (memory, line)) = record { error = run.Memory; files = tt; same = memory; line = line }
 
 module _ (input_old input_new : PullState) (old new : PushState) where
   -- status 1 is that of an input that was read and is refused
-  pub IsRefusedRun-from_status : (error : RunError) (status : ℕ) → IsInputError input_old input_new error → IsRefusal status error old new
+  pub IsRefusedRun-from_status : (error : RunError) (status : ℕ) → IsInputError input_old input_new error → IsErrorLine status error old new
       → status ≡ 1 → IsRefusedRun input_old input_new old new
   IsRefusedRun-from_status error status (inl unread) (inl (same, line)) one = absurd (not_refused error unread (sym same ∙ one))
   IsRefusedRun-from_status error status (inr (bytes, read, refused)) (inl (same, line)) one =
@@ -61,7 +61,7 @@ module _ (input_old input_new : PullState) (old new : PushState) where
   IsRefusedRun-from_status error status why (inr (memory, line)) one = absurd (omega (arith, memory, one))
 
   -- status 3 is that of an input that was not read
-  pub IsReadError-from_status : (error : RunError) (status : ℕ) → IsInputError input_old input_new error → IsRefusal status error old new
+  pub IsReadError-from_status : (error : RunError) (status : ℕ) → IsInputError input_old input_new error → IsErrorLine status error old new
       → status ≡ 3 → IsReadError error × PrintsLine old new (line_of (run.Read source.Input))
   IsReadError-from_status error status why (inr (memory, line)) three = absurd (omega (arith, memory, three))
   IsReadError-from_status error status (inl unread) (inl (same, line)) three = by error unread (sym same ∙ three) line

@@ -2,7 +2,7 @@ use Rattle.std.proofs.Common.{ap, arith, ◌∙◌}
 use Rattle.svn_dump.specs.FirstRefusal.{line_refusals}
 use Rattle.svn_dump.specs.Refusal.{first_holding}
 use Rattle.svn_dump.proofs.FirstRefusals.{exactly, first_line_taken, one_history}
-use Rattle.svn_dump.proofs.Reading.{IsRead-none, IsRead-more, IsRefusal-line, IsRefusal-block, IfOk-read, IfOk-named, IfOk-valued, IfErr-read, length-skipped, length-tree_after_add}
+use Rattle.svn_dump.proofs.Reading.{IsRead-none, IsRead-more, IsRefusal-line, IsRefusal-block, IfOk-read, IfOk-named, IfOk-valued, IfErr-read, length-skipped, length-after_block}
 use Rattle.svn_dump.proofs.Sections.{section_of-both}
 use Rattle.svn_dump.proofs.reader.read.Goals as goal
 
@@ -42,7 +42,7 @@ pub returns-in-Err-add_block-clause-memory : goal.returns-in-Err-add_block-claus
 returns-in-Err-add_block-clause-memory c _ = ap (λ all. first_holding (line_refusals all)) c.in-Ok.ensures.ok ∙ first_line_taken c.in-Ok.rest.now
 
 pub loop-block-smaller : goal.loop-block-smaller
-loop-block-smaller c = length-tree_after_add c.loop-block.rest.now c.in-Some.block.now c.in-Ok-add_block.rest.now _ _ c.in-Some.ensures.same c.in-Ok-add_block.ensures.added
+loop-block-smaller c = length-after_block c.loop-block.rest.now c.in-Some.block.now c.in-Ok-add_block.rest.now _ _ c.in-Some.ensures.same c.in-Ok-add_block.ensures.added
 
 pub loop-block-preserved : goal.loop-block-preserved
 loop-block-preserved c =

@@ -1,10 +1,10 @@
-use Rattle.query_answer.proofs.Cuts.{CutsFirst-IsCutAt, Lacks-list_any}
+use Rattle.query_answer.proofs.Cuts.{CutsFirst-IsCutAt}
 use Rattle.svnhist.proofs.Bundles.{no_number-uncut, no_number-cut}
 use Rattle.svnhist.proofs.bundle_reader.number_before.Goals as goal
 
 pub returns-in_err-digits-clause-none : goal.returns-in_err-digits-clause-none
 returns-in_err-digits-clause-none c =
-    rw c.from_residual.ensures (λ digits rest n whole number. no_number-uncut _ c.args.most _ _ _ n (Lacks-list_any c.args.end c.args.bytes.now c.in_err-digits.ensures) whole)
+    rw c.from_residual.ensures (λ digits rest n whole number. no_number-uncut _ c.args.most _ _ _ n c.in_err-digits.ensures whole)
 
 pub returns-in_err-number_up_to-clause-none : goal.returns-in_err-number_up_to-clause-none
 returns-in_err-number_up_to-clause-none c =

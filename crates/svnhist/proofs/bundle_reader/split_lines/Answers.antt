@@ -1,5 +1,5 @@
 use Rattle.std.proofs.Common.{refl, []}
-use Rattle.query_answer.proofs.Cuts.{CutsFirst-IsCutAt, Lacks-list_any}
+use Rattle.query_answer.proofs.Cuts.{CutsFirst-IsCutAt}
 use Rattle.svnhist.proofs.Bundles.{too_few_lines, AreLines-none, AreLines_push, moved_line}
 use Rattle.svnhist.proofs.bundle_reader.split_lines.Goals as goal
 
@@ -16,4 +16,4 @@ pub returns-in_err-more-clause-none : goal.returns-in_err-more-clause-none
 returns-in_err-more-clause-none c =
     let (taken, whole, lines) = c.loop.invariant in
     rw c.from_residual.ensures (λ queries dump given many.
-    too_few_lines _ _ _ _ _ _ _ whole lines (Lacks-list_any 10 c.loop.rest.now c.in_err-more.ensures) c.loop-test.true given many)
+    too_few_lines _ _ _ _ _ _ _ whole lines c.in_err-more.ensures c.loop-test.true given many)

@@ -1,5 +1,5 @@
 use Rattle.std.proofs.Common.{sym, ◌∙◌}
-use Rattle.query_answer.proofs.Cuts.{CutsFirst-IsCutAt, Lacks-list_any}
+use Rattle.query_answer.proofs.Cuts.{CutsFirst-IsCutAt}
 use Rattle.svnhist.proofs.QueryLines.{query_lines-cut, query_lines-uncut}
 use Rattle.svnhist.proofs.query_lines.next_line.Goals as goal
 
@@ -8,4 +8,4 @@ returns-in-Some-clause-line c = query_lines-cut _ _ _ (CutsFirst-IsCutAt 10 _ _ 
 
 pub returns-in-None-clause-line : goal.returns-in-None-clause-line
 returns-in-None-clause-line c =
-    query_lines-uncut c.args.queries.now (sym c.is_empty.ensures ∙ c.if-is_empty.false) (Lacks-list_any 10 c.args.queries.now c.in-None.ensures)
+    query_lines-uncut c.args.queries.now (sym c.is_empty.ensures ∙ c.if-is_empty.false) c.in-None.ensures
