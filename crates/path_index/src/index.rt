@@ -1,5 +1,5 @@
 //! An index of the records of a history.
-ghost use Rattle.std.specs.Prelude.{◌≡◌, ◌+◌, ◌^◌, ◌<◌, ◌++◌, IfOk, OnOk, length};
+ghost use Rattle.std.specs.Prelude.{◌≡◌, ◌+◌, ◌^◌, ◌<◌, ◌++◌, None, IfOk, OnOk, length};
 ghost use Rattle.path_index.specs.History.{AreRising, records_up_to};
 ghost use Rattle.path_index.specs.Index.{AreHitsOf, AreMaximal, AreSegmentsOf, IsThere, IsWhole, gap_between, location_in};
 ghost use Rattle.path_index.specs.NamedRevisions.{AddsNamed};
@@ -82,11 +82,12 @@ impl Index {
         }
     }
 
-    /// Where the path of revision `peg` stood in revision `rev`.
+    /// Where the path of revision `peg` stood in revision `rev`. Above the peg it has no location.
     pub fn locate(&self, path: &Path, peg: u32, rev: u32) -> Result<Option<Path>, AllocError>
         requires whole { IsWhole self.now }
         requires there { IsThere self.now.records path.now peg }
-        ensures { IfOk result (λ found. found ≡ location_in self.now.records path.now peg rev) }
+        ensures exact { IfOk result (λ found. found ≡ location_in self.now.records path.now peg rev) }
+        ensures above_peg { peg < rev → IfOk result (λ found. found ≡ None) }
     {
         let mut records = self.records.as_slice();
         let mut place = path.dup()?;

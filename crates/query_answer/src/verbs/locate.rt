@@ -10,7 +10,7 @@ use crate::repo::Repo;
 use std::alloc::{AllocError, Global};
 use svn_path::{Names, Path};
 
-/// Where the path of a peg was located in a revision.
+/// Where the path of a peg was located in a revision: nowhere in one above the peg revision.
 pub(crate) fn answer_locate(
     alloc: Global,
     repo: &Repo,

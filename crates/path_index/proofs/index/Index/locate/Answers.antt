@@ -16,12 +16,12 @@ up_to-requires-clause-rising c = c.loop-at.invariant.rising
 pub up_to-requires-clause-there : goal.up_to-requires-clause-there
 up_to-requires-clause-there c = c.loop-at.invariant.there
 
-pub returns-then-lo-rev : goal.returns-then-lo-rev
-returns-then-lo-rev c =
+pub returns-then-lo-rev-clause-exact : goal.returns-then-lo-rev-clause-exact
+returns-then-lo-rev-clause-exact c =
     ap Some refl ∙ sym (c.in_ok-lo.ensures.stays c.args.rev c.if-lo-rev.true c.loop-at-test.true) ∙ c.loop-at.invariant.finds
 
-pub returns-in_default : goal.returns-in_default
-returns-in_default c =
+pub returns-in_default-clause-exact : goal.returns-in_default-clause-exact
+returns-in_default-clause-exact c =
     sym (c.in_ok-lo.ensures.back c.args.rev c.if-lo-rev.false ∙ ap (location_before c.in_ok-lo.field-0.before.now c.args.rev) c.in_default.is) ∙ c.loop-at.invariant.finds
 
 pub loop-at-preserved : goal.loop-at-preserved
@@ -33,6 +33,18 @@ loop-at-preserved c =
       finds = sym (c.in_ok-lo.ensures.back c.args.rev c.if-lo-rev.false ∙ location_before-Some before c.args.rev c.in_ok-lo.field-0.origin c.in-Some.origin c.in-Some.is) ∙ c.loop-at.invariant.finds;
     }
 
-pub returns : goal.returns
-returns c =
+pub returns-clause-exact : goal.returns-clause-exact
+returns-clause-exact c =
     sym (location_past c.loop-at.records.now c.loop-at.place c.loop-at.at c.args.rev c.loop-at-test.false) ∙ c.loop-at.invariant.finds
+
+pub returns-then-lo-rev-clause-above_peg : goal.returns-then-lo-rev-clause-above_peg
+returns-then-lo-rev-clause-above_peg c =
+    λ above. returns-then-lo-rev-clause-exact c ∙ location_past c.args.self.now.records c.args.path.now c.args.peg c.args.rev above
+
+pub returns-in_default-clause-above_peg : goal.returns-in_default-clause-above_peg
+returns-in_default-clause-above_peg c =
+    λ above. returns-in_default-clause-exact c ∙ location_past c.args.self.now.records c.args.path.now c.args.peg c.args.rev above
+
+pub returns-clause-above_peg : goal.returns-clause-above_peg
+returns-clause-above_peg c =
+    λ above. returns-clause-exact c ∙ location_past c.args.self.now.records c.args.path.now c.args.peg c.args.rev above
