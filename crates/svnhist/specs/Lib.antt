@@ -2,8 +2,8 @@ pub mod Arguments
 pub mod Bundle
 pub mod Calls
 pub mod Device
+pub mod ExitStatus
 pub mod Load
-pub mod Program
 pub mod QueryLines
 pub mod Report
 pub mod ReportError

@@ -74,6 +74,7 @@ abbrev pub status_of_refusal : DumpError → ℕ
 status_of_refusal (refusal.Refused number at) = 1
 status_of_refusal refusal.Memory = 4
 
+-- the exit status for an error; what each exit status promises of a run is in ExitStatus.antt
 abbrev pub status_of : RunError → ℕ
 status_of run.TooMany = 1
 status_of (run.Dump refused) = status_of_refusal refused

@@ -2,7 +2,7 @@
 ghost use Rattle.std.specs.Prelude.{◌≡◌, ◌≢◌, ℕ, ◌<◌, ◌≤◌, ◌⊎◌, List, IfErr, IfOk, IsFalse, IsTrue};
 ghost use Rattle.std.specs.Io.KnownBytes.{Appends};
 ghost use Rattle.svnhist.specs.Load.{IsReadError, IsUnread};
-ghost use Rattle.svnhist.specs.Program.{IsBundleAnswer, IsBundleError, IsCutAfter, IsFailedFilesRun, IsFailedRun, IsFailureLine, IsFilesError, IsFilesRun, IsInputAnswer, IsInputError, IsRefusal, IsRefusedFilesRun, IsRefusedRun, IsRun, IsUsageRun, PrintsLine};
+ghost use Rattle.svnhist.specs.ExitStatus.{IsBundleAnswer, IsBundleError, IsCutAfter, IsFailedFilesRun, IsFailedRun, IsFailureLine, IsFilesError, IsFilesRun, IsInputAnswer, IsInputError, IsErrorLine, IsRefusedFilesRun, IsRefusedRun, IsRun, IsUsageRun, PrintsLine};
 ghost use Rattle.svnhist.specs.Report.{IsReport};
 ghost use Rattle.svnhist.specs.ReportError.{IsRunError};
 ghost use Rattle.svnhist.specs.RunError.{line_of, unsent_line, usage_line};
@@ -103,7 +103,7 @@ pub(crate) fn refuse_memory<E: Push>(errors: &mut E) -> u8
 
 /// Prints the line of an error, and answers its status.
 fn refuse<E: Push>(alloc: Global, errors: &mut E, error: &RunError) -> u8
-    ensures { IsRefusal result error.now (E.state errors.old) (E.state errors.new) }
+    ensures { IsErrorLine result error.now (E.state errors.old) (E.state errors.new) }
 {
     match error_line(alloc, error) {
         Ok(line) => {

@@ -1,4 +1,4 @@
--- What the program answers to its input, and what each of its statuses says.
+-- What each exit status of the program says of its input, of its output and of its line on standard error.
 use Rattle.std.specs.Prelude.{◌≡◌, ◌⊎◌, ℕ, ◌<◌, IsFalse, IsTrue, List, Option, Some, None, Vec, take}
 use Rattle.std.specs.Io.KnownBytes.{Appends, Consumes, IsAtEnd}
 use Rattle.std.specs.declared.alloc.Global.{Global}
@@ -52,8 +52,8 @@ pub record IsCutAfter (old new : PushState) (bytes : List ℕ) : Type 0 where
   pub called : old.calls < new.calls
 
 -- the line of an error was printed and its status answered; or memory for the line ran out, and that was
-abbrev pub IsRefusal : ℕ → RunError → PushState → PushState → Type 0
-IsRefusal status error old new =
+abbrev pub IsErrorLine : ℕ → RunError → PushState → PushState → Type 0
+IsErrorLine status error old new =
     ((status ≡ status_of error) × PrintsLine old new (line_of error)) ⊎ ((status ≡ 4) × PrintsLine old new (line_of Memory))
 
 -- a report went out whole
@@ -70,9 +70,9 @@ pub record IsCutShort (old new : PushState) (dump queries : List ℕ) : Type 0 w
   pub right : IsReport dump queries report
   pub cut : IsCutAfter old new report
 
--- ---- the statuses of a run on a bundle
+-- ---- the exit statuses of a run on a bundle
 
--- 0: all of the input was read, it is a bundle, and its report went out whole
+-- exit status 0: all of the input was read, it is a bundle, and its report went out whole
 pub record IsRun (input_old input_new : PullState) (output_old output_new : PushState) : Type 0 where
   pub bytes : List ℕ
   pub value : BundleValue
@@ -80,7 +80,7 @@ pub record IsRun (input_old input_new : PullState) (output_old output_new : Push
   pub bundle : IsBundle bytes value
   pub sent : IsSent output_old output_new value.dump value.queries
 
--- 1: all of the input was read, it is a bundle, and its queries or its dump are refused, as the line says
+-- exit status 1: all of the input was read, it is a bundle, and its queries or its dump are refused, as the line says
 pub record IsRefusedRun (input_old input_new : PullState) (errors_old errors_new : PushState) : Type 0 where
   pub bytes : List ℕ
   pub error : RunError
@@ -89,7 +89,7 @@ pub record IsRefusedRun (input_old input_new : PullState) (errors_old errors_new
   pub status : status_of error ≡ 1
   pub line : PrintsLine errors_old errors_new (line_of error)
 
--- 2: all of the input was read, and it is not a bundle
+-- exit status 2: all of the input was read, and it is not a bundle
 pub record IsUsageRun (input_old input_new : PullState) (errors_old errors_new : PushState) : Type 0 where
   pub bytes : List ℕ
   pub read : IsReadWhole input_old input_new bytes
@@ -104,20 +104,20 @@ pub record IsCutRun (input_old input_new : PullState) (output_old output_new : P
   pub bundle : IsBundle bytes value
   pub cut : IsCutShort output_old output_new value.dump value.queries
 
--- 3: the output failed, or the input was not read and nothing went out
+-- exit status 3: the output failed, or the input was not read and nothing went out
 abbrev pub IsFailedRun : PullState → PullState → PushState → PushState → Type 0
 IsFailedRun input_old input_new output_old output_new =
     IsCutRun input_old input_new output_old output_new ⊎ (IsUnread input_old input_new × (output_new ≡ output_old))
 
--- the line for 3: it speaks of the output where that was called, and else of the input
+-- the line of exit status 3: it speaks of the output where that was called, and else of the input
 abbrev pub IsFailureLine : PushState → PushState → PushState → PushState → Type 0
 IsFailureLine output_old output_new errors_old errors_new =
     ((output_old.calls < output_new.calls) × PrintsLine errors_old errors_new unsent_line)
     ⊎ ((output_new ≡ output_old) × PrintsLine errors_old errors_new (line_of (Read Input)))
 
--- ---- the statuses of a run on two files, of which nothing is known
+-- ---- the exit statuses of a run on two files, of which nothing is known
 
--- 0: a report went out whole
+-- exit status 0: a report went out whole
 abbrev pub IsFilesRun : PushState → PushState → Type 0
 IsFilesRun old new = (dump queries : List ℕ) × IsSent old new dump queries
 
@@ -128,7 +128,7 @@ pub record IsCutFilesRun (output_old output_new errors_old errors_new : PushStat
   pub cut : IsCutShort output_old output_new dump queries
   pub line : PrintsLine errors_old errors_new unsent_line
 
--- 3: the output failed, or nothing went out
+-- exit status 3: the output failed, or nothing went out
 abbrev pub IsFailedFilesRun : PushState → PushState → PushState → PushState → Type 0
 IsFailedFilesRun output_old output_new errors_old errors_new =
     IsCutFilesRun output_old output_new errors_old errors_new ⊎ (output_new ≡ output_old)
@@ -144,7 +144,7 @@ IsFilesError (Read Queries) = Unit {0}
 IsFilesError (Read Input) = ⊥
 IsFilesError Memory = Unit {0}
 
--- 1, 3 and 4: nothing went out, and the line is that of an error of this status
+-- exit statuses 1, 3 and 4: nothing went out, and the line is that of an error of this status
 pub record IsRefusedFilesRun (status : ℕ) (errors_old errors_new : PushState) : Type 0 where
   pub error : RunError
   pub files : IsFilesError error
