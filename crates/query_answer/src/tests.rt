@@ -1,6 +1,6 @@
 //! Queries and answers on a dump of two revisions: `trunk` is added in revision 1 and copied to `b` in revision 2.
 
-use crate::{Query, Repo, Trees, answer};
+use crate::{Query, Repo, Trees, answer, push_number};
 use path_index::Index;
 use std::alloc::Global;
 use std::test::Fail;
@@ -76,5 +76,22 @@ fn a_peg_needs_its_revision_and_its_path(rt: HostRuntime) -> Result<(), Fail> {
     assert_eq!(rt; found.as_slice(), b"#1 no-such-path\n".as_slice());
     let found = text_of(rt.alloc(), &repo, b"log\ta/../b@2")?;
     assert_eq!(rt; found.as_slice(), b"#1 bad-query\n".as_slice());
+    Ok(())
+}
+
+#[test]
+fn a_repository_has_the_names_of_its_paths(rt: HostRuntime) -> Result<(), Fail> {
+    let repo = repo_of(rt.alloc(), DUMP)?;
+    let names = repo.names();
+    assert!(rt; names.len() == 2 && names.find(b"trunk").is_some() && names.find(b"b").is_some());
+    Ok(())
+}
+
+#[test]
+fn numbers_are_written_in_decimal(rt: HostRuntime) -> Result<(), Fail> {
+    let mut out = Vec::new(rt.alloc());
+    push_number(&mut out, 0)?;
+    push_number(&mut out, 18_446_744_073_709_551_615)?;
+    assert_eq!(rt; out.as_slice(), b"018446744073709551615".as_slice());
     Ok(())
 }

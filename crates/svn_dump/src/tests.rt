@@ -2,6 +2,7 @@
 
 mod accepted;
 mod dumps;
+mod lines;
 mod long;
 mod records;
 mod refused;
