@@ -51,7 +51,7 @@ impl Ranges {
         })
     }
 
-    /// Adds the numbers from `lo` to `hi`.
+    /// Adds the numbers from `lo` to `hi`. Each call copies and sorts the whole list; `of_runs` sorts many runs once.
     pub fn add(&mut self, lo: u32, hi: u32, inheritable: bool) -> Result<(), AllocError>
         requires first { 1 ≤ lo }
         requires ordered { lo ≤ hi }

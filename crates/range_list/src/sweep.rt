@@ -95,8 +95,8 @@ impl Sweep {
     }
 }
 
-// Adds a run above the others, joined with the last of them where it continues it. A run that ends below its first
-// number adds nothing.
+/// Adds a run above the others, joined with the last of them where it continues it. A run that ends below its first
+/// number adds nothing.
 fn push_run(runs: &mut Vec<Run>, run: Run) -> Result<(), AllocError>
     requires canonical { IsCanonical runs.old.items }
     requires above { EndsBelow run.lo runs.old.items }

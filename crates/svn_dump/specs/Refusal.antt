@@ -1,4 +1,5 @@
--- Why a block is refused, in the order in which the reasons against one block are reported.
+-- Why a whole block is refused, in the order in which the reasons are reported. The reasons against the form of a block
+-- come before them, in FirstRefusal.antt.
 use Rattle.std.specs.Prelude.{ℕ, pred, ◌==◌, nat_lt, Bool, true, false, not, ◌||◌, List, [], ◌∷◌, ◌++◌, Option, Some, None, is_none, length, if◌then◌else◌}
 use Rattle.std.specs.List.{list_any}
 use Rattle.svn_dump.specs.DumpText.{all_records, most_numbered, names_of, values_of}
