@@ -1,5 +1,4 @@
 pub mod AnswerTexts
-pub mod Cuts
 pub mod InBytes
 pub mod Queries
 pub mod TreePaths

@@ -4,11 +4,11 @@ use Rattle.std.proofs.lemmas.Bool.{cases_Bool, false_from_ne_true}
 use Rattle.std.specs.List.{slice_split}
 use Rattle.svn_path.specs.Components.{HasDot}
 use Rattle.svn_dump.specs.Number.{number_up_to, greatest_revision}
-use Rattle.svn_dump.specs.Line.{Lacks}
+use Rattle.svn_dump.specs.Cut.{Lacks}
 use Rattle.svn_dump.proofs.Lines.{list_any-Lacks}
-use Rattle.query_answer.specs.Cut.{CutsLast}
+use Rattle.svn_dump.specs.Cut.{IsCutAtLast}
 use Rattle.query_answer.specs.Query.{bad, query_of, query_of_fields, query_of_peg, query_of_revision, read_peg}
-use Rattle.query_answer.proofs.Cuts.{CutsFirst, slice_split-cut, slice_split-uncut, list_any-cut, before_last-cut, after_last-cut}
+use Rattle.svn_dump.proofs.Cuts.{CutsFirst, slice_split-cut, slice_split-uncut, list_any-cut, before_last-cut, after_last-cut}
 
 -- the parts of bytes are never none
 pub slice_split-some : (p : ℕ → Bool) (bytes : List ℕ) → (first : List ℕ) × (more : List (List ℕ)) × (slice_split p bytes ≡ first ∷ more)
@@ -19,12 +19,12 @@ slice_split-some p (byte ∷ bytes) = elim (cases_Bool (p byte)) [
 ]
 
 -- the peg of a field, by the number that stands behind its last `@`
-pub read_peg-cut : (field path rev : List ℕ) → CutsLast 64 field path rev → (HasDot path → ⊥) → (found : Option ℕ) → found ≡ number_up_to greatest_revision rev → option_map (λ n. (path, n)) found ≡ read_peg field
+pub read_peg-cut : (field path rev : List ℕ) → IsCutAtLast 64 field path rev → (HasDot path → ⊥) → (found : Option ℕ) → found ≡ number_up_to greatest_revision rev → option_map (λ n. (path, n)) found ≡ read_peg field
 read_peg-cut field path rev cut fine found number =
     sym (rw (list_any-cut 64 field path rev cut, after_last-cut 64 field path rev cut, before_last-cut 64 field path rev cut, false_from_ne_true _ fine)
     (ap (option_map (λ n. (path, n))) (sym number)))
 
-pub read_peg-dot : (field path rev : List ℕ) → CutsLast 64 field path rev → HasDot path → None ≡ read_peg field
+pub read_peg-dot : (field path rev : List ℕ) → IsCutAtLast 64 field path rev → HasDot path → None ≡ read_peg field
 read_peg-dot field path rev cut dot = sym (rw (list_any-cut 64 field path rev cut, before_last-cut 64 field path rev cut, dot) refl)
 
 pub read_peg-uncut : (field : List ℕ) → Lacks 64 field → None ≡ read_peg field

@@ -1,5 +1,4 @@
 pub mod Answer
-pub mod Cut
 pub mod FaultKind
 pub mod Query
 pub mod Repo

@@ -2,7 +2,6 @@
 #![tactic(auto)]
 
 mod answers;
-mod cut;
 mod entry;
 mod fault;
 mod query;

@@ -2,8 +2,7 @@
 ghost use Rattle.std.specs.Prelude.{◌≡◌, option_map};
 ghost use Rattle.query_answer.specs.Query.{peg_view, query_of, query_of_peg, query_of_revision, query_view, read_peg};
 
-use crate::cut::split_at_last;
-use svn_dump::{GREATEST_REVISION, number_up_to, split_at_byte};
+use svn_dump::{GREATEST_REVISION, number_up_to, split_at_byte, split_at_last};
 use svn_path::has_dot;
 
 /// A path in a revision, lent by a query's field.

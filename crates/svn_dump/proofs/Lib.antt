@@ -12,6 +12,7 @@ mod Refusals
 mod Sorts
 mod TextTables
 pub mod Belows
+pub mod Cuts
 pub mod Entries
 pub mod Faults
 pub mod FirstRevisions

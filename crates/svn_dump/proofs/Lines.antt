@@ -8,7 +8,8 @@ use Rattle.std.proofs.lemmas.List.{get_or_default, get_or-take, length-take, dro
 use Rattle.std.proofs.lemmas.List.Elements.{All-from_get_or}
 use Rattle.std.proofs.lemmas.List.Folds.{list_any_none, list_any_at}
 use Rattle.std.proofs.lemmas.List.Sums.{position_or_len_is}
-use Rattle.svn_dump.specs.Line.{HasNoLine, IsCutAt, IsFirstLine, Lacks}
+use Rattle.svn_dump.specs.Cut.{IsCutAt, Lacks}
+use Rattle.svn_dump.specs.Line.{HasNoLine, IsFirstLine}
 use Rattle.memchr.specs.Find.{is_byte, NoneBefore, Nowhere, Passes}
 
 module _ (byte : ℕ) (bytes : List ℕ) where

@@ -1,4 +1,5 @@
 pub mod Block
+pub mod Cut
 pub mod Draft
 pub mod Dump
 pub mod DumpError

@@ -2,6 +2,7 @@
 #![tactic(auto)]
 
 mod block;
+mod cut;
 mod draft;
 mod dump;
 mod error;
@@ -22,10 +23,10 @@ mod refusal;
 mod section;
 mod texts;
 
+pub use cut::{split_at_byte, split_at_last};
 pub use dump::Dump;
 pub use error::DumpError;
 pub use kind::Kind;
-pub use line::split_at_byte;
 pub use number::{GREATEST_REVISION, number_up_to};
 pub use origin::Origin;
 pub use reader::read;

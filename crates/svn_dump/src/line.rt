@@ -1,20 +1,10 @@
 //! Lines of a dump.
 ghost use Rattle.std.specs.Prelude.{◌≡◌, IsFalse, MatchOption};
 ghost use Rattle.std.specs.List.{list_any};
-ghost use Rattle.svn_dump.specs.Line.{HasNoLine, IsCutAt, IsFirstLine, IsHeaderOf, Lacks};
+ghost use Rattle.svn_dump.specs.Line.{HasNoLine, IsFirstLine, IsHeaderOf};
 ghost use Rattle.svn_dump.specs.Block.{is_newline, without_space, IsHeader};
 
-use memchr::memchr;
-
-/// What precedes the first such byte, and what follows it.
-pub fn split_at_byte(byte: u8, bytes: &[u8]) -> Option<(&[u8], &[u8])>
-    ensures { MatchOption result (Lacks byte bytes.now) (λ parts. IsCutAt byte bytes.now parts.0.now parts.1.now) }
-{
-    match memchr(byte, bytes) {
-        None => None,
-        Some(at) => Some((&bytes[..at], &bytes[at + 1..])),
-    }
-}
+use crate::cut::split_at_byte;
 
 /// The first line, without its newline, and what follows it.
 pub(crate) fn split_line(bytes: &[u8]) -> Option<(&[u8], &[u8])>

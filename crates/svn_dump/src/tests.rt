@@ -1,8 +1,8 @@
 //! Small dumps, read and refused. In a table of blocks each line is a sample and each `|` a newline.
 
 mod accepted;
+mod cuts;
 mod dumps;
-mod lines;
 mod long;
 mod records;
 mod refused;

@@ -14,9 +14,9 @@ use Rattle.svn_dump.specs.Number.{is_digit, number_up_to, greatest_revision}
 use Rattle.svn_path.specs.Components.{is_not_empty}
 use Rattle.svnhist.specs.Bundle.{AreLines, BundleValue, IsBundle, most_workers}
 use Rattle.svnhist.specs.Report.{most_queries}
-use Rattle.svn_dump.specs.Line.{Lacks}
+use Rattle.svn_dump.specs.Cut.{Lacks}
 use Rattle.svn_dump.proofs.Lines.{Lacks-list_any}
-use Rattle.query_answer.proofs.Cuts.{CutsFirst}
+use Rattle.svn_dump.proofs.Cuts.{CutsFirst}
 use Rattle.query_answer.proofs.Queries.{slice_split-some}
 
 -- bytes that lack one are not cut at it

@@ -1,7 +1,7 @@
 -- Lines of a list of queries, by the cuts of the list.
 use Rattle.std.proofs.Common.{◌≡◌, ℕ, ◌==◌, List, [], ◌∷◌, length, false, true≢false, refl}
-use Rattle.svn_dump.specs.Line.{Lacks}
-use Rattle.query_answer.proofs.Cuts.{CutsFirst, slice_split-cut, slice_split-uncut}
+use Rattle.svn_dump.specs.Cut.{Lacks}
+use Rattle.svn_dump.proofs.Cuts.{CutsFirst, slice_split-cut, slice_split-uncut}
 use Rattle.query_answer.proofs.Queries.{slice_split-some}
 use Rattle.svnhist.specs.QueryLines.{query_lines, without_last_empty}
 

@@ -1,5 +1,5 @@
 use Rattle.std.proofs.Common.{sym, ◌∙◌}
-use Rattle.query_answer.proofs.Cuts.{CutsFirst-IsCutAt}
+use Rattle.svn_dump.proofs.Cuts.{CutsFirst-IsCutAt}
 use Rattle.svnhist.proofs.QueryLines.{query_lines-cut, query_lines-uncut}
 use Rattle.svnhist.proofs.query_lines.next_line.Goals as goal
 

@@ -1,5 +1,5 @@
 use Rattle.std.proofs.Common.{sym, ◌∙◌}
-use Rattle.query_answer.proofs.Cuts.{CutsFirst-IsCutAt}
+use Rattle.svn_dump.proofs.Cuts.{CutsFirst-IsCutAt}
 use Rattle.query_answer.proofs.Queries.{query_of-uncut, query_of-two, query_of-three, query_of-four}
 use Rattle.query_answer.proofs.query.Query.read.Goals as goal
 

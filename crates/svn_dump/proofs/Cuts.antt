@@ -9,9 +9,8 @@ use Rattle.std.proofs.Math.Seq.{drop-cons, take-append_seam, drop-append-add, ge
 use Rattle.std.specs.List.{slice_split, suffix_len, before_last, after_last, list_any}
 use Rattle.std.proofs.lemmas.List.Folds.{list_any_at}
 use Rattle.memchr.specs.Find.{IsLastByte, is_byte}
-use Rattle.svn_dump.specs.Line.{IsCutAt, Lacks}
+use Rattle.svn_dump.specs.Cut.{IsCutAt, IsCutAtLast, Lacks}
 use Rattle.svn_dump.proofs.Lines.{Lacks-list_any}
-use Rattle.query_answer.specs.Cut.{CutsLast}
 
 -- bytes cut at the first of a byte
 pub record CutsFirst (byte : ℕ) (bytes front back : List ℕ) : Type 0 where
@@ -39,7 +38,7 @@ pub slice_split-uncut : (byte : ℕ) (bytes : List ℕ) → Lacks byte bytes →
 slice_split-uncut byte bytes none = slice_split_none (λ each. each == byte) bytes none
 
 -- some byte is that one, or none is
-pub list_any-cut : (byte : ℕ) (bytes front back : List ℕ) → CutsLast byte bytes front back → list_any (λ each. each == byte) bytes ≡ true
+pub list_any-cut : (byte : ℕ) (bytes front back : List ℕ) → IsCutAtLast byte bytes front back → list_any (λ each. each == byte) bytes ≡ true
 list_any-cut byte bytes front back cut =
     rw cut.whole (list_any_at (λ each. each == byte) (front ++ byte ∷ back) (length front) 0 (omega (arith, length-append front (byte ∷ back))) (rw get_or-append_seam (eq-eqb byte byte refl)))
 
@@ -68,15 +67,15 @@ module _ (byte : ℕ) (front back : List ℕ) (last : Lacks byte back) where
       omega (arith, length-append front (byte ∷ back), length-suffix) in
       rw front_length (drop-append-add front (byte ∷ back) 1)
 
-pub before_last-cut : (byte : ℕ) (bytes front back : List ℕ) → CutsLast byte bytes front back → before_last (λ each. each == byte) bytes ≡ front
+pub before_last-cut : (byte : ℕ) (bytes front back : List ℕ) → IsCutAtLast byte bytes front back → before_last (λ each. each == byte) bytes ≡ front
 before_last-cut byte bytes front back cut = rw cut.whole (before_last-whole byte front back cut.last)
 
-pub after_last-cut : (byte : ℕ) (bytes front back : List ℕ) → CutsLast byte bytes front back → after_last (λ each. each == byte) bytes ≡ back
+pub after_last-cut : (byte : ℕ) (bytes front back : List ℕ) → IsCutAtLast byte bytes front back → after_last (λ each. each == byte) bytes ≡ back
 after_last-cut byte bytes front back cut = rw cut.whole (after_last-whole byte front back cut.last)
 
 -- what a search for the last of the bytes cuts off
-pub CutsLast-found : (byte k head : ℕ) (bytes front back : List ℕ) → IsLastByte (is_byte byte) bytes (Some k) → front ≡ take k bytes → drop k bytes ≡ head ∷ back → CutsLast byte bytes front back
-CutsLast-found byte k head bytes front back last at_front at_back =
+pub IsCutAtLast-found : (byte k head : ℕ) (bytes front back : List ℕ) → IsLastByte (is_byte byte) bytes (Some k) → front ≡ take k bytes → drop k bytes ≡ head ∷ back → IsCutAtLast byte bytes front back
+IsCutAtLast-found byte k head bytes front back last at_front at_back =
     let parts : drop k bytes ≡ get_or bytes k 0 ∷ drop (suc k) bytes = drop-cons bytes k 0 (last.0.high) in
     let found : get_or bytes k 0 ≡ byte = let test = last.1 in search (rules, tests) in
     let rest : back ≡ drop (suc k) bytes = cc in

@@ -1,5 +1,5 @@
 use Rattle.svn_dump.proofs.Lines.{Lacks-nowhere, cut}
-use Rattle.svn_dump.proofs.line.split_at_byte.Goals as goal
+use Rattle.svn_dump.proofs.cut.split_at_byte.Goals as goal
 
 pub returns-in-None : goal.returns-in-None
 returns-in-None c = Lacks-nowhere c.args.byte c.args.bytes.now c.in-None.ensures
