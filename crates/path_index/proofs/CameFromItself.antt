@@ -1,8 +1,8 @@
 -- A path came from itself in the revision before exactly where it stood there at the same path.
 use Rattle.std.proofs.Common.{◌≡◌, ℕ, suc, ◌+◌, ◌==◌, Bool, true, List, Option, None, Some, refl, sym, ap, ◌∙◌, arith, true≢false}
 use Rattle.std.proofs.lemmas.Bool.{eqb-true, and_parts, and_from, eq-eqb}
-use Rattle.svn_path.specs.Below.{IsSame, same_path}
-use Rattle.svn_path.proofs.Belows.{IsSame-same_path, same_path-is}
+use Rattle.svn_path.specs.Below.{same_path}
+use Rattle.svn_path.proofs.Belows.{IsSame, IsSame-same_path, same_path-is}
 use Rattle.svn_dump.specs.Location.{origin_of, location}
 use Rattle.svn_dump.specs.Tree.{Tree}
 use Rattle.svn_dump.proofs.Locations.{location_here, location_at_origin, origin_stays}

@@ -3,10 +3,10 @@ use Rattle.std.proofs.Common.{◌≡◌, ℕ, zero, suc, ◌+◌, ◌-◌, ◌==
 use Rattle.std.proofs.lemmas.List.Elements.{filter_agree}
 use Rattle.svn_dump.specs.History.{Record, History, rename_record, rename_history}
 use Rattle.svn_dump.specs.Location.{origin_of, location}
-use Rattle.svn_dump.specs.Tree.{Tree, is_there, tree_of, rename_tree}
+use Rattle.svn_dump.specs.Tree.{Tree, is_there, tree_of}
 use Rattle.svn_dump.proofs.Renaming.Locations.{origin_of-rename, location-rename}
 use Rattle.svn_dump.proofs.Renaming.Paths.{KeepsSame, is_below-rename, same_path-rename}
-use Rattle.svn_dump.proofs.Renaming.Trees.{rename_origin, tree_of-rename, is_there-rename}
+use Rattle.svn_dump.proofs.Renaming.Trees.{rename_tree, rename_origin, tree_of-rename, is_there-rename}
 use Rattle.path_index.specs.Operative.{names_below, came_from_itself, records_in, is_operative, down_from, operative_in, operative_from, operative_of, hit_at}
 use Rattle.path_index.specs.Segment.{Segment, rename_segment, same_place, with_place, segments_up_to, segments_of}
 

@@ -1,10 +1,9 @@
 -- Each segment of a path is just below the one before, with the path at one place in it and at another before it.
 use Rattle.std.proofs.Common.{◌≡◌, ◌≢◌, ℕ, zero, suc, ◌+◌, ◌<◌, Bool, true, false, if◌then◌else◌, List, [], ◌∷◌, Option, None, Some, inl, inr, refl, sym, ap, subst, ◌∙◌, arith, true≢false}
 use Rattle.std.proofs.lemmas.Bool.{cases_order}
-use Rattle.svn_path.specs.Below.{IsSame}
 use Rattle.svn_path.specs.Path.{same_name}
 use Rattle.svn_path.specs.declared.names.NameId.{NameId}
-use Rattle.svn_path.proofs.Belows.{IsSame-same_name}
+use Rattle.svn_path.proofs.Belows.{IsSame, IsSame-same_name}
 use Rattle.svn_dump.specs.Location.{location}
 use Rattle.svn_dump.specs.declared.record.NodeRecord.{NodeRecord}
 use Rattle.path_index.specs.History.{trees_to}

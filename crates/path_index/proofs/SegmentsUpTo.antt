@@ -1,8 +1,7 @@
 -- The segments of the places in some revisions.
 use Rattle.std.proofs.Common.{◌≡◌, ◌≢◌, ℕ, zero, suc, ◌<◌, ◌≤◌, Bool, true, false, if◌then◌else◌, List, [], ◌∷◌, Option, None, Some, refl, sym, ap, ◌∙◌, arith, true≢false, inl, inr}
 use Rattle.std.proofs.lemmas.Bool.{cases_lt, cond_both}
-use Rattle.svn_path.specs.Below.{IsSame}
-use Rattle.svn_path.proofs.Belows.{IsSame-same_path, same_path-is}
+use Rattle.svn_path.proofs.Belows.{IsSame, IsSame-same_path, same_path-is}
 use Rattle.path_index.specs.Segment.{Segment, same_place, with_place, segments_up_to}
 
 abbrev segment_from : {C : Type 0} → ℕ → ℕ → Option (List C) → Segment C

@@ -16,12 +16,12 @@ use Rattle.svn_path.proofs.Tables.{bytes_eq-name_of, bytes_eq-unknown}
 use Rattle.svn_dump.specs.Dump.{DumpValue, IsDump, history_view, history_in_bytes, record_view, text_of}
 use Rattle.svn_dump.specs.Fault.{first_fault}
 use Rattle.svn_dump.specs.Location.{location}
-use Rattle.svn_dump.specs.Tree.{is_there, tree_of, trees_of, rename_tree}
+use Rattle.svn_dump.specs.Tree.{is_there, tree_of, trees_of}
 use Rattle.svn_dump.specs.declared.record.ValueId.{ValueId}
 use Rattle.svn_dump.proofs.FirstRevisions.{is_there-take, location-take}
 use Rattle.svn_dump.proofs.Grouped.{length-records_by_revision}
 use Rattle.svn_dump.proofs.Revisions.{length-trees_of}
-use Rattle.svn_dump.proofs.Renaming.Trees.{trees_of-rename, tree_of-rename, is_there-rename, tree_of_unnamed}
+use Rattle.svn_dump.proofs.Renaming.Trees.{rename_tree, trees_of-rename, tree_of-rename, is_there-rename, tree_of_unnamed}
 use Rattle.svn_dump.proofs.Renaming.Faults.{first_fault-rename}
 use Rattle.svn_dump.proofs.Renaming.Locations.{location-rename}
 use Rattle.query_answer.specs.Answer.{IsPlaceOf}

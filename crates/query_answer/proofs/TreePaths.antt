@@ -12,10 +12,10 @@ use Rattle.svn_dump.specs.declared.record.Act.TheVariants as act
 use Rattle.svn_dump.proofs.Locations.{not_past}
 use Rattle.svn_dump.proofs.Revisions.{each_tree_push}
 use Rattle.svn_dump.proofs.Trees.{entry_from, settled_entry}
-use Rattle.svn_path.specs.Below.{IsSame, below, same_path}
+use Rattle.svn_path.specs.Below.{below, same_path}
 use Rattle.svn_path.specs.Path.{same_name, IsPathOf}
 use Rattle.svn_path.specs.declared.names.NameId.{NameId}
-use Rattle.svn_path.proofs.Belows.{IsSame-same_name, same_path-is}
+use Rattle.svn_path.proofs.Belows.{IsSame, IsSame-same_name, same_path-is}
 use Rattle.query_answer.specs.TreeOfNumbers.{TreeOfNumbers, SameTrees}
 use Rattle.query_answer.proofs.TreeReads.{All-filter_map}
 use Rattle.query_answer.proofs.TreeSame.{location-same}

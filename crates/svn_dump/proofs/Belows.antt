@@ -1,8 +1,8 @@
 -- Paths that are the same, and paths at or under another, under a test that decides equality.
 use Rattle.std.proofs.Common.{◌≡◌, Bool, false, List, [], ◌∷◌, ◌++◌, None, Some, option_and_then, append-nil, refl, sym, ap, ◌∙◌, arith}
 use Rattle.std.specs.Option.{option_map_or}
-use Rattle.svn_path.specs.Below.{IsSame, below, same_path}
-use Rattle.svn_path.proofs.Belows.{IsSame-same_path, append-from_below, below-append, same_path-is}
+use Rattle.svn_path.specs.Below.{below, same_path}
+use Rattle.svn_path.proofs.Belows.{IsSame, IsSame-same_path, append-from_below, below-append, same_path-is}
 
 -- what is under a path that goes on, in two steps
 pub below-append_front : {C : Type 0} (same : C → C → Bool) (front more path : List C)

@@ -93,12 +93,3 @@ with_revision same trees records = trees ++ end_tree same trees records ∷ []
 -- the trees of all revisions, revision 0 first
 unfoldable pub trees_of : {C M : Type 0} → (C → C → Bool) → History C M → List (Tree C M)
 trees_of same history = fold (with_revision same) [] history
-
--- ---- renaming
-
-abbrev pub rename_entry : {C D M N : Type 0} → (C → D) → (M → N) → Entry C M → Entry D N
-rename_entry name text each =
-    record { kind = each.kind; mergeinfo = option_map text each.mergeinfo; origin = option_map (λ o. (map name o.0, o.1)) each.origin }
-
-abbrev pub rename_tree : {C D M N : Type 0} → (C → D) → (M → N) → Tree C M → Tree D N
-rename_tree name text tree = map (λ each. (map name each.0, rename_entry name text each.1)) tree

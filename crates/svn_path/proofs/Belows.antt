@@ -7,9 +7,18 @@ use Rattle.std.proofs.lemmas.List.Prefix.{front_rest}
 use Rattle.std.proofs.lemmas.Slice.Eq.{bytes_eq-Decides}
 use Rattle.std.specs.Bool.{Decides}
 use Rattle.std.specs.List.{starts_with}
-use Rattle.svn_path.specs.Below.{IsSame, Renames, below, is_below, same_path, parent_of}
+use Rattle.svn_path.specs.Below.{below, is_below, same_path, parent_of}
 use Rattle.svn_path.specs.Path.{same_name}
 use Rattle.svn_path.specs.declared.names.NameId.{NameId}
+
+-- a test of components is their equality
+pub record IsSame {C : Type 0} (same : C → C → Bool) : Type 0 where
+  pub true_is : (a b : C) → same a b ≡ true → a ≡ b
+  pub itself : (a : C) → same a a ≡ true
+
+-- a renaming of components keeps which are the same
+pub record Renames {C D : Type 0} (same : C → C → Bool) (same_renamed : D → D → Bool) (rename : C → D) : Type 0 where
+  pub agrees : (a b : C) → same_renamed (rename a) (rename b) ≡ same a b
 
 -- ---- a path under another
 

@@ -9,7 +9,7 @@ use Rattle.std.proofs.lemmas.List.Folds.{list_any_at, list_any-append, Any-from_
 use Rattle.std.proofs.lemmas.Map.Keys.{IsDistinct-push, apart_from_distinct}
 use Rattle.std.proofs.lemmas.Slice.Eq.{bytes_eq-Decides}
 use Rattle.std.specs.List.{list_any, IsDistinct}
-use Rattle.svn_path.specs.Below.{Renames}
+use Rattle.svn_path.proofs.Belows.{Renames}
 use Rattle.svn_path.specs.Components.{IsComponent}
 use Rattle.svn_path.specs.Names.{most_names, has_name, with_name, with_names, name_of, IsTable}
 use Rattle.svn_path.specs.Path.{same_name, IsPathOf, components_of, HasUnknown}

@@ -1,11 +1,6 @@
 -- One path at or under another (Subversion book, "Tracing the history of a moved item": a copy takes along
 -- all that stands at its source or below it).
-use Rattle.std.specs.Prelude.{◌≡◌, Bool, true, false, List, [], ◌∷◌, Option, Some, None, is_some, if◌then◌else◌}
-
--- a test of components is their equality
-pub record IsSame {C : Type 0} (same : C → C → Bool) : Type 0 where
-  pub true_is : (a b : C) → same a b ≡ true → a ≡ b
-  pub itself : (a : C) → same a a ≡ true
+use Rattle.std.specs.Prelude.{Bool, true, false, List, [], ◌∷◌, Option, Some, None, is_some, if◌then◌else◌}
 
 -- what is left of a path that stands at the front or under it
 abbrev pub below : {C : Type 0} → (C → C → Bool) → List C → List C → Option (List C)
@@ -28,7 +23,3 @@ abbrev pub parent_of : {C : Type 0} → List C → Option (List C)
 parent_of [] = None
 parent_of (c ∷ []) = Some []
 parent_of (c ∷ d ∷ path) = elim (parent_of (d ∷ path)) [ None ↦ None | Some above ↦ Some (c ∷ above) ]
-
--- a renaming of components keeps which are the same
-pub record Renames {C D : Type 0} (same : C → C → Bool) (same_renamed : D → D → Bool) (rename : C → D) : Type 0 where
-  pub agrees : (a b : C) → same_renamed (rename a) (rename b) ≡ same a b

@@ -5,9 +5,9 @@ use Rattle.std.specs.Option.{option_or}
 use Rattle.svn_path.specs.Below.{parent_of}
 use Rattle.svn_dump.specs.Fault.{no_source, is_dir, has_parent, fault_if_missing, fault_of_place, fault_of_target, fault_of_source, fault_of, first_fault_in, first_fault_from, first_fault}
 use Rattle.svn_dump.specs.History.{Action, delete, change, add, copy, Record, History, rename_action, rename_record, rename_history}
-use Rattle.svn_dump.specs.Tree.{Tree, Entry, entry_at, is_there, tree_of, tree_after_record, start_tree, with_revision, rename_entry, rename_tree}
+use Rattle.svn_dump.specs.Tree.{Tree, Entry, entry_at, is_there, tree_of, tree_after_record, start_tree, with_revision}
 use Rattle.svn_dump.proofs.Renaming.Paths.{KeepsSame, parent_of-rename}
-use Rattle.svn_dump.proofs.Renaming.Trees.{tree_of-rename, start_tree-rename, entry_at-rename, is_there-rename, apply-rename, with_revision-rename}
+use Rattle.svn_dump.proofs.Renaming.Trees.{rename_entry, rename_tree, tree_of-rename, start_tree-rename, entry_at-rename, is_there-rename, apply-rename, with_revision-rename}
 
 module _ {C D M N : Type 0} (name : C → D) (text : M → N) (sameC : C → C → Bool) (sameD : D → D → Bool) (alike : KeepsSame name sameC sameD) where
   is_dir-rename : (o : Option (Entry C M)) → is_dir (option_map (rename_entry name text) o) ≡ is_dir o

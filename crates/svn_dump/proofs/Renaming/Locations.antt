@@ -1,10 +1,10 @@
 -- The origins and locations in a renamed history.
 use Rattle.std.proofs.Common.{◌≡◌, ℕ, zero, suc, ◌==◌, nat_lt, Bool, true, false, if◌then◌else◌, List, Option, None, Some, Contains, option_map, option_and_then, map, refl, ap, ◌∙◌, arith}
 use Rattle.svn_dump.specs.Location.{origin_of, location_within, location}
-use Rattle.svn_dump.specs.Tree.{Tree, Entry, entry_at, tree_of, rename_entry, rename_tree}
+use Rattle.svn_dump.specs.Tree.{Tree, Entry, entry_at, tree_of}
 use Rattle.svn_dump.proofs.Locations.{step_back}
 use Rattle.svn_dump.proofs.Renaming.Paths.{KeepsSame}
-use Rattle.svn_dump.proofs.Renaming.Trees.{rename_origin, tree_of-rename, entry_at-rename, tree_of_unnamed}
+use Rattle.svn_dump.proofs.Renaming.Trees.{rename_entry, rename_tree, rename_origin, tree_of-rename, entry_at-rename, tree_of_unnamed}
 
 if_map : {A B : Type 0} (f : A → B) (b : Bool) (x y : Option A) → (if b then option_map f x else option_map f y) ≡ option_map f (if b then x else y)
 if_map f true x y = refl

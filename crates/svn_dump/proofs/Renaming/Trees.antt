@@ -4,9 +4,18 @@ use Rattle.std.proofs.lemmas.List.{map-append, length-map}
 use Rattle.std.specs.List.{cons_option}
 use Rattle.svn_path.specs.Below.{below, same_path}
 use Rattle.svn_dump.specs.History.{Setting, keep, put, Action, delete, change, add, copy, Record, History, rename_setting, rename_action, rename_record, rename_history}
-use Rattle.svn_dump.specs.Tree.{Tree, Entry, entry_at, is_there, mergeinfo_after, tree_without, tree_with_mergeinfo, entry_of_copy, tree_of, tree_after_action, tree_after_record, tree_from_revision, start_tree, end_tree, with_revision, trees_of, rename_entry, rename_tree}
+use Rattle.svn_dump.specs.Tree.{Tree, Entry, entry_at, is_there, mergeinfo_after, tree_without, tree_with_mergeinfo, entry_of_copy, tree_of, tree_after_action, tree_after_record, tree_from_revision, start_tree, end_tree, with_revision, trees_of}
 use Rattle.svn_dump.proofs.Renaming.Paths.{KeepsSame, below-rename, is_below-rename, same_path-rename, same_path_unnamed}
 use Rattle.svn_dump.proofs.Trees.{settled_entry, entry_from}
+
+-- ---- the renamed tree
+
+abbrev pub rename_entry : {C D M N : Type 0} → (C → D) → (M → N) → Entry C M → Entry D N
+rename_entry name text each =
+    record { kind = each.kind; mergeinfo = option_map text each.mergeinfo; origin = option_map (λ o. (map name o.0, o.1)) each.origin }
+
+abbrev pub rename_tree : {C D M N : Type 0} → (C → D) → (M → N) → Tree C M → Tree D N
+rename_tree name text tree = map (λ each. (map name each.0, rename_entry name text each.1)) tree
 
 -- the tree of a revision is renamed
 pub tree_of-rename : {C D M N : Type 0} (name : C → D) (text : M → N) (trees : List (Tree C M)) (rev : ℕ)
