@@ -1,13 +1,12 @@
 -- What a line asks, by the cuts of the line.
-use Rattle.std.proofs.Common.{◌≡◌, ℕ, ◌==◌, Bool, List, [], ◌∷◌, Option, None, option_map, refl, sym, ap, ◌∙◌, inl, inr}
+use Rattle.std.proofs.Common.{◌≡◌, ℕ, ◌==◌, Bool, List, [], ◌∷◌, Option, None, option_map, slice_index_or, refl, sym, ap, ◌∙◌, inl, inr}
 use Rattle.std.proofs.lemmas.Bool.{cases_Bool, false_from_ne_true}
 use Rattle.std.specs.List.{slice_split}
 use Rattle.svn_path.specs.Components.{HasDot}
 use Rattle.svn_dump.specs.Number.{number_up_to, greatest_revision}
-use Rattle.svn_dump.specs.Cut.{Lacks}
 use Rattle.svn_dump.proofs.Lines.{list_any-Lacks}
-use Rattle.svn_dump.specs.Cut.{IsCutAtLast}
-use Rattle.query_answer.specs.Query.{bad, query_of, query_of_fields, query_of_peg, query_of_revision, read_peg}
+use Rattle.svn_dump.specs.Cut.{IsCutAtLast, Lacks}
+use Rattle.query_answer.specs.Query.{bad, peg_field, query_of, query_of_fields, query_of_peg, query_of_revision, read_peg}
 use Rattle.svn_dump.proofs.Cuts.{CutsFirst, slice_split-cut, slice_split-uncut, list_any-cut, before_last-cut, after_last-cut}
 
 -- the parts of bytes are never none
@@ -47,6 +46,14 @@ query_of-two line verb peg cut none = ap query_of_fields (two_fields line verb p
 pub query_of-three : (line verb rest peg rev : List ℕ) → CutsFirst 9 line verb rest → CutsFirst 9 rest peg rev → Lacks 9 rev → query_of line ≡ query_of_revision verb peg rev
 query_of-three line verb rest peg rev cut again none =
     ap query_of_fields (slice_split-cut 9 line verb rest cut ∙ ap (λ more. verb ∷ more) (two_fields rest peg rev again none))
+
+-- the second field of a line with one tab and with two
+pub peg_field-two : (line verb peg : List ℕ) → CutsFirst 9 line verb peg → Lacks 9 peg → peg_field line ≡ peg
+peg_field-two line verb peg cut none = ap (λ fields. slice_index_or fields 1 []) (two_fields line verb peg cut none)
+
+pub peg_field-three : (line verb rest peg rev : List ℕ) → CutsFirst 9 line verb rest → CutsFirst 9 rest peg rev → Lacks 9 rev → peg_field line ≡ peg
+peg_field-three line verb rest peg rev cut again none =
+    ap (λ fields. slice_index_or fields 1 []) (slice_split-cut 9 line verb rest cut ∙ ap (λ more. verb ∷ more) (two_fields rest peg rev again none))
 
 -- a line with more
 pub query_of-four : (line verb rest peg more rev last : List ℕ) → CutsFirst 9 line verb rest → CutsFirst 9 rest peg more → CutsFirst 9 more rev last → query_of line ≡ bad

@@ -1,5 +1,5 @@
 -- What a query line asks. Pegs are those of Subversion (Subversion book, "Peg and operative revisions").
-use Rattle.std.specs.Prelude.{ℕ, ◌==◌, Bool, List, [], ◌∷◌, Option, Some, None, codes, bytes_eq, option_map, option_and_then, if◌then◌else◌}
+use Rattle.std.specs.Prelude.{◌≡◌, ℕ, ◌==◌, Bool, List, [], ◌∷◌, Option, Some, None, codes, bytes_eq, option_map, option_and_then, slice_index_or, if◌then◌else◌}
 use Rattle.std.specs.List.{list_any, before_last, after_last, slice_split}
 use Rattle.svn_path.specs.Components.{parts_of, is_dot}
 use Rattle.svn_dump.specs.Number.{number_up_to, greatest_revision}
@@ -72,10 +72,21 @@ query_of line = query_of_fields (slice_split is_tab line)
 
 -- ---- what is kept of a query, whose paths are still bytes
 
-abbrev pub peg_view : KeptPeg → List ℕ × ℕ
-peg_view peg = (peg.path.now, peg.rev)
+-- the peg that the bytes name, if none of their components is `.` or `..`
+abbrev pub peg_view : KeptPeg → Option Peg
+peg_view peg = peg_at peg.path.now peg.rev
 
--- the bytes of a field's path, none of whose components is `.` or `..`, and its revision
+abbrev pub query_view : KeptQuery → Query
+query_view Bad = bad
+query_view (Locate of rev) = query_or_bad (option_map (λ peg. locate peg rev) (peg_view of))
+query_view (Segments of) = query_or_bad (option_map segments (peg_view of))
+query_view (Log of) = query_or_bad (option_map log (peg_view of))
+
+-- the bytes of a path and its revision
+abbrev pub raw_peg : KeptPeg → List ℕ × ℕ
+raw_peg peg = (peg.path.now, peg.rev)
+
+-- those of a field with a path none of whose components is `.` or `..`
 abbrev pub read_peg : List ℕ → Option (List ℕ × ℕ)
 read_peg field =
     if list_any is_at_sign field
@@ -83,11 +94,13 @@ read_peg field =
     else option_map (λ rev. (before_last is_at_sign field, rev)) (number_up_to greatest_revision (after_last is_at_sign field)))
     else None
 
-abbrev pub kept_peg : KeptPeg → Option Peg
-kept_peg peg = peg_at peg.path.now peg.rev
+-- the query's peg, if it has one, is read from the field
+abbrev pub HasPegOf : List ℕ → KeptQuery → Type 0
+HasPegOf field Bad = Unit {0}
+HasPegOf field (Locate of rev) = Some (raw_peg of) ≡ read_peg field
+HasPegOf field (Segments of) = Some (raw_peg of) ≡ read_peg field
+HasPegOf field (Log of) = Some (raw_peg of) ≡ read_peg field
 
-abbrev pub query_view : KeptQuery → Query
-query_view Bad = bad
-query_view (Locate of rev) = query_or_bad (option_map (λ peg. locate peg rev) (kept_peg of))
-query_view (Segments of) = query_or_bad (option_map segments (kept_peg of))
-query_view (Log of) = query_or_bad (option_map log (kept_peg of))
+-- the second field of a line
+abbrev pub peg_field : List ℕ → List ℕ
+peg_field line = slice_index_or (slice_split is_tab line) 1 []

@@ -7,7 +7,7 @@ use Rattle.svn_dump.specs.Dump.{DumpValue, IsDump, history_in_bytes, history_vie
 use Rattle.svn_dump.specs.Fault.{first_fault}
 use Rattle.svn_dump.specs.Tree.{trees_of}
 use Rattle.query_answer.specs.Answer.{Answer, TreesOfBytes, answer_about, answer_of, locate_lines, log_lines, refused_answer, segments_lines}
-use Rattle.query_answer.specs.Query.{Peg, Query, kept_peg}
+use Rattle.query_answer.specs.Query.{Peg, Query, peg_view}
 use Rattle.query_answer.specs.TreeOfNumbers.{TreeOfNumbers, SameTrees}
 use Rattle.query_answer.specs.declared.query.Peg.{Peg as KeptPeg}
 use Rattle.query_answer.specs.declared.status.Status.{Status}
@@ -34,7 +34,7 @@ answer_by dump query = answer_of (history_in_bytes dump) (trees_in_bytes dump) q
 
 -- the answer about a peg, given the result lines for its path and its revision
 abbrev pub answer_from : DumpValue → KeptPeg → (Peg → List (List ℕ)) → Answer
-answer_from dump peg lines = answer_about (trees_in_bytes dump) (kept_peg peg) lines
+answer_from dump peg lines = answer_about (trees_in_bytes dump) (peg_view peg) lines
 
 abbrev pub locate_answer : DumpValue → KeptPeg → ℕ → Answer
 locate_answer dump peg rev = answer_from dump peg (locate_lines (trees_in_bytes dump) rev)

@@ -1,6 +1,6 @@
 //! Query lines.
 ghost use Rattle.std.specs.Prelude.{◌≡◌, option_map};
-ghost use Rattle.query_answer.specs.Query.{peg_view, query_of, query_of_peg, query_of_revision, query_view, read_peg};
+ghost use Rattle.query_answer.specs.Query.{HasPegOf, peg_field, query_of, query_of_peg, query_of_revision, query_view, raw_peg, read_peg};
 
 use svn_dump::{GREATEST_REVISION, number_up_to, split_at_byte, split_at_last};
 use svn_path::has_dot;
@@ -28,7 +28,7 @@ pub enum Query<'a> {
 impl<'a> Peg<'a> {
     /// The path before the last `@` of a field, and the revision after it.
     fn read(field: &'a [u8]) -> Option<Self>
-        ensures { option_map peg_view result ≡ read_peg field.now }
+        ensures { option_map raw_peg result ≡ read_peg field.now }
     {
         let (path, rev) = split_at_last(b'@', field)?;
         if has_dot(path) {
@@ -42,7 +42,8 @@ impl<'a> Peg<'a> {
 impl<'a> Query<'a> {
     /// What a line asks. A newline is a byte like any other.
     pub fn read(line: &'a [u8]) -> Self
-        ensures { query_view result ≡ query_of line.now }
+        ensures query { query_view result ≡ query_of line.now }
+        ensures peg { HasPegOf (peg_field line.now) result }
     {
         let Some((verb, rest)) = split_at_byte(b'\t', line) else {
             return Query::Bad;
@@ -58,7 +59,8 @@ impl<'a> Query<'a> {
 
     /// What a verb and a peg ask.
     fn of_peg(verb: &[u8], peg: &'a [u8]) -> Self
-        ensures { query_view result ≡ query_of_peg verb.now peg.now }
+        ensures query { query_view result ≡ query_of_peg verb.now peg.now }
+        ensures peg { HasPegOf peg.now result }
     {
         let Some(of) = Peg::read(peg) else {
             return Query::Bad;
@@ -74,7 +76,8 @@ impl<'a> Query<'a> {
 
     /// What a verb, a peg and a revision ask.
     fn of_revision(verb: &[u8], peg: &'a [u8], rev: &[u8]) -> Self
-        ensures { query_view result ≡ query_of_revision verb.now peg.now rev.now }
+        ensures query { query_view result ≡ query_of_revision verb.now peg.now rev.now }
+        ensures peg { HasPegOf peg.now result }
     {
         if verb != b"locate".as_slice() {
             return Query::Bad;

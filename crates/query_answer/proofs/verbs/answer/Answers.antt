@@ -1,4 +1,4 @@
-use Rattle.query_answer.specs.Query.{kept_peg}
+use Rattle.query_answer.specs.Query.{peg_view}
 use Rattle.query_answer.specs.Repo.{trees_in_bytes}
 use Rattle.query_answer.specs.declared.status.Status.TheVariants as status
 use Rattle.svn_dump.specs.Dump.{history_in_bytes}
@@ -11,12 +11,12 @@ returns-in-Bad c =
 
 pub returns-in-Locate : goal.returns-in-Locate
 returns-in-Locate c =
-    rw (c.in-Locate.is, answer_of-locate (history_in_bytes c.args.repo.now) (trees_in_bytes c.args.repo.now) (kept_peg c.in-Locate.of) c.in-Locate.rev) c.answer_locate.ensures
+    rw (c.in-Locate.is, answer_of-locate (history_in_bytes c.args.repo.now) (trees_in_bytes c.args.repo.now) (peg_view c.in-Locate.of) c.in-Locate.rev) c.answer_locate.ensures
 
 pub returns-in-Segments : goal.returns-in-Segments
 returns-in-Segments c =
-    rw (c.in-Segments.is, answer_of-segments (history_in_bytes c.args.repo.now) (trees_in_bytes c.args.repo.now) (kept_peg c.in-Segments.of)) c.answer_segments.ensures
+    rw (c.in-Segments.is, answer_of-segments (history_in_bytes c.args.repo.now) (trees_in_bytes c.args.repo.now) (peg_view c.in-Segments.of)) c.answer_segments.ensures
 
 pub returns-in-Log : goal.returns-in-Log
 returns-in-Log c =
-    rw (c.in-Log.is, answer_of-log (history_in_bytes c.args.repo.now) (trees_in_bytes c.args.repo.now) (kept_peg c.in-Log.of)) c.answer_log.ensures
+    rw (c.in-Log.is, answer_of-log (history_in_bytes c.args.repo.now) (trees_in_bytes c.args.repo.now) (peg_view c.in-Log.of)) c.answer_log.ensures
