@@ -1,5 +1,5 @@
 -- What the status of a run says of its input, and which line is printed with it.
-use Rattle.std.proofs.Common.{◌≡◌, ℕ, List, inl, inr, sym, subst, ◌∙◌, arith}
+use Rattle.std.proofs.Common.{◌≡◌, ℕ, List, [], inl, inr, refl, sym, subst, ◌∙◌, arith}
 use Rattle.svn_dump.specs.declared.error.DumpError.TheVariants as refusal
 use Rattle.svnhist.specs.Device.{PullState, PushState}
 use Rattle.svnhist.specs.Load.{IsLoadError, IsReadError}
@@ -49,7 +49,7 @@ module _ (old new : PushState) where
   -- an error of a run on files, or that memory ran out for its line
   pub IsRefusedFilesRun-refusal : (error : RunError) (status : ℕ) → IsFilesError error → IsErrorLine status error old new → IsRefusedFilesRun status old new
   IsRefusedFilesRun-refusal error status files (inl (same, line)) = record { error = error; files = files; same = same; line = line }
-  IsRefusedFilesRun-refusal error status files (inr (memory, line)) = record { error = run.Memory; files = tt; same = memory; line = line }
+  IsRefusedFilesRun-refusal error status files (inr (memory, line)) = record { error = run.Memory; files = inr ([], [], tt); same = memory; line = line }
 
 module _ (input_old input_new : PullState) (old new : PushState) where
   -- status 1 is that of an input that was read and is refused
@@ -85,20 +85,13 @@ module _ (input_old input_new : PullState) (old new : PushState) where
 
 -- a source that is a file's
 pub IsFilesError-load : (which : Source) (error : RunError) → (which ≡ source.Input → ⊥) → IsLoadError which error → IsFilesError error
-IsFilesError-load which run.TooMany file wrong = tt
+IsFilesError-load which run.TooMany file wrong = absurd wrong
 IsFilesError-load which (run.Dump refused) file wrong = absurd wrong
-IsFilesError-load which (run.Fault fault) file wrong = tt
-IsFilesError-load which (run.Read source.Dump) file wrong = tt
-IsFilesError-load which (run.Read source.Queries) file wrong = tt
-IsFilesError-load which (run.Read source.Input) file wrong = file (sym wrong)
-IsFilesError-load which run.Memory file wrong = tt
+IsFilesError-load which (run.Fault fault) file wrong = absurd wrong
+IsFilesError-load which (run.Read source.Dump) file wrong = inl (inl refl)
+IsFilesError-load which (run.Read source.Queries) file wrong = inl (inr refl)
+IsFilesError-load which (run.Read source.Input) file wrong = absurd (file (sym wrong))
+IsFilesError-load which run.Memory file wrong = inr ([], [], tt)
 
 pub IsFilesError-run : (dump queries : List ℕ) (error : RunError) → IsRunError dump queries error → IsFilesError error
-IsFilesError-run dump queries run.TooMany wrong = tt
-IsFilesError-run dump queries (run.Dump (refusal.Refused number at)) wrong = tt
-IsFilesError-run dump queries (run.Dump refusal.Memory) wrong = wrong
-IsFilesError-run dump queries (run.Fault fault) wrong = tt
-IsFilesError-run dump queries (run.Read source.Dump) wrong = tt
-IsFilesError-run dump queries (run.Read source.Queries) wrong = tt
-IsFilesError-run dump queries (run.Read source.Input) wrong = wrong
-IsFilesError-run dump queries run.Memory wrong = tt
+IsFilesError-run dump queries error wrong = inr (dump, queries, wrong)

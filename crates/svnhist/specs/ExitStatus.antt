@@ -1,8 +1,7 @@
 -- What each exit status of the program says of its input, of its output and of its line on standard error.
-use Rattle.std.specs.Prelude.{◌≡◌, ◌⊎◌, ℕ, ◌<◌, IsFalse, IsTrue, List, Option, Some, None, Vec, take}
+use Rattle.std.specs.Prelude.{◌≡◌, ◌⊎◌, ℕ, ◌+◌, ◌<◌, IsFalse, IsTrue, List, Option, Some, None, Vec, take}
 use Rattle.std.specs.Io.KnownBytes.{Appends, Consumes, IsAtEnd}
 use Rattle.std.specs.declared.alloc.Global.{Global}
-use Rattle.svn_dump.specs.declared.error.DumpError.TheVariants.{Refused, Memory as RefusedMemory}
 use Rattle.svnhist.specs.Bundle.{BundleValue, IsBundle}
 use Rattle.svnhist.specs.Device.{PullState, PushState}
 use Rattle.svnhist.specs.Load.{IsLoadError, IsUnread}
@@ -10,7 +9,7 @@ use Rattle.svnhist.specs.Report.{IsReport}
 use Rattle.svnhist.specs.ReportError.{IsRunError}
 use Rattle.svnhist.specs.RunError.{line_of, status_of, unsent_line, usage_line}
 use Rattle.svnhist.specs.declared.run_error.RunError.{RunError}
-use Rattle.svnhist.specs.declared.run_error.RunError.TheVariants.{TooMany, Dump, Fault as Faulty, Read, Memory}
+use Rattle.svnhist.specs.declared.run_error.RunError.TheVariants.{Read, Memory}
 use Rattle.svnhist.specs.declared.run_error.Source.TheVariants.{Dump as DumpFile, Queries, Input}
 
 -- ---- what was read
@@ -19,6 +18,7 @@ use Rattle.svnhist.specs.declared.run_error.Source.TheVariants.{Dump as DumpFile
 pub record IsReadWhole (old new : PullState) (bytes : List ℕ) : Type 0 where
   pub read : Consumes old.left new.left bytes
   pub end : IsAtEnd new.left
+  pub ends : new.ends ≡ old.ends + 1
   pub sound : IsFalse new.has_failed
 
 -- the report on the bundle that the bytes are, or none where they are no bundle
@@ -40,16 +40,16 @@ IsInputError old new error = IsLoadError Input error ⊎ ((bytes : List ℕ) × 
 
 -- ---- what went out
 
--- a line went out and was flushed, unless the device has failed
-abbrev pub PrintsLine : PushState → PushState → List ℕ → Type 0
-PrintsLine old new line = IsTrue new.has_failed ⊎ (Appends old.gone new.gone line × IsTrue new.is_flushed)
-
 -- some front of the bytes went out, before the device failed
 pub record IsCutAfter (old new : PushState) (bytes : List ℕ) : Type 0 where
   pub count : ℕ
   pub sent : Appends old.gone new.gone (take count bytes)
   pub failed : IsTrue new.has_failed
   pub called : old.calls < new.calls
+
+-- a line went out and was flushed, or a front of it did before the device failed
+abbrev pub PrintsLine : PushState → PushState → List ℕ → Type 0
+PrintsLine old new line = IsCutAfter old new line ⊎ (Appends old.gone new.gone line × IsTrue new.is_flushed)
 
 -- the line of an error was printed and its status answered; or memory for the line ran out, and that was
 abbrev pub IsErrorLine : ℕ → RunError → PushState → PushState → Type 0
@@ -133,16 +133,13 @@ abbrev pub IsFailedFilesRun : PushState → PushState → PushState → PushStat
 IsFailedFilesRun output_old output_new errors_old errors_new =
     IsCutFilesRun output_old output_new errors_old errors_new ⊎ (output_new ≡ output_old)
 
--- an error that a run on files can have: a file can't be read, or its bytes are refused
+-- one of the two files can't be read
+abbrev pub IsFileUnread : RunError → Type 0
+IsFileUnread error = (error ≡ Read DumpFile) ⊎ (error ≡ Read Queries)
+
+-- an error that a run on files can have: a file can't be read, or there is no report on the bytes of some files
 abbrev pub IsFilesError : RunError → Type 0
-IsFilesError TooMany = Unit {0}
-IsFilesError (Dump (Refused number at)) = Unit {0}
-IsFilesError (Dump RefusedMemory) = ⊥
-IsFilesError (Faulty fault) = Unit {0}
-IsFilesError (Read DumpFile) = Unit {0}
-IsFilesError (Read Queries) = Unit {0}
-IsFilesError (Read Input) = ⊥
-IsFilesError Memory = Unit {0}
+IsFilesError error = IsFileUnread error ⊎ ((dump queries : List ℕ) × IsRunError dump queries error)
 
 -- exit statuses 1, 3 and 4: nothing went out, and the line is that of an error of this status
 pub record IsRefusedFilesRun (status : ℕ) (errors_old errors_new : PushState) : Type 0 where

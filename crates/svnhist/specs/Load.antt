@@ -1,6 +1,5 @@
 -- How a run reports that an input could not be read.
-use Rattle.std.specs.Prelude.{◌≡◌, ◌⊎◌, ℕ, ◌+◌, ◌≤◌, IsTrue, List, Option, length}
-use Rattle.std.specs.Io.KnownBytes.{Consumes}
+use Rattle.std.specs.Prelude.{◌≡◌, ◌⊎◌, ℕ, ◌+◌, IsTrue}
 use Rattle.svnhist.specs.Device.{PullState}
 use Rattle.svnhist.specs.declared.run_error.RunError.{RunError}
 use Rattle.svnhist.specs.declared.run_error.RunError.TheVariants.{TooMany, Dump, Fault as Faulty, Read, Memory}
@@ -10,13 +9,10 @@ use Rattle.svnhist.specs.declared.run_error.Source.{Source}
 abbrev pub most_reads : ℕ
 most_reads = 4294967296
 
--- the bytes left were at least as many as the reads, so the end was not reached
-abbrev pub GivesMore : Option (List ℕ) → Option (List ℕ) → Type 0
-GivesMore old new = (bytes : List ℕ) × (most_reads ≤ length bytes) × Consumes old new bytes
-
--- an input was not read to its end: a call of it failed, or so many calls reached no end
-abbrev pub IsUnread : PullState → PullState → Type 0
-IsUnread old new = IsTrue new.has_failed ⊎ ((new.calls ≡ old.calls + most_reads) × GivesMore old.left new.left)
+-- an input was not read to its end: no call reached it, and one failed or so many were made
+pub record IsUnread (old new : PullState) : Type 0 where
+  pub no_end : new.ends ≡ old.ends
+  pub why : IsTrue new.has_failed ⊎ (new.calls ≡ old.calls + most_reads)
 
 -- a device that has failed had failed before
 abbrev pub FailsNoMore : PullState → PullState → Type 0

@@ -1,7 +1,7 @@
 //! Where bytes come from and where they go: two small traits, and std's readers and writers as both.
 ghost use Rattle.std.specs.Prelude.{◌≡◌, ◌+◌, ◌<◌, ◌≤◌, ◌↔◌, false, length, IfOk, OnOk, IsErr, IsFalse, IsTrue};
 ghost use Rattle.std.specs.Io.KnownBytes.{Keeps, ReadConsumes, WriteAppends};
-ghost use Rattle.svnhist.specs.Device.{PullState, PushState, failure_count, device_calls, device_has_failed, device_inner, device_is_flushed, pull_state, push_state};
+ghost use Rattle.svnhist.specs.Device.{PullState, PushState, end_count, failure_count, device_calls, device_ends, device_failures, device_has_failed, device_inner, device_is_flushed, pull_state, push_state};
 
 use crate::calls::Calls;
 use std::io::{Read, Write};
@@ -20,6 +20,7 @@ pub trait Pull {
         ensures bound { IfOk result (λ n. n ≤ length slice.new) }
         ensures bytes { ReadConsumes (state self.old).left (state self.new).left result slice.new }
         ensures counted { (state self.new).calls ≡ (state self.old).calls + 1 }
+        ensures ends { (state self.new).ends ≡ (state self.old).ends + end_count result }
         ensures failed { IsErr result ↔ IsTrue (state self.new).has_failed }
         ensures stays { IsTrue (state self.old).has_failed → IsTrue (state self.new).has_failed };
 }
@@ -56,6 +57,7 @@ pub struct Device<D> {
     failed: bool,
     flushed: bool,
     calls: Calls,
+    ends: Calls,
     failures: Calls,
 }
 
@@ -64,6 +66,8 @@ impl<D> Device<D> {
     pub fn new(inner: D) -> Self
         ensures inner { device_inner result ≡ inner }
         ensures calls { device_calls result ≡ 0 }
+        ensures ends { device_ends result ≡ 0 }
+        ensures failures { device_failures result ≡ 0 }
         ensures failed { device_has_failed result ≡ false }
         ensures flushed { device_is_flushed result ≡ false }
     {
@@ -72,6 +76,7 @@ impl<D> Device<D> {
             failed: false,
             flushed: false,
             calls: Calls::new(),
+            ends: Calls::new(),
             failures: Calls::new(),
         }
     }
@@ -86,6 +91,10 @@ impl<D: Read> Pull for Device<D> {
             return Err(Failed);
         }
         match self.inner.read(slice) {
+            Ok(0) => {
+                self.ends.add();
+                Ok(0)
+            }
             Ok(n) => Ok(n),
             Err(_) => {
                 self.failed = true;

@@ -21,10 +21,11 @@ const PIECE: usize = 65_536;
 pub fn load<P: Pull>(alloc: Global, input: &mut P, source: Source) -> Result<Vec<u8>, RunError>
     ensures bytes { IfOk result (λ bytes. Consumes (P.state input.old).left (P.state input.new).left bytes.items) }
     ensures end { OnOk result (IsAtEnd (P.state input.new).left) }
+    ensures ends { OnOk result ((P.state input.new).ends ≡ (P.state input.old).ends + 1) }
     ensures sound { OnOk result (IsFalse (P.state input.new).has_failed) }
     ensures error { IfErr result (IsLoadError source) }
 
-    // `Read` comes only where the device failed, or where the reads are used up and each gave some bytes.
+    // `Read` comes only where no call reached the end, and the device failed or the reads are used up.
     ensures unread { IfErr result (λ e. IsReadError e → IsUnread (P.state input.old) (P.state input.new)) }
     ensures memory { IsErrOf result RunError.Memory → FailsNoMore (P.state input.old) (P.state input.new) }
     ensures reads { (P.state input.new).calls ≤ (P.state input.old).calls + most_reads }
