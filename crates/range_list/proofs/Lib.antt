@@ -1,5 +1,7 @@
-mod Canonical
-mod Only
+pub mod Canonical
+pub mod Only
+pub mod Maximal
 mod Places
 mod Pushed
-mod Same
+pub mod Same
+mod Texts

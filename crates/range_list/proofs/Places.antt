@@ -21,17 +21,17 @@ pub IsPartitionedBy-hi : (runs : List Run) (n : ℕ) → IsCanonical runs → Is
 IsPartitionedBy-hi runs n canonical = IsPartitionedBy-ltb (λ run. run.hi) runs n (IsNonDecreasingBy-from_all_adjacent (λ run. run.hi) runs (ends_rise runs canonical))
 
 -- a list in which the number is not
-sort_of-out : (runs : List Run) (n : ℕ) → IsOut runs n → sort_of runs n ≡ None
+pub sort_of-out : (runs : List Run) (n : ℕ) → IsOut runs n → sort_of runs n ≡ None
 sort_of-out runs n out = ap (λ b. cond b (Some (is_inheritable runs n)) None) out.out
 
 -- a first run that has not the number
-sort_of-skip : (run : Run) (runs : List Run) (n : ℕ) → covers run n ≡ false → sort_of (run ∷ runs) n ≡ sort_of runs n
+pub sort_of-skip : (run : Run) (runs : List Run) (n : ℕ) → covers run n ≡ false → sort_of (run ∷ runs) n ≡ sort_of runs n
 sort_of-skip run runs n uncovered =
     ap (λ b. cond (b || is_in runs n) (Some (is_inheritable (run ∷ runs) n)) None) uncovered
     ∙ ap (λ b. cond (is_in runs n) (Some b) None) (and_or_false run.inheritable (covers run n) (is_inheritable runs n) uncovered)
 
 -- a number that no run but the first may have
-sort_of-first : (run : Run) (runs : List Run) (n : ℕ) → IsOut runs n → n ≤ run.hi → sort_of (run ∷ runs) n ≡ cond (leb run.lo n) (Some run.inheritable) None
+pub sort_of-first : (run : Run) (runs : List Run) (n : ℕ) → IsOut runs n → n ≤ run.hi → sort_of (run ∷ runs) n ≡ cond (leb run.lo n) (Some run.inheritable) None
 sort_of-first run runs n out to = elim (cases_lt n run.lo) [
   | inl below ↦ sort_of-skip run runs n (covers-below run n below) ∙ sort_of-out runs n out ∙ ap (λ b. cond b (Some run.inheritable) None) (sym (lt-leb run.lo n below))
   | inr from ↦

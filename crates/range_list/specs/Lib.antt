@@ -1,2 +1,4 @@
+pub mod Canonical
 pub mod Rangelist
 pub mod Sweep
+pub mod Text

@@ -4,9 +4,11 @@
 mod ranges;
 mod run;
 mod sweep;
+mod text;
 
 pub use ranges::Ranges;
 pub use run::Run;
+pub use text::push_number;
 
 #[cfg(test)]
 mod tests;

@@ -1,9 +1,12 @@
 //! A set of revision numbers, each inheritable or not.
 ghost use Rattle.std.specs.Prelude.{◌≡◌, ◌≤◌, ◌<◌, ◌↔◌, List, [], ◌∷◌, ◌++◌, All, IfOk, OnOk, OnErr, IsTrue};
 ghost use Rattle.range_list.specs.Rangelist.{sort_of, greatest_revision, IsRun, IsCanonical, HasSame, IsInheritablePart, IsOnlyCanonical, AddsRun};
+ghost use Rattle.range_list.specs.Canonical.{canonical_runs};
+ghost use Rattle.range_list.specs.Text.{rangelist_text};
 
 use crate::run::Run;
 use crate::sweep::Sweep;
+use crate::text::write_run;
 use std::alloc::{AllocError, Global};
 use std::marker::Model;
 
@@ -39,7 +42,8 @@ impl Ranges {
     /// The union of the runs, which may come in any order and overlap. A number given both ways is inheritable.
     pub fn of_runs(mut runs: Vec<Run>) -> Result<Self, AllocError>
         requires { All IsRun runs.items }
-        ensures { IfOk result (λ ranges. HasSame ranges runs.items) }
+        ensures same { IfOk result (λ ranges. HasSame ranges runs.items) }
+        ensures exact { IfOk result (λ ranges. ranges ≡ canonical_runs runs.items) }
     {
         runs.sort_by_key(|run| run.lo)?;
         let mut sweep = Sweep::new(*runs.allocator());
@@ -119,6 +123,21 @@ impl Ranges {
         ensures { IsTrue result ↔ (self.now ≡ []) }
     {
         self.runs.is_empty()
+    }
+
+    /// Appends the runs, separated by commas.
+    pub fn write(&self, out: &mut Vec<u8>) -> Result<(), AllocError>
+        ensures { OnOk result (out.new.items ≡ out.old.items ++ rangelist_text self.now) }
+    {
+        let Some((first, others)) = self.runs().split_first() else {
+            return Ok(());
+        };
+        write_run(*first, out)?;
+        for run in others {
+            out.push(b',')?;
+            write_run(*run, out)?;
+        }
+        Ok(())
     }
 
     /// An equal set.

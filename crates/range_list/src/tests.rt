@@ -1,5 +1,5 @@
 //! Small sets.
-use crate::{Ranges, Run};
+use crate::{Ranges, Run, push_number};
 use std::alloc::Global;
 use std::test::Fail;
 
@@ -106,5 +106,24 @@ fn the_greatest_number_is_kept(rt: HostRuntime) -> Result<(), Fail> {
     ranges.add(1, 2147483647, true)?;
     ranges.add(2147483647, 2147483647, false)?;
     assert_eq!(rt; ranges.dup()?.runs(), [run(1, 2147483647, true)].as_slice());
+    Ok(())
+}
+
+#[test]
+fn numbers_are_written_in_decimal(rt: HostRuntime) -> Result<(), Fail> {
+    let mut out = Vec::new(rt.alloc());
+    push_number(&mut out, 0)?;
+    push_number(&mut out, 18_446_744_073_709_551_615)?;
+    assert_eq!(rt; out.as_slice(), b"018446744073709551615".as_slice());
+    Ok(())
+}
+
+#[test]
+fn a_rangelist_is_printed(rt: HostRuntime) -> Result<(), Fail> {
+    let mut out = Vec::new(rt.alloc());
+    ranges(rt.alloc())?.write(&mut out)?;
+    assert!(rt; out.as_slice() == b"3-5,9*".as_slice());
+    Ranges::new(rt.alloc()).write(&mut out)?;
+    assert!(rt; out.as_slice() == b"3-5,9*".as_slice());
     Ok(())
 }

@@ -7,7 +7,7 @@ use Rattle.std.proofs.lemmas.List.Folds.{list_any_at}
 use Rattle.std.proofs.lemmas.List.Splits.{slice_split_none, slice_split_at}
 use Rattle.std.specs.List.{slice_split, onto_first, list_any}
 use Rattle.memchr.specs.Find.{IsFirstByte, is_byte}
-use Rattle.svn_path.specs.Components.{is_slash, is_not_empty, is_dot, parts_of, IsComponent}
+use Rattle.svn_path.specs.Components.{is_slash, is_not_empty, is_dot, parts_of, parts_text, path_text, IsComponent}
 
 -- slashes at the front change nothing
 pub parts_of-start : (bytes : List ℕ) (start : ℕ) → ((k : ℕ) → k < start → is_slash (get_or bytes k 0) ≡ true) → parts_of bytes ≡ parts_of (drop start bytes)
@@ -77,3 +77,24 @@ components-parts_of bytes no_dots = λ k d below. record {
   no_slash = All-filter is_not_empty (λ part. list_any is_slash part ≡ false) (slice_split is_slash bytes) (slice_split-no_slash bytes) k d below;
   not_dot = false_from_ne_true _ (λ dot. both_ways _ no_dots (list_any_at is_dot (parts_of bytes) k d below dot));
 }
+
+-- ---- a printed path has the parts that were printed
+
+no_slash-part : (part : List ℕ) → IsFalse (list_any is_slash part) → All (λ byte. is_slash byte ≡ false) part
+no_slash-part part none =
+    All-from_get_or (λ byte. is_slash byte ≡ false) part 0 (λ i below. false_from_ne_true _ (λ slash. both_ways _ none (list_any_at is_slash part i 0 below slash)))
+
+first_slash-parts_text : (parts : List (List ℕ)) → 0 < length (parts_text parts) → is_slash (get_or (parts_text parts) 0 0) ≡ true
+first_slash-parts_text [] some = absurd (omega arith)
+first_slash-parts_text (part ∷ parts) some = refl
+
+pub parts_of-parts_text : (parts : List (List ℕ)) → All IsComponent parts → parts_of (parts_text parts) ≡ parts
+parts_of-parts_text [] all = refl
+parts_of-parts_text (part ∷ parts) all =
+    let is : IsComponent part = All-head IsComponent part parts all in
+    parts_of-part part (parts_text parts) is.not_empty (no_slash-part part is.no_slash) (first_slash-parts_text parts)
+    ∙ ap (λ more. part ∷ more) (parts_of-parts_text parts (All-tail IsComponent part parts all))
+
+pub parts_of-path_text : (parts : List (List ℕ)) → All IsComponent parts → parts_of (path_text parts) ≡ parts
+parts_of-path_text [] all = refl
+parts_of-path_text (part ∷ parts) all = parts_of-parts_text (part ∷ parts) all

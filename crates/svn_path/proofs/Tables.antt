@@ -4,7 +4,7 @@ use Rattle.std.proofs.lemmas.Bool.{cases_Bool, cases_lt, cases_order, both_ways,
 use Rattle.std.proofs.lemmas.Bool.Decides.{same_from_decides, Decides-eqb}
 use Rattle.std.proofs.lemmas.Cmp.{nat_list_eq_equiv}
 use Rattle.std.proofs.lemmas.List.{append-nil, append_assoc, get_or_append_left, get_or_default, get_or_past, length-map, get_or-map, length-replicate}
-use Rattle.std.proofs.lemmas.List.Elements.{All-nil, All-head, All-tail, All-push, All-weaker}
+use Rattle.std.proofs.lemmas.List.Elements.{All-nil, All-head, All-tail, All-push, All-weaker, All-get_or, All-map}
 use Rattle.std.proofs.lemmas.List.Folds.{list_any_at, list_any-append, Any-from_list_any}
 use Rattle.std.proofs.lemmas.Map.Keys.{IsDistinct-push, apart_from_distinct}
 use Rattle.std.proofs.lemmas.Slice.Eq.{bytes_eq-Decides}
@@ -222,3 +222,8 @@ IsTable-with_names names [] table components few = table
 IsTable-with_names names (name ∷ added) table components few =
     let room : length (with_name names name) ≤ most_names = omega (arith, length-le-with_names (with_name names name) added) in
     IsTable-with_names (with_name names name) added (IsTable-with_name table name (All-head IsComponent name added components) room) (All-tail IsComponent name added components) few
+
+-- each component of a path of the table is one
+pub components_of-components : (names : List (List ℕ)) (path : List NameId) → All IsComponent names → IsPathOf names path → All IsComponent (components_of names path)
+components_of-components names path components of =
+    All-map IsComponent (λ name. name_of names name.0) path (λ k d below. All-get_or IsComponent names (get_or path k d).0 (replicate ((get_or path k d).0 + 1) 47) (of k d below) components)

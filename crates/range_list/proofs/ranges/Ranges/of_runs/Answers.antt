@@ -5,6 +5,7 @@ use Rattle.std.specs.List.Sorted.{IsNonDecreasingBy, IsPermutation}
 use Rattle.range_list.specs.Rangelist.{HasSame, IsRun}
 use Rattle.range_list.specs.Sweep.{runs_of}
 use Rattle.range_list.specs.declared.run.Run.{Run}
+use Rattle.range_list.proofs.Maximal.{canonical_runs-only}
 use Rattle.range_list.proofs.Same.{HasSame-append, HasSame-permutation, HasSame-refl, HasSame-sym, HasSame-trans}
 use Rattle.range_list.proofs.ranges.Ranges.of_runs.Goals as goal
 
@@ -36,10 +37,13 @@ loop-run-preserved c =
           (subst (HasSame (runs_of c.loop-run.sweep ++ run ∷ [])) (sym (take_more sorted i none c.loop-run-test.true)) took);
     }
 
-pub returns : goal.returns
-returns c =
+pub returns-clause-same : goal.returns-clause-same
+returns-clause-same c =
     let sorted = c.deref-run-items.result.now in
     let moved = HasSame-permutation c.args.runs.items sorted (subst (IsPermutation c.args.runs.items) (sym c.deref-run-items.ensures.value) c.in_ok-sort_by_key.ensures.permutation) in
     let all : take c.loop-run.run-index sorted ≡ sorted = take_all _ sorted c.loop-run-test.false in
     HasSame-trans _ (runs_of c.loop-run.sweep) _ c.in_ok-finish.ensures.same
     (HasSame-trans _ sorted _ (subst (HasSame (runs_of c.loop-run.sweep)) all c.loop-run.invariant.same) (HasSame-sym c.args.runs.items sorted moved))
+
+pub returns-clause-exact : goal.returns-clause-exact
+returns-clause-exact c = canonical_runs-only c.args.runs.items _ c.requires c.in_ok-finish.ensures.canonical (returns-clause-same c)
