@@ -1,0 +1,95 @@
+-- The elements of a rangelist, from where their bytes were cut, and the blanks before them.
+use Rattle.std.proofs.Common.{◌≡◌, ℕ, ◌+◌, ◌<◌, ◌≤◌, ◌==◌, nat_lt, inl, inr, if◌then◌else◌, unwrap_or, not, ◌&&◌, ◌||◌, Bool, true, false, List, [], ◌∷◌, Option, Some, None, length, map, refl, ap, ◌∙◌, sym, arith}
+use Rattle.std.specs.Prelude.{option_map}
+use Rattle.std.specs.List.{position_or_len, prefix_len, slice_split}
+use Rattle.std.proofs.lemmas.Bool.{cases_lt, cond-false, cond-true, eqb-true, false≢true, le-ltb, lt-ltb}
+use Rattle.std.proofs.lemmas.List.Sums.{prefix_len-le-length}
+use Rattle.svn_path.specs.Components.{is_not_empty}
+use Rattle.svn_dump.specs.Cut.{IsCutAt, Lacks}
+use Rattle.svn_dump.proofs.Lines.{list_any-Lacks}
+use Rattle.range_list.specs.declared.run.Run.{Run}
+use Rattle.merge_info.specs.Element.{element_of, revision_of, run_of}
+use Rattle.merge_info.specs.Line.{all_of, elements_of, is_blank, is_comma}
+
+-- the run of one number
+abbrev pub run_at : Bool → ℕ → Run
+run_at inheritable number = record { lo = number; hi = number; inheritable = inheritable }
+
+-- bytes without `-`
+pub run_of-single : (inheritable : Bool) (bytes : List ℕ) → Lacks 45 bytes → run_of inheritable bytes ≡ option_map (run_at inheritable) (revision_of bytes)
+run_of-single inheritable bytes lacks = cond-false _ _ _ (list_any-Lacks 45 bytes lacks)
+
+-- bytes without `*`
+pub element_of-plain : (bytes : List ℕ) → Lacks 42 bytes → element_of bytes ≡ run_of true bytes
+unfolding element_of
+element_of-plain bytes lacks = cond-false _ _ _ (list_any-Lacks 42 bytes lacks)
+
+-- a length below 1
+is_not_empty-none : (bytes : List ℕ) → length bytes < 1 → is_not_empty bytes ≡ false
+is_not_empty-none [] none = refl
+is_not_empty-none (byte ∷ bytes) none = absurd (omega arith)
+
+-- a length of at least 1
+is_not_empty-some : (bytes : List ℕ) → 1 ≤ length bytes → is_not_empty bytes ≡ true
+is_not_empty-some [] some = absurd (omega arith)
+is_not_empty-some (byte ∷ bytes) some = refl
+
+-- `*` at the end
+pub element_of-star : (bytes range rest : List ℕ) → IsCutAt 42 bytes range rest → length rest < 1 → element_of bytes ≡ run_of false range
+unfolding element_of
+element_of-star bytes range rest cut none =
+    cond-true _ _ _ cut.there ∙ cond-false _ _ _ (ap is_not_empty (sym cut.after) ∙ is_not_empty-none rest none)
+    ∙ ap (run_of false) (sym cut.before)
+
+-- `*` before the end
+pub element_of-more : (bytes range rest : List ℕ) → IsCutAt 42 bytes range rest → 1 ≤ length rest → element_of bytes ≡ None
+unfolding element_of
+element_of-more bytes range rest cut some =
+    cond-true _ _ _ cut.there ∙ cond-true _ _ _ (ap is_not_empty (sym cut.after) ∙ is_not_empty-some rest some)
+
+-- ---- rangelists
+
+-- an empty one
+pub elements_of-none : (bytes : List ℕ) → true ≡ (length bytes == 0) → elements_of bytes ≡ Some []
+unfolding elements_of
+elements_of-none [] none = refl
+elements_of-none (byte ∷ bytes) none = absurd (omega (arith, eqb-true (length (byte ∷ bytes)) 0 (sym none)))
+
+-- any other is cut at the commas
+pub elements_of-some : (bytes : List ℕ) → false ≡ (length bytes == 0) → elements_of bytes ≡ all_of (map element_of (slice_split is_comma bytes))
+unfolding elements_of
+elements_of-some [] some = absurd (false≢true some)
+elements_of-some (byte ∷ bytes) some = refl
+
+-- ---- blanks
+
+-- what a search for the end of the blanks tests
+abbrev pub is_no_blank : ℕ → Bool
+is_no_blank byte = not (byte == 32) && not (byte == 9)
+
+-- neither of two tests passes
+not_both : (a b : Bool) → not (not a && not b) ≡ (a || b)
+not_both true b = refl
+not_both false true = refl
+not_both false false = refl
+
+-- the first byte that is no blank
+position_or_len-blanks : (bytes : List ℕ) → position_or_len is_no_blank bytes ≡ prefix_len is_blank bytes
+position_or_len-blanks [] = refl
+position_or_len-blanks (byte ∷ bytes) =
+    ap (λ test. if test then 1 + position_or_len is_no_blank bytes else 0) (not_both (byte == 32) (byte == 9))
+    ∙ ap (λ n. if is_blank byte then 1 + n else 0) (position_or_len-blanks bytes)
+
+-- what such a search finds, or else the end
+pub prefix_len-found : (bytes : List ℕ) (found : Option ℕ) → found ≡ (if nat_lt (position_or_len is_no_blank bytes) (length bytes) then Some (position_or_len is_no_blank bytes) else None) → unwrap_or found (length bytes) ≡ prefix_len is_blank bytes
+prefix_len-found bytes found at =
+    let end : position_or_len is_no_blank bytes ≤ length bytes =
+    prefix_len-le-length (λ byte. not (is_no_blank byte)) bytes in
+    elim (cases_lt (position_or_len is_no_blank bytes) (length bytes)) [
+      | inl before ↦
+          ap (λ o. unwrap_or o (length bytes)) (at ∙ cond-true _ _ _ (lt-ltb _ _ before))
+          ∙ position_or_len-blanks bytes
+      | inr after ↦
+          ap (λ o. unwrap_or o (length bytes)) (at ∙ cond-false _ _ _ (le-ltb _ _ after)) ∙ omega (arith, end)
+          ∙ position_or_len-blanks bytes
+    ]

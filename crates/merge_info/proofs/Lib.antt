@@ -1,0 +1,19 @@
+mod CanonicalRuns
+mod CanonicalValues
+mod Clashes
+mod Collected
+mod Decimals
+mod Elements
+mod Entries
+mod Inheriting
+mod JoinedBytes
+mod LineReads
+mod LinesRead
+mod OneLine
+mod OnlyValues
+pub mod PrintedPaths
+mod ReadsBack
+mod RunTexts
+mod RunsAt
+mod SourcePaths
+mod Unites

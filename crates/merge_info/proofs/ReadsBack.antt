@@ -1,0 +1,117 @@
+-- The text of a value, as it is read again.
+use Rattle.std.proofs.Common.{◌≡◌, ◌≢◌, ℕ, ◌-◌, ◌<◌, List, [], ◌∷◌, ◌++◌, length, get_or, take, map, All}
+use Rattle.std.proofs.Common.{refl, sym, ap, ◌∙◌, arith, eq-eqb}
+use Rattle.std.specs.Prelude.{Some, option_and_then}
+use Rattle.std.specs.Io.BufRead.{strip_last}
+use Rattle.std.specs.List.{before_last, join_with_byte, slice_split}
+use Rattle.std.proofs.lemmas.Bool.{and_from, cond-false, cond-true, lt-ltb}
+use Rattle.std.proofs.lemmas.List.{append-nil, append_assoc, get_or_at, length-append, take_at}
+use Rattle.std.proofs.lemmas.List.Elements.{All-map}
+use Rattle.std.proofs.lemmas.List.Folds.{list_any_none}
+use Rattle.svn_path.specs.Components.{is_dot, parts_of}
+use Rattle.svn_dump.specs.Block.{line_text}
+use Rattle.svn_dump.specs.Cut.{Lacks}
+use Rattle.svn_dump.proofs.Cuts.{after_last-whole, before_last-whole}
+use Rattle.range_list.specs.Rangelist.{IsCanonical}
+use Rattle.range_list.specs.Text.{rangelist_text}
+use Rattle.range_list.specs.declared.run.Run.{Run}
+use Rattle.merge_info.specs.Line.{IsPrintedPath, Line, all_of, elements_of, is_colon, line_from, line_of, without_blanks}
+use Rattle.merge_info.specs.Text.{printed_line, value_text}
+use Rattle.merge_info.specs.Value.{IsEntry, IsMergeInfo, IsOnOneLine, is_newline, lines_between, lines_of, text_lines}
+use Rattle.range_list.proofs.Canonical.{AreRuns-from_canonical}
+use Rattle.merge_info.proofs.CanonicalRuns.{has_clash-canonical}
+use Rattle.merge_info.proofs.JoinedBytes.{Lacks-append, Lacks-cons, Lacks-nil, all_of-map, length-join, list_any-whole, slice_split-join}
+use Rattle.merge_info.proofs.RunTexts.{Lacks-rangelist_text, elements_of-rangelist_text, without_blanks-rangelist_text}
+
+-- ---- a line
+
+line_from-entry : (path : List ℕ) (runs : List Run) → IsPrintedPath path → IsCanonical runs
+    → line_from path runs ≡ Some (record { path = path; runs = runs })
+line_from-entry path runs is_path canonical =
+    cond-false _ _ _ (list_any_none is_dot (parts_of path) is_path.no_dot)
+    ∙ cond-false _ _ _ (has_clash-canonical runs canonical)
+    ∙ ap (λ (printed : List ℕ). let line : Line = record { path = printed; runs = runs } in Some line) is_path.printed
+
+-- the last colon stands before the rangelist
+line_of-joined : (path : List ℕ) (runs : List Run) → IsPrintedPath path → IsCanonical runs → runs ≢ []
+    → line_of (path ++ 58 ∷ rangelist_text runs) ≡ Some (record { path = path; runs = runs })
+unfolding line_of
+line_of-joined path runs is_path canonical some =
+    let text = rangelist_text runs in
+    let are_runs = AreRuns-from_canonical runs canonical in
+    let none = Lacks-rangelist_text 58 runs (refl, refl, refl) refl are_runs in
+    let read =
+    ap (λ after. elements_of (without_blanks after)) (after_last-whole 58 path text none)
+    ∙ ap elements_of (without_blanks-rangelist_text runs are_runs) ∙ elements_of-rangelist_text runs some are_runs in
+    cond-true _ _ _ (list_any-whole 58 path text)
+    ∙ ap (option_and_then (line_from (before_last is_colon (path ++ 58 ∷ text)))) read
+    ∙ ap (λ front. line_from front runs) (before_last-whole 58 path text none)
+    ∙ line_from-entry path runs is_path canonical
+
+-- a printed line is read as the entry
+pub line_of-printed_line : (line : Line) → IsEntry line → line_of (printed_line line) ≡ Some line
+line_of-printed_line line is_entry =
+    ap line_of (append_assoc line.path (58 ∷ []) (rangelist_text line.runs))
+    ∙ line_of-joined line.path line.runs is_entry.path is_entry.canonical is_entry.some
+
+-- it has no newline, if its path has none
+Lacks-printed_line : (line : Line) → IsEntry line → IsOnOneLine line → Lacks 10 (printed_line line)
+Lacks-printed_line line is_entry one_line =
+    let colon = Lacks-cons 10 58 [] refl (Lacks-nil 10) in
+    let are_runs = AreRuns-from_canonical line.runs is_entry.canonical in
+    let runs = Lacks-rangelist_text 10 line.runs (refl, refl, refl) refl are_runs in
+    let path = Lacks-append 10 line.path (58 ∷ []) one_line colon in
+    Lacks-append 10 (line.path ++ 58 ∷ []) (rangelist_text line.runs) path runs
+
+length-printed_line : (line : Line) → 0 < length (printed_line line)
+length-printed_line line =
+    omega (arith, length-append line.path (58 ∷ []), length-append (line.path ++ 58 ∷ []) (rangelist_text line.runs))
+
+-- ---- the lines
+
+-- the last byte, which was put behind the others, is taken off
+strip_last-push : (byte : ℕ) (bytes : List ℕ) → strip_last byte (bytes ++ byte ∷ []) ≡ bytes
+strip_last-push byte bytes =
+    let all = bytes ++ byte ∷ [] in
+    let some : 0 < length all = omega (arith, length-append bytes (byte ∷ [])) in
+    let rest_length : length all - 1 ≡ length bytes = omega (arith, length-append bytes (byte ∷ [])) in
+    let last = ap (λ n. get_or all n 0) rest_length ∙ get_or_at bytes byte [] 0 (length bytes) refl in
+    cond-true _ _ _ (and_from _ _ (lt-ltb 0 (length all) some) (eq-eqb _ byte last))
+    ∙ ap (λ n. take n all) rest_length ∙ take_at bytes (byte ∷ []) (length bytes) refl
+
+-- newlines join the lines, and one more follows
+value_text-joined : (line : Line) (lines : List Line)
+    → value_text (line ∷ lines) ≡ join_with_byte 10 (map printed_line (line ∷ lines)) ++ 10 ∷ []
+value_text-joined line [] = append-nil (printed_line line ++ 10 ∷ [])
+value_text-joined line (next ∷ lines) =
+    let rest = join_with_byte 10 (map printed_line (next ∷ lines)) in
+    ap (λ text. line_text (printed_line line) ++ text) (value_text-joined next lines)
+    ∙ append_assoc (printed_line line) (10 ∷ []) (rest ++ 10 ∷ [])
+    ∙ sym (append_assoc (printed_line line) (10 ∷ rest) (10 ∷ []))
+
+lines_between-some : (bytes : List ℕ) → 0 < length bytes → lines_between bytes ≡ slice_split is_newline bytes
+lines_between-some [] some = absurd (omega arith)
+lines_between-some (byte ∷ bytes) some = refl
+
+-- the lines of a printed value are those of its entries
+pub text_lines-value_text : (value : List Line) → All IsEntry value → All IsOnOneLine value
+    → text_lines (value_text value) ≡ map printed_line value
+text_lines-value_text [] entries one_line = refl
+text_lines-value_text (line ∷ lines) entries one_line =
+    let joined = join_with_byte 10 (map printed_line (line ∷ lines)) in
+    let some = length-join 10 (printed_line line) (map printed_line lines) (length-printed_line line) in
+    let none = All-map (Lacks 10) printed_line (line ∷ lines)
+    (λ k d below. Lacks-printed_line (get_or (line ∷ lines) k d) (entries k d below) (one_line k d below)) in
+    ap text_lines (value_text-joined line lines)
+    ∙ ap lines_between (strip_last-push 10 joined)
+    ∙ lines_between-some joined some
+    ∙ slice_split-join 10 (printed_line line) (map printed_line lines) none
+
+-- a printed value is read as the value
+pub lines_of-value_text : (value : List Line) → IsMergeInfo value → All IsOnOneLine value
+    → lines_of (value_text value) ≡ Some value
+unfolding lines_of
+lines_of-value_text value is_value one_line =
+    ap (λ lines. all_of (map line_of lines)) (text_lines-value_text value is_value.entries one_line)
+    ∙ all_of-map line_of printed_line value
+    (λ k d below. line_of-printed_line (get_or value k d) (is_value.entries k d below))

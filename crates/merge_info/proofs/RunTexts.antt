@@ -1,0 +1,186 @@
+-- Printed rangelists, as they are read again.
+use Rattle.std.proofs.Common.{◌≡◌, ◌≢◌, ℕ, ◌+◌, ◌<◌, ◌≤◌, ◌==◌, Bool, true, false, cond, List, [], ◌∷◌, ◌++◌, length, get_or}
+use Rattle.std.proofs.Common.{drop, map, All, decimal, inl, inr, refl, sym, ap, ◌∙◌, arith}
+use Rattle.std.specs.Prelude.{Some, None, option_and_then, option_map, if◌then◌else◌}
+use Rattle.std.specs.List.{list_any, before_first, after_first, prefix_len, slice_split}
+use Rattle.std.proofs.lemmas.Bool.{cases_Bool, cond-false, cond-true, eqb-false, eqb-true, lt-ltb, or_from}
+use Rattle.std.proofs.lemmas.Fmt.{decimal_nonempty}
+use Rattle.std.proofs.lemmas.List.{append-nil, append_assoc, length-append}
+use Rattle.std.proofs.lemmas.List.Elements.{All-head, All-map}
+use Rattle.std.proofs.lemmas.List.Folds.{list_any_none}
+use Rattle.svn_path.specs.Components.{is_not_empty}
+use Rattle.svn_dump.specs.Cut.{Lacks}
+use Rattle.svn_dump.specs.Number.{is_digit}
+use Rattle.range_list.specs.Rangelist.{IsRun, greatest_revision}
+use Rattle.range_list.specs.Text.{range_text, rangelist_text, run_text}
+use Rattle.range_list.specs.declared.run.Run.{Run}
+use Rattle.merge_info.specs.Element.{element_of, is_dash, is_star, revision_of, run_between, run_of}
+use Rattle.merge_info.specs.Line.{all_of, elements_of, is_blank, is_comma, without_blanks}
+use Rattle.merge_info.proofs.Decimals.{Lacks-decimal, revision_of-decimal}
+use Rattle.merge_info.proofs.JoinedBytes.{Lacks-append, Lacks-cons, Lacks-join, Lacks-nil, after_first-whole, all_of-map}
+use Rattle.merge_info.proofs.JoinedBytes.{before_first-whole, length-join, list_any-whole, slice_split-join}
+
+-- ---- the bytes of a printed rangelist
+
+-- the byte is no digit, no dash and no star
+abbrev pub IsOther : ℕ → Type 0
+IsOther byte = (is_digit byte ≡ false) × ((45 == byte) ≡ false) × ((42 == byte) ≡ false)
+
+abbrev range_text_if : Bool → Run → List ℕ
+range_text_if single run = if single then decimal run.lo else decimal run.lo ++ 45 ∷ [] ++ decimal run.hi
+
+abbrev star_unless : Bool → List ℕ
+star_unless inheritable = if inheritable then [] else 42 ∷ []
+
+Lacks-range_text : (byte : ℕ) (run : Run) → is_digit byte ≡ false → (45 == byte) ≡ false → IsRun run
+    → Lacks byte (range_text run)
+Lacks-range_text byte run no_digit no_dash is_run =
+    let lo = Lacks-decimal byte run.lo no_digit (omega (arith, is_run.ordered, is_run.last)) in
+    let hi = Lacks-decimal byte run.hi no_digit (omega (arith, is_run.last)) in
+    let lo_dash = Lacks-append byte (decimal run.lo) (45 ∷ []) lo (Lacks-cons byte 45 [] no_dash (Lacks-nil byte)) in
+    elim (run.lo == run.hi) as (λ single. Lacks byte (range_text_if single run)) [
+      | true ↦ lo
+      | false ↦ Lacks-append byte (decimal run.lo ++ 45 ∷ []) (decimal run.hi) lo_dash hi
+    ]
+
+Lacks-run_text : (byte : ℕ) (run : Run) → IsOther byte → IsRun run → Lacks byte (run_text run)
+Lacks-run_text byte run other is_run =
+    Lacks-append byte (range_text run) (star_unless run.inheritable) (Lacks-range_text byte run other.0 other.1 is_run)
+    (elim run.inheritable as (λ inheritable. Lacks byte (star_unless inheritable)) [
+      | true ↦ Lacks-nil byte
+      | false ↦ Lacks-cons byte 42 [] other.2 (Lacks-nil byte)
+    ])
+
+AllLack-runs : (byte : ℕ) (runs : List Run) → IsOther byte → All IsRun runs → All (Lacks byte) (map run_text runs)
+AllLack-runs byte runs other are_runs =
+    All-map (Lacks byte) run_text runs (λ k d below. Lacks-run_text byte (get_or runs k d) other (are_runs k d below))
+
+-- a printed rangelist lacks every byte that is none of these and no comma
+pub Lacks-rangelist_text : (byte : ℕ) (runs : List Run) → IsOther byte → (44 == byte) ≡ false → All IsRun runs
+    → Lacks byte (rangelist_text runs)
+Lacks-rangelist_text byte runs other no_comma are_runs =
+    Lacks-join byte 44 (map run_text runs) no_comma (AllLack-runs byte runs other are_runs)
+
+length-range_text : (run : Run) → IsRun run → 0 < length (range_text run)
+length-range_text run is_run =
+    let some = decimal_nonempty run.lo (omega (arith, is_run.ordered, is_run.last)) in
+    elim (run.lo == run.hi) as (λ single. 0 < length (range_text_if single run)) [
+      | true ↦ some
+      | false ↦
+          omega (arith, length-append (decimal run.lo) (45 ∷ []), length-append (decimal run.lo ++ 45 ∷ []) (decimal run.hi))
+    ]
+
+length-run_text : (run : Run) → IsRun run → 0 < length (run_text run)
+length-run_text run is_run =
+    omega (arith, length-append (range_text run) (star_unless run.inheritable), length-range_text run is_run)
+
+-- ---- one run
+
+-- one number
+run_of-single : (inheritable : Bool) (n : ℕ) → 1 ≤ n → n ≤ greatest_revision
+    → run_of inheritable (decimal n) ≡ Some (record { lo = n; hi = n; inheritable = inheritable })
+run_of-single inheritable n first last =
+    cond-false _ _ _ (list_any_none is_dash (decimal n) (Lacks-decimal 45 n refl (omega arith)))
+    ∙ ap (option_map (λ number. record { lo = number; hi = number; inheritable = inheritable }))
+    (revision_of-decimal n first last)
+
+-- two numbers round a dash
+run_of-parts : (inheritable : Bool) (bytes front back : List ℕ) (lo hi : ℕ) → list_any is_dash bytes ≡ true
+    → before_first is_dash bytes ≡ front → after_first is_dash bytes ≡ back
+    → revision_of front ≡ Some lo → revision_of back ≡ Some hi → lo < hi
+    → run_of inheritable bytes ≡ Some (record { lo = lo; hi = hi; inheritable = inheritable })
+run_of-parts inheritable bytes front back lo hi dash at_front at_back first last ordered =
+    let upper = revision_of (after_first is_dash bytes) in
+    cond-true _ _ _ dash
+    ∙ ap (option_and_then (λ n. option_and_then (run_between inheritable n) upper)) (ap revision_of at_front ∙ first)
+    ∙ ap (option_and_then (run_between inheritable lo)) (ap revision_of at_back ∙ last)
+    ∙ cond-true _ _ _ (lt-ltb lo hi ordered)
+
+run_of-range : (inheritable : Bool) (lo hi : ℕ) → 1 ≤ lo → lo < hi → hi ≤ greatest_revision
+    → run_of inheritable (decimal lo ++ 45 ∷ [] ++ decimal hi)
+    ≡ Some (record { lo = lo; hi = hi; inheritable = inheritable })
+run_of-range inheritable lo hi first ordered last =
+    let front = decimal lo in
+    let back = decimal hi in
+    let none = Lacks-decimal 45 lo refl (omega arith) in
+    ap (run_of inheritable) (append_assoc front (45 ∷ []) back)
+    ∙ run_of-parts inheritable (front ++ 45 ∷ back) front back lo hi (list_any-whole 45 front back)
+    (before_first-whole 45 front back none) (after_first-whole 45 front back none)
+    (revision_of-decimal lo first (omega arith)) (revision_of-decimal hi (omega arith) last) ordered
+
+run_of-range_text : (run : Run) → IsRun run → run_of run.inheritable (range_text run) ≡ Some run
+run_of-range_text run is_run =
+    elim (cases_Bool (run.lo == run.hi)) [
+      | inl single ↦
+          ap (run_of run.inheritable) (cond-true _ _ _ single)
+          ∙ run_of-single run.inheritable run.lo is_run.first (omega (arith, is_run.ordered, is_run.last))
+          ∙ ap (λ (hi : ℕ). let each : Run = record run { hi = hi } in Some each) (eqb-true run.lo run.hi single)
+      | inr more ↦
+          let differ = eqb-false run.lo run.hi more in
+          ap (run_of run.inheritable) (cond-false _ _ _ more)
+          ∙ run_of-range run.inheritable run.lo run.hi is_run.first (omega (arith, is_run.ordered)) is_run.last
+    ]
+
+-- no star follows, or one does
+element_of-inheritable : (bytes : List ℕ) → Lacks 42 bytes → element_of bytes ≡ run_of true bytes
+unfolding element_of
+element_of-inheritable bytes none = cond-false _ _ _ (list_any_none is_star bytes none)
+
+element_of-star : (bytes : List ℕ) → Lacks 42 bytes → element_of (bytes ++ 42 ∷ []) ≡ run_of false bytes
+unfolding element_of
+element_of-star bytes none =
+    let front = before_first is_star (bytes ++ 42 ∷ []) in
+    cond-true _ _ _ (list_any-whole 42 bytes [])
+    ∙ ap (λ after. cond (is_not_empty after) None (run_of false front)) (after_first-whole 42 bytes [] none)
+    ∙ ap (run_of false) (before_first-whole 42 bytes [] none)
+
+-- a printed run is read as the run
+pub element_of-run_text : (run : Run) → IsRun run → element_of (run_text run) ≡ Some run
+element_of-run_text run is_run =
+    let text = range_text run in
+    let none = Lacks-range_text 42 run refl refl is_run in
+    let read = run_of-range_text run is_run in
+    elim (cases_Bool run.inheritable) [
+      | inl inherits ↦
+          ap (λ inheritable. element_of (text ++ star_unless inheritable)) inherits
+          ∙ ap element_of (append-nil text) ∙ element_of-inheritable text none
+          ∙ ap (λ inheritable. run_of inheritable text) (sym inherits) ∙ read
+      | inr plain ↦
+          ap (λ inheritable. element_of (text ++ star_unless inheritable)) plain
+          ∙ element_of-star text none
+          ∙ ap (λ inheritable. run_of inheritable text) (sym plain) ∙ read
+    ]
+
+-- ---- a rangelist
+
+elements_of-some : (bytes : List ℕ) → 0 < length bytes
+    → elements_of bytes ≡ all_of (map element_of (slice_split is_comma bytes))
+unfolding elements_of
+elements_of-some [] some = absurd (omega arith)
+elements_of-some (byte ∷ bytes) some = refl
+
+-- a printed rangelist is read as its runs
+pub elements_of-rangelist_text : (runs : List Run) → runs ≢ [] → All IsRun runs
+    → elements_of (rangelist_text runs) ≡ Some runs
+elements_of-rangelist_text [] some are_runs = absurd (some refl)
+elements_of-rangelist_text (run ∷ runs) some are_runs =
+    let first = length-run_text run (All-head IsRun run runs are_runs) in
+    let none = AllLack-runs 44 (run ∷ runs) (refl, refl, refl) are_runs in
+    elements_of-some (rangelist_text (run ∷ runs)) (length-join 44 (run_text run) (map run_text runs) first)
+    ∙ ap (λ parts. all_of (map element_of parts)) (slice_split-join 44 (run_text run) (map run_text runs) none)
+    ∙ all_of-map element_of run_text (run ∷ runs)
+    (λ k d below. element_of-run_text (get_or (run ∷ runs) k d) (are_runs k d below))
+
+-- bytes without any blank begin with none
+without_blanks-none : (bytes : List ℕ) → All (λ byte. is_blank byte ≡ false) bytes → without_blanks bytes ≡ bytes
+without_blanks-none [] none = refl
+without_blanks-none (byte ∷ bytes) none =
+    ap (λ blank. drop (cond blank (1 + prefix_len is_blank bytes) 0) (byte ∷ bytes))
+    (All-head (λ each. is_blank each ≡ false) byte bytes none)
+
+pub without_blanks-rangelist_text : (runs : List Run) → All IsRun runs
+    → without_blanks (rangelist_text runs) ≡ rangelist_text runs
+without_blanks-rangelist_text runs are_runs =
+    let no_space = Lacks-rangelist_text 32 runs (refl, refl, refl) refl are_runs in
+    let no_tab = Lacks-rangelist_text 9 runs (refl, refl, refl) refl are_runs in
+    without_blanks-none (rangelist_text runs) (λ k d below. or_from _ _ (no_space k d below) (no_tab k d below))

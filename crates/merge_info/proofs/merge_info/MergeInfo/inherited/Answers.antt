@@ -1,0 +1,19 @@
+use Rattle.std.proofs.Common.{All, map}
+use Rattle.merge_info.specs.Value.{IsEntry, entry_view}
+use Rattle.merge_info.proofs.Entries.{IsEntry-at}
+use Rattle.merge_info.proofs.Inheriting.{AreLines-inherited}
+use Rattle.merge_info.proofs.merge_info.MergeInfo.inherited.Goals as goal
+
+-- the entry has a printed path
+pub inherited-requires-clause-path : goal.inherited-requires-clause-path
+inherited-requires-clause-path c =
+    let items = c.deref-entry-items.result.now in
+    let entries : All IsEntry (map entry_view items) = rw c.deref-entry-items.ensures.value c.self.invariant.entries in
+    (IsEntry-at items c.loop-entry.entry-index c.entry-item.result entries c.loop-entry-test.true c.entry-item.is).path
+
+-- what was inherited are lines
+pub of_lines-requires : goal.of_lines-requires
+of_lines-requires c =
+    let items = c.deref-entry-items.result.now in
+    let entries : All IsEntry (map entry_view items) = rw c.deref-entry-items.ensures.value c.self.invariant.entries in
+    rw c.loop-entry.invariant (AreLines-inherited c.args.rest.now items c.loop-entry.entry-index c.requires entries)

@@ -1,0 +1,24 @@
+use Rattle.std.proofs.Common.{map, sym, subst, arith}
+use Rattle.std.proofs.lemmas.Iterator.Adapters.{YieldsList-from_vec}
+use Rattle.std.proofs.lemmas.Iterator.Consumers.{YieldsList-turn}
+use Rattle.std.proofs.lemmas.List.{map_push}
+use Rattle.merge_info.specs.Line.{line_view}
+use Rattle.merge_info.specs.United.{UnitesLines}
+use Rattle.merge_info.proofs.Unites.{IsLine-at}
+use Rattle.merge_info.proofs.united.united.Goals as goal
+
+-- each line is one
+pub add_line-requires : goal.add_line-requires
+add_line-requires c =
+    let given = c.into_iter-line-iterator.ensures.into_iter_gives in
+    let all = YieldsList-from_vec c.args.lines.items given.0 (omega (arith, given.1, c.args.lines.ok.0)) in
+    let turn = YieldsList-turn all c.loop-line.yielded c.loop-line.line-iterator c.loop-line.yielded_by
+    c.next.result c.next.new.self c.in-Some.line c.in-Some.is c.next.ensures.steps in
+    IsLine-at c.args.lines.items _ c.in-Some.line c.requires turn.0 turn.1
+
+-- the line stands after those before it
+pub loop-line-preserved : goal.loop-line-preserved
+loop-line-preserved c =
+    subst (λ lines. UnitesLines lines c.add_line.new.united)
+    (sym (map_push line_view c.loop-line.yielded c.in-Some.line))
+    (c.in_ok-add_line.ensures (map line_view c.loop-line.yielded) c.loop-line.invariant)

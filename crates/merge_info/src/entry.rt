@@ -1,0 +1,60 @@
+//! The entries of a value.
+ghost use Rattle.std.specs.Prelude.{◌≡◌, ◌++◌, IfOk, OnOk};
+ghost use Rattle.svn_dump.specs.Block.{line_text};
+ghost use Rattle.merge_info.specs.Inherited.{inherited_line};
+ghost use Rattle.merge_info.specs.Line.{IsPrintedPath, line_view};
+ghost use Rattle.merge_info.specs.Text.{printed_line};
+ghost use Rattle.merge_info.specs.Value.{entry_view};
+
+use crate::line::Line;
+use crate::source_path::path_below;
+use range_list::Ranges;
+use std::alloc::{AllocError, Global};
+
+/// A source path as it is printed, and the revisions that were merged from it.
+#[derive(Drop)]
+pub(crate) struct Entry {
+    pub path: Vec<u8>,
+    pub ranges: Ranges,
+}
+
+impl Entry {
+    /// What the path of `rest` below that of the value has of this entry.
+    pub(crate) fn inherited(&self, alloc: Global, rest: &[u8]) -> Result<Line, AllocError>
+        requires path { IsPrintedPath self.now.path.items }
+        requires rest { IsPrintedPath rest.now }
+        ensures { IfOk result (λ line. line_view line ≡ inherited_line rest.now (entry_view self.now)) }
+    {
+        let inheritable = self
+            .ranges
+            .runs()
+            .iter()
+            .copied()
+            .filter(|run| run.inheritable);
+        Ok(Line {
+            path: path_below(alloc, &self.path, rest)?,
+            runs: inheritable.collect(alloc)?,
+        })
+    }
+
+    /// Appends the line of the entry.
+    pub(crate) fn write(&self, out: &mut Vec<u8>) -> Result<(), AllocError>
+        ensures { OnOk result (out.new.items ≡ out.old.items ++ line_text (printed_line (entry_view self.now))) }
+    {
+        out.extend_from_slice(&self.path)?;
+        out.push(b':')?;
+        self.ranges.write(out)?;
+        out.push(b'\n')?;
+        Ok(())
+    }
+
+    /// An equal entry.
+    pub(crate) fn dup(&self) -> Result<Self, AllocError>
+        ensures { IfOk result (λ same. entry_view same ≡ entry_view self.now) }
+    {
+        Ok(Entry {
+            path: Vec::from_slice(*self.path.allocator(), &self.path)?,
+            ranges: self.ranges.dup()?,
+        })
+    }
+}

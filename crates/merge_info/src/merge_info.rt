@@ -1,0 +1,127 @@
+//! The values of `svn:mergeinfo`.
+ghost use Rattle.std.specs.Prelude.{◌≡◌, [], ◌++◌, None, All, Some, IfOk, OnOk, OnErr, IsErrOf, option_map, map};
+ghost use Rattle.merge_info.specs.CanonicalValue.{canonical_value, inherited_value, value_of};
+ghost use Rattle.merge_info.specs.Inherited.{inherited_lines};
+ghost use Rattle.merge_info.specs.Line.{IsLine, IsPrintedPath, line_view};
+ghost use Rattle.merge_info.specs.Text.{value_text};
+ghost use Rattle.merge_info.specs.Value.{HasSameRuns, IsMergeInfo, IsOnlyMergeInfo, IsOnOneLine, IsTextOf, lines_of, ranges_of};
+
+use crate::entry::Entry;
+use crate::error::MergeError;
+use crate::line::Line;
+use crate::lines::read_lines;
+use crate::source_path::path_below;
+use crate::united::united;
+use range_list::Ranges;
+use std::alloc::{AllocError, Global};
+use std::marker::Model;
+
+/// Which revisions were merged from which paths. It is seen as the list of its paths, in the order of their bytes, each
+/// with its runs.
+#[derive(Drop)]
+pub struct MergeInfo {
+    entries: Vec<Entry>,
+}
+
+impl Model for MergeInfo {
+    ghost use Rattle.std.specs.Prelude.{List, map};
+    ghost use Rattle.merge_info.specs.Line.{Line};
+
+    ghost Value = { List Line };
+
+    ghost use Rattle.merge_info.specs.Value.{IsMergeInfo, entry_view};
+
+    ghost view = { λ m. map entry_view m.entries.items };
+
+    ghost invariant = { λ m. IsMergeInfo (map entry_view m.entries.items) };
+}
+
+impl MergeInfo {
+    /// The value without any path. It takes no memory.
+    pub fn empty(alloc: Global) -> Self
+        ensures { result ≡ [] }
+    {
+        MergeInfo {
+            entries: Vec::new(alloc),
+        }
+    }
+
+    /// Reads the text of a value.
+    pub fn parse(alloc: Global, text: &[u8]) -> Result<Self, MergeError>
+        ensures ok { IfOk result (IsTextOf text.now) }
+        ensures exact { IfOk result (λ value. value_of text.now ≡ Some value) }
+        ensures malformed { IsErrOf result MergeError.Malformed → value_of text.now ≡ None }
+        ensures one_line { IfOk result (All IsOnOneLine) }
+    {
+        Ok(MergeInfo::of_lines(alloc, read_lines(alloc, text)?)?)
+    }
+
+    /// The revisions that were merged from a path, given as it is printed.
+    pub fn ranges(&self, path: &[u8]) -> Option<&Ranges>
+        ensures { option_map (λ ranges. ranges.now) result ≡ ranges_of self.now path.now }
+    {
+        let place = self
+            .entries
+            .partition_point(|entry| entry.path.as_slice() < path);
+        match self.entries.get(place) {
+            Some(entry) if entry.path.as_slice() == path => Some(&entry.ranges),
+            _ => None,
+        }
+    }
+
+    /// What a path inherits, given what follows the path that has this value.
+    pub fn inherited(&self, rest: &[u8]) -> Result<Self, AllocError>
+        requires { IsPrintedPath rest.now }
+        ensures same { IfOk result (λ below. HasSameRuns below (inherited_lines rest.now self.now)) }
+        ensures exact { IfOk result (λ below. below ≡ inherited_value rest.now self.now) }
+    {
+        let alloc = *self.entries.allocator();
+        let mut lines = Vec::with_capacity(alloc, self.entries.len())?;
+        for entry in &self.entries {
+            lines.push(entry.inherited(alloc, rest)?)?;
+        }
+        MergeInfo::of_lines(alloc, lines)
+    }
+
+    /// Appends a line for each path.
+    pub fn write(&self, out: &mut Vec<u8>) -> Result<(), AllocError>
+        ensures ok { OnOk result (out.new.items ≡ out.old.items ++ value_text self.now) }
+        ensures canonical { IsMergeInfo self.now }
+        ensures only { IsOnlyMergeInfo self.now }
+        ensures reads_back { All IsOnOneLine self.now → lines_of (value_text self.now) ≡ Some self.now }
+    {
+        for entry in &self.entries {
+            entry.write(out)?;
+        }
+        Ok(())
+    }
+
+    /// An equal value.
+    pub fn dup(&self) -> Result<Self, AllocError>
+        ensures { IfOk result (λ same. same ≡ self.now) }
+    {
+        let mut entries = Vec::with_capacity(*self.entries.allocator(), self.entries.len())?;
+        for entry in &self.entries {
+            entries.push(entry.dup()?)?;
+        }
+        Ok(MergeInfo { entries })
+    }
+
+    /// The value of lines in any order, in which a path may stand more than once.
+    fn of_lines(alloc: Global, lines: Vec<Line>) -> Result<Self, AllocError>
+        requires { All IsLine (map line_view lines.items) }
+        ensures same { IfOk result (λ value. HasSameRuns value (map line_view lines.items)) }
+        ensures canonical { IfOk result IsMergeInfo }
+        ensures exact { IfOk result (λ value. value ≡ canonical_value (map line_view lines.items)) }
+    {
+        let mut entries = Vec::new(alloc);
+        for (path, runs) in united(alloc, lines)? {
+            let ranges = Ranges::of_runs(runs)?;
+            if ranges.is_empty() {
+                continue;
+            }
+            entries.push(Entry { path, ranges })?;
+        }
+        Ok(MergeInfo { entries })
+    }
+}
