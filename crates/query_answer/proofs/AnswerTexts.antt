@@ -1,6 +1,6 @@
 -- The answer to a query, by what was found of its peg and of the peg's path.
 use Rattle.std.proofs.Common.{◌≡◌, ℕ, ◌<◌, ◌≤◌, true, false, List, [], ◌∷◌, Option, Some, None, option_map, length, map, bytes_eq, refl, sym, ap, ap₂, subst, ◌∙◌}
-use Rattle.std.specs.Prelude.{All, Vec, option_and_then, slice_get, zero, suc}
+use Rattle.std.specs.Prelude.{◌++◌, All, Vec, flat_map, option_and_then, slice_get, zero, suc}
 use Rattle.std.specs.declared.alloc.Global.{Global}
 use Rattle.std.proofs.lemmas.List.Elements.{All-cons, All-head, All-nil, All-tail}
 use Rattle.std.proofs.lemmas.Bool.{le-leb, lt-leb, false_from_ne_true}
@@ -15,14 +15,17 @@ use Rattle.svn_path.specs.Components.{parts_of, HasDot}
 use Rattle.svn_path.specs.Names.{name_of}
 use Rattle.svn_path.specs.Path.{same_name, components_of}
 use Rattle.svn_path.specs.declared.names.NameId.{NameId}
-use Rattle.svn_dump.specs.Dump.{DumpValue, IsDump}
+use Rattle.merge_info.specs.Line.{Line}
+use Rattle.merge_info.specs.Text.{printed_line, value_text}
+use Rattle.svn_dump.specs.Block.{line_text}
+use Rattle.svn_dump.specs.Dump.{DumpValue, IsDump, history_in_bytes}
 use Rattle.svn_dump.specs.Location.{location}
 use Rattle.svn_dump.specs.Record.{HistoryOfBytes}
 use Rattle.svn_dump.specs.Tree.{is_there, tree_of}
 use Rattle.svn_dump.specs.declared.record.NodeRecord.{NodeRecord}
-use Rattle.query_answer.specs.Answer.{Answer, IsAnswer, IsPlaceOf, IsSegmentOf, TreesOfBytes, answer_about, answer_of, hit_line, locate_lines, location_line, log_lines, refused_answer, segment_in_bytes, segment_line, segments_in_bytes, segments_lines}
-use Rattle.query_answer.specs.Query.{Peg, query_or_bad, bad, locate, log, segments, peg_at}
-use Rattle.query_answer.specs.Repo.{IsPathFound, IsRepo, index_of, locate_answer, log_answer, segments_answer, trees_in_bytes}
+use Rattle.query_answer.specs.Answer.{Answer, IsAnswer, IsPlaceOf, IsSegmentOf, TreesOfBytes, answer_about, answer_of, effective_answer, hit_line, locate_lines, location_line, log_lines, ok_answer, refused_answer, segment_in_bytes, segment_line, segments_in_bytes, segments_lines, value_answer}
+use Rattle.query_answer.specs.Query.{Peg, query_or_bad, bad, locate, log, mergeinfo, segments, peg_at}
+use Rattle.query_answer.specs.Repo.{IsPathFound, IsRepo, effective_in, index_of, locate_answer, log_answer, mergeinfo_answer, segments_answer, trees_in_bytes}
 use Rattle.query_answer.specs.declared.answers.Answer.TheVariants as kept
 use Rattle.query_answer.specs.declared.query.Peg.{Peg as KeptPeg}
 use Rattle.query_answer.specs.TreeOfNumbers.{TreeOfNumbers}
@@ -32,18 +35,18 @@ use Rattle.query_answer.proofs.InBytes.{IsWhole-index_of, hits-in_bytes, locatio
 
 -- ---- by what was found of the peg
 
-module _ (trees : TreesOfBytes) (path : List ℕ) (peg : ℕ) (lines : Peg → List (List ℕ)) where
-  pub answer_about-dot : HasDot path → answer_about trees (peg_at path peg) lines ≡ refused_answer status.BadQuery
+module _ (trees : TreesOfBytes) (path : List ℕ) (peg : ℕ) (answer : Peg → Answer) where
+  pub answer_about-dot : HasDot path → answer_about trees (peg_at path peg) answer ≡ refused_answer status.BadQuery
   answer_about-dot dot = rw dot refl
 
-  pub answer_about-late : (HasDot path → ⊥) → length trees ≤ peg → answer_about trees (peg_at path peg) lines ≡ refused_answer status.NoSuchRevision
+  pub answer_about-late : (HasDot path → ⊥) → length trees ≤ peg → answer_about trees (peg_at path peg) answer ≡ refused_answer status.NoSuchRevision
   answer_about-late fine late = rw (false_from_ne_true _ fine, le-leb _ _ late) refl
 
-  pub answer_about-absent : (HasDot path → ⊥) → peg < length trees → is_there bytes_eq (tree_of trees peg) (parts_of path) ≡ false → answer_about trees (peg_at path peg) lines ≡ refused_answer status.NoSuchPath
+  pub answer_about-absent : (HasDot path → ⊥) → peg < length trees → is_there bytes_eq (tree_of trees peg) (parts_of path) ≡ false → answer_about trees (peg_at path peg) answer ≡ refused_answer status.NoSuchPath
   answer_about-absent fine within absent = rw (false_from_ne_true _ fine, lt-leb _ _ within, absent) refl
 
   pub answer_about-present : (HasDot path → ⊥) → peg < length trees → is_there bytes_eq (tree_of trees peg) (parts_of path) ≡ true
-      → answer_about trees (peg_at path peg) lines ≡ record { status = status.Ok; lines = lines (record { path = parts_of path; rev = peg }) }
+      → answer_about trees (peg_at path peg) answer ≡ answer (record { path = parts_of path; rev = peg })
   answer_about-present fine within there = rw (false_from_ne_true _ fine, lt-leb _ _ within, there) refl
 
 -- ---- by what is asked
@@ -53,20 +56,25 @@ module _ (history : HistoryOfBytes) (trees : TreesOfBytes) where
   unfolding answer_of
   answer_of-bad = refl
 
-  pub answer_of-locate : (peg : Option Peg) (rev : ℕ) → answer_of history trees (query_or_bad (option_map (λ one. locate one rev) peg)) ≡ answer_about trees peg (locate_lines trees rev)
+  pub answer_of-locate : (peg : Option Peg) (rev : ℕ) → answer_of history trees (query_or_bad (option_map (λ one. locate one rev) peg)) ≡ answer_about trees peg (λ found. ok_answer (locate_lines trees rev found))
   unfolding answer_of
   answer_of-locate None rev = refl
   answer_of-locate (Some peg) rev = refl
 
-  pub answer_of-segments : (peg : Option Peg) → answer_of history trees (query_or_bad (option_map segments peg)) ≡ answer_about trees peg (segments_lines trees)
+  pub answer_of-segments : (peg : Option Peg) → answer_of history trees (query_or_bad (option_map segments peg)) ≡ answer_about trees peg (λ found. ok_answer (segments_lines trees found))
   unfolding answer_of
   answer_of-segments None = refl
   answer_of-segments (Some peg) = refl
 
-  pub answer_of-log : (peg : Option Peg) → answer_of history trees (query_or_bad (option_map log peg)) ≡ answer_about trees peg (log_lines history trees)
+  pub answer_of-log : (peg : Option Peg) → answer_of history trees (query_or_bad (option_map log peg)) ≡ answer_about trees peg (λ found. ok_answer (log_lines history trees found))
   unfolding answer_of
   answer_of-log None = refl
   answer_of-log (Some peg) = refl
+
+  pub answer_of-mergeinfo : (peg : Option Peg) → answer_of history trees (query_or_bad (option_map mergeinfo peg)) ≡ answer_about trees peg (effective_answer trees)
+  unfolding answer_of
+  answer_of-mergeinfo None = refl
+  answer_of-mergeinfo (Some peg) = refl
 
 -- ---- by what was found of the path
 
@@ -86,9 +94,9 @@ module _ (dump : DumpValue) (kept_is : IsDump dump) (peg : KeptPeg) (path : List
       → IsAnswer dump.names (locate_answer dump peg rev) (kept.Location place)
   IsAnswer-Location rev place is = record {
     names_of = subst (IsPlaceOf dump.names) (sym is) (location-of_names dump kept_is peg.rev found.within path rev found.of_names);
-    same = ap (λ line. record { status = status.Ok; lines = location_line line ∷ [] })
+    same = ap (λ line. ok_answer (location_line line ∷ []))
         (ap (option_map (components_of dump.names)) is ∙ sym (location-in_bytes dump kept_is peg.rev found.within path rev))
-        ∙ sym (found.answered (locate_lines (trees_in_bytes dump) rev));
+        ∙ sym (found.answered (λ each. ok_answer (locate_lines (trees_in_bytes dump) rev each)));
   }
 
   module _ (kept_segments : Vec KeptSegment Global) (is : map segment_view kept_segments.items ≡ segments_of same_name (trees_to dump.records peg.rev) path peg.rev) where
@@ -103,19 +111,35 @@ module _ (dump : DumpValue) (kept_is : IsDump dump) (peg : KeptPeg) (path : List
     pub IsAnswer-Segments : IsAnswer dump.names (segments_answer dump peg) (kept.Segments kept_segments)
     IsAnswer-Segments = record {
       names_of = kept_names;
-      same = ap (λ all. record { status = status.Ok; lines = map segment_line all }) kept_in_bytes ∙ sym (found.answered (segments_lines (trees_in_bytes dump)));
+      same = ap (λ all. ok_answer (map segment_line all)) kept_in_bytes ∙ sym (found.answered (λ each. ok_answer (segments_lines (trees_in_bytes dump) each)));
     }
 
     pub IsAnswer-Log : (hits : Vec Hit Global) → hits.items ≡ operative_of same_name (history_to dump.records peg.rev) (trees_to dump.records peg.rev) (map segment_view kept_segments.items)
         → IsAnswer dump.names (log_answer dump peg) (kept.Log kept_segments hits)
     IsAnswer-Log hits hits_are = record {
       names_of = kept_names;
-      same = ap₂ (λ all each. record { status = status.Ok; lines = map (hit_line all) each }) kept_in_bytes
+      same = ap₂ (λ all each. ok_answer (map (hit_line all) each)) kept_in_bytes
           (hits_are ∙ ap (operative_of same_name (history_to dump.records peg.rev) (trees_to dump.records peg.rev)) is ∙ sym (hits-in_bytes dump kept_is peg.rev found.within path))
-          ∙ sym (found.answered (log_lines _ (trees_in_bytes dump)));
+          ∙ sym (found.answered (λ each. ok_answer (log_lines (history_in_bytes dump) (trees_in_bytes dump) each)));
     }
 
+-- the mergeinfo that holds for the path
+module _ (dump : DumpValue) (peg : KeptPeg) (path : List NameId) (found : IsPathFound dump peg path) (value : Option (List Line)) (is : value ≡ effective_in dump path peg.rev) where
+  effective_answered : mergeinfo_answer dump peg ≡ value_answer value
+  effective_answered = found.answered (effective_answer (trees_in_bytes dump)) ∙ ap value_answer (sym is)
+
+  pub IsAnswer-Mergeinfo : (lines : List Line) → value ≡ Some lines → IsAnswer dump.names (mergeinfo_answer dump peg) (kept.Mergeinfo lines)
+  IsAnswer-Mergeinfo lines some = record { names_of = tt; same = ap value_answer (sym some) ∙ sym effective_answered }
+
+  pub IsAnswer-Malformed : value ≡ None → IsAnswer dump.names (mergeinfo_answer dump peg) (kept.Refused status.MalformedMergeinfo)
+  IsAnswer-Malformed none = record { names_of = tt; same = ap value_answer (sym none) ∙ sym effective_answered }
+
 -- ---- what is written
+
+-- the lines of a value, each ended by a newline
+pub value_text-lines : (value : List Line) → flat_map line_text (map printed_line value) ≡ value_text value
+value_text-lines [] = refl
+value_text-lines (line ∷ value) = ap (λ rest. line_text (printed_line line) ++ rest) (value_text-lines value)
 
 pub components_of-lent : (names : List (List ℕ)) (found : Option (Bor (List NameId))) → option_map (λ path. components_of names path.now) found ≡ option_map (components_of names) (option_map (λ path. path.now) found)
 components_of-lent names None = refl

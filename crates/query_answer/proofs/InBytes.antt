@@ -25,8 +25,10 @@ use Rattle.svn_dump.proofs.Renaming.Trees.{rename_tree, trees_of-rename, tree_of
 use Rattle.svn_dump.proofs.Renaming.Faults.{first_fault-rename}
 use Rattle.svn_dump.proofs.Renaming.Locations.{location-rename}
 use Rattle.query_answer.specs.Answer.{IsPlaceOf}
+use Rattle.query_answer.specs.Effective.{nearest, nearest_from}
 use Rattle.query_answer.specs.Repo.{index_of, trees_in_bytes}
 use Rattle.query_answer.specs.TreeOfNumbers.{TreeOfNumbers, SameTrees}
+use Rattle.query_answer.proofs.NearestMergeinfo.{nearest_from-same, nearest_from-rename}
 use Rattle.query_answer.proofs.TreePaths.{IsOf-location}
 
 -- what holds of each place, and of none, holds of the path of each segment
@@ -166,3 +168,13 @@ module _ (dump : DumpValue) (kept : IsDump dump) where
 
     pub IsThere-kept : (path : List NameId) (peg : ℕ) → peg < length dump.counts → is_there same_name (tree_of trees peg) path ≡ true → IsThere dump.records path peg
     IsThere-kept path peg within there = is_there-index peg within path ∙ sym (ap is_some (same.each peg path)) ∙ there
+
+    -- the nearest mergeinfo of a path
+    pub nearest-in_bytes : (path : List NameId) (rev : ℕ) → nearest bytes_eq (tree_of (trees_in_bytes dump) rev) (components_of dump.names path)
+        ≡ option_map (λ found. (text found.0, found.1)) (nearest same_name (tree_of trees rev) path)
+    nearest-in_bytes path rev =
+        ap (λ all. nearest bytes_eq (tree_of all rev) (map name path)) trees-renamed
+        ∙ ap (λ tree. nearest bytes_eq tree (map name path)) (tree_of-rename name text trees_by_number rev)
+        ∙ ap (nearest_from bytes_eq (rename_tree name text (tree_of trees_by_number rev)) (map name path)) (length-map path name)
+        ∙ nearest_from-rename name text same_name bytes_eq alike (tree_of trees_by_number rev) path (length path)
+        ∙ ap (option_map (λ found. (text found.0, found.1))) (sym (nearest_from-same (tree_of trees rev) (tree_of trees_by_number rev) (same.each rev) path (length path)))

@@ -10,10 +10,13 @@ use Rattle.svn_path.specs.Components.{path_text}
 use Rattle.svn_path.specs.Names.{name_of}
 use Rattle.svn_path.specs.Path.{IsPathOf, components_of}
 use Rattle.svn_path.specs.declared.names.NameId.{NameId}
+use Rattle.merge_info.specs.Line.{Line}
+use Rattle.merge_info.specs.Text.{printed_line}
 use Rattle.svn_dump.specs.Block.{line_text}
 use Rattle.svn_dump.specs.Location.{location}
 use Rattle.svn_dump.specs.Record.{HistoryOfBytes}
 use Rattle.svn_dump.specs.Tree.{Tree, tree_of, is_there}
+use Rattle.query_answer.specs.Effective.{effective_value}
 use Rattle.query_answer.specs.Query as query
 use Rattle.query_answer.specs.Query.{Peg, Query}
 use Rattle.query_answer.specs.declared.answers.Answer.{Answer as KeptAnswer}
@@ -29,6 +32,7 @@ status_text status.Ok = codes "ok"
 status_text status.BadQuery = codes "bad-query"
 status_text status.NoSuchRevision = codes "no-such-revision"
 status_text status.NoSuchPath = codes "no-such-path"
+status_text status.MalformedMergeinfo = codes "malformed-mergeinfo"
 
 pub record Answer : Type 0 where
   pub status : Status
@@ -36,6 +40,9 @@ pub record Answer : Type 0 where
 
 abbrev pub refused_answer : Status → Answer
 refused_answer status = record { status = status; lines = [] }
+
+abbrev pub ok_answer : List (List ℕ) → Answer
+ok_answer lines = record { status = status.Ok; lines = lines }
 
 -- ---- the peg
 
@@ -45,21 +52,22 @@ peg_status trees peg =
     if nat_le (length trees) peg.rev then status.NoSuchRevision
     else (if is_there bytes_eq (tree_of trees peg.rev) peg.path then status.Ok else status.NoSuchPath)
 
--- the lines of an answer that nothing stands against
-abbrev pub answer_if_ok : Status → List (List ℕ) → Answer
-answer_if_ok status.Ok lines = record { status = status.Ok; lines = lines }
-answer_if_ok status.BadQuery lines = refused_answer status.BadQuery
-answer_if_ok status.NoSuchRevision lines = refused_answer status.NoSuchRevision
-answer_if_ok status.NoSuchPath lines = refused_answer status.NoSuchPath
+-- this answer, if nothing stands against the peg
+abbrev pub answer_if_ok : Status → Answer → Answer
+answer_if_ok status.Ok answer = answer
+answer_if_ok status.BadQuery answer = refused_answer status.BadQuery
+answer_if_ok status.NoSuchRevision answer = refused_answer status.NoSuchRevision
+answer_if_ok status.NoSuchPath answer = refused_answer status.NoSuchPath
+answer_if_ok status.MalformedMergeinfo answer = refused_answer status.MalformedMergeinfo
 
--- the answer about a peg, given its result lines
-abbrev pub answer_at : TreesOfBytes → Peg → List (List ℕ) → Answer
-answer_at trees peg lines = answer_if_ok (peg_status trees peg) lines
+-- the answer about a peg, given that for a path that is there
+abbrev pub answer_at : TreesOfBytes → Peg → Answer → Answer
+answer_at trees peg answer = answer_if_ok (peg_status trees peg) answer
 
 -- the answer about a peg that may name no path
-abbrev pub answer_about : TreesOfBytes → Option Peg → (Peg → List (List ℕ)) → Answer
-answer_about trees None lines = refused_answer status.BadQuery
-answer_about trees (Some peg) lines = answer_at trees peg (lines peg)
+abbrev pub answer_about : TreesOfBytes → Option Peg → (Peg → Answer) → Answer
+answer_about trees None answer = refused_answer status.BadQuery
+answer_about trees (Some peg) answer = answer_at trees peg (answer peg)
 
 -- ---- result lines
 
@@ -88,13 +96,22 @@ log_lines history trees peg =
     let segments = segments_of bytes_eq trees peg.path peg.rev in
     map (hit_line segments) (operative_of bytes_eq history trees segments)
 
+-- the lines of a value, unless its text is malformed
+abbrev pub value_answer : Option (List Line) → Answer
+value_answer None = refused_answer status.MalformedMergeinfo
+value_answer (Some value) = ok_answer (map printed_line value)
+
+abbrev pub effective_answer : TreesOfBytes → Peg → Answer
+effective_answer trees peg = value_answer (effective_value (tree_of trees peg.rev) peg.path)
+
 -- ---- the answer
 
 unfoldable pub answer_of : HistoryOfBytes → TreesOfBytes → Query → Answer
 answer_of history trees query.bad = refused_answer status.BadQuery
-answer_of history trees (query.locate peg rev) = answer_at trees peg (locate_lines trees rev peg)
-answer_of history trees (query.segments peg) = answer_at trees peg (segments_lines trees peg)
-answer_of history trees (query.log peg) = answer_at trees peg (log_lines history trees peg)
+answer_of history trees (query.locate peg rev) = answer_at trees peg (ok_answer (locate_lines trees rev peg))
+answer_of history trees (query.segments peg) = answer_at trees peg (ok_answer (segments_lines trees peg))
+answer_of history trees (query.log peg) = answer_at trees peg (ok_answer (log_lines history trees peg))
+answer_of history trees (query.mergeinfo peg) = answer_at trees peg (effective_answer trees peg)
 
 -- `#`, the number of the query, and the status
 abbrev pub answer_head : ℕ → Status → List ℕ
@@ -121,12 +138,11 @@ segments_in_bytes names segments = map (segment_in_bytes names) segments
 
 abbrev pub answer_in_bytes : List (List ℕ) → KeptAnswer → Answer
 answer_in_bytes names (kept.Refused status) = refused_answer status
-answer_in_bytes names (kept.Location place) =
-    record { status = status.Ok; lines = location_line (option_map (components_of names) place) ∷ [] }
-answer_in_bytes names (kept.Segments segments) =
-    record { status = status.Ok; lines = map segment_line (segments_in_bytes names segments.items) }
+answer_in_bytes names (kept.Location place) = ok_answer (location_line (option_map (components_of names) place) ∷ [])
+answer_in_bytes names (kept.Segments segments) = ok_answer (map segment_line (segments_in_bytes names segments.items))
 answer_in_bytes names (kept.Log segments hits) =
-    record { status = status.Ok; lines = map (hit_line (segments_in_bytes names segments.items)) hits.items }
+    ok_answer (map (hit_line (segments_in_bytes names segments.items)) hits.items)
+answer_in_bytes names (kept.Mergeinfo value) = ok_answer (map printed_line value)
 
 -- the path of a reference
 abbrev pub lent_place : Option (Bor (List NameId)) → Option (List NameId)
@@ -155,6 +171,9 @@ hit_text names segments hit = line_text (hit_line (segments_in_bytes names segme
 abbrev pub log_text : List (List ℕ) → List KeptSegment → List Hit → List ℕ
 log_text names segments hits = flat_map line_text (map (hit_line (segments_in_bytes names segments)) hits)
 
+abbrev pub mergeinfo_text : List Line → List ℕ
+mergeinfo_text value = flat_map line_text (map printed_line value)
+
 -- the whole text of the answer to the query of a place
 abbrev pub text_at : List (List ℕ) → ℕ → KeptAnswer → List ℕ
 text_at names place answer = answer_text (place + 1) (answer_in_bytes names answer)
@@ -165,6 +184,7 @@ IsAnswerOf names (kept.Refused status) = Unit {0}
 IsAnswerOf names (kept.Location place) = IsPlaceOf names place
 IsAnswerOf names (kept.Segments segments) = All (IsSegmentOf names) segments.items
 IsAnswerOf names (kept.Log segments hits) = All (IsSegmentOf names) segments.items
+IsAnswerOf names (kept.Mergeinfo value) = Unit {0}
 
 -- the answer is this one, with paths of the table
 pub record IsAnswer (names : List (List ℕ)) (answer : Answer) (each : KeptAnswer) : Type 0 where

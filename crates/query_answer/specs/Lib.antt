@@ -1,4 +1,5 @@
 pub mod Answer
+pub mod Effective
 pub mod FaultKind
 pub mod Query
 pub mod Repo

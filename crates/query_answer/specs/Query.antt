@@ -5,7 +5,7 @@ use Rattle.svn_path.specs.Components.{parts_of, is_dot}
 use Rattle.svn_dump.specs.Number.{number_up_to, greatest_revision}
 use Rattle.query_answer.specs.declared.query.Peg.{Peg as KeptPeg}
 use Rattle.query_answer.specs.declared.query.Query.{Query as KeptQuery}
-use Rattle.query_answer.specs.declared.query.Query.TheVariants.{Bad, Locate, Log, Segments}
+use Rattle.query_answer.specs.declared.query.Query.TheVariants.{Bad, Locate, Log, Mergeinfo, Segments}
 
 abbrev pub is_tab : ℕ → Bool
 is_tab byte = byte == 9
@@ -23,6 +23,7 @@ pub data Query : Type 0 where
   locate : Peg → ℕ → Query
   segments : Peg → Query
   log : Peg → Query
+  mergeinfo : Peg → Query
 
 -- the components of a queried path, none of them `.` or `..`
 abbrev pub queried_path : List ℕ → Option (List (List ℕ))
@@ -49,7 +50,8 @@ abbrev pub query_of_peg : List ℕ → List ℕ → Query
 query_of_peg verb peg =
     if bytes_eq verb (codes "segments") then query_or_bad (option_map segments (peg_of peg))
     else (if bytes_eq verb (codes "log") then query_or_bad (option_map log (peg_of peg))
-    else bad)
+    else (if bytes_eq verb (codes "mergeinfo") then query_or_bad (option_map mergeinfo (peg_of peg))
+    else bad))
 
 -- a verb, a peg and a revision
 abbrev pub query_of_revision : List ℕ → List ℕ → List ℕ → Query
@@ -81,6 +83,7 @@ query_view Bad = bad
 query_view (Locate of rev) = query_or_bad (option_map (λ peg. locate peg rev) (peg_view of))
 query_view (Segments of) = query_or_bad (option_map segments (peg_view of))
 query_view (Log of) = query_or_bad (option_map log (peg_view of))
+query_view (Mergeinfo of) = query_or_bad (option_map mergeinfo (peg_view of))
 
 -- the bytes of a path and its revision
 abbrev pub raw_peg : KeptPeg → List ℕ × ℕ
@@ -100,6 +103,7 @@ HasPegOf field Bad = Unit {0}
 HasPegOf field (Locate of rev) = Some (raw_peg of) ≡ read_peg field
 HasPegOf field (Segments of) = Some (raw_peg of) ≡ read_peg field
 HasPegOf field (Log of) = Some (raw_peg of) ≡ read_peg field
+HasPegOf field (Mergeinfo of) = Some (raw_peg of) ≡ read_peg field
 
 -- the second field of a line
 abbrev pub peg_field : List ℕ → List ℕ

@@ -11,6 +11,7 @@ use Rattle.svn_dump.specs.Tree.{entry_at, entry_of_copy, start_tree, tree_of, tr
 use Rattle.svn_dump.specs.declared.record.NodeRecord.{NodeRecord}
 use Rattle.svn_dump.specs.declared.record.ValueId.{ValueId}
 use Rattle.query_answer.specs.declared.entry.Entry.{Entry}
+use Rattle.query_answer.specs.declared.nearest.Nearest.{Nearest}
 use Rattle.svn_dump.specs.declared.origin.Origin.{Origin}
 
 -- trees by the numbers of names and of texts
@@ -65,3 +66,7 @@ fault_of_node earlier tree node = fault_of same_name earlier tree node.path (rec
 -- the records of one revision, the first of that number, have no fault
 abbrev pub AreLawful : List TreeOfNumbers → ℕ → List NodeRecord → Type 0
 AreLawful earlier number records = first_fault_in same_name earlier number (start_tree earlier) (map record_view records) ≡ None
+
+-- the nearest mergeinfo that was found: the number of its text, and how many components its path has
+abbrev pub nearest_view : Nearest → ValueId × ℕ
+nearest_view found = (found.mergeinfo, found.depth)

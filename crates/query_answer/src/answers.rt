@@ -4,9 +4,10 @@ ghost use Rattle.query_answer.specs.Answer.{IsAnswerOf, answer_head, answer_in_b
 
 use crate::repo::Repo;
 use crate::status::Status;
-use crate::text::push_number;
-use crate::verbs::{write_location, write_log, write_segments};
+use crate::verbs::{write_location, write_log, write_mergeinfo, write_segments};
+use merge_info::MergeInfo;
 use path_index::{Hit, Segment};
+use range_list::push_number;
 use std::alloc::AllocError;
 use svn_path::Path;
 
@@ -24,6 +25,8 @@ pub enum Answer {
         segments: Vec<Segment>,
         hits: Vec<Hit>,
     },
+    /// The mergeinfo that holds for it.
+    Mergeinfo(MergeInfo),
 }
 
 impl Answer {
@@ -41,6 +44,7 @@ impl Answer {
             Answer::Log { segments, hits } => {
                 write_log(names, segments.as_slice(), hits.as_slice(), out)
             }
+            Answer::Mergeinfo(value) => write_mergeinfo(value, out),
         }
     }
 

@@ -2,23 +2,25 @@
 #![tactic(auto)]
 
 mod answers;
+mod effective_mergeinfo;
 mod entry;
 mod fault;
+pub mod inheritance;
+mod nearest;
 mod query;
 mod repo;
 mod status;
 #[cfg(test)]
 mod tests;
-mod text;
 mod tree;
 mod trees;
 mod verbs;
 
 pub use answers::Answer;
+pub use effective_mergeinfo::Effective;
 pub use fault::{Fault, FaultKind};
 pub use query::{Peg, Query};
 pub use repo::Repo;
 pub use status::Status;
-pub use text::push_number;
 pub use trees::{Trees, TreesError};
 pub use verbs::answer;

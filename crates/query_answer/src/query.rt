@@ -23,6 +23,8 @@ pub enum Query<'a> {
     Segments { of: Peg<'a> },
     /// Its operative revisions.
     Log { of: Peg<'a> },
+    /// Its effective mergeinfo.
+    Mergeinfo { of: Peg<'a> },
 }
 
 impl<'a> Peg<'a> {
@@ -69,6 +71,8 @@ impl<'a> Query<'a> {
             Query::Segments { of }
         } else if verb == b"log".as_slice() {
             Query::Log { of }
+        } else if verb == b"mergeinfo".as_slice() {
+            Query::Mergeinfo { of }
         } else {
             Query::Bad
         }

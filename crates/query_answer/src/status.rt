@@ -9,6 +9,7 @@ pub enum Status {
     BadQuery,
     NoSuchRevision,
     NoSuchPath,
+    MalformedMergeinfo,
 }
 
 impl Status {
@@ -21,6 +22,7 @@ impl Status {
             Status::BadQuery => b"bad-query",
             Status::NoSuchRevision => b"no-such-revision",
             Status::NoSuchPath => b"no-such-path",
+            Status::MalformedMergeinfo => b"malformed-mergeinfo",
         }
     }
 }

@@ -1,10 +1,14 @@
-//! Queries and answers on a dump of two revisions: `trunk` is added in revision 1 and copied to `b` in revision 2.
+//! Queries and answers on two small dumps.
 
-use crate::{Query, Repo, Trees, answer, push_number};
+use crate::inheritance::effective;
+use crate::{Effective, Query, Repo, Trees, answer};
 use path_index::Index;
 use std::alloc::Global;
 use std::test::Fail;
 use svn_dump::read;
+use svn_path::{Lookup, Path};
+
+// `trunk` is added in revision 1 and copied to `b` in revision 2.
 
 const DUMP: &[u8] = b"SVN-fs-dump-format-version: 2
 
@@ -23,6 +27,52 @@ Node-action: add
 Node-copyfrom-rev: 1
 Node-copyfrom-path: trunk
 
+";
+
+// `a` has mergeinfo, which `a/b` inherits; that of `c` is malformed, and that of `a/d` empty.
+const MERGEINFO: &[u8] = b"SVN-fs-dump-format-version: 2
+
+Revision-number: 0
+
+Revision-number: 1
+
+Node-path: a
+Node-kind: dir
+Node-action: add
+Prop-content-length: 41
+Content-length: 41
+
+K 13
+svn:mergeinfo
+V 7
+/s:1*,2
+PROPS-END
+Node-path: a/b
+Node-kind: dir
+Node-action: add
+
+Node-path: c
+Node-kind: dir
+Node-action: add
+Prop-content-length: 35
+Content-length: 35
+
+K 13
+svn:mergeinfo
+V 1
+x
+PROPS-END
+Node-path: a/d
+Node-kind: dir
+Node-action: add
+Prop-content-length: 34
+Content-length: 34
+
+K 13
+svn:mergeinfo
+V 0
+
+PROPS-END
 ";
 
 fn repo_of(alloc: Global, dump: &[u8]) -> Result<Repo, Fail> {
@@ -88,10 +138,40 @@ fn a_repository_has_the_names_of_its_paths(rt: HostRuntime) -> Result<(), Fail> 
 }
 
 #[test]
-fn numbers_are_written_in_decimal(rt: HostRuntime) -> Result<(), Fail> {
-    let mut out = Vec::new(rt.alloc());
-    push_number(&mut out, 0)?;
-    push_number(&mut out, 18_446_744_073_709_551_615)?;
-    assert_eq!(rt; out.as_slice(), b"018446744073709551615".as_slice());
+fn mergeinfo_is_that_of_the_nearest_path(rt: HostRuntime) -> Result<(), Fail> {
+    let repo = repo_of(rt.alloc(), MERGEINFO)?;
+    let found = text_of(rt.alloc(), &repo, b"mergeinfo\ta@1")?;
+    assert_eq!(rt; found.as_slice(), b"#1 ok\n/s:1*,2\n".as_slice());
+    let found = text_of(rt.alloc(), &repo, b"mergeinfo\ta/b@1")?;
+    assert_eq!(rt; found.as_slice(), b"#1 ok\n/s/b:2\n".as_slice());
+    let found = text_of(rt.alloc(), &repo, b"mergeinfo\ta/d@1")?;
+    assert_eq!(rt; found.as_slice(), b"#1 ok\n".as_slice());
+    Ok(())
+}
+
+#[test]
+fn malformed_mergeinfo_has_its_status(rt: HostRuntime) -> Result<(), Fail> {
+    let repo = repo_of(rt.alloc(), MERGEINFO)?;
+    let found = text_of(rt.alloc(), &repo, b"mergeinfo\tc@1")?;
+    assert_eq!(rt; found.as_slice(), b"#1 malformed-mergeinfo\n".as_slice());
+    let found = text_of(rt.alloc(), &repo, b"log\tc@1")?;
+    assert_eq!(rt; found.as_slice(), b"#1 ok\nr1 /c\n".as_slice());
+    Ok(())
+}
+
+#[test]
+fn effective_mergeinfo_is_looked_up(rt: HostRuntime) -> Result<(), Fail> {
+    let repo = repo_of(rt.alloc(), MERGEINFO)?;
+    let path = match Path::find(rt.alloc(), repo.names(), b"a/b")? {
+        Lookup::Known(path) => path,
+        Lookup::Unknown => Err("no such path")?,
+    };
+    match effective(rt.alloc(), &repo, &path, 1)? {
+        Effective::Value(value) => {
+            let ranges = value.ranges(b"/s/b");
+            assert!(rt; ranges.is_some_and(|ranges| ranges.has(2) == Some(true)));
+        }
+        Effective::Malformed => Err("malformed mergeinfo")?,
+    }
     Ok(())
 }

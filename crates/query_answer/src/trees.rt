@@ -1,19 +1,21 @@
 //! The trees of all revisions, every path of every revision listed.
-ghost use Rattle.std.specs.Prelude.{◌≡◌, ◌+◌, ◌^◌, ◌<◌, ◌↔◌, None, length, map, option_map, IfErr, IfOk, IsTrue, OnOk};
+ghost use Rattle.std.specs.Prelude.{◌≡◌, ◌+◌, ◌^◌, ◌<◌, ◌≤◌, ◌↔◌, None, length, map, option_map, IfErr, IfOk, IfSome, IsTrue, OnOk};
 ghost use Rattle.svn_path.specs.Path.{same_name};
 ghost use Rattle.svn_dump.specs.Dump.{history_view, record_view};
 ghost use Rattle.svn_dump.specs.Fault.{fault_of, fault_if_missing as missing_fault, fault_of_target as target_fault, fault_of_source as source_fault, has_parent as parent_is_there, first_fault, first_fault_in};
 ghost use Rattle.svn_dump.specs.Tree.{entry_at, is_there, tree_of, trees_of, start_tree, end_tree};
+ghost use Rattle.query_answer.specs.Effective.{nearest, own_mergeinfo};
 ghost use Rattle.query_answer.specs.FaultKind.{kind_view};
-ghost use Rattle.query_answer.specs.TreeOfNumbers.{AreLawful, FallingOrigins, fault_of_node, SameTree, SameTrees, entry_view, origin_view};
+ghost use Rattle.query_answer.specs.TreeOfNumbers.{AreLawful, FallingOrigins, fault_of_node, SameTree, SameTrees, entry_view, nearest_view, origin_view};
 ghost use Rattle.query_answer.specs.TreesError.{IsFaultOf, IsFaultIn};
 
 use crate::entry::Entry;
 use crate::fault::{Fault, FaultKind};
+use crate::nearest::Nearest;
 use crate::tree::Tree;
 use std::alloc::{AllocError, AllocFailed, Global};
 use std::marker::Model;
-use svn_dump::{Act, Dump, Kind, NodeRecord};
+use svn_dump::{Act, Dump, Kind, NodeRecord, ValueId};
 use svn_path::Path;
 use thiserror::Error;
 
@@ -97,6 +99,35 @@ impl Trees {
         ensures { IsTrue result ↔ IsTrue (is_there same_name (tree_of self.now rev) path.now) }
     {
         entry_of(self.revisions.as_slice(), rev, path).is_some()
+    }
+
+    /// The mergeinfo of the path in the revision, or of the nearest path above it that has some.
+    pub(crate) fn nearest(&self, path: &Path, rev: u32) -> Result<Option<Nearest>, AllocError>
+        ensures found { IfOk result (λ found. option_map nearest_view found
+            ≡ nearest same_name (tree_of self.now rev) path.now) }
+        ensures depth { IfOk result (λ found. IfSome found (λ each. each.depth ≤ length path.now)) }
+    {
+        let mut front = path.dup()?;
+        loop {
+            if let Some(mergeinfo) = self.mergeinfo(&front, rev) {
+                let depth = front.len();
+                return Ok(Some(Nearest { mergeinfo, depth }));
+            }
+            match front.parent()? {
+                Some(above) => front = above,
+                None => return Ok(None),
+            }
+        }
+    }
+
+    /// The mergeinfo that a path of a revision has itself.
+    fn mergeinfo(&self, path: &Path, rev: u32) -> Option<ValueId>
+        ensures { result ≡ own_mergeinfo same_name (tree_of self.now rev) path.now }
+    {
+        match entry_of(self.revisions.as_slice(), rev, path) {
+            Some(entry) => entry.mergeinfo,
+            None => None,
+        }
     }
 }
 

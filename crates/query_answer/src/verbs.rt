@@ -6,6 +6,7 @@ ghost use Rattle.query_answer.specs.Repo.{answer_by};
 
 mod locate;
 mod log;
+mod mergeinfo;
 mod place;
 mod segments;
 
@@ -15,6 +16,7 @@ use crate::repo::Repo;
 use crate::status::Status;
 pub(crate) use locate::write_location;
 pub(crate) use log::write_log;
+pub(crate) use mergeinfo::write_mergeinfo;
 pub(crate) use segments::write_segments;
 use std::alloc::{AllocError, Global};
 
@@ -27,5 +29,6 @@ pub fn answer(alloc: Global, repo: &Repo, query: Query<'_>) -> Result<Answer, Al
         Query::Locate { of, rev } => locate::answer_locate(alloc, repo, of, rev),
         Query::Segments { of } => segments::answer_segments(alloc, repo, of),
         Query::Log { of } => log::answer_log(alloc, repo, of),
+        Query::Mergeinfo { of } => mergeinfo::answer_mergeinfo(alloc, repo, of),
     }
 }

@@ -2,7 +2,8 @@
 ghost use Rattle.std.specs.Prelude.{◌≡◌, ◌++◌, IfOk, OnOk, OnErr};
 ghost use Rattle.svnhist.specs.RunError.{line_of, status_of, refused_text, refusal_name_of, fault_name_of, source_name_of, unread_text};
 
-use query_answer::{Fault, FaultKind, TreesError, push_number};
+use query_answer::{Fault, FaultKind, TreesError};
+use range_list::push_number;
 use std::alloc::{AllocError, AllocFailed, Global};
 use svn_dump::DumpError;
 use thiserror::Error;

@@ -7,8 +7,8 @@ use super::place::write_place;
 use crate::answers::Answer;
 use crate::query::Peg;
 use crate::repo::Repo;
-use crate::text::push_number;
 use path_index::Segment;
+use range_list::push_number;
 use std::alloc::{AllocError, Global};
 use svn_path::Names;
 

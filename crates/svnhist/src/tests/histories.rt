@@ -532,3 +532,82 @@ pub(crate) const EMPTY: &[u8] = b"SVN-fs-dump-format-version: 2
 Revision-number: 0
 
 ";
+
+// The directories have mergeinfo in other forms than the printed one.
+pub(crate) const MERGEINFO_TEXTS: &[u8] = b"SVN-fs-dump-format-version: 2
+
+Revision-number: 0
+
+Revision-number: 1
+
+Node-path: c
+Node-kind: dir
+Node-action: add
+Prop-content-length: 40
+Content-length: 40
+
+K 13
+svn:mergeinfo
+V 6
+/a:5-3
+PROPS-END
+Node-path: d
+Node-kind: dir
+Node-action: add
+Prop-content-length: 52
+Content-length: 52
+
+K 13
+svn:mergeinfo
+V 17
+/a:b:1-2147483647
+PROPS-END
+Node-path: e
+Node-kind: dir
+Node-action: add
+Prop-content-length: 47
+Content-length: 47
+
+K 13
+svn:mergeinfo
+V 12
+/a:7,3-5,4,6
+PROPS-END
+";
+
+// `t` has mergeinfo, which its copy `c` keeps and its copy `d` does not.
+pub(crate) const COPIED_MERGEINFO: &[u8] = b"SVN-fs-dump-format-version: 2
+
+Revision-number: 0
+
+Revision-number: 1
+
+Node-path: t
+Node-kind: dir
+Node-action: add
+Prop-content-length: 38
+Content-length: 38
+
+K 13
+svn:mergeinfo
+V 4
+/s:4
+PROPS-END
+Revision-number: 2
+
+Node-path: c
+Node-action: add
+Node-copyfrom-rev: 1
+Node-copyfrom-path: t
+
+Revision-number: 3
+
+Node-path: d
+Node-action: add
+Node-copyfrom-rev: 1
+Node-copyfrom-path: t
+Prop-content-length: 10
+Content-length: 10
+
+PROPS-END
+";

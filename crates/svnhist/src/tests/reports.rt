@@ -4,7 +4,8 @@ use crate::gate::NoGate;
 use crate::report::report;
 use crate::run_error::RunError;
 use crate::tests::histories::{
-    AT_SIGN, DUMPED, DUMPED_AS_ONE, EMPTY, FIRST, GONE, MERGED, MOVES, NESTED, REPLACED,
+    AT_SIGN, COPIED_MERGEINFO, DUMPED, DUMPED_AS_ONE, EMPTY, FIRST, GONE, MERGED, MERGEINFO_TEXTS,
+    MOVES, NESTED, REPLACED,
 };
 use std::alloc::Global;
 use std::sync::Wait;
@@ -210,6 +211,26 @@ fn operative_revisions_are_listed_from_the_newest(rt: HostRuntime) -> Result<(),
             "{queries:?}"
         );
     }
+    Ok(())
+}
+
+#[test]
+fn mergeinfo_is_inherited_from_the_nearest_path(rt: HostRuntime) -> Result<(), Fail> {
+    let queries =
+        b"mergeinfo\t/branches@9\nmergeinfo\t/branches/b@9\nmergeinfo\t/branches/b@10\nmergeinfo\t/trunk@6\n";
+    let wanted = b"#1 ok\n/trunk:3*,6\n#2 ok\n/trunk/b:6\n#3 ok\n#4 ok\n";
+    assert!(rt; reports(&rt, rt.alloc(), MERGED, queries, wanted)?);
+    let queries = b"mergeinfo\t/c@2\nmergeinfo\t/d@3\n";
+    let wanted = b"#1 ok\n/s:4\n#2 ok\n";
+    assert!(rt; reports(&rt, rt.alloc(), COPIED_MERGEINFO, queries, wanted)?);
+    Ok(())
+}
+
+#[test]
+fn mergeinfo_is_printed_in_one_form(rt: HostRuntime) -> Result<(), Fail> {
+    let queries = b"mergeinfo\t/c@1\nmergeinfo\t/d@1\nmergeinfo\t/e@1\nlog\t/c@1\n";
+    let wanted = b"#1 malformed-mergeinfo\n#2 ok\n/a:b:1-2147483647\n#3 ok\n/a:3-7\n#4 ok\nr1 /c\n";
+    assert!(rt; reports(&rt, rt.alloc(), MERGEINFO_TEXTS, queries, wanted)?);
     Ok(())
 }
 

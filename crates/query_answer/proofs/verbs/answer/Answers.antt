@@ -2,7 +2,7 @@ use Rattle.query_answer.specs.Query.{peg_view}
 use Rattle.query_answer.specs.Repo.{trees_in_bytes}
 use Rattle.query_answer.specs.declared.status.Status.TheVariants as status
 use Rattle.svn_dump.specs.Dump.{history_in_bytes}
-use Rattle.query_answer.proofs.AnswerTexts.{IsAnswer-Refused, answer_of-bad, answer_of-locate, answer_of-segments, answer_of-log}
+use Rattle.query_answer.proofs.AnswerTexts.{IsAnswer-Refused, answer_of-bad, answer_of-locate, answer_of-segments, answer_of-log, answer_of-mergeinfo}
 use Rattle.query_answer.proofs.verbs.answer.Goals as goal
 
 pub returns-in-Bad : goal.returns-in-Bad
@@ -20,3 +20,7 @@ returns-in-Segments c =
 pub returns-in-Log : goal.returns-in-Log
 returns-in-Log c =
     rw (c.in-Log.is, answer_of-log (history_in_bytes c.args.repo.now) (trees_in_bytes c.args.repo.now) (peg_view c.in-Log.of)) c.answer_log.ensures
+
+pub returns-in-Mergeinfo : goal.returns-in-Mergeinfo
+returns-in-Mergeinfo c =
+    rw (c.in-Mergeinfo.is, answer_of-mergeinfo (history_in_bytes c.args.repo.now) (trees_in_bytes c.args.repo.now) (peg_view c.in-Mergeinfo.of)) c.answer_mergeinfo.ensures

@@ -17,7 +17,7 @@ returns-then-peg-len c =
     let repo = IsRepo-view c.self.inside.dump dump c.self.inside.index c.self.inside.trees c.self.view_is c.self.invariant in
     let all = length-trees_in_bytes dump repo.dump_is in
     let kept = length-kept dump repo.dump_is c.self.inside.trees repo.trees_are in
-    λ lines. answer_about-late (trees_in_bytes dump) c.args.peg.path.now c.args.peg.rev lines
+    λ answer. answer_about-late (trees_in_bytes dump) c.args.peg.path.now c.args.peg.rev answer
     (λ dot. let told = c.in-Ok.ensures.dot.1 dot in cc) (omega (arith, all, kept))
 
 pub returns-then-has : goal.returns-then-has
@@ -35,10 +35,10 @@ returns-then-has c =
       of_names = known.0;
       within = within;
       there = IsThere-kept dump repo.dump_is c.self.inside.trees repo.trees_are c.in-Known.path c.args.peg.rev within there;
-      answered = λ lines.
+      answered = λ answer.
           let present : is_there bytes_eq (tree_of (trees_in_bytes dump) c.args.peg.rev) (parts_of c.args.peg.path.now) ≡ true =
           rw (← known.1) (there-in_bytes dump repo.dump_is c.self.inside.trees repo.trees_are c.in-Known.path c.args.peg.rev ∙ there) in
-          rw known.1 (answer_about-present (trees_in_bytes dump) c.args.peg.path.now c.args.peg.rev lines (λ dot. let told = c.in-Ok.ensures.dot.1 dot in cc) (omega (arith, all, within)) present);
+          rw known.1 (answer_about-present (trees_in_bytes dump) c.args.peg.path.now c.args.peg.rev answer (λ dot. let told = c.in-Ok.ensures.dot.1 dot in cc) (omega (arith, all, within)) present);
     }
 
 pub returns-else-has : goal.returns-else-has
@@ -51,8 +51,8 @@ returns-else-has c =
     let names = c.names.ensures.value ∙ ap (λ each. each.names) c.self.view_is in
     let known : IsLookup dump.names (parts_of c.args.peg.path.now) (Known c.in-Known.path) =
     subst (λ all. IsLookup all (parts_of c.args.peg.path.now) (Known c.in-Known.path)) names (rw c.in-Known.is at c.in-Ok.ensures.ok) in
-    λ lines.
-    answer_about-absent (trees_in_bytes dump) c.args.peg.path.now c.args.peg.rev lines (λ dot. let told = c.in-Ok.ensures.dot.1 dot in cc) (omega (arith, all, within))
+    λ answer.
+    answer_about-absent (trees_in_bytes dump) c.args.peg.path.now c.args.peg.rev answer (λ dot. let told = c.in-Ok.ensures.dot.1 dot in cc) (omega (arith, all, within))
     (rw (← known.1) (there-in_bytes dump repo.dump_is c.self.inside.trees repo.trees_are c.in-Known.path c.args.peg.rev
     ∙ false_from_ne_true _ (λ there. both_ways _ c.if-has.false (c.has.ensures.1 there))))
 
@@ -65,7 +65,7 @@ returns-in-Unknown c =
     let within : c.args.peg.rev < length dump.counts = omega (arith, kept) in
     let names = c.names.ensures.value ∙ ap (λ each. each.names) c.self.view_is in
     let unknown : HasUnknown dump.names (parts_of c.args.peg.path.now) = subst (λ all. HasUnknown all (parts_of c.args.peg.path.now)) names (rw c.in-Unknown.is at c.in-Ok.ensures.ok) in
-    λ lines.
-    answer_about-absent (trees_in_bytes dump) c.args.peg.path.now c.args.peg.rev lines (λ dot. let told = c.in-Ok.ensures.dot.1 dot in cc) (omega (arith, all, within))
+    λ answer.
+    answer_about-absent (trees_in_bytes dump) c.args.peg.path.now c.args.peg.rev answer (λ dot. let told = c.in-Ok.ensures.dot.1 dot in cc) (omega (arith, all, within))
     (unknown-in_bytes dump repo.dump_is c.self.inside.trees repo.trees_are _ c.args.peg.rev
     (components-parts_of c.args.peg.path.now (false_from_ne_true _ (λ dot. let told = c.in-Ok.ensures.dot.1 dot in cc))) unknown)

@@ -1,0 +1,55 @@
+-- What a mergeinfo says of a path below its own.
+use Rattle.std.proofs.Common.{◌≡◌, ◌≢◌, ℕ, ◌<◌, ◌==◌, false, List, [], Option, Some, None, drop, take, length, refl, ap, sym, ◌∙◌, eqb-true}
+use Rattle.std.specs.Prelude.{option_map}
+use Rattle.std.proofs.lemmas.Bool.{false_from_ne_true}
+use Rattle.std.proofs.lemmas.List.{length-map}
+use Rattle.svn_dump.specs.Dump.{DumpValue, IsDump, history_view, text_of}
+use Rattle.svn_dump.specs.Tree.{tree_of, trees_of}
+use Rattle.svn_dump.specs.declared.record.ValueId.{ValueId}
+use Rattle.svn_path.specs.Components.{path_text}
+use Rattle.svn_path.specs.Names.{name_of}
+use Rattle.svn_path.specs.Path.{components_of, same_name}
+use Rattle.svn_path.specs.declared.names.NameId.{NameId}
+use Rattle.merge_info.specs.CanonicalValue.{inherited_value, value_of}
+use Rattle.merge_info.specs.Line.{Line}
+use Rattle.query_answer.specs.Effective.{effective_by, nearest, value_for}
+use Rattle.query_answer.specs.Repo.{effective_by_number, effective_in}
+use Rattle.query_answer.specs.TreeOfNumbers.{SameTrees, TreeOfNumbers, nearest_view}
+use Rattle.query_answer.specs.declared.nearest.Nearest.{Nearest}
+use Rattle.query_answer.proofs.InBytes.{nearest-in_bytes}
+use Rattle.query_answer.proofs.NearestMergeinfo.{own-nearest_from}
+use Rattle.query_answer.proofs.TreeValues.{mergeinfo-within_same}
+
+module _ (names : List (List ℕ)) (path : List NameId) (depth : ℕ) where
+  value_for-inherited : (value : List Line) → depth ≢ length path → value_for (components_of names path) depth value ≡ inherited_value (path_text (drop depth (components_of names path))) value
+  value_for-inherited value other =
+      let apart : (depth == length (components_of names path)) ≡ false =
+      false_from_ne_true _ (λ same. other (eqb-true depth (length (components_of names path)) same ∙ length-map path (λ name. name_of names name.0))) in
+      rw apart refl
+
+  pub effective_by-inherited : (text : List ℕ) (value below : List Line) → depth ≢ length path → value_of text ≡ Some value → below ≡ inherited_value (path_text (drop depth (components_of names path))) value
+      → Some below ≡ effective_by (components_of names path) (Some (text, depth))
+  effective_by-inherited text value below other read is =
+      ap Some (is ∙ sym (value_for-inherited value other)) ∙ ap (option_map (value_for (components_of names path) depth)) (sym read)
+
+-- ---- by the kept trees
+
+module _ (dump : DumpValue) (kept : IsDump dump) (trees : List TreeOfNumbers) (same : SameTrees trees (trees_of same_name (history_view dump))) (path : List NameId) (rev : ℕ) where
+  effective_in-kept : (found : Option (ValueId × ℕ)) → found ≡ nearest same_name (tree_of trees rev) path
+      → effective_in dump path rev ≡ effective_by (components_of dump.names path) (option_map (λ each. (text_of dump.values each.0.0, each.1)) found)
+  effective_in-kept found is =
+      ap (effective_by (components_of dump.names path))
+      (nearest-in_bytes dump kept trees same path rev ∙ ap (option_map (λ each. (text_of dump.values each.0.0, each.1))) (sym is))
+
+  pub effective_in-none : None ≡ nearest same_name (tree_of trees rev) path → effective_in dump path rev ≡ Some []
+  effective_in-none is = effective_in-kept None is
+
+  module _ (found : Nearest) (is : Some (nearest_view found) ≡ nearest same_name (tree_of trees rev) path) where
+    pub effective_in-some : effective_in dump path rev ≡ effective_by_number dump path found
+    effective_in-some = effective_in-kept (Some (nearest_view found)) is
+
+    -- the text is one of the dump
+    pub mergeinfo-found : found.mergeinfo.0 < length dump.values
+    mergeinfo-found =
+        mergeinfo-within_same dump kept trees same (take found.depth path) rev found.mergeinfo
+        (own-nearest_from same_name (tree_of trees rev) path found.mergeinfo found.depth (length path) (sym is))
