@@ -24,16 +24,16 @@ pub record EndsAt (inheritable : Bool) (runs : List Run) (last : ℕ) : Type 0 w
   pub reached : 1 ≤ last → Any (λ run. (run.inheritable ≡ inheritable) × (run.hi ≡ last)) runs
 
 -- what a scan knows of the runs so far
-pub record IsScan (runs : List Run) (inheritable_to plain_to : ℕ) : Type 0 where
+pub record IsScan (runs : List Run) (inheritable_to non_inheritable_to : ℕ) : Type 0 where
   pub clear : LacksClash runs
   pub inheritable : EndsAt true runs inheritable_to
-  pub plain : EndsAt false runs plain_to
+  pub non_inheritable : EndsAt false runs non_inheritable_to
 
 -- ---- two runs
 
 -- only an inheritable run clashes with another
-clashes-plain : (a b : Run) → a.inheritable ≡ false → clashes a b ≡ false
-clashes-plain a b plain = rw plain refl
+clashes-non_inheritable : (a b : Run) → a.inheritable ≡ false → clashes a b ≡ false
+clashes-non_inheritable a b non_inheritable = rw non_inheritable refl
 
 -- only a run that is not inheritable is clashed with
 clashes-inheritable : (a b : Run) → b.inheritable ≡ true → clashes a b ≡ false
@@ -49,7 +49,7 @@ clashes-after a b after = grind (arith, nat_tests)
 
 -- where neither does
 clashes-shared : (a b : Run) → a.inheritable ≡ true → b.inheritable ≡ false → a.lo ≤ b.hi → b.lo ≤ a.hi → clashes a b ≡ true
-clashes-shared a b inheritable plain first second = grind (arith, nat_tests)
+clashes-shared a b inheritable non_inheritable first second = grind (arith, nat_tests)
 
 -- ---- lists of runs
 
@@ -132,38 +132,38 @@ pub IsScan-none : IsScan [] 0 0
 IsScan-none = record {
   clear = record { pairs = All-nil (λ a. All (λ b. clashes a b ≡ false) []) };
   inheritable = EndsAt-none true;
-  plain = EndsAt-none false;
+  non_inheritable = EndsAt-none false;
 }
 
 -- an inheritable run that begins after all that are not
-pub IsScan-inheritable : (runs : List Run) (run : Run) (inheritable_to plain_to : ℕ) → run.inheritable ≡ true → plain_to < run.lo → IsScan runs inheritable_to plain_to → IsScan (runs ++ run ∷ []) (max inheritable_to run.hi) plain_to
-IsScan-inheritable runs run inheritable_to plain_to sort after scan = record {
+pub IsScan-inheritable : (runs : List Run) (run : Run) (inheritable_to non_inheritable_to : ℕ) → run.inheritable ≡ true → non_inheritable_to < run.lo → IsScan runs inheritable_to non_inheritable_to → IsScan (runs ++ run ∷ []) (max inheritable_to run.hi) non_inheritable_to
+IsScan-inheritable runs run inheritable_to non_inheritable_to sort after scan = record {
   clear = LacksClash-push runs run scan.clear (λ k d below. (clashes-inheritable _ run sort, apart k d below))
       (clashes-inheritable run run sort);
   inheritable = EndsAt-push true runs run inheritable_to sort scan.inheritable;
-  plain = EndsAt-other false runs run plain_to (λ plain. both_ways _ plain sort) scan.plain;
+  non_inheritable = EndsAt-other false runs run non_inheritable_to (λ non_inheritable. both_ways _ non_inheritable sort) scan.non_inheritable;
 }
   where
     apart : (k : ℕ) (d : Run) → k < length runs → clashes run (get_or runs k d) ≡ false
     apart k d below = elim (cases_Bool (get_or runs k d).inheritable) [
       | inl inheritable ↦ clashes-inheritable run (get_or runs k d) inheritable
-      | inr plain ↦ clashes-after run (get_or runs k d) (omega (arith, scan.plain.highest k d below plain))
+      | inr non_inheritable ↦ clashes-after run (get_or runs k d) (omega (arith, scan.non_inheritable.highest k d below non_inheritable))
     ]
 
 -- a run that is not inheritable and begins after all that are
-pub IsScan-plain : (runs : List Run) (run : Run) (inheritable_to plain_to : ℕ) → run.inheritable ≡ false → inheritable_to < run.lo → IsScan runs inheritable_to plain_to → IsScan (runs ++ run ∷ []) inheritable_to (max plain_to run.hi)
-IsScan-plain runs run inheritable_to plain_to sort after scan = record {
-  clear = LacksClash-push runs run scan.clear (λ k d below. (apart k d below, clashes-plain run _ sort))
-      (clashes-plain run run sort);
+pub IsScan-non_inheritable : (runs : List Run) (run : Run) (inheritable_to non_inheritable_to : ℕ) → run.inheritable ≡ false → inheritable_to < run.lo → IsScan runs inheritable_to non_inheritable_to → IsScan (runs ++ run ∷ []) inheritable_to (max non_inheritable_to run.hi)
+IsScan-non_inheritable runs run inheritable_to non_inheritable_to sort after scan = record {
+  clear = LacksClash-push runs run scan.clear (λ k d below. (apart k d below, clashes-non_inheritable run _ sort))
+      (clashes-non_inheritable run run sort);
   inheritable = EndsAt-other true runs run inheritable_to (both_ways _ sort) scan.inheritable;
-  plain = EndsAt-push false runs run plain_to sort scan.plain;
+  non_inheritable = EndsAt-push false runs run non_inheritable_to sort scan.non_inheritable;
 }
   where
     apart : (k : ℕ) (d : Run) → k < length runs → clashes (get_or runs k d) run ≡ false
     apart k d below = elim (cases_Bool (get_or runs k d).inheritable) [
       | inl inheritable ↦
           clashes-before (get_or runs k d) run (omega (arith, scan.inheritable.highest k d below inheritable))
-      | inr plain ↦ clashes-plain (get_or runs k d) run plain
+      | inr non_inheritable ↦ clashes-non_inheritable (get_or runs k d) run non_inheritable
     ]
 
 -- ---- runs in the order of their first numbers
@@ -206,20 +206,20 @@ EndsThere-from inheritable runs i d last within some ends =
       end = ap (λ (run : Run). run.hi) same ∙ found.4.1;
     }
 
-module _ (runs : List Run) (i : ℕ) (d : Run) (inheritable_to plain_to : ℕ) (all : All IsRun runs) (rising : IsRisingByFirst runs) (within : i < length runs) (scan : IsScan (take i runs) inheritable_to plain_to) where
+module _ (runs : List Run) (i : ℕ) (d : Run) (inheritable_to non_inheritable_to : ℕ) (all : All IsRun runs) (rising : IsRisingByFirst runs) (within : i < length runs) (scan : IsScan (take i runs) inheritable_to non_inheritable_to) where
   -- an inheritable run that begins at or before the end of one that is not
-  pub has_clash-inheritable : (get_or runs i d).inheritable ≡ true → (get_or runs i d).lo ≤ plain_to → has_clash runs ≡ true
+  pub has_clash-inheritable : (get_or runs i d).inheritable ≡ true → (get_or runs i d).lo ≤ non_inheritable_to → has_clash runs ≡ true
   has_clash-inheritable sort reaches =
       let is_run = all i d within in
-      let there = EndsThere-from false runs i d plain_to within (omega (arith, is_run.first)) scan.plain in
+      let there = EndsThere-from false runs i d non_inheritable_to within (omega (arith, is_run.first)) scan.non_inheritable in
       let order = rising-at runs rising there.place i d there.before within in
       has_clash-pair runs i there.place d within (omega (arith, there.before))
       (clashes-shared (get_or runs i d) (get_or runs there.place d) sort there.sort (omega (arith, there.end))
       (omega (arith, is_run.ordered, order)))
 
   -- a run that is not inheritable and begins at or before the end of one that is
-  pub has_clash-plain : (get_or runs i d).inheritable ≡ false → (get_or runs i d).lo ≤ inheritable_to → has_clash runs ≡ true
-  has_clash-plain sort reaches =
+  pub has_clash-non_inheritable : (get_or runs i d).inheritable ≡ false → (get_or runs i d).lo ≤ inheritable_to → has_clash runs ≡ true
+  has_clash-non_inheritable sort reaches =
       let is_run = all i d within in
       let there = EndsThere-from true runs i d inheritable_to within (omega (arith, is_run.first)) scan.inheritable in
       let order = rising-at runs rising there.place i d there.before within in

@@ -20,9 +20,9 @@ pub run_of-single : (inheritable : Bool) (bytes : List ℕ) → Lacks 45 bytes �
 run_of-single inheritable bytes lacks = cond-false _ _ _ (list_any-Lacks 45 bytes lacks)
 
 -- bytes without `*`
-pub element_of-plain : (bytes : List ℕ) → Lacks 42 bytes → element_of bytes ≡ run_of true bytes
+pub element_of-no_star : (bytes : List ℕ) → Lacks 42 bytes → element_of bytes ≡ run_of true bytes
 unfolding element_of
-element_of-plain bytes lacks = cond-false _ _ _ (list_any-Lacks 42 bytes lacks)
+element_of-no_star bytes lacks = cond-false _ _ _ (list_any-Lacks 42 bytes lacks)
 
 -- a length below 1
 is_not_empty-none : (bytes : List ℕ) → length bytes < 1 → is_not_empty bytes ≡ false

@@ -145,10 +145,10 @@ element_of-run_text run is_run =
           ap (λ inheritable. element_of (text ++ star_unless inheritable)) inherits
           ∙ ap element_of (append-nil text) ∙ element_of-inheritable text none
           ∙ ap (λ inheritable. run_of inheritable text) (sym inherits) ∙ read
-      | inr plain ↦
-          ap (λ inheritable. element_of (text ++ star_unless inheritable)) plain
+      | inr non_inheritable ↦
+          ap (λ inheritable. element_of (text ++ star_unless inheritable)) non_inheritable
           ∙ element_of-star text none
-          ∙ ap (λ inheritable. run_of inheritable text) (sym plain) ∙ read
+          ∙ ap (λ inheritable. run_of inheritable text) (sym non_inheritable) ∙ read
     ]
 
 -- ---- a rangelist

@@ -24,10 +24,10 @@ fn has_clash_in_order(runs: &[Run]) -> bool
     ensures { result ≡ has_clash runs.now }
 {
     let mut inheritable_to = 0u32;
-    let mut plain_to = 0u32;
+    let mut non_inheritable_to = 0u32;
     for run in runs {
         if run.inheritable {
-            if run.lo <= plain_to {
+            if run.lo <= non_inheritable_to {
                 return true;
             }
             inheritable_to = inheritable_to.max(run.hi);
@@ -35,7 +35,7 @@ fn has_clash_in_order(runs: &[Run]) -> bool
             if run.lo <= inheritable_to {
                 return true;
             }
-            plain_to = plain_to.max(run.hi);
+            non_inheritable_to = non_inheritable_to.max(run.hi);
         }
     }
     false

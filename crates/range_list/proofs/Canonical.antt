@@ -96,7 +96,7 @@ inheritable_runs-kept : (run : Run) (runs : List Run) → run.inheritable ≡ tr
 inheritable_runs-kept run runs inherits = cond-true run.inheritable _ _ inherits
 
 inheritable_runs-skip : (run : Run) (runs : List Run) → run.inheritable ≡ false → inheritable_runs (run ∷ runs) ≡ inheritable_runs runs
-inheritable_runs-skip run runs plain = cond-false run.inheritable _ _ plain
+inheritable_runs-skip run runs non_inheritable = cond-false run.inheritable _ _ non_inheritable
 
 pub BeginsFrom-filter : (m : ℕ) (runs : List Run) → IsCanonical runs → BeginsFrom m runs → BeginsFrom m (inheritable_runs runs)
 BeginsFrom-filter m [] canonical begins = tt
@@ -104,7 +104,7 @@ BeginsFrom-filter m (run ∷ runs) canonical begins =
     let is_run = IsCanonical-head run runs canonical in
     elim (cases_Bool run.inheritable) [
       | inl inherits ↦ subst (BeginsFrom m) (sym (inheritable_runs-kept run runs inherits)) begins
-      | inr plain ↦ subst (BeginsFrom m) (sym (inheritable_runs-skip run runs plain)) (BeginsFrom-filter m runs (IsCanonical-tail run runs canonical) (BeginsFrom-lower m (run.hi + 1) runs (omega (arith, is_run.ordered)) (BeginsFrom-tail run runs canonical)))
+      | inr non_inheritable ↦ subst (BeginsFrom m) (sym (inheritable_runs-skip run runs non_inheritable)) (BeginsFrom-filter m runs (IsCanonical-tail run runs canonical) (BeginsFrom-lower m (run.hi + 1) runs (omega (arith, is_run.ordered)) (BeginsFrom-tail run runs canonical)))
     ]
 
 -- a run is apart from runs that begin above the number after its end
@@ -119,7 +119,7 @@ IsApartFromFirst-filter run (next ∷ runs) canonical =
     let is_next = IsCanonical-head next runs canonical.2 in
     elim (cases_Bool next.inheritable) [
       | inl inherits ↦ subst (IsApartFromFirst run) (sym (inheritable_runs-kept next runs inherits)) canonical.1
-      | inr plain ↦ subst (IsApartFromFirst run) (sym (inheritable_runs-skip next runs plain)) (IsApartFromFirst-far run (next.hi + 1) (inheritable_runs runs) (omega (arith, is_next.ordered, canonical.1.after))
+      | inr non_inheritable ↦ subst (IsApartFromFirst run) (sym (inheritable_runs-skip next runs non_inheritable)) (IsApartFromFirst-far run (next.hi + 1) (inheritable_runs runs) (omega (arith, is_next.ordered, canonical.1.after))
           (BeginsFrom-filter (next.hi + 1) runs (IsCanonical-tail next runs canonical.2) (BeginsFrom-tail next runs canonical.2)))
     ]
 
@@ -129,7 +129,7 @@ IsCanonical-filter (run ∷ runs) canonical =
     let rest = IsCanonical-filter runs (IsCanonical-tail run runs canonical) in
     elim (cases_Bool run.inheritable) [
       | inl inherits ↦ subst IsCanonical (sym (inheritable_runs-kept run runs inherits)) (IsCanonical-cons run (inheritable_runs runs) (IsCanonical-head run runs canonical) (IsApartFromFirst-filter run runs canonical) rest)
-      | inr plain ↦ subst IsCanonical (sym (inheritable_runs-skip run runs plain)) rest
+      | inr non_inheritable ↦ subst IsCanonical (sym (inheritable_runs-skip run runs non_inheritable)) rest
     ]
 
 pub IsInheritablePart-filter : (runs : List Run) → IsInheritablePart runs (inheritable_runs runs)
@@ -143,9 +143,9 @@ IsInheritablePart-filter (run ∷ runs) n =
             ap (λ part. is_in part n) kept ∙ ap (λ b. covers run n || b) rest.0 ∙ ap with_first (sym inherits),
             ap (λ part. is_inheritable part n) kept ∙ ap (λ b. (run.inheritable && covers run n) || b) rest.1,
           )
-      | inr plain ↦
-          let skipped = inheritable_runs-skip run runs plain in (
-            ap (λ part. is_in part n) skipped ∙ rest.0 ∙ ap with_first (sym plain),
-            ap (λ part. is_inheritable part n) skipped ∙ rest.1 ∙ ap with_first (sym plain),
+      | inr non_inheritable ↦
+          let skipped = inheritable_runs-skip run runs non_inheritable in (
+            ap (λ part. is_in part n) skipped ∙ rest.0 ∙ ap with_first (sym non_inheritable),
+            ap (λ part. is_inheritable part n) skipped ∙ rest.1 ∙ ap with_first (sym non_inheritable),
           )
     ]

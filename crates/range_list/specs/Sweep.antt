@@ -12,12 +12,12 @@ EndsBelow n runs = All (λ run. run.hi < n) runs
 abbrev pub runs_of : Sweep → List Run
 runs_of s =
     let inheritable : Run = record { lo = s.cursor; hi = s.inheritable_to; inheritable = true } in
-    let plain : Run = record { lo = s.cursor; hi = s.plain_to; inheritable = false } in
-    s.done.items ++ inheritable ∷ plain ∷ []
+    let non_inheritable : Run = record { lo = s.cursor; hi = s.non_inheritable_to; inheritable = false } in
+    s.done.items ++ inheritable ∷ non_inheritable ∷ []
 
 pub record IsSweep (s : Sweep) : Type 0 where
   pub first : 1 ≤ s.cursor
   pub inheritable_last : s.inheritable_to ≤ greatest_revision
-  pub plain_last : s.plain_to ≤ greatest_revision
+  pub non_inheritable_last : s.non_inheritable_to ≤ greatest_revision
   pub canonical : IsCanonical s.done.items
   pub below : EndsBelow s.cursor s.done.items

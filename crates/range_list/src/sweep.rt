@@ -18,7 +18,7 @@ pub(crate) struct Sweep {
     /// The inheritable numbers taken so far go up to this one, where that is the cursor or above it.
     pub inheritable_to: u32,
     /// The same of the numbers that were given as not inheritable.
-    pub plain_to: u32,
+    pub non_inheritable_to: u32,
 }
 
 impl Sweep {
@@ -31,7 +31,7 @@ impl Sweep {
             done: Vec::new(alloc),
             cursor: 1,
             inheritable_to: 0,
-            plain_to: 0,
+            non_inheritable_to: 0,
         }
     }
 
@@ -48,7 +48,7 @@ impl Sweep {
         if run.inheritable {
             self.inheritable_to = self.inheritable_to.max(run.hi);
         } else {
-            self.plain_to = self.plain_to.max(run.hi);
+            self.non_inheritable_to = self.non_inheritable_to.max(run.hi);
         }
         Ok(())
     }
@@ -75,7 +75,7 @@ impl Sweep {
             &mut self.done,
             Run {
                 lo: self.cursor.max(inheritable_end + 1),
-                hi: self.plain_to.min(end),
+                hi: self.non_inheritable_to.min(end),
                 inheritable: false,
             },
         )?;

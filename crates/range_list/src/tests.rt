@@ -90,7 +90,7 @@ fn runs_in_any_order_are_joined(rt: HostRuntime) -> Result<(), Fail> {
 }
 
 #[test]
-fn a_plain_run_goes_round_an_inheritable_one(rt: HostRuntime) -> Result<(), Fail> {
+fn a_non_inheritable_run_goes_round_an_inheritable_one(rt: HostRuntime) -> Result<(), Fail> {
     let given = [run(1, 9, false), run(4, 5, true)];
     let ranges = union_of(rt.alloc(), given.as_slice())?;
     assert_eq!(rt;

@@ -1,9 +1,9 @@
 use Rattle.std.proofs.Common.{◌∙◌, sym}
-use Rattle.merge_info.proofs.Elements.{element_of-more, element_of-plain, element_of-star}
+use Rattle.merge_info.proofs.Elements.{element_of-more, element_of-no_star, element_of-star}
 use Rattle.merge_info.proofs.element.element.Goals as goal
 
 pub returns-in-None-clause-value : goal.returns-in-None-clause-value
-returns-in-None-clause-value c = c.run.ensures.value ∙ sym (element_of-plain c.args.bytes.now c.in-None.ensures)
+returns-in-None-clause-value c = c.run.ensures.value ∙ sym (element_of-no_star c.args.bytes.now c.in-None.ensures)
 
 pub returns-in-Some-default-empty-clause-value : goal.returns-in-Some-default-empty-clause-value
 returns-in-Some-default-empty-clause-value c =
