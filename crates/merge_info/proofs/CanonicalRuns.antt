@@ -2,12 +2,13 @@
 use Rattle.std.proofs.Common.{◌≡◌, ℕ, zero, suc, ◌<◌, Bool, true, false, not, nat_le, ◌&&◌, List, [], ◌∷◌, length, get_or, All}
 use Rattle.std.proofs.Common.{inl, inr, refl, sym, ap, ◌∙◌, arith}
 use Rattle.std.specs.List.{list_any}
-use Rattle.std.proofs.lemmas.Bool.{cases_order, and_left, and_right, lt-leb}
+use Rattle.std.proofs.lemmas.Bool.{cases_order}
 use Rattle.std.proofs.lemmas.List.{get_or_default}
 use Rattle.std.proofs.lemmas.List.Elements.{All-cons, All-nil}
 use Rattle.std.proofs.lemmas.List.Folds.{list_any_none}
 use Rattle.range_list.specs.Rangelist.{IsCanonical}
 use Rattle.range_list.specs.declared.run.Run.{Run}
+use Rattle.merge_info.proofs.Clashes.{clashes-after, clashes-before}
 use Rattle.range_list.proofs.Canonical.{IsCanonical-head, IsCanonical-tail}
 use Rattle.merge_info.specs.Line.{clashes, has_clash}
 
@@ -29,13 +30,6 @@ IsCanonical-rises (run ∷ runs) zero (suc m) d e canonical before within =
     IsCanonical-first run runs canonical m e (omega arith)
 IsCanonical-rises (run ∷ runs) (suc k) (suc m) d e canonical before within =
     IsCanonical-rises runs k m d e (IsCanonical-tail run runs canonical) (omega arith) (omega arith)
-
--- a run shares no number with one that begins after its end
-clashes-before : (a b : Run) → a.hi < b.lo → clashes a b ≡ false
-clashes-before a b before = and_right _ _ (lt-leb b.lo a.hi before)
-
-clashes-after : (a b : Run) → b.hi < a.lo → clashes a b ≡ false
-clashes-after a b after = and_left _ _ (and_right _ _ (lt-leb a.lo b.hi after))
 
 -- a run is not of both sorts
 clashes-itself : (a : Run) → clashes a a ≡ false

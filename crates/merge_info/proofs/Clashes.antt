@@ -40,11 +40,11 @@ clashes-inheritable : (a b : Run) → b.inheritable ≡ true → clashes a b ≡
 clashes-inheritable a b inheritable = grind (arith, nat_tests)
 
 -- where the first ends before the second begins
-clashes-before : (a b : Run) → a.hi < b.lo → clashes a b ≡ false
+pub clashes-before : (a b : Run) → a.hi < b.lo → clashes a b ≡ false
 clashes-before a b before = grind (arith, nat_tests)
 
 -- where the second ends before the first begins
-clashes-after : (a b : Run) → b.hi < a.lo → clashes a b ≡ false
+pub clashes-after : (a b : Run) → b.hi < a.lo → clashes a b ≡ false
 clashes-after a b after = grind (arith, nat_tests)
 
 -- where neither does

@@ -68,16 +68,16 @@ abbrev pub is_no_blank : ℕ → Bool
 is_no_blank byte = not (byte == 32) && not (byte == 9)
 
 -- neither of two tests passes
-not_both : (a b : Bool) → not (not a && not b) ≡ (a || b)
-not_both true b = refl
-not_both false true = refl
-not_both false false = refl
+not_and_nots : (a b : Bool) → not (not a && not b) ≡ (a || b)
+not_and_nots true b = refl
+not_and_nots false true = refl
+not_and_nots false false = refl
 
 -- the first byte that is no blank
 position_or_len-blanks : (bytes : List ℕ) → position_or_len is_no_blank bytes ≡ prefix_len is_blank bytes
 position_or_len-blanks [] = refl
 position_or_len-blanks (byte ∷ bytes) =
-    ap (λ test. if test then 1 + position_or_len is_no_blank bytes else 0) (not_both (byte == 32) (byte == 9))
+    ap (λ test. if test then 1 + position_or_len is_no_blank bytes else 0) (not_and_nots (byte == 32) (byte == 9))
     ∙ ap (λ n. if is_blank byte then 1 + n else 0) (position_or_len-blanks bytes)
 
 -- what such a search finds, or else the end

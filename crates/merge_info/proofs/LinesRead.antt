@@ -20,7 +20,7 @@ AreRead-push texts lines text line read is fine = record {
 }
 
 -- bytes that are not empty are a line or more
-lines_between-some : (bytes : List ℕ) → (length bytes == 0) ≡ false → lines_between bytes ≡ slice_split is_newline bytes
+pub lines_between-some : (bytes : List ℕ) → (length bytes == 0) ≡ false → lines_between bytes ≡ slice_split is_newline bytes
 lines_between-some [] some = cc
 lines_between-some (byte ∷ bytes) some = refl
 

@@ -3,8 +3,8 @@ use Rattle.std.proofs.Common.{◌≡◌, ◌≢◌, ℕ, ◌-◌, ◌<◌, List,
 use Rattle.std.proofs.Common.{refl, sym, ap, ◌∙◌, arith, eq-eqb}
 use Rattle.std.specs.Prelude.{Some, option_and_then}
 use Rattle.std.specs.Io.BufRead.{strip_last}
-use Rattle.std.specs.List.{before_last, join_with_byte, slice_split}
-use Rattle.std.proofs.lemmas.Bool.{and_from, cond-false, cond-true, lt-ltb}
+use Rattle.std.specs.List.{before_last, join_with_byte}
+use Rattle.std.proofs.lemmas.Bool.{and_from, cond-false, cond-true, lt-ltb, ne_eqb}
 use Rattle.std.proofs.lemmas.List.{append-nil, append_assoc, get_or_at, length-append, take_at}
 use Rattle.std.proofs.lemmas.List.Elements.{All-map}
 use Rattle.std.proofs.lemmas.List.Folds.{list_any_none}
@@ -17,9 +17,10 @@ use Rattle.range_list.specs.Text.{rangelist_text}
 use Rattle.range_list.specs.declared.run.Run.{Run}
 use Rattle.merge_info.specs.Line.{IsPrintedPath, Line, all_of, elements_of, is_colon, line_from, line_of, without_blanks}
 use Rattle.merge_info.specs.Text.{printed_line, value_text}
-use Rattle.merge_info.specs.Value.{IsEntry, IsMergeInfo, IsOnOneLine, is_newline, lines_between, lines_of, text_lines}
+use Rattle.merge_info.specs.Value.{IsEntry, IsMergeInfo, IsOnOneLine, lines_between, lines_of, text_lines}
 use Rattle.range_list.proofs.Canonical.{AreRuns-from_canonical}
 use Rattle.merge_info.proofs.CanonicalRuns.{has_clash-canonical}
+use Rattle.merge_info.proofs.LinesRead.{lines_between-some}
 use Rattle.merge_info.proofs.JoinedBytes.{Lacks-append, Lacks-cons, Lacks-nil, all_of-map, length-join, list_any-whole, slice_split-join}
 use Rattle.merge_info.proofs.RunTexts.{Lacks-rangelist_text, elements_of-rangelist_text, without_blanks-rangelist_text}
 
@@ -89,10 +90,6 @@ value_text-joined line (next ∷ lines) =
     ∙ append_assoc (printed_line line) (10 ∷ []) (rest ++ 10 ∷ [])
     ∙ sym (append_assoc (printed_line line) (10 ∷ rest) (10 ∷ []))
 
-lines_between-some : (bytes : List ℕ) → 0 < length bytes → lines_between bytes ≡ slice_split is_newline bytes
-lines_between-some [] some = absurd (omega arith)
-lines_between-some (byte ∷ bytes) some = refl
-
 -- the lines of a printed value are those of its entries
 pub text_lines-value_text : (value : List Line) → All IsEntry value → All IsOnOneLine value
     → text_lines (value_text value) ≡ map printed_line value
@@ -104,7 +101,7 @@ text_lines-value_text (line ∷ lines) entries one_line =
     (λ k d below. Lacks-printed_line (get_or (line ∷ lines) k d) (entries k d below) (one_line k d below)) in
     ap text_lines (value_text-joined line lines)
     ∙ ap lines_between (strip_last-push 10 joined)
-    ∙ lines_between-some joined some
+    ∙ lines_between-some joined (ne_eqb (length joined) 0 (λ none. omega arith))
     ∙ slice_split-join 10 (printed_line line) (map printed_line lines) none
 
 -- a printed value is read as the value

@@ -2,8 +2,8 @@
 use Rattle.std.proofs.Common.{◌≡◌, ◌≢◌, ℕ, ◌+◌, ◌<◌, ◌≤◌, ◌==◌, Bool, true, false, cond, List, [], ◌∷◌, ◌++◌, length, get_or}
 use Rattle.std.proofs.Common.{drop, map, All, decimal, inl, inr, refl, sym, ap, ◌∙◌, arith}
 use Rattle.std.specs.Prelude.{Some, None, option_and_then, option_map, if◌then◌else◌}
-use Rattle.std.specs.List.{list_any, before_first, after_first, prefix_len, slice_split}
-use Rattle.std.proofs.lemmas.Bool.{cases_Bool, cond-false, cond-true, eqb-false, eqb-true, lt-ltb, or_from}
+use Rattle.std.specs.List.{list_any, before_first, after_first, prefix_len}
+use Rattle.std.proofs.lemmas.Bool.{cases_Bool, cond-false, cond-true, eqb-false, eqb-true, lt-ltb, ne_eqb, or_from}
 use Rattle.std.proofs.lemmas.Fmt.{decimal_nonempty}
 use Rattle.std.proofs.lemmas.List.{append-nil, append_assoc, length-append}
 use Rattle.std.proofs.lemmas.List.Elements.{All-head, All-map}
@@ -15,8 +15,9 @@ use Rattle.range_list.specs.Rangelist.{IsRun, greatest_revision}
 use Rattle.range_list.specs.Text.{range_text, rangelist_text, run_text}
 use Rattle.range_list.specs.declared.run.Run.{Run}
 use Rattle.merge_info.specs.Element.{element_of, is_dash, is_star, revision_of, run_between, run_of}
-use Rattle.merge_info.specs.Line.{all_of, elements_of, is_blank, is_comma, without_blanks}
+use Rattle.merge_info.specs.Line.{all_of, elements_of, is_blank, without_blanks}
 use Rattle.merge_info.proofs.Decimals.{Lacks-decimal, revision_of-decimal}
+use Rattle.merge_info.proofs.Elements.{elements_of-some}
 use Rattle.merge_info.proofs.JoinedBytes.{Lacks-append, Lacks-cons, Lacks-join, Lacks-nil, after_first-whole, all_of-map}
 use Rattle.merge_info.proofs.JoinedBytes.{before_first-whole, length-join, list_any-whole, slice_split-join}
 
@@ -77,9 +78,9 @@ length-run_text run is_run =
 -- ---- one run
 
 -- one number
-run_of-single : (inheritable : Bool) (n : ℕ) → 1 ≤ n → n ≤ greatest_revision
+run_of-decimal : (inheritable : Bool) (n : ℕ) → 1 ≤ n → n ≤ greatest_revision
     → run_of inheritable (decimal n) ≡ Some (record { lo = n; hi = n; inheritable = inheritable })
-run_of-single inheritable n first last =
+run_of-decimal inheritable n first last =
     cond-false _ _ _ (list_any_none is_dash (decimal n) (Lacks-decimal 45 n refl (omega arith)))
     ∙ ap (option_map (λ number. record { lo = number; hi = number; inheritable = inheritable }))
     (revision_of-decimal n first last)
@@ -113,7 +114,7 @@ run_of-range_text run is_run =
     elim (cases_Bool (run.lo == run.hi)) [
       | inl single ↦
           ap (run_of run.inheritable) (cond-true _ _ _ single)
-          ∙ run_of-single run.inheritable run.lo is_run.first (omega (arith, is_run.ordered, is_run.last))
+          ∙ run_of-decimal run.inheritable run.lo is_run.first (omega (arith, is_run.ordered, is_run.last))
           ∙ ap (λ (hi : ℕ). let each : Run = record run { hi = hi } in Some each) (eqb-true run.lo run.hi single)
       | inr more ↦
           let differ = eqb-false run.lo run.hi more in
@@ -126,9 +127,9 @@ element_of-inheritable : (bytes : List ℕ) → Lacks 42 bytes → element_of by
 unfolding element_of
 element_of-inheritable bytes none = cond-false _ _ _ (list_any_none is_star bytes none)
 
-element_of-star : (bytes : List ℕ) → Lacks 42 bytes → element_of (bytes ++ 42 ∷ []) ≡ run_of false bytes
+element_of-append_star : (bytes : List ℕ) → Lacks 42 bytes → element_of (bytes ++ 42 ∷ []) ≡ run_of false bytes
 unfolding element_of
-element_of-star bytes none =
+element_of-append_star bytes none =
     let front = before_first is_star (bytes ++ 42 ∷ []) in
     cond-true _ _ _ (list_any-whole 42 bytes [])
     ∙ ap (λ after. cond (is_not_empty after) None (run_of false front)) (after_first-whole 42 bytes [] none)
@@ -147,17 +148,11 @@ element_of-run_text run is_run =
           ∙ ap (λ inheritable. run_of inheritable text) (sym inherits) ∙ read
       | inr non_inheritable ↦
           ap (λ inheritable. element_of (text ++ star_unless inheritable)) non_inheritable
-          ∙ element_of-star text none
+          ∙ element_of-append_star text none
           ∙ ap (λ inheritable. run_of inheritable text) (sym non_inheritable) ∙ read
     ]
 
 -- ---- a rangelist
-
-elements_of-some : (bytes : List ℕ) → 0 < length bytes
-    → elements_of bytes ≡ all_of (map element_of (slice_split is_comma bytes))
-unfolding elements_of
-elements_of-some [] some = absurd (omega arith)
-elements_of-some (byte ∷ bytes) some = refl
 
 -- a printed rangelist is read as its runs
 pub elements_of-rangelist_text : (runs : List Run) → runs ≢ [] → All IsRun runs
@@ -166,7 +161,8 @@ elements_of-rangelist_text [] some are_runs = absurd (some refl)
 elements_of-rangelist_text (run ∷ runs) some are_runs =
     let first = length-run_text run (All-head IsRun run runs are_runs) in
     let none = AllLack-runs 44 (run ∷ runs) (refl, refl, refl) are_runs in
-    elements_of-some (rangelist_text (run ∷ runs)) (length-join 44 (run_text run) (map run_text runs) first)
+    elements_of-some (rangelist_text (run ∷ runs))
+    (sym (ne_eqb (length (rangelist_text (run ∷ runs))) 0 (λ empty. omega (arith, length-join 44 (run_text run) (map run_text runs) first))))
     ∙ ap (λ parts. all_of (map element_of parts)) (slice_split-join 44 (run_text run) (map run_text runs) none)
     ∙ all_of-map element_of run_text (run ∷ runs)
     (λ k d below. element_of-run_text (get_or (run ∷ runs) k d) (are_runs k d below))

@@ -6,9 +6,9 @@ use Rattle.std.proofs.lemmas.List.Concat.{flat_map-append}
 use Rattle.svn_path.specs.Components.{is_not_empty, parts_text, path_text}
 
 -- the test of a length
-pub is_not_empty-length : (bytes : List ℕ) (test : Bool) → test ≡ not (length bytes == 0) → test ≡ is_not_empty bytes
-is_not_empty-length [] test same = same
-is_not_empty-length (byte ∷ bytes) test same =
+pub is_not_empty-tested : (bytes : List ℕ) (test : Bool) → test ≡ not (length bytes == 0) → test ≡ is_not_empty bytes
+is_not_empty-tested [] test same = same
+is_not_empty-tested (byte ∷ bytes) test same =
     same ∙ not_from_false _ (ne_eqb (length (byte ∷ bytes)) 0 (λ none. omega arith))
 
 -- one more component

@@ -4,7 +4,7 @@ use Rattle.std.proofs.lemmas.Iterator.Consumers.{YieldsList-at, YieldsList-end, 
 use Rattle.std.proofs.lemmas.Iterator.Splits.{YieldsList-from_slice_split}
 use Rattle.std.proofs.lemmas.List.{length_push, take_all}
 use Rattle.svn_path.specs.Components.{is_not_empty, is_slash, parts_of, parts_text}
-use Rattle.merge_info.proofs.SourcePaths.{is_not_empty-length, parts_text-more, path_text-none, path_text-some}
+use Rattle.merge_info.proofs.SourcePaths.{is_not_empty-tested, parts_text-more, path_text-none, path_text-some}
 use Rattle.merge_info.proofs.source_path.printed_path.Goals as goal
 use Rattle.merge_info.proofs.source_path.printed_path.Goals.{then-is_empty+in_ok-push-2, else-is_empty}
 
@@ -16,7 +16,7 @@ loop-part-preserved c =
     (YieldsList-from_filter _ is_not_empty (YieldsList-at c.filter-part-items.ensures.source
     (YieldsList-from_slice_split _ is_slash c.args.bytes.now c.split-parts.ensures.rest c.split-parts.ensures.done
     c.split-parts.ensures.closure (λ x b q k. search (rules, tests))))
-    c.filter-part-items.ensures.closure (λ x b q k. search (rules, tests, is_not_empty-length))))
+    c.filter-part-items.ensures.closure (λ x b q k. search (rules, tests, is_not_empty-tested))))
     c.loop-part.yielded _ c.loop-part.yielded_by _ _ c.in-Some.part c.in-Some.is c.next.ensures.steps) in
     c.in_ok-extend_from_slice.ensures.items
     ∙ ap (λ path. path ++ c.in-Some.part.now)
@@ -30,7 +30,7 @@ returns c =
     (YieldsList-from_filter _ is_not_empty (YieldsList-at c.filter-part-items.ensures.source
     (YieldsList-from_slice_split _ is_slash c.args.bytes.now c.split-parts.ensures.rest c.split-parts.ensures.done
     c.split-parts.ensures.closure (λ x b q k. search (rules, tests))))
-    c.filter-part-items.ensures.closure (λ x b q k. search (rules, tests, is_not_empty-length))))
+    c.filter-part-items.ensures.closure (λ x b q k. search (rules, tests, is_not_empty-tested))))
     c.loop-part.yielded _ c.loop-part.yielded_by _ _ c.in-None.is c.next.ensures.steps in
     let whole = c.loop-part.invariant
     ∙ ap parts_text (take_all (length c.loop-part.yielded) parts (omega (arith, all.1))) in
