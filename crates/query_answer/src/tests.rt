@@ -9,7 +9,6 @@ use svn_dump::read;
 use svn_path::{Lookup, Path};
 
 // `trunk` is added in revision 1 and copied to `b` in revision 2.
-
 const DUMP: &[u8] = b"SVN-fs-dump-format-version: 2
 
 Revision-number: 0
