@@ -1,0 +1,359 @@
+"""Draws bundles at random: the dump of a history of a few revisions, and queries about its paths.
+
+`bundle_of` gives the same bytes for the same seed. Most histories are lawful. Some have one faulty record; in some a
+block or a few bytes of the dump are changed afterwards, and in a few the first line of the bundle.
+"""
+import random
+
+# Of these, each history has the names of two families. The order of their bytes is often not that of their paths.
+FAMILIES = [
+    [b"a", b"a-b", b"a.c", b"ab", b"a b"],
+    [b"trunk", b"branches", b"tags", b"trunk-1"],
+    [b"x", b"x@1", b"@", b"x@"],
+    [b"c", b"c:d", b":", b"c:1-2"],
+    [b"\xc3\xa9", b"e\xcc\x81", b"\xff", b"\x80z"],
+    [b" ", b"  ", b" a", b"a "],
+    [b"...", b".a", b"a..", b"-", b"*"],
+    [b"\x00", b"\x01", b"r\rn", b"t\tb", b"\\"],
+]
+MERGEINFO = b"svn:mergeinfo"
+OTHER_NAMES = [b"svn:executable", b"svn:mergeinfo2", b"svn:mergeinf", b"SVN:MERGEINFO", b"", b"a\nb", b"PROPS-END\n"]
+OTHER_VALUES = [b"", b"*", b"/a:1", b"PROPS-END\n", b"K 1\na\nV 1\nb\n", b"\n\nNode-path: a\n\n", b"\x00\xff"]
+MALFORMED = [b"/a", b"/a:0", b"/a:2147483648", b"/a:5-3", b"/a:3-3", b"/a/../b:1", b"./a:1", b"/a:3-5,4*", b"/a:1,",
+             b"/a:1,,2", b"/a:1 ,2", b"/a:1 ", b"/a:x", b"/a:1-2-3", b"/a:*", b"/a:1\r\n", b"\n\n", b"/a:1\n\n",
+             b"\n/a:1", b" "]
+BODIES = [b"x", b"\n", b"text\n", b"\n\nNode-path: a\nNode-action: delete\n\n", b"Revision-number: 1\n\n", b"\xff\x00"]
+NO_DELTA = [b"Prop-delta: false", b"Text-delta: TRUE"]
+UNREAD_HEADERS = [b"Text-content-md5: d41d8cd98f00b204e9800998ecf8427e", b"X:", b"X:  y", b"Node-kind-2: dir",
+                  b"node-path: z", b"Node-copyfrom-: 1"]
+ODD_HEADERS = {
+    b"UUID": [b"", b"0"],
+    b"Revision-number": [b"", b"0", b"1", b"02", b"3", b"-1", b"1 ", b"x"],
+    b"Node-path": [b"", b"/", b"a", b"a/./b", b"..", b"a/..", b"a/" * 1024, b"/a" * 1025],
+    b"Node-kind": [b"", b"file", b"dir", b"Dir", b"symlink"],
+    b"Node-action": [b"", b"add", b"delete", b"change", b"replace", b"Add", b"add ", b"move"],
+    b"Node-copyfrom-rev": [b"", b"0", b"01", b"5", b"12", b"2147483647", b"2147483648", b"x", b" 1"],
+    b"Node-copyfrom-path": [b"", b"/", b"a", b"./a", b"a/..", b"a/" * 1024, b"/a" * 1025],
+    b"Prop-content-length": [b"", b"0", b"1", b"10", b"-1", b"1x", b"9223372036854775807", b"9223372036854775808"],
+    b"Text-content-length": [b"", b"0", b"1", b"10", b"+1", b" 1", b"9223372036854775807", b"9223372036854775808"],
+    b"Content-length": [b"", b"0", b"1", b"20", b"-1", b"0x1", b"9223372036854775807", b"9223372036854775808"],
+    b"Prop-delta": [b"true", b"false", b"True", b""],
+    b"Text-delta": [b"true", b"false", b"true ", b""],
+}
+ODD_LINES = [b"x", b":", b": x", b" ", b"\r", b"#", b"Node-path", b"UUID: 1\nUUID: 1"]
+ODD_HEADS = [b"", b"0 0 %d", b"0 65 %d", b"2147483648 1 %d", b"0 1  %d", b"0 1 %d ", b"0 1 -%d", b"x 1 %d", b"0 1 %d\r",
+             b"0 1 1%d", b"00 01 0%d", b"2147483647 64 %d"]
+ODD_QUERIES = [b"", b"\t", b"locate", b"log\t", b"log\ta", b"log\ta@", b"log\ta@1\t", b"log \ta@1", b"Log\ta@1",
+               b"locate\ta@1", b"locate\ta@1\t1\t1", b"locate\ta@1\t", b"locate\ta@1\tHEAD", b"locate\ta@1\t2147483648",
+               b"log\ta@2147483648", b"log\ta@-1", b"log\ta@HEAD", b"log\ta@ 1", b"log\ta/../b@1", b"log\t.@1",
+               b"log\t@1\r", b"mergeinfo\t@1\t1", b"mergeinfo", b"mergeinfos\t@1", b"segments\t@1\t1",
+               b"segments\t/./@1", b"locate\t@1\t1\r", b"log\t\t@1", b"\x00", b"log\t" + b"a/" * 1500 + b"@1",
+               b"mergeinfo\t" + b"/" * 1500 + b"@001", b"log\t@2147483647", b"locate\t@0\t2147483647",
+               b"log\t@1" + b"0" * 5000, b"log\t@" + b"0" * 5000 + b"1"]
+# The bytes that a change writes.
+BYTES = (b"\n", b"0", b"1", b"2", b"7", b" ", b":", b"/", b"@", b"-", b",", b"*", b".", b"\t", b"a", b"\r", b"\xff")
+
+
+def is_below(path, above):
+    return path[:len(above)] == above
+
+
+def changed(lot, text):
+    """A text in which one byte is replaced, removed or inserted."""
+    at = lot.randrange(len(text) + 1)
+    return text[:at] + lot.choice((lot.choice(BYTES), lot.choice(BYTES), b"")) + text[at + lot.choice((0, 1, 1)):]
+
+
+class Draft:
+    """A history in the making: the kind of each path of each revision, and the blocks of its dump.
+
+    A block is a list of its header lines and its body.
+    """
+
+    def __init__(self, lot):
+        self.lot = lot
+        self.names = list(dict.fromkeys(lot.choice(FAMILIES) + lot.choice(FAMILIES)))
+        self.trees = [{(): b"dir"}]
+        self.blocks = []
+        if self.chance(0.5):
+            self.block([b"UUID: 0"], None, None)
+        self.block([b"Revision-number: 0"], None, None)
+
+    def chance(self, share):
+        return self.lot.random() < share
+
+    # Blocks
+
+    def block(self, lines, section, text):
+        """Adds a block with a property section and a text, each of which may be None."""
+        lot = self.lot
+        if section is not None:
+            lines.append(b"Prop-content-length: %s%d" % (lot.choice((b"", b"", b"", b"0")), len(section)))
+        if text is not None:
+            lines.append(b"Text-content-length: %d" % len(text))
+        body = (section or b"") + (text or b"")
+        if self.chance(0.05):
+            body += lot.choice(BODIES)
+            lines.append(b"Content-length: %d" % len(body))
+        elif body and self.chance(0.8):
+            lines.append(b"Content-length: %d" % len(body))
+        if self.chance(0.1):
+            lines += lot.choice([[each] for each in NO_DELTA] + [[each] * lot.randint(1, 2) for each in UNREAD_HEADERS])
+        if self.chance(0.1):
+            lot.shuffle(lines)
+        if self.chance(0.1):
+            lines = [line if b":  " in line else line.replace(b": ", b":", 1) for line in lines]
+        self.blocks.append([lines, body])
+
+    def record(self, action, path, kind=None, source=None):
+        """Adds a record; the source of a copy is a path and a revision."""
+        lines = [b"Node-path: " + self.spelled(path), b"Node-action: " + action]
+        if source is not None:
+            lines += [b"Node-copyfrom-path: " + self.spelled(source[0]), b"Node-copyfrom-rev: %d" % source[1]]
+        if kind is not None:
+            lines.insert(1, b"Node-kind: " + kind)
+        section = self.section() if self.chance(0.05 if action == b"delete" else 0.45) else None
+        self.block(lines, section, self.lot.choice(BODIES) if kind == b"file" and self.chance(0.3) else None)
+
+    def spelled(self, path):
+        lot = self.lot
+        slash = b"//" if self.chance(0.03) else b"/"
+        return lot.choice((b"", b"", slash)) + slash.join(path) + (slash if self.chance(0.05) else b"")
+
+    def section(self):
+        """A property section, mostly with mergeinfo."""
+        lot = self.lot
+        properties = [(MERGEINFO, self.mergeinfo()) for _ in range(lot.choice((0, 1, 1, 1, 1, 1, 1, 1, 1, 2)))]
+        while self.chance(0.2):
+            properties.insert(lot.randrange(len(properties) + 1), (lot.choice(OTHER_NAMES), lot.choice(OTHER_VALUES)))
+        return b"".join(b"K %d\n%s\nV %d\n%s\n" % (len(name), name, len(value), value)
+                        for name, value in properties) + b"PROPS-END\n"
+
+    # Mergeinfo
+
+    def mergeinfo(self):
+        lot = self.lot
+        if self.chance(0.04):
+            return lot.choice(MALFORMED)
+        lines = [self.mergeinfo_line() for _ in range(lot.choice((0, 1, 1, 1, 2, 2, 3, 4)))]
+        text = b"\n".join(lines) + lot.choice((b"", b"", b"\n"))
+        return changed(lot, text) if self.chance(0.04) else text
+
+    def mergeinfo_line(self):
+        source = self.some_path(self.lot.choice(self.trees))
+        if self.chance(0.3):
+            source += (self.lot.choice(self.names),)
+        elements = [b"%s%s" % (b"0" if self.chance(0.03) else b"", each) for each in self.elements()]
+        if self.chance(0.3):
+            self.lot.shuffle(elements)
+        return self.spelled(source) + b":" + self.lot.choice((b"", b"", b"", b" ", b"\t ")) + b",".join(elements)
+
+    def elements(self):
+        """Elements that mostly do not overlap."""
+        lot = self.lot
+        bounds = sorted(lot.sample(range(1, 16), lot.choice((0, 1, 1, 2, 2, 3, 4, 6))))
+        if self.chance(0.05):
+            bounds.append(lot.choice((2147483647, 2147483646, 100)))
+        elements = []
+        while bounds:
+            low = bounds.pop(0)
+            high = bounds.pop(0) if bounds and self.chance(0.5) else low
+            star = b"*" if self.chance(0.2) else b""
+            elements.append((b"%d" % low if low == high else b"%d-%d" % (low, high)) + star)
+            if low < high and self.chance(0.2):
+                elements.append(b"%d%s" % (lot.randrange(low, high + 1), star))
+        return elements
+
+    # Paths
+
+    def some_path(self, tree):
+        return self.lot.choice(list(tree))
+
+    def new_path(self):
+        """A path that is not in the tree but in one of its directories, often one of an earlier tree; or None."""
+        tree = self.trees[-1]
+        for _ in range(6):
+            if self.chance(0.3):
+                path = self.some_path(self.lot.choice(self.trees))
+            else:
+                path = self.some_path(tree) + (self.lot.choice(self.names),)
+            if path not in tree and tree.get(path[:-1]) == b"dir":
+                return path
+        return None
+
+    def some_source(self):
+        """A path of an earlier revision, and that revision."""
+        last = len(self.trees) - 2
+        rev = last if self.chance(0.4) else self.lot.randint(0, last)
+        return self.some_path(self.trees[rev]), rev
+
+    def old_path(self):
+        """A path of the tree other than the root, or None."""
+        return self.some_path(self.trees[-1]) or None
+
+    # Records. Each is left out if there is no path for it.
+
+    def clear(self, path):
+        self.trees[-1] = {each: kind for each, kind in self.trees[-1].items() if not is_below(each, path)}
+
+    def put(self, action, path):
+        """Adds or replaces a path, mostly as a copy where that leaves the tree small."""
+        if path is None:
+            return
+        if action == b"replace" and self.chance(0.4):
+            self.record(b"delete", path)
+            action = b"add"
+        source, rev = self.some_source()
+        if self.chance(0.1) and path[:-1] in self.trees[-2]:
+            source, rev = path[:-1], len(self.trees) - 2
+        copied = {path + each[len(source):]: kind for each, kind in self.trees[rev].items() if is_below(each, source)}
+        self.clear(path)
+        if self.chance(0.45) or len(copied) + len(self.trees[-1]) > 50:
+            kind = self.lot.choice((b"dir", b"dir", b"file"))
+            self.trees[-1][path] = kind
+            self.record(action, path, kind)
+        else:
+            self.trees[-1].update(copied)
+            self.record(action, path, self.lot.choice((None, copied[path])), (source, rev))
+
+    def add(self):
+        self.put(b"add", self.new_path())
+
+    def replace(self):
+        self.put(b"replace", self.old_path())
+
+    def change(self):
+        path = () if self.chance(0.1) else self.some_path(self.trees[-1])
+        self.record(b"change", path, self.lot.choice((None, self.trees[-1][path])))
+
+    def delete(self):
+        path = self.old_path()
+        if path is not None:
+            self.clear(path)
+            self.record(b"delete", path)
+
+    def faulty(self):
+        """A record with a fault, which leaves the tree as it is."""
+        lot = self.lot
+        new, old, source = self.new_path(), self.old_path(), self.some_source()
+        fault = lot.choice(("missing", "exists", "parent", "source"))
+        if fault == "missing" and new:
+            action = lot.choice((b"delete", b"change", b"replace"))
+            self.record(action, new, b"dir", lot.choice((None, source)))
+        elif fault == "exists" and old:
+            self.record(b"add", old, b"dir", lot.choice((None, source)))
+        elif fault == "parent":
+            above = lot.choice([path for path, kind in self.trees[-1].items() if kind == b"file"] + [new or (b"q",)])
+            self.record(b"add", above + (lot.choice(self.names),), b"file", lot.choice((None, source)))
+        elif fault == "source" and (new or old):
+            path, rev = source
+            action = lot.choice([b"add"] * bool(new) + [b"replace"] * bool(old))
+            self.record(action, new if action == b"add" else old, None, (path + (b"none",), rev))
+
+    def revision(self, faulty):
+        """Adds a revision with a few records, one of them faulty if that is wanted."""
+        lot = self.lot
+        rev = len(self.trees)
+        self.block([b"Revision-number: %d" % rev], lot.choice((None, b"PROPS-END\n", b"log\n\n")), None)
+        self.trees.append(dict(self.trees[-1]))
+        if rev == 1:
+            steps = [self.add] * lot.randint(2, 5)
+        else:
+            count = lot.choice((0, 1, 1, 2, 2, 3, 4))
+            steps = lot.choices((self.add, self.replace, self.change, self.delete), (6, 2, 4, 1), k=count)
+        if faulty:
+            steps.insert(lot.randrange(len(steps) + 1), self.faulty)
+        for step in steps:
+            step()
+
+    # Changes of what was drawn
+
+    def spoil(self):
+        """Changes a block so that it may have a reason to be refused."""
+        lot = self.lot
+        at = lot.randrange(len(self.blocks))
+        lines, body = self.blocks[at]
+        step = lot.choice(["set"] * 10 + ["move"] * 3 + ["repeat", "drop", "line", "body", "end"])
+        if step == "set":
+            present = [name for name in ODD_HEADERS if any(line.startswith(name + b":") for line in lines)]
+            name = lot.choice(lot.choice((present, list(ODD_HEADERS))) or list(ODD_HEADERS))
+            lines[:] = [line for line in lines if not line.startswith(name + b":")]
+            lines.append(name + b": " + lot.choice(ODD_HEADERS[name]))
+        elif step == "repeat":
+            lines.append(lot.choice(lines))
+        elif step == "drop":
+            lines.pop(lot.randrange(len(lines)))
+        elif step == "line":
+            lines.insert(lot.randrange(len(lines) + 1), lot.choice(ODD_LINES))
+        elif step == "move":
+            self.blocks.insert(lot.randrange(len(self.blocks)), self.blocks.pop(at))
+        elif step == "body" and body:
+            self.blocks[at][1] = changed(lot, body)
+        elif step == "end":
+            del self.blocks[lot.randrange(len(self.blocks)):]
+
+    def dump(self):
+        lot = self.lot
+        text = b"SVN-fs-dump-format-version: 2\n" + b"\n" * lot.randrange(2)
+        for lines, body in self.blocks:
+            text += b"".join(line + b"\n" for line in lines) + b"\n" + body + b"\n" * lot.choice((0, 1, 1, 2))
+        return text
+
+
+# Queries
+
+
+def peg(draft):
+    """A path and its peg revision, at which the path mostly exists."""
+    lot = draft.lot
+    youngest = len(draft.trees) - 1
+    rev = lot.choice((youngest, youngest, max(lot.randint(0, youngest), lot.randint(0, youngest))))
+    path = draft.some_path(draft.trees[rev])
+    if draft.chance(0.08):
+        path, rev = draft.some_path(lot.choice(draft.trees)), lot.randint(0, youngest + 1)
+    if draft.chance(0.03):
+        path += (lot.choice(draft.names),)
+    return draft.spelled(path) + b"@%d" % rev
+
+
+def revision(draft):
+    """A revision, more often an early one."""
+    return b"%s%d" % (b"0" if draft.chance(0.03) else b"", draft.lot.randint(0, draft.lot.randint(0, len(draft.trees))))
+
+
+# The fields of each query.
+VERBS = {
+    b"locate": (peg, revision),
+    b"segments": (peg,),
+    b"log": (peg,),
+    b"mergeinfo": (peg,),
+}
+
+
+def query(draft):
+    lot = draft.lot
+    if draft.chance(0.03):
+        return lot.choice(ODD_QUERIES)
+    verb = lot.choice(list(VERBS))
+    line = b"\t".join([verb] + [field(draft) for field in VERBS[verb]])
+    return changed(lot, line).replace(b"\n", b"\r") if draft.chance(0.03) else line
+
+
+def bundle_of(seed):
+    lot = random.Random(seed)
+    draft = Draft(lot)
+    youngest = lot.randint(0, 12) if draft.chance(0.1) else lot.randint(4, 12)
+    faulty = lot.randint(1, max(youngest, 1)) if draft.chance(0.1) else None
+    for rev in range(1, youngest + 1):
+        draft.revision(rev == faulty)
+    queries = [query(draft) for _ in range(lot.randint(20, 40))]
+    if draft.chance(0.12):
+        draft.spoil()
+    dump = draft.dump()
+    if draft.chance(0.06):
+        for _ in range(lot.choice((1, 1, 1, 2, 4))):
+            dump = changed(lot, dump)
+    if draft.chance(0.01):
+        dump = dump[:lot.randrange(len(dump))]
+    head = lot.choice(ODD_HEADS) if draft.chance(0.005) else b"%d %d %%d" % (lot.randint(0, 5), lot.randint(1, 4))
+    return (head % len(queries) if b"%" in head else head) + b"\n" + b"".join(line + b"\n" for line in queries) + dump
