@@ -185,7 +185,7 @@ before_each line (entry ∷ entries) rising (suc k) d below =
     (before_each (entry_view entry) entries rising.1 k d (omega arith))
 
 -- the lines after the first
-AreRising-tail : (line : Line) (lines : List Line) → AreRising (line ∷ lines) → AreRising lines
+pub AreRising-tail : (line : Line) (lines : List Line) → AreRising (line ∷ lines) → AreRising lines
 AreRising-tail line [] rising = tt
 AreRising-tail line (next ∷ lines) rising = rising.1
 

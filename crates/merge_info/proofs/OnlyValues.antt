@@ -1,11 +1,11 @@
 -- Two values that give each path the same revisions are equal.
-use Rattle.std.proofs.Common.{◌≡◌, ℕ, true, false, List, [], ◌∷◌, ◌++◌, All, inl, inr, refl, sym, ap, ap₂, subst, ◌∙◌}
-use Rattle.std.specs.Prelude.{bytes_eq, flat_map}
+use Rattle.std.proofs.Common.{◌≡◌, ℕ, false, cond, List, [], ◌∷◌, ◌++◌, All, inl, inr, refl, sym, ap, ap₂, subst, ◌∙◌}
+use Rattle.std.specs.Prelude.{bytes_eq}
 use Rattle.std.specs.Cmp.Lexicographic.{slice_cmp}
 use Rattle.std.specs.Ordering.{is_eq, nat_cmp, ordering_reverse}
 use Rattle.std.specs.declared.cmp.Ordering.{Ordering}
 use Rattle.std.specs.declared.cmp.Ordering.TheVariants.{Less, Equal, Greater}
-use Rattle.std.proofs.lemmas.Bool.{cases_Bool, cond-false, cond-true}
+use Rattle.std.proofs.lemmas.Bool.{cases_Bool}
 use Rattle.std.proofs.lemmas.Cmp.{nat_list_cmp_total}
 use Rattle.std.proofs.lemmas.List.{append-nil}
 use Rattle.std.proofs.lemmas.List.Elements.{All-cons, All-head, All-nil, All-tail}
@@ -15,19 +15,12 @@ use Rattle.std.proofs.lemmas.Slice.Eq.{bytes_eq-Decides}
 use Rattle.range_list.specs.Rangelist.{HasSame}
 use Rattle.range_list.specs.declared.run.Run.{Run}
 use Rattle.range_list.proofs.Only.{only_canonical}
+use Rattle.merge_info.proofs.Entries.{AreRising-tail}
+use Rattle.merge_info.proofs.RunsAt.{runs_at-cons}
 use Rattle.merge_info.specs.Line.{Line}
 use Rattle.merge_info.specs.Value.{AreRising, HasSameRuns, IsBefore, IsEntry, IsMergeInfo, IsOnlyMergeInfo, runs_at}
 
 -- ---- the runs of a path
-
--- a first line of the path, and one of another path
-runs_at-same : (line : Line) (lines : List Line) (path : List ℕ) → bytes_eq line.path path ≡ true
-    → runs_at (line ∷ lines) path ≡ line.runs ++ runs_at lines path
-runs_at-same line lines path same = ap (flat_map (λ each. each.runs)) (cond-true _ _ _ same)
-
-runs_at-other : (line : Line) (lines : List Line) (path : List ℕ) → bytes_eq line.path path ≡ false
-    → runs_at (line ∷ lines) path ≡ runs_at lines path
-runs_at-other line lines path other = ap (flat_map (λ each. each.runs)) (cond-false _ _ _ other)
 
 abbrev pub IsPathBefore : List ℕ → Line → Type 0
 IsPathBefore path line = slice_cmp nat_cmp path line.path ≡ Less
@@ -38,7 +31,8 @@ runs_at-before [] path before = refl
 runs_at-before (line ∷ lines) path before =
     let first = All-head (IsPathBefore path) line lines before in
     let greater = nat_list_cmp_total.antisymm line.path path ∙ ap ordering_reverse first in
-    runs_at-other line lines path (sym (is_eq-slice_cmp line.path path) ∙ ap is_eq greater)
+    runs_at-cons line lines path
+    ∙ ap (λ same. cond same line.runs [] ++ runs_at lines path) (sym (is_eq-slice_cmp line.path path) ∙ ap is_eq greater)
     ∙ runs_at-before lines path (All-tail (IsPathBefore path) line lines before)
 
 -- the first path is before all the others
@@ -49,15 +43,12 @@ AreRising-first line (next ∷ lines) rising =
     All-cons (IsPathBefore line.path) next lines rising.0
     (λ k d below. nat_list_cmp_total.trans line.path next.path _ rising.0 (rest k d below))
 
-AreRising-tail : (line : Line) (lines : List Line) → AreRising (line ∷ lines) → AreRising lines
-AreRising-tail line [] rising = tt
-AreRising-tail line (next ∷ lines) rising = rising.1
-
 -- its runs are those of its line
 runs_at-first : (line : Line) (lines : List Line) → AreRising (line ∷ lines)
     → runs_at (line ∷ lines) line.path ≡ line.runs
 runs_at-first line lines rising =
-    runs_at-same line lines line.path ((bytes_eq-Decides line.path line.path).1 refl)
+    runs_at-cons line lines line.path
+    ∙ ap (λ same. cond same line.runs [] ++ runs_at lines line.path) ((bytes_eq-Decides line.path line.path).1 refl)
     ∙ ap (λ rest. line.runs ++ rest) (runs_at-before lines line.path (AreRising-first line lines rising))
     ∙ append-nil line.runs
 
@@ -122,8 +113,10 @@ module _ (a b : Line) (more_a more_b : List Line) (value_a : IsMergeInfo (a ∷ 
         let none_b = ap (runs_at more_b) (at_a ∙ same_path) ∙ runs_at-before more_b b.path later_b in
         HasSame-equal [] [] (runs_at more_a path) (runs_at more_b path) (sym none_a) (sym none_b) (λ n. (refl, refl))
     | inr other ↦
-        let rest_a = runs_at-other a more_a path other in
-        let rest_b = runs_at-other b more_b path (ap (λ first. bytes_eq first path) (sym same_path) ∙ other) in
+        let without_first = λ (line : Line) (lines : List Line) (apart : bytes_eq line.path path ≡ false).
+        runs_at-cons line lines path ∙ ap (λ same. cond same line.runs [] ++ runs_at lines path) apart in
+        let rest_a = without_first a more_a other in
+        let rest_b = without_first b more_b (ap (λ first. bytes_eq first path) (sym same_path) ∙ other) in
         HasSame-equal _ _ (runs_at more_a path) (runs_at more_b path) rest_a rest_b (same path)
   ]
 
