@@ -1,6 +1,6 @@
 -- The answer to a query, by what was found of its peg and of the peg's path.
 use Rattle.std.proofs.Common.{◌≡◌, ℕ, ◌<◌, ◌≤◌, true, false, List, [], ◌∷◌, Option, Some, None, option_map, length, map, bytes_eq, refl, sym, ap, ap₂, subst, ◌∙◌}
-use Rattle.std.specs.Prelude.{◌++◌, All, Vec, flat_map, option_and_then, slice_get, zero, suc}
+use Rattle.std.specs.Prelude.{◌++◌, All, Err, Vec, flat_map, option_and_then, slice_get, zero, suc}
 use Rattle.std.specs.declared.alloc.Global.{Global}
 use Rattle.std.proofs.lemmas.List.Elements.{All-cons, All-head, All-nil, All-tail}
 use Rattle.std.proofs.lemmas.Bool.{le-leb, lt-leb, false_from_ne_true}
@@ -18,15 +18,17 @@ use Rattle.svn_path.specs.declared.names.NameId.{NameId}
 use Rattle.merge_info.specs.Line.{Line}
 use Rattle.merge_info.specs.Text.{printed_line, value_text}
 use Rattle.svn_dump.specs.Block.{line_text}
-use Rattle.svn_dump.specs.Dump.{DumpValue, IsDump, history_in_bytes}
+use Rattle.svn_dump.specs.Dump.{DumpValue, history_in_bytes}
 use Rattle.svn_dump.specs.Location.{location}
 use Rattle.svn_dump.specs.Record.{HistoryOfBytes}
 use Rattle.svn_dump.specs.Tree.{is_there, tree_of}
 use Rattle.svn_dump.specs.declared.record.NodeRecord.{NodeRecord}
-use Rattle.query_answer.specs.Answer.{Answer, IsAnswer, IsPlaceOf, IsSegmentOf, TreesOfBytes, answer_about, answer_of, effective_answer, hit_line, locate_lines, location_line, log_lines, ok_answer, refused_answer, segment_in_bytes, segment_line, segments_in_bytes, segments_lines, value_answer}
-use Rattle.query_answer.specs.Query.{Peg, query_or_bad, bad, locate, log, mergeinfo, segments, peg_at}
-use Rattle.query_answer.specs.Repo.{IsPathFound, IsRepo, effective_in, index_of, locate_answer, log_answer, mergeinfo_answer, segments_answer, trees_in_bytes}
+use Rattle.query_answer.specs.Answer.{Answer, IsAnswer, IsPlaceOf, IsSegmentOf, TreesOfBytes, answer_about, answer_about_pair, answer_at, answer_by_mergeinfo, answer_by_value, answer_of, eligible_line, eligible_lines, hit_line, locate_lines, location_line, log_lines, merged_line, merged_lines, mergeinfo_lines, ok_answer, refused_answer, segment_in_bytes, segment_line, segments_in_bytes, segments_lines}
+use Rattle.query_answer.specs.Query.{Peg, bad, eligible, locate, log, merged, mergeinfo, peg_at, peg_view, query_about, query_or_bad, segments}
+use Rattle.query_answer.specs.Repo.{IsPair, IsPathFound, IsPegFound, IsRepo, answer_from, answer_from_pair, effective_in, eligible_answer, eligible_by, index_of, locate_answer, log_answer, merged_answer, merged_by, mergeinfo_answer, peg_found, segments_answer, trees_in_bytes}
 use Rattle.query_answer.specs.declared.answers.Answer.TheVariants as kept
+use Rattle.query_answer.specs.declared.merged_revision.MergedRevision.{MergedRevision}
+use Rattle.query_answer.specs.declared.pair.Pair.{Pair}
 use Rattle.query_answer.specs.declared.query.Peg.{Peg as KeptPeg}
 use Rattle.query_answer.specs.TreeOfNumbers.{TreeOfNumbers}
 use Rattle.query_answer.specs.declared.status.Status.{Status}
@@ -71,15 +73,29 @@ module _ (history : HistoryOfBytes) (trees : TreesOfBytes) where
   answer_of-log None = refl
   answer_of-log (Some peg) = refl
 
-  pub answer_of-mergeinfo : (peg : Option Peg) → answer_of history trees (query_or_bad (option_map mergeinfo peg)) ≡ answer_about trees peg (effective_answer trees)
+  pub answer_of-mergeinfo : (peg : Option Peg) → answer_of history trees (query_or_bad (option_map mergeinfo peg)) ≡ answer_about trees peg (λ found. answer_by_mergeinfo trees found (λ value. ok_answer (mergeinfo_lines value)))
   unfolding answer_of
   answer_of-mergeinfo None = refl
   answer_of-mergeinfo (Some peg) = refl
 
+  pub answer_of-merged : (source target : Option Peg) → answer_of history trees (query_about merged source target)
+      ≡ answer_about_pair trees source target (λ from to. answer_by_mergeinfo trees to (λ value. ok_answer (merged_lines history trees from value)))
+  unfolding answer_of
+  answer_of-merged None target = refl
+  answer_of-merged (Some source) None = refl
+  answer_of-merged (Some source) (Some target) = refl
+
+  pub answer_of-eligible : (source target : Option Peg) → answer_of history trees (query_about eligible source target)
+      ≡ answer_about_pair trees source target (λ from to. answer_by_mergeinfo trees to (λ value. ok_answer (eligible_lines history trees from to value)))
+  unfolding answer_of
+  answer_of-eligible None target = refl
+  answer_of-eligible (Some source) None = refl
+  answer_of-eligible (Some source) (Some target) = refl
+
 -- ---- by what was found of the path
 
 -- what holds of each segment holds of the kept one
-All-kept : (names : List (List ℕ)) (some : List KeptSegment) → All (λ segment. IsPlaceOf names segment.path) (map segment_view some) → All (IsSegmentOf names) some
+pub All-kept : (names : List (List ℕ)) (some : List KeptSegment) → All (λ segment. IsPlaceOf names segment.path) (map segment_view some) → All (IsSegmentOf names) some
 All-kept names [] each = All-nil (IsSegmentOf names)
 All-kept names (segment ∷ some) each =
     All-cons (IsSegmentOf names) segment some (All-head (λ one. IsPlaceOf names one.path) (segment_view segment) (map segment_view some) each)
@@ -89,24 +105,24 @@ segments_in_bytes-view : (names : List (List ℕ)) (some : List KeptSegment) →
 segments_in_bytes-view names [] = refl
 segments_in_bytes-view names (segment ∷ some) = ap (λ more. segment_in_bytes names segment ∷ more) (segments_in_bytes-view names some)
 
-module _ (dump : DumpValue) (kept_is : IsDump dump) (peg : KeptPeg) (path : List NameId) (found : IsPathFound dump peg path) where
+module _ (dump : DumpValue) (peg : KeptPeg) (path : List NameId) (found : IsPathFound dump peg path) where
   pub IsAnswer-Location : (rev : ℕ) (place : Option (List NameId)) → place ≡ location same_name (trees_to dump.records peg.rev) path peg.rev rev
       → IsAnswer dump.names (locate_answer dump peg rev) (kept.Location place)
   IsAnswer-Location rev place is = record {
-    names_of = subst (IsPlaceOf dump.names) (sym is) (location-of_names dump kept_is peg.rev found.within path rev found.of_names);
+    names_of = subst (IsPlaceOf dump.names) (sym is) (location-of_names dump found.kept peg.rev found.within path rev found.of_names);
     same = ap (λ line. ok_answer (location_line line ∷ []))
-        (ap (option_map (components_of dump.names)) is ∙ sym (location-in_bytes dump kept_is peg.rev found.within path rev))
+        (ap (option_map (components_of dump.names)) is ∙ sym (location-in_bytes dump found.kept peg.rev found.within path rev))
         ∙ sym (found.answered (λ each. ok_answer (locate_lines (trees_in_bytes dump) rev each)));
   }
 
   module _ (kept_segments : Vec KeptSegment Global) (is : map segment_view kept_segments.items ≡ segments_of same_name (trees_to dump.records peg.rev) path peg.rev) where
     kept_names : All (IsSegmentOf dump.names) kept_segments.items
-    kept_names = All-kept dump.names kept_segments.items (subst (All (λ segment. IsPlaceOf dump.names segment.path)) (sym is) (segments-of_names dump kept_is peg.rev found.within path found.of_names))
+    kept_names = All-kept dump.names kept_segments.items (subst (All (λ segment. IsPlaceOf dump.names segment.path)) (sym is) (segments-of_names dump found.kept peg.rev found.within path found.of_names))
 
     kept_in_bytes : segments_in_bytes dump.names kept_segments.items ≡ segments_of bytes_eq (trees_in_bytes dump) (components_of dump.names path) peg.rev
     kept_in_bytes =
         segments_in_bytes-view dump.names kept_segments.items ∙ ap (map (rename_segment (λ id. name_of dump.names id.0))) is
-        ∙ sym (segments-in_bytes dump kept_is peg.rev found.within path)
+        ∙ sym (segments-in_bytes dump found.kept peg.rev found.within path)
 
     pub IsAnswer-Segments : IsAnswer dump.names (segments_answer dump peg) (kept.Segments kept_segments)
     IsAnswer-Segments = record {
@@ -119,20 +135,70 @@ module _ (dump : DumpValue) (kept_is : IsDump dump) (peg : KeptPeg) (path : List
     IsAnswer-Log hits hits_are = record {
       names_of = kept_names;
       same = ap₂ (λ all each. ok_answer (map (hit_line all) each)) kept_in_bytes
-          (hits_are ∙ ap (operative_of same_name (history_to dump.records peg.rev) (trees_to dump.records peg.rev)) is ∙ sym (hits-in_bytes dump kept_is peg.rev found.within path))
+          (hits_are ∙ ap (operative_of same_name (history_to dump.records peg.rev) (trees_to dump.records peg.rev)) is ∙ sym (hits-in_bytes dump found.kept peg.rev found.within path))
           ∙ sym (found.answered (λ each. ok_answer (log_lines (history_in_bytes dump) (trees_in_bytes dump) each)));
     }
 
 -- the mergeinfo that holds for the path
 module _ (dump : DumpValue) (peg : KeptPeg) (path : List NameId) (found : IsPathFound dump peg path) (value : Option (List Line)) (is : value ≡ effective_in dump path peg.rev) where
-  effective_answered : mergeinfo_answer dump peg ≡ value_answer value
-  effective_answered = found.answered (effective_answer (trees_in_bytes dump)) ∙ ap value_answer (sym is)
+  effective_answered : mergeinfo_answer dump peg ≡ answer_by_value value (λ each. ok_answer (mergeinfo_lines each))
+  effective_answered =
+      found.answered (λ each. answer_by_mergeinfo (trees_in_bytes dump) each (λ lines. ok_answer (mergeinfo_lines lines)))
+      ∙ ap (λ each. answer_by_value each (λ lines. ok_answer (mergeinfo_lines lines))) (sym is)
 
   pub IsAnswer-Mergeinfo : (lines : List Line) → value ≡ Some lines → IsAnswer dump.names (mergeinfo_answer dump peg) (kept.Mergeinfo lines)
-  IsAnswer-Mergeinfo lines some = record { names_of = tt; same = ap value_answer (sym some) ∙ sym effective_answered }
+  IsAnswer-Mergeinfo lines some = record { names_of = tt; same = ap (λ each. answer_by_value each (λ all. ok_answer (mergeinfo_lines all))) (sym some) ∙ sym effective_answered }
 
   pub IsAnswer-Malformed : value ≡ None → IsAnswer dump.names (mergeinfo_answer dump peg) (kept.Refused status.MalformedMergeinfo)
-  IsAnswer-Malformed none = record { names_of = tt; same = ap value_answer (sym none) ∙ sym effective_answered }
+  IsAnswer-Malformed none = record { names_of = tt; same = ap (λ each. answer_by_value each (λ all. ok_answer (mergeinfo_lines all))) (sym none) ∙ sym effective_answered }
+
+-- ---- a source and a target
+
+module _ (dump : DumpValue) (source target : KeptPeg) (answer : Peg → Peg → List Line → Answer) where
+  -- what is found of the source comes first, if the target has a path
+  answer_from_pair-each : (HasDot target.path.now → ⊥)
+      → answer_from_pair dump source target answer
+      ≡ answer_from dump source (λ from. answer_from dump target (λ to. answer_by_mergeinfo (trees_in_bytes dump) to (answer from to)))
+  answer_from_pair-each fine = rw (false_from_ne_true _ fine) (by_source (peg_view source))
+    where
+      by_source : (peg : Option Peg)
+          → answer_about_pair (trees_in_bytes dump) peg (Some (record { path = parts_of target.path.now; rev = target.rev })) (λ from to. answer_by_mergeinfo (trees_in_bytes dump) to (answer from to))
+          ≡ answer_about (trees_in_bytes dump) peg (λ from. answer_at (trees_in_bytes dump) (record { path = parts_of target.path.now; rev = target.rev })
+          (answer_by_mergeinfo (trees_in_bytes dump) (record { path = parts_of target.path.now; rev = target.rev }) (answer from (record { path = parts_of target.path.now; rev = target.rev }))))
+      by_source None = refl
+      by_source (Some peg) = refl
+
+  pub answer_from_pair-source : (HasDot target.path.now → ⊥) → (status : Status) → IsPegFound dump source (Err status) → answer_from_pair dump source target answer ≡ refused_answer status
+  answer_from_pair-source fine status found =
+      answer_from_pair-each fine ∙ found (λ from. answer_from dump target (λ to. answer_by_mergeinfo (trees_in_bytes dump) to (answer from to)))
+
+  module _ (fine : HasDot target.path.now → ⊥) (path : List NameId) (found : IsPathFound dump source path) where
+    answer_from_pair-target : answer_from_pair dump source target answer
+        ≡ answer_from dump target (λ to. answer_by_mergeinfo (trees_in_bytes dump) to (answer (peg_found dump source path) to))
+    answer_from_pair-target = answer_from_pair-each fine ∙ found.answered (λ from. answer_from dump target (λ to. answer_by_mergeinfo (trees_in_bytes dump) to (answer from to)))
+
+    pub answer_from_pair-refused : (status : Status) → IsPegFound dump target (Err status) → answer_from_pair dump source target answer ≡ refused_answer status
+    answer_from_pair-refused status other = answer_from_pair-target ∙ other (λ to. answer_by_mergeinfo (trees_in_bytes dump) to (answer (peg_found dump source path) to))
+
+    pub answer_from_pair-value : (to : List NameId) → IsPathFound dump target to → (value : Option (List Line)) → value ≡ effective_in dump to target.rev
+        → answer_from_pair dump source target answer ≡ answer_by_value value (answer (peg_found dump source path) (peg_found dump target to))
+    answer_from_pair-value to other value is =
+        answer_from_pair-target ∙ other.answered (λ each. answer_by_mergeinfo (trees_in_bytes dump) each (answer (peg_found dump source path) each))
+        ∙ ap (λ each. answer_by_value each (answer (peg_found dump source path) (peg_found dump target to))) (sym is)
+
+-- the revisions of a pair
+module _ (dump : DumpValue) (source target : KeptPeg) (pair : Pair) (found : IsPair dump source target pair) where
+  pub IsAnswer-Merged : (revisions : Vec MergedRevision Global) → revisions.items ≡ merged_by dump pair.source source.rev pair.mergeinfo → IsAnswer dump.names (merged_answer dump source target) (kept.Merged revisions)
+  IsAnswer-Merged revisions are = record {
+    names_of = tt;
+    same = ap (λ all. ok_answer (map merged_line all)) are ∙ sym (found.answered (λ from to value. ok_answer (merged_lines (history_in_bytes dump) (trees_in_bytes dump) from value)));
+  }
+
+  pub IsAnswer-Eligible : (revisions : Vec ℕ Global) → revisions.items ≡ eligible_by dump pair.source source.rev pair.target target.rev pair.mergeinfo → IsAnswer dump.names (eligible_answer dump source target) (kept.Eligible revisions)
+  IsAnswer-Eligible revisions are = record {
+    names_of = tt;
+    same = ap (λ all. ok_answer (map eligible_line all)) are ∙ sym (found.answered (λ from to value. ok_answer (eligible_lines (history_in_bytes dump) (trees_in_bytes dump) from to value)));
+  }
 
 -- ---- what is written
 

@@ -52,20 +52,20 @@ module _ {C : Type 0} (same : C → C → Bool) (P : Option (List C) → Type 0)
   segments_up_to-All place each (suc rev) = with_place-All (suc rev) (place (suc rev)) (segments_up_to same place rev) (each (suc rev)) (segments_up_to-All place each rev)
 
 module _ (dump : DumpValue) (kept : IsDump dump) where
-  abbrev name : NameId → List ℕ
+  abbrev pub name : NameId → List ℕ
   name id = name_of dump.names id.0
 
-  abbrev text : ValueId → List ℕ
+  abbrev pub text : ValueId → List ℕ
   text id = text_of dump.values id.0
 
-  alike : (a b : NameId) → bytes_eq (name a) (name b) ≡ same_name a b
+  pub alike : (a b : NameId) → bytes_eq (name a) (name b) ≡ same_name a b
   alike a b = bytes_eq-name_of kept.names a.0 b.0
 
-  abbrev trees_by_number : List TreeOfNumbers
+  abbrev pub trees_by_number : List TreeOfNumbers
   trees_by_number = trees_of same_name (history_view dump)
 
   -- the trees by bytes are those by numbers, renamed
-  trees-renamed : trees_in_bytes dump ≡ map (rename_tree name text) trees_by_number
+  pub trees-renamed : trees_in_bytes dump ≡ map (rename_tree name text) trees_by_number
   trees-renamed = trees_of-rename name text same_name bytes_eq alike (history_view dump)
 
   -- and the same record is faulty first
@@ -95,15 +95,15 @@ module _ (dump : DumpValue) (kept : IsDump dump) where
         ap (λ front. is_there same_name (tree_of (trees_of same_name front) peg) path) front_is
         ∙ is_there-take same_name (history_view dump) peg in_history path peg (omega arith)
 
-    location-index : (path : List NameId) (rev : ℕ) → location same_name (trees_to dump.records peg) path peg rev ≡ location same_name trees_by_number path peg rev
+    pub location-index : (path : List NameId) (rev : ℕ) → location same_name (trees_to dump.records peg) path peg rev ≡ location same_name trees_by_number path peg rev
     location-index path rev =
         ap (λ front. location same_name (trees_of same_name front) path peg rev) front_is ∙ location-take same_name (history_view dump) peg in_history path peg rev (omega arith)
 
-    segments-index : (path : List NameId) → segments_of same_name (trees_to dump.records peg) path peg ≡ segments_of same_name trees_by_number path peg
+    pub segments-index : (path : List NameId) → segments_of same_name (trees_to dump.records peg) path peg ≡ segments_of same_name trees_by_number path peg
     segments-index path =
         ap (λ front. segments_of same_name (trees_of same_name front) path peg) front_is ∙ segments_of-take same_name (history_view dump) peg in_history path peg (omega arith)
 
-    hits-index : (path : List NameId) → operative_of same_name (history_to dump.records peg) (trees_to dump.records peg) (segments_of same_name (trees_to dump.records peg) path peg)
+    pub hits-index : (path : List NameId) → operative_of same_name (history_to dump.records peg) (trees_to dump.records peg) (segments_of same_name (trees_to dump.records peg) path peg)
         ≡ operative_of same_name (history_view dump) trees_by_number (segments_of same_name trees_by_number path peg)
     hits-index path =
         ap (λ front. operative_of same_name front (trees_of same_name front) (segments_of same_name (trees_to dump.records peg) path peg)) front_is

@@ -2,7 +2,10 @@ pub mod AnswerTexts
 mod EffectiveValues
 pub mod InBytes
 mod NearestMergeinfo
+mod OperativePlaces
+mod PathSegments
 pub mod Queries
+mod SourceRevisions
 mod TreeEntries
 pub mod TreePaths
 pub mod TreeReads

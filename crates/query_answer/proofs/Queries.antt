@@ -6,7 +6,7 @@ use Rattle.svn_path.specs.Components.{HasDot}
 use Rattle.svn_dump.specs.Number.{number_up_to, greatest_revision}
 use Rattle.svn_dump.proofs.Lines.{list_any-Lacks}
 use Rattle.svn_dump.specs.Cut.{IsCutAtLast, Lacks}
-use Rattle.query_answer.specs.Query.{bad, peg_field, query_of, query_of_fields, query_of_peg, query_of_revision, read_peg}
+use Rattle.query_answer.specs.Query.{bad, peg_field, query_of, query_of_fields, query_of_pair, query_of_peg, read_peg, target_field}
 use Rattle.svn_dump.proofs.Cuts.{CutsFirst, slice_split-cut, slice_split-uncut, list_any-cut, before_last-cut, after_last-cut}
 
 -- the parts of bytes are never none
@@ -43,7 +43,7 @@ pub query_of-two : (line verb peg : List ℕ) → CutsFirst 9 line verb peg → 
 query_of-two line verb peg cut none = ap query_of_fields (two_fields line verb peg cut none)
 
 -- a line with two
-pub query_of-three : (line verb rest peg rev : List ℕ) → CutsFirst 9 line verb rest → CutsFirst 9 rest peg rev → Lacks 9 rev → query_of line ≡ query_of_revision verb peg rev
+pub query_of-three : (line verb rest peg rev : List ℕ) → CutsFirst 9 line verb rest → CutsFirst 9 rest peg rev → Lacks 9 rev → query_of line ≡ query_of_pair verb peg rev
 query_of-three line verb rest peg rev cut again none =
     ap query_of_fields (slice_split-cut 9 line verb rest cut ∙ ap (λ more. verb ∷ more) (two_fields rest peg rev again none))
 
@@ -54,6 +54,11 @@ peg_field-two line verb peg cut none = ap (λ fields. slice_index_or fields 1 []
 pub peg_field-three : (line verb rest peg rev : List ℕ) → CutsFirst 9 line verb rest → CutsFirst 9 rest peg rev → Lacks 9 rev → peg_field line ≡ peg
 peg_field-three line verb rest peg rev cut again none =
     ap (λ fields. slice_index_or fields 1 []) (slice_split-cut 9 line verb rest cut ∙ ap (λ more. verb ∷ more) (two_fields rest peg rev again none))
+
+-- the third field of a line with two tabs
+pub target_field-three : (line verb rest peg field : List ℕ) → CutsFirst 9 line verb rest → CutsFirst 9 rest peg field → Lacks 9 field → target_field line ≡ field
+target_field-three line verb rest peg field cut again none =
+    ap (λ fields. slice_index_or fields 2 []) (slice_split-cut 9 line verb rest cut ∙ ap (λ more. verb ∷ more) (two_fields rest peg field again none))
 
 -- a line with more
 pub query_of-four : (line verb rest peg more rev last : List ℕ) → CutsFirst 9 line verb rest → CutsFirst 9 rest peg more → CutsFirst 9 more rev last → query_of line ≡ bad

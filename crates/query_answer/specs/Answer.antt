@@ -17,10 +17,12 @@ use Rattle.svn_dump.specs.Location.{location}
 use Rattle.svn_dump.specs.Record.{HistoryOfBytes}
 use Rattle.svn_dump.specs.Tree.{Tree, tree_of, is_there}
 use Rattle.query_answer.specs.Effective.{effective_value}
+use Rattle.query_answer.specs.Merged.{eligible_at, found_in, merged_at, value_has}
 use Rattle.query_answer.specs.Query as query
 use Rattle.query_answer.specs.Query.{Peg, Query}
 use Rattle.query_answer.specs.declared.answers.Answer.{Answer as KeptAnswer}
 use Rattle.query_answer.specs.declared.answers.Answer.TheVariants as kept
+use Rattle.query_answer.specs.declared.merged_revision.MergedRevision.{MergedRevision}
 use Rattle.query_answer.specs.declared.status.Status.{Status}
 use Rattle.query_answer.specs.declared.status.Status.TheVariants as status
 
@@ -69,6 +71,12 @@ abbrev pub answer_about : TreesOfBytes → Option Peg → (Peg → Answer) → A
 answer_about trees None answer = refused_answer status.BadQuery
 answer_about trees (Some peg) answer = answer_at trees peg (answer peg)
 
+-- the answer about two pegs that may name no path; that about the first comes before that about the second
+abbrev pub answer_about_pair : TreesOfBytes → Option Peg → Option Peg → (Peg → Peg → Answer) → Answer
+answer_about_pair trees None target answer = refused_answer status.BadQuery
+answer_about_pair trees (Some source) None answer = refused_answer status.BadQuery
+answer_about_pair trees (Some source) (Some target) answer = answer_at trees source (answer_at trees target (answer source target))
+
 -- ---- result lines
 
 abbrev pub location_line : Option (List (List ℕ)) → List ℕ
@@ -96,22 +104,53 @@ log_lines history trees peg =
     let segments = segments_of bytes_eq trees peg.path peg.rev in
     map (hit_line segments) (operative_of bytes_eq history trees segments)
 
--- the lines of a value, unless its text is malformed
-abbrev pub value_answer : Option (List Line) → Answer
-value_answer None = refused_answer status.MalformedMergeinfo
-value_answer (Some value) = ok_answer (map printed_line value)
+-- the answer by the mergeinfo that holds for a peg, unless its text is malformed
+abbrev pub answer_by_value : Option (List Line) → (List Line → Answer) → Answer
+answer_by_value None answer = refused_answer status.MalformedMergeinfo
+answer_by_value (Some value) answer = answer value
 
-abbrev pub effective_answer : TreesOfBytes → Peg → Answer
-effective_answer trees peg = value_answer (effective_value (tree_of trees peg.rev) peg.path)
+abbrev pub answer_by_mergeinfo : TreesOfBytes → Peg → (List Line → Answer) → Answer
+answer_by_mergeinfo trees peg answer = answer_by_value (effective_value (tree_of trees peg.rev) peg.path) answer
+
+abbrev pub mergeinfo_lines : List Line → List (List ℕ)
+mergeinfo_lines value = map printed_line value
+
+-- a star follows a revision that is not inheritable
+abbrev pub merged_line : MergedRevision → List ℕ
+merged_line revision = codes "r" ++ decimal revision.rev ++ (if revision.inheritable then [] else codes "*")
+
+abbrev pub eligible_line : ℕ → List ℕ
+eligible_line rev = codes "r" ++ decimal rev
+
+-- the operative revisions of the source that the target's mergeinfo has, each of the place of the source in it
+abbrev pub merged_lines : HistoryOfBytes → TreesOfBytes → Peg → List Line → List (List ℕ)
+merged_lines history trees source value =
+    map merged_line (found_in bytes_eq history trees source.path source.rev (merged_at (value_has value)))
+
+-- those that it lacks, where the target was not at that place itself
+abbrev pub eligible_lines : HistoryOfBytes → TreesOfBytes → Peg → Peg → List Line → List (List ℕ)
+eligible_lines history trees source target value =
+    map eligible_line
+    (found_in bytes_eq history trees source.path source.rev
+    (eligible_at bytes_eq (value_has value) (location bytes_eq trees target.path target.rev)))
 
 -- ---- the answer
+
+-- the answer about a source and a target, given that by the mergeinfo of the target
+abbrev pub answer_to : TreesOfBytes → Peg → Peg → (List Line → Answer) → Answer
+answer_to trees source target answer = answer_at trees source (answer_at trees target (answer_by_mergeinfo trees target answer))
 
 unfoldable pub answer_of : HistoryOfBytes → TreesOfBytes → Query → Answer
 answer_of history trees query.bad = refused_answer status.BadQuery
 answer_of history trees (query.locate peg rev) = answer_at trees peg (ok_answer (locate_lines trees rev peg))
 answer_of history trees (query.segments peg) = answer_at trees peg (ok_answer (segments_lines trees peg))
 answer_of history trees (query.log peg) = answer_at trees peg (ok_answer (log_lines history trees peg))
-answer_of history trees (query.mergeinfo peg) = answer_at trees peg (effective_answer trees peg)
+answer_of history trees (query.mergeinfo peg) =
+    answer_at trees peg (answer_by_mergeinfo trees peg (λ value. ok_answer (mergeinfo_lines value)))
+answer_of history trees (query.merged source target) =
+    answer_to trees source target (λ value. ok_answer (merged_lines history trees source value))
+answer_of history trees (query.eligible source target) =
+    answer_to trees source target (λ value. ok_answer (eligible_lines history trees source target value))
 
 -- `#`, the number of the query, and the status
 abbrev pub answer_head : ℕ → Status → List ℕ
@@ -142,15 +181,13 @@ answer_in_bytes names (kept.Location place) = ok_answer (location_line (option_m
 answer_in_bytes names (kept.Segments segments) = ok_answer (map segment_line (segments_in_bytes names segments.items))
 answer_in_bytes names (kept.Log segments hits) =
     ok_answer (map (hit_line (segments_in_bytes names segments.items)) hits.items)
-answer_in_bytes names (kept.Mergeinfo value) = ok_answer (map printed_line value)
+answer_in_bytes names (kept.Mergeinfo value) = ok_answer (mergeinfo_lines value)
+answer_in_bytes names (kept.Merged revisions) = ok_answer (map merged_line revisions.items)
+answer_in_bytes names (kept.Eligible revisions) = ok_answer (map eligible_line revisions.items)
 
 -- the path of a reference
 abbrev pub lent_place : Option (Bor (List NameId)) → Option (List NameId)
 lent_place place = option_map (λ path. path.now) place
-
--- the path of the segment at a place of the list
-abbrev pub place_at : List KeptSegment → ℕ → Option (List NameId)
-place_at segments n = option_and_then (λ segment. segment.path) (slice_get segments n)
 
 -- what is written of a path, and the result lines of the verbs
 abbrev pub place_text : List (List ℕ) → Option (List NameId) → List ℕ
@@ -172,7 +209,13 @@ abbrev pub log_text : List (List ℕ) → List KeptSegment → List Hit → List
 log_text names segments hits = flat_map line_text (map (hit_line (segments_in_bytes names segments)) hits)
 
 abbrev pub mergeinfo_text : List Line → List ℕ
-mergeinfo_text value = flat_map line_text (map printed_line value)
+mergeinfo_text value = flat_map line_text (mergeinfo_lines value)
+
+abbrev pub merged_text : List MergedRevision → List ℕ
+merged_text revisions = flat_map line_text (map merged_line revisions)
+
+abbrev pub eligible_text : List ℕ → List ℕ
+eligible_text revisions = flat_map line_text (map eligible_line revisions)
 
 -- the whole text of the answer to the query of a place
 abbrev pub text_at : List (List ℕ) → ℕ → KeptAnswer → List ℕ
@@ -185,6 +228,8 @@ IsAnswerOf names (kept.Location place) = IsPlaceOf names place
 IsAnswerOf names (kept.Segments segments) = All (IsSegmentOf names) segments.items
 IsAnswerOf names (kept.Log segments hits) = All (IsSegmentOf names) segments.items
 IsAnswerOf names (kept.Mergeinfo value) = Unit {0}
+IsAnswerOf names (kept.Merged revisions) = Unit {0}
+IsAnswerOf names (kept.Eligible revisions) = Unit {0}
 
 -- the answer is this one, with paths of the table
 pub record IsAnswer (names : List (List ℕ)) (answer : Answer) (each : KeptAnswer) : Type 0 where

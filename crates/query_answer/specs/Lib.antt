@@ -1,6 +1,7 @@
 pub mod Answer
 pub mod Effective
 pub mod FaultKind
+pub mod Merged
 pub mod Query
 pub mod Repo
 pub mod TreeOfNumbers

@@ -5,7 +5,7 @@ use Rattle.svn_path.specs.Components.{parts_of, is_dot}
 use Rattle.svn_dump.specs.Number.{number_up_to, greatest_revision}
 use Rattle.query_answer.specs.declared.query.Peg.{Peg as KeptPeg}
 use Rattle.query_answer.specs.declared.query.Query.{Query as KeptQuery}
-use Rattle.query_answer.specs.declared.query.Query.TheVariants.{Bad, Locate, Log, Mergeinfo, Segments}
+use Rattle.query_answer.specs.declared.query.Query.TheVariants.{Bad, Eligible, Locate, Log, Merged, Mergeinfo, Segments}
 
 abbrev pub is_tab : ℕ → Bool
 is_tab byte = byte == 9
@@ -24,6 +24,8 @@ pub data Query : Type 0 where
   segments : Peg → Query
   log : Peg → Query
   mergeinfo : Peg → Query
+  merged : Peg → Peg → Query
+  eligible : Peg → Peg → Query
 
 -- the components of a queried path, none of them `.` or `..`
 abbrev pub queried_path : List ℕ → Option (List (List ℕ))
@@ -53,20 +55,29 @@ query_of_peg verb peg =
     else (if bytes_eq verb (codes "mergeinfo") then query_or_bad (option_map mergeinfo (peg_of peg))
     else bad))
 
--- a verb, a peg and a revision
-abbrev pub query_of_revision : List ℕ → List ℕ → List ℕ → Query
-query_of_revision verb peg rev =
-    if bytes_eq verb (codes "locate")
-    then query_or_bad (option_and_then (λ of. option_map (locate of) (number_up_to greatest_revision rev)) (peg_of peg))
-    else bad
+-- a peg and a revision
+abbrev pub locate_of : List ℕ → List ℕ → Option Query
+locate_of peg rev = option_and_then (λ of. option_map (locate of) (number_up_to greatest_revision rev)) (peg_of peg)
+
+-- a source and a target
+abbrev pub query_about : (Peg → Peg → Query) → Option Peg → Option Peg → Query
+query_about query source target = query_or_bad (option_and_then (λ of. option_map (query of) target) source)
+
+-- a verb, a peg and another field
+abbrev pub query_of_pair : List ℕ → List ℕ → List ℕ → Query
+query_of_pair verb peg field =
+    if bytes_eq verb (codes "locate") then query_or_bad (locate_of peg field)
+    else (if bytes_eq verb (codes "merged") then query_about merged (peg_of peg) (peg_of field)
+    else (if bytes_eq verb (codes "eligible") then query_about eligible (peg_of peg) (peg_of field)
+    else bad))
 
 -- a verb and its fields
 abbrev pub query_of_fields : List (List ℕ) → Query
 query_of_fields [] = bad
 query_of_fields (verb ∷ []) = bad
 query_of_fields (verb ∷ peg ∷ []) = query_of_peg verb peg
-query_of_fields (verb ∷ peg ∷ rev ∷ []) = query_of_revision verb peg rev
-query_of_fields (verb ∷ peg ∷ rev ∷ more ∷ fields) = bad
+query_of_fields (verb ∷ peg ∷ field ∷ []) = query_of_pair verb peg field
+query_of_fields (verb ∷ peg ∷ field ∷ more ∷ fields) = bad
 
 -- what a line asks: fields separated by one tab each
 abbrev pub query_of : List ℕ → Query
@@ -84,6 +95,8 @@ query_view (Locate of rev) = query_or_bad (option_map (λ peg. locate peg rev) (
 query_view (Segments of) = query_or_bad (option_map segments (peg_view of))
 query_view (Log of) = query_or_bad (option_map log (peg_view of))
 query_view (Mergeinfo of) = query_or_bad (option_map mergeinfo (peg_view of))
+query_view (Merged of target) = query_about merged (peg_view of) (peg_view target)
+query_view (Eligible of target) = query_about eligible (peg_view of) (peg_view target)
 
 -- the bytes of a path and its revision
 abbrev pub raw_peg : KeptPeg → List ℕ × ℕ
@@ -104,7 +117,22 @@ HasPegOf field (Locate of rev) = Some (raw_peg of) ≡ read_peg field
 HasPegOf field (Segments of) = Some (raw_peg of) ≡ read_peg field
 HasPegOf field (Log of) = Some (raw_peg of) ≡ read_peg field
 HasPegOf field (Mergeinfo of) = Some (raw_peg of) ≡ read_peg field
+HasPegOf field (Merged of target) = Some (raw_peg of) ≡ read_peg field
+HasPegOf field (Eligible of target) = Some (raw_peg of) ≡ read_peg field
 
--- the second field of a line
+-- the query's target, if it has one, is read from the field
+abbrev pub HasTargetOf : List ℕ → KeptQuery → Type 0
+HasTargetOf field Bad = Unit {0}
+HasTargetOf field (Locate of rev) = Unit {0}
+HasTargetOf field (Segments of) = Unit {0}
+HasTargetOf field (Log of) = Unit {0}
+HasTargetOf field (Mergeinfo of) = Unit {0}
+HasTargetOf field (Merged of target) = Some (raw_peg target) ≡ read_peg field
+HasTargetOf field (Eligible of target) = Some (raw_peg target) ≡ read_peg field
+
+-- the fields of a line after its verb
 abbrev pub peg_field : List ℕ → List ℕ
 peg_field line = slice_index_or (slice_split is_tab line) 1 []
+
+abbrev pub target_field : List ℕ → List ℕ
+target_field line = slice_index_or (slice_split is_tab line) 2 []

@@ -1,19 +1,27 @@
 -- A repository: a dump of a lawful history, and the answers to queries about it.
-use Rattle.std.specs.Prelude.{◌≡◌, ℕ, ◌<◌, List, Option, Some, None, Result, Ok, Err, bytes_eq, length}
-use Rattle.path_index.specs.Index.{IndexValue, IsThere}
+use Rattle.std.specs.Prelude.{◌≡◌, ℕ, ◌<◌, List, Option, Some, None, Result, Ok, Err, All, bytes_eq, length, map}
+use Rattle.path_index.specs.History.{history_to, trees_to}
+use Rattle.path_index.specs.Index.{AreMaximal, AreSegmentsOf, IndexValue, IsThere, segment_view}
+use Rattle.path_index.specs.Operative.{operative_of}
+use Rattle.path_index.specs.declared.hit.Hit.{Hit}
+use Rattle.path_index.specs.declared.segment.Segment.{Segment as KeptSegment}
 use Rattle.svn_path.specs.Path.{same_name, components_of, IsPathOf}
 use Rattle.svn_path.specs.declared.names.NameId.{NameId}
 use Rattle.svn_dump.specs.Dump.{DumpValue, IsDump, history_in_bytes, history_view, text_of}
 use Rattle.svn_dump.specs.Fault.{first_fault}
+use Rattle.svn_dump.specs.Location.{location}
 use Rattle.svn_dump.specs.Tree.{tree_of, trees_of}
-use Rattle.query_answer.specs.Answer.{Answer, TreesOfBytes, answer_about, answer_of, effective_answer, locate_lines, log_lines, ok_answer, refused_answer, segments_lines}
+use Rattle.query_answer.specs.Answer.{Answer, IsSegmentOf, TreesOfBytes, answer_about, answer_about_pair, answer_by_mergeinfo, answer_of, eligible_lines, locate_lines, log_lines, merged_lines, mergeinfo_lines, ok_answer, refused_answer, segments_lines}
 use Rattle.query_answer.specs.Effective.{effective_by, effective_value}
+use Rattle.query_answer.specs.Merged.{eligible_at, found_in, merged_at, value_has}
 use Rattle.query_answer.specs.Query.{Peg, Query, peg_view}
 use Rattle.query_answer.specs.TreeOfNumbers.{TreeOfNumbers, SameTrees}
 use Rattle.merge_info.specs.Line.{Line}
 use Rattle.query_answer.specs.declared.effective_mergeinfo.Effective.{Effective}
 use Rattle.query_answer.specs.declared.effective_mergeinfo.Effective.TheVariants.{Malformed, Value}
+use Rattle.query_answer.specs.declared.merged_revision.MergedRevision.{MergedRevision}
 use Rattle.query_answer.specs.declared.nearest.Nearest.{Nearest}
+use Rattle.query_answer.specs.declared.pair.Pair.{Pair}
 use Rattle.query_answer.specs.declared.query.Peg.{Peg as KeptPeg}
 use Rattle.query_answer.specs.declared.status.Status.{Status}
 
@@ -51,22 +59,54 @@ log_answer dump peg =
     answer_from dump peg (λ found. ok_answer (log_lines (history_in_bytes dump) (trees_in_bytes dump) found))
 
 abbrev pub mergeinfo_answer : DumpValue → KeptPeg → Answer
-mergeinfo_answer dump peg = answer_from dump peg (effective_answer (trees_in_bytes dump))
+mergeinfo_answer dump peg =
+    answer_from dump peg (λ found. answer_by_mergeinfo (trees_in_bytes dump) found (λ value. ok_answer (mergeinfo_lines value)))
+
+-- the answer about a source and a target, given that for their paths and the mergeinfo of the target
+abbrev pub answer_from_pair : DumpValue → KeptPeg → KeptPeg → (Peg → Peg → List Line → Answer) → Answer
+answer_from_pair dump source target answer =
+    answer_about_pair (trees_in_bytes dump) (peg_view source) (peg_view target)
+    (λ from to. answer_by_mergeinfo (trees_in_bytes dump) to (answer from to))
+
+abbrev pub merged_answer : DumpValue → KeptPeg → KeptPeg → Answer
+merged_answer dump source target =
+    answer_from_pair dump source target (λ from to value. ok_answer (merged_lines (history_in_bytes dump) (trees_in_bytes dump) from value))
+
+abbrev pub eligible_answer : DumpValue → KeptPeg → KeptPeg → Answer
+eligible_answer dump source target =
+    answer_from_pair dump source target (λ from to value. ok_answer (eligible_lines (history_in_bytes dump) (trees_in_bytes dump) from to value))
 
 -- ---- its paths
 
+-- the peg of a path of the dump
+abbrev pub peg_found : DumpValue → KeptPeg → List NameId → Peg
+peg_found dump peg path = record { path = components_of dump.names path; rev = peg.rev }
+
 -- the path of a peg is in the tree of its revision, so each answer about the peg has its result lines
 pub record IsPathFound (dump : DumpValue) (peg : KeptPeg) (path : List NameId) : Type 0 where
+  pub kept : IsDump dump
   pub of_names : IsPathOf dump.names path
   pub within : peg.rev < length dump.counts
   pub there : IsThere dump.records path peg.rev
   pub answered : (answer : Peg → Answer) →
-      answer_from dump peg answer ≡ answer (record { path = components_of dump.names path; rev = peg.rev })
+      answer_from dump peg answer ≡ answer (peg_found dump peg path)
 
 -- the path of a peg; or there is none, and this is the status of each answer about the peg
 abbrev pub IsPegFound : DumpValue → KeptPeg → Result (List NameId) Status → Type 0
 IsPegFound dump peg (Ok path) = IsPathFound dump peg path
 IsPegFound dump peg (Err status) = (answer : Peg → Answer) → answer_from dump peg answer ≡ refused_answer status
+
+-- these are the segments of a path of the dump in a revision
+pub record AreSegmentsIn (dump : DumpValue) (path : List NameId) (rev : ℕ) (segments : List KeptSegment) : Type 0 where
+  pub of_names : All (IsSegmentOf dump.names) segments
+  pub exact : AreSegmentsOf (index_of dump) path rev segments
+  pub maximal : AreMaximal (index_of dump) path rev segments
+
+-- these are the operative revisions of the segments, if the segments are those of a path of the dump
+abbrev pub AreHitsIn : DumpValue → List KeptSegment → List Hit → Type 0
+AreHitsIn dump segments hits =
+    (path : List NameId) (rev : ℕ) → IsThere dump.records path rev → AreSegmentsIn dump path rev segments
+    → hits ≡ operative_of same_name (history_to dump.records rev) (trees_to dump.records rev) (map segment_view segments)
 
 -- ---- effective mergeinfo
 
@@ -83,3 +123,33 @@ effective_in dump path rev = effective_value (tree_of (trees_in_bytes dump) rev)
 abbrev pub effective_by_number : DumpValue → List NameId → Nearest → Option (List Line)
 effective_by_number dump path found =
     effective_by (components_of dump.names path) (Some (text_of dump.values found.mergeinfo.0, found.depth))
+
+-- ---- a source and a target
+
+-- both paths are found, and the value is that of the target, so each answer about the two has its result lines
+pub record IsPair (dump : DumpValue) (source target : KeptPeg) (pair : Pair) : Type 0 where
+  pub source_is : IsPathFound dump source pair.source
+  pub target_is : IsPathFound dump target pair.target
+  pub answered : (answer : Peg → Peg → List Line → Answer) → answer_from_pair dump source target answer
+      ≡ answer (peg_found dump source pair.source) (peg_found dump target pair.target) pair.mergeinfo
+
+-- the pair of two pegs; or there is none, and this is the status of each answer about them
+abbrev pub IsPairFound : DumpValue → KeptPeg → KeptPeg → Result Pair Status → Type 0
+IsPairFound dump source target (Ok pair) = IsPair dump source target pair
+IsPairFound dump source target (Err status) =
+    (answer : Peg → Peg → List Line → Answer) → answer_from_pair dump source target answer ≡ refused_answer status
+
+-- what is found at the places of a path of the dump in its operative revisions
+abbrev pub found_by : {X : Type 0} → DumpValue → List NameId → ℕ → (List (List ℕ) → ℕ → Option X) → List X
+found_by dump path rev find = found_in bytes_eq (history_in_bytes dump) (trees_in_bytes dump) (components_of dump.names path) rev find
+
+abbrev pub merged_by : DumpValue → List NameId → ℕ → List Line → List MergedRevision
+merged_by dump path rev value = found_by dump path rev (merged_at (value_has value))
+
+-- where a path of the dump was in another revision
+abbrev pub place_by : DumpValue → List NameId → ℕ → ℕ → Option (List (List ℕ))
+place_by dump path rev other = location bytes_eq (trees_in_bytes dump) (components_of dump.names path) rev other
+
+abbrev pub eligible_by : DumpValue → List NameId → ℕ → List NameId → ℕ → List Line → List ℕ
+eligible_by dump path rev target target_rev value =
+    found_by dump path rev (eligible_at bytes_eq (value_has value) (place_by dump target target_rev))

@@ -2,9 +2,12 @@
 ghost use Rattle.std.specs.Prelude.{◌≡◌, ◌+◌, ◌++◌, OnOk};
 ghost use Rattle.query_answer.specs.Answer.{IsAnswerOf, answer_head, answer_in_bytes, text_at};
 
+use crate::merged_revision::MergedRevision;
 use crate::repo::Repo;
 use crate::status::Status;
-use crate::verbs::{write_location, write_log, write_mergeinfo, write_segments};
+use crate::verbs::{
+    write_eligible, write_location, write_log, write_merged, write_mergeinfo, write_segments,
+};
 use merge_info::MergeInfo;
 use path_index::{Hit, Segment};
 use range_list::push_number;
@@ -27,6 +30,10 @@ pub enum Answer {
     },
     /// The mergeinfo that holds for it.
     Mergeinfo(MergeInfo),
+    /// The revisions that were merged into a target, in rising order.
+    Merged(Vec<MergedRevision>),
+    /// The revisions that are still to be merged into a target, in rising order.
+    Eligible(Vec<u32>),
 }
 
 impl Answer {
@@ -45,6 +52,8 @@ impl Answer {
                 write_log(names, segments.as_slice(), hits.as_slice(), out)
             }
             Answer::Mergeinfo(value) => write_mergeinfo(value, out),
+            Answer::Merged(revisions) => write_merged(revisions.as_slice(), out),
+            Answer::Eligible(revisions) => write_eligible(revisions.as_slice(), out),
         }
     }
 

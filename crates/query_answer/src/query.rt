@@ -1,6 +1,6 @@
 //! Query lines.
 ghost use Rattle.std.specs.Prelude.{◌≡◌, option_map};
-ghost use Rattle.query_answer.specs.Query.{HasPegOf, peg_field, query_of, query_of_peg, query_of_revision, query_view, raw_peg, read_peg};
+ghost use Rattle.query_answer.specs.Query.{HasPegOf, HasTargetOf, locate_of, peg_field, query_of, query_of_pair, query_of_peg, query_or_bad, query_view, raw_peg, read_peg, target_field};
 
 use svn_dump::{GREATEST_REVISION, number_up_to, split_at_byte, split_at_last};
 use svn_path::has_dot;
@@ -25,6 +25,10 @@ pub enum Query<'a> {
     Log { of: Peg<'a> },
     /// Its effective mergeinfo.
     Mergeinfo { of: Peg<'a> },
+    /// Which of its operative revisions were merged into the target.
+    Merged { of: Peg<'a>, target: Peg<'a> },
+    /// Which of its operative revisions are still to be merged into the target.
+    Eligible { of: Peg<'a>, target: Peg<'a> },
 }
 
 impl<'a> Peg<'a> {
@@ -46,6 +50,7 @@ impl<'a> Query<'a> {
     pub fn read(line: &'a [u8]) -> Self
         ensures query { query_view result ≡ query_of line.now }
         ensures peg { HasPegOf (peg_field line.now) result }
+        ensures target { HasTargetOf (target_field line.now) result }
     {
         let Some((verb, rest)) = split_at_byte(b'\t', line) else {
             return Query::Bad;
@@ -54,7 +59,7 @@ impl<'a> Query<'a> {
             return Query::of_peg(verb, rest);
         };
         match split_at_byte(b'\t', rest) {
-            None => Query::of_revision(verb, peg, rest),
+            None => Query::of_pair(verb, peg, rest),
             Some(_) => Query::Bad,
         }
     }
@@ -63,6 +68,7 @@ impl<'a> Query<'a> {
     fn of_peg(verb: &[u8], peg: &'a [u8]) -> Self
         ensures query { query_view result ≡ query_of_peg verb.now peg.now }
         ensures peg { HasPegOf peg.now result }
+        ensures target { (field : _) → HasTargetOf field result }
     {
         let Some(of) = Peg::read(peg) else {
             return Query::Bad;
@@ -78,14 +84,35 @@ impl<'a> Query<'a> {
         }
     }
 
-    /// What a verb, a peg and a revision ask.
-    fn of_revision(verb: &[u8], peg: &'a [u8], rev: &[u8]) -> Self
-        ensures query { query_view result ≡ query_of_revision verb.now peg.now rev.now }
+    /// What a verb, a peg and another field ask.
+    fn of_pair(verb: &[u8], peg: &'a [u8], field: &'a [u8]) -> Self
+        ensures query { query_view result ≡ query_of_pair verb.now peg.now field.now }
         ensures peg { HasPegOf peg.now result }
+        ensures target { HasTargetOf field.now result }
     {
-        if verb != b"locate".as_slice() {
-            return Query::Bad;
+        if verb == b"locate".as_slice() {
+            Query::of_revision(peg, field)
+        } else if verb == b"merged".as_slice() {
+            match (Peg::read(peg), Peg::read(field)) {
+                (Some(of), Some(target)) => Query::Merged { of, target },
+                _ => Query::Bad,
+            }
+        } else if verb == b"eligible".as_slice() {
+            match (Peg::read(peg), Peg::read(field)) {
+                (Some(of), Some(target)) => Query::Eligible { of, target },
+                _ => Query::Bad,
+            }
+        } else {
+            Query::Bad
         }
+    }
+
+    /// The `locate` of a peg and a revision.
+    fn of_revision(peg: &'a [u8], rev: &[u8]) -> Self
+        ensures query { query_view result ≡ query_or_bad (locate_of peg.now rev.now) }
+        ensures peg { HasPegOf peg.now result }
+        ensures target { (field : _) → HasTargetOf field result }
+    {
         match (Peg::read(peg), number_up_to(GREATEST_REVISION, rev)) {
             (Some(of), Some(rev)) => Query::Locate {
                 of,

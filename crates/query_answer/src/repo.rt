@@ -8,7 +8,7 @@ ghost use Rattle.svn_dump.specs.Tree.{trees_of};
 use crate::query::Peg;
 use crate::status::Status;
 use crate::trees::Trees;
-use path_index::Index;
+use path_index::{Hit, Index, Segment};
 use std::alloc::{AllocError, Global};
 use std::marker::Model;
 use svn_dump::Dump;
@@ -34,7 +34,7 @@ impl Model for Repo {
 }
 
 impl Repo {
-    ghost use Rattle.query_answer.specs.Repo.{IsPegFound};
+    ghost use Rattle.query_answer.specs.Repo.{AreHitsIn, AreSegmentsIn, IsPathFound, IsPegFound};
     ghost use Rattle.query_answer.specs.TreeOfNumbers.{SameTrees};
 
     /// The repository of a dump. The index and the trees are those of the dump.
@@ -84,5 +84,19 @@ impl Repo {
             }
             Lookup::Unknown => Ok(Err(Status::NoSuchPath)),
         }
+    }
+    /// The location segments of the path of a peg.
+    pub(crate) fn segments(&self, peg: Peg<'_>, path: &Path) -> Result<Vec<Segment>, AllocError>
+        requires { IsPathFound self.now peg path.now }
+        ensures { IfOk result (λ segments. AreSegmentsIn self.now path.now peg.entry.rev segments.items) }
+    {
+        self.index.segments(path, peg.rev)
+    }
+
+    /// The operative revisions of the segments of a path, each in its segment.
+    pub(crate) fn operative(&self, segments: &[Segment]) -> Result<Vec<Hit>, AllocError>
+        ensures { IfOk result (λ hits. AreHitsIn self.now segments.now hits.items) }
+    {
+        self.index.operative(segments)
     }
 }

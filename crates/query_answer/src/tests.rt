@@ -74,6 +74,92 @@ V 0
 PROPS-END
 ";
 
+// `branches/b` is copied from `trunk` of revision 2; later revisions merge from each to the other.
+const BRANCH: &[u8] = b"SVN-fs-dump-format-version: 2
+
+Revision-number: 0
+
+Revision-number: 1
+
+Node-path: trunk
+Node-kind: dir
+Node-action: add
+
+Node-path: branches
+Node-kind: dir
+Node-action: add
+
+Revision-number: 2
+
+Node-path: trunk/f
+Node-kind: file
+Node-action: add
+
+Revision-number: 3
+
+Node-path: trunk/f
+Node-action: change
+
+Revision-number: 4
+
+Node-path: branches/b
+Node-action: add
+Node-copyfrom-rev: 2
+Node-copyfrom-path: trunk
+
+Revision-number: 5
+
+Node-path: branches/b/f
+Node-action: change
+
+Revision-number: 6
+
+Node-path: trunk/f
+Node-action: change
+
+Revision-number: 7
+
+Node-path: trunk
+Node-action: change
+Prop-content-length: 48
+Content-length: 48
+
+K 13
+svn:mergeinfo
+V 13
+/branches/b:5
+PROPS-END
+Revision-number: 8
+
+Node-path: trunk/f
+Node-action: delete
+
+Revision-number: 9
+
+Node-path: branches
+Node-action: change
+Prop-content-length: 46
+Content-length: 46
+
+K 13
+svn:mergeinfo
+V 11
+/trunk:3*,6
+PROPS-END
+Revision-number: 10
+
+Node-path: branches/b
+Node-action: change
+Prop-content-length: 34
+Content-length: 34
+
+K 13
+svn:mergeinfo
+V 0
+
+PROPS-END
+";
+
 fn repo_of(alloc: Global, dump: &[u8]) -> Result<Repo, Fail> {
     let dump = read(alloc, dump)?;
     let trees = Trees::build(alloc, &dump)?;
@@ -158,19 +244,44 @@ fn malformed_mergeinfo_has_its_status(rt: HostRuntime) -> Result<(), Fail> {
     Ok(())
 }
 
+/// The effective mergeinfo of a path as it is printed, unless it is malformed.
+fn effective_text(
+    alloc: Global,
+    repo: &Repo,
+    path: &[u8],
+    rev: u32,
+) -> Result<Option<Vec<u8>>, Fail> {
+    let path = match Path::find(alloc, repo.names(), path)? {
+        Lookup::Known(path) => path,
+        Lookup::Unknown => return Err("no such path")?,
+    };
+    match effective(alloc, repo, &path, rev)? {
+        Effective::Value(value) => {
+            let mut text = Vec::new(alloc);
+            value.write(&mut text)?;
+            Ok(Some(text))
+        }
+        Effective::Malformed => Ok(None),
+    }
+}
+
 #[test]
 fn effective_mergeinfo_is_looked_up(rt: HostRuntime) -> Result<(), Fail> {
+    let repo = repo_of(rt.alloc(), BRANCH)?;
+    let found = effective_text(rt.alloc(), &repo, b"/branches/b", 9)?;
+    assert!(rt; found.as_deref() == Some(b"/trunk/b:6\n".as_slice()));
     let repo = repo_of(rt.alloc(), MERGEINFO)?;
-    let path = match Path::find(rt.alloc(), repo.names(), b"a/b")? {
-        Lookup::Known(path) => path,
-        Lookup::Unknown => Err("no such path")?,
-    };
-    match effective(rt.alloc(), &repo, &path, 1)? {
-        Effective::Value(value) => {
-            let ranges = value.ranges(b"/s/b");
-            assert!(rt; ranges.is_some_and(|ranges| ranges.has(2) == Some(true)));
-        }
-        Effective::Malformed => Err("malformed mergeinfo")?,
-    }
+    let found = effective_text(rt.alloc(), &repo, b"/c", 1)?;
+    assert!(rt; found.is_none());
+    Ok(())
+}
+
+#[test]
+fn merges_are_told_by_the_location(rt: HostRuntime) -> Result<(), Fail> {
+    let repo = repo_of(rt.alloc(), BRANCH)?;
+    let found = text_of(rt.alloc(), &repo, b"merged\t/trunk@9\t/branches@9")?;
+    assert_eq!(rt; found.as_slice(), b"#1 ok\nr3*\nr6\n".as_slice());
+    let found = text_of(rt.alloc(), &repo, b"eligible\t/trunk@8\t/branches/b@8")?;
+    assert_eq!(rt; found.as_slice(), b"#1 ok\nr3\nr6\nr7\nr8\n".as_slice());
     Ok(())
 }

@@ -4,18 +4,23 @@ ghost use Rattle.query_answer.specs.Answer.{IsAnswer};
 ghost use Rattle.query_answer.specs.Query.{query_view};
 ghost use Rattle.query_answer.specs.Repo.{answer_by};
 
+mod eligible;
 mod locate;
 mod log;
+mod merged;
 mod mergeinfo;
 mod place;
 mod segments;
+mod source;
 
 use crate::answers::Answer;
 use crate::query::Query;
 use crate::repo::Repo;
 use crate::status::Status;
+pub(crate) use eligible::write_eligible;
 pub(crate) use locate::write_location;
 pub(crate) use log::write_log;
+pub(crate) use merged::write_merged;
 pub(crate) use mergeinfo::write_mergeinfo;
 pub(crate) use segments::write_segments;
 use std::alloc::{AllocError, Global};
@@ -30,5 +35,7 @@ pub fn answer(alloc: Global, repo: &Repo, query: Query<'_>) -> Result<Answer, Al
         Query::Segments { of } => segments::answer_segments(alloc, repo, of),
         Query::Log { of } => log::answer_log(alloc, repo, of),
         Query::Mergeinfo { of } => mergeinfo::answer_mergeinfo(alloc, repo, of),
+        Query::Merged { of, target } => merged::answer_merged(alloc, repo, of, target),
+        Query::Eligible { of, target } => eligible::answer_eligible(alloc, repo, of, target),
     }
 }

@@ -1,16 +1,16 @@
 //! `log`: the operative revisions of a path.
 ghost use Rattle.std.specs.Prelude.{◌≡◌, ◌++◌, All, IfOk, OnOk};
-ghost use Rattle.query_answer.specs.Answer.{IsAnswer, IsSegmentOf, hit_text, lent_place, log_text, place_at};
+ghost use Rattle.query_answer.specs.Answer.{IsAnswer, IsSegmentOf, hit_text, log_text};
 ghost use Rattle.query_answer.specs.Repo.{log_answer};
 
-use super::place::write_place;
+use super::place::{path_at, write_place};
 use crate::answers::Answer;
 use crate::query::Peg;
 use crate::repo::Repo;
 use path_index::{Hit, Segment};
 use range_list::push_number;
 use std::alloc::{AllocError, Global};
-use svn_path::{Names, Path};
+use svn_path::Names;
 
 /// The operative revisions of a peg.
 pub(crate) fn answer_log(alloc: Global, repo: &Repo, peg: Peg<'_>) -> Result<Answer, AllocError>
@@ -19,8 +19,8 @@ pub(crate) fn answer_log(alloc: Global, repo: &Repo, peg: Peg<'_>) -> Result<Ans
     match repo.find(alloc, peg)? {
         Err(status) => Ok(Answer::Refused(status)),
         Ok(path) => {
-            let segments = repo.index.segments(&path, peg.rev)?;
-            let hits = repo.index.operative(segments.as_slice())?;
+            let segments = repo.segments(peg, &path)?;
+            let hits = repo.operative(segments.as_slice())?;
             Ok(Answer::Log { segments, hits })
         }
     }
@@ -58,14 +58,4 @@ fn write_hit(
     write_place(names, path_at(segments, hit.segment), out)?;
     out.push(b'\n')?;
     Ok(())
-}
-
-/// The path of the segment at a place of the list.
-fn path_at(segments: &[Segment], place: usize) -> Option<&Path>
-    ensures { lent_place result ≡ place_at segments.now place }
-{
-    match segments.get(place) {
-        Some(segment) => segment.path.as_ref(),
-        None => None,
-    }
 }

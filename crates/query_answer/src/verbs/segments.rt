@@ -22,7 +22,7 @@ pub(crate) fn answer_segments(
 {
     match repo.find(alloc, peg)? {
         Err(status) => Ok(Answer::Refused(status)),
-        Ok(path) => Ok(Answer::Segments(repo.index.segments(&path, peg.rev)?)),
+        Ok(path) => Ok(Answer::Segments(repo.segments(peg, &path)?)),
     }
 }
 

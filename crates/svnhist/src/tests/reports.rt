@@ -228,9 +228,57 @@ fn mergeinfo_is_inherited_from_the_nearest_path(rt: HostRuntime) -> Result<(), F
 
 #[test]
 fn mergeinfo_is_printed_in_one_form(rt: HostRuntime) -> Result<(), Fail> {
-    let queries = b"mergeinfo\t/c@1\nmergeinfo\t/d@1\nmergeinfo\t/e@1\nlog\t/c@1\n";
-    let wanted = b"#1 malformed-mergeinfo\n#2 ok\n/a:b:1-2147483647\n#3 ok\n/a:3-7\n#4 ok\nr1 /c\n";
+    let queries =
+        b"mergeinfo\t/c@1\nmergeinfo\t/d@1\nmergeinfo\t/e@1\nmerged\t/d@1\t/c@1\nlog\t/c@1\n";
+    let wanted =
+        b"#1 malformed-mergeinfo\n#2 ok\n/a:b:1-2147483647\n#3 ok\n/a:3-7\n#4 malformed-mergeinfo\n#5 ok\nr1 /c\n";
     assert!(rt; reports(&rt, rt.alloc(), MERGEINFO_TEXTS, queries, wanted)?);
+    Ok(())
+}
+
+#[test]
+fn merged_revisions_are_those_of_the_mergeinfo(rt: HostRuntime) -> Result<(), Fail> {
+    for (query, wanted) in [
+        ("merged\t/branches/b@8\t/trunk@8", "#1 ok\nr5\n"),
+        ("merged\t/trunk@9\t/branches@9", "#1 ok\nr3*\nr6\n"),
+        ("merged\t/trunk@6\t/trunk@6", "#1 ok\n"),
+    ] {
+        assert!(rt;
+            reports(&rt, rt.alloc(), MERGED, query.as_bytes(), wanted.as_bytes())?,
+            "{query}"
+        );
+    }
+    Ok(())
+}
+
+// The target's own history is told by its path in each revision.
+#[test]
+fn eligible_revisions_are_neither_merged_nor_own(rt: HostRuntime) -> Result<(), Fail> {
+    for (query, wanted) in [
+        ("eligible\t/branches/b@8\t/trunk@6", "#1 ok\nr4\nr5\n"),
+        ("eligible\t/branches/b@8\t/trunk@8", "#1 ok\nr4\n"),
+        (
+            "eligible\t/trunk@8\t/branches/b@8",
+            "#1 ok\nr3\nr6\nr7\nr8\n",
+        ),
+        ("eligible\t/trunk@8\t/trunk@8", "#1 ok\n"),
+        ("eligible\t/trunk@9\t/branches@9", "#1 ok\nr1\nr2\nr7\nr8\n"),
+    ] {
+        assert!(rt;
+            reports(&rt, rt.alloc(), MERGED, query.as_bytes(), wanted.as_bytes())?,
+            "{query}"
+        );
+    }
+    Ok(())
+}
+
+#[test]
+fn the_source_is_refused_before_the_target(rt: HostRuntime) -> Result<(), Fail> {
+    let queries =
+        b"merged\t/nope@8\t/trunk@99\nmerged\t/trunk@8\t/branches@11\neligible\t/branches/b@8\t/branches/nope@8\nmerged\t/nope@8\t/../trunk@8\nmerged\t/nope@8\t/trunk@99";
+    let wanted =
+        b"#1 no-such-path\n#2 no-such-revision\n#3 no-such-path\n#4 bad-query\n#5 no-such-path\n";
+    assert!(rt; reports(&rt, rt.alloc(), MERGED, queries, wanted)?);
     Ok(())
 }
 

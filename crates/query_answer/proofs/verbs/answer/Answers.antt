@@ -2,7 +2,7 @@ use Rattle.query_answer.specs.Query.{peg_view}
 use Rattle.query_answer.specs.Repo.{trees_in_bytes}
 use Rattle.query_answer.specs.declared.status.Status.TheVariants as status
 use Rattle.svn_dump.specs.Dump.{history_in_bytes}
-use Rattle.query_answer.proofs.AnswerTexts.{IsAnswer-Refused, answer_of-bad, answer_of-locate, answer_of-segments, answer_of-log, answer_of-mergeinfo}
+use Rattle.query_answer.proofs.AnswerTexts.{IsAnswer-Refused, answer_of-bad, answer_of-locate, answer_of-segments, answer_of-log, answer_of-mergeinfo, answer_of-merged, answer_of-eligible}
 use Rattle.query_answer.proofs.verbs.answer.Goals as goal
 
 pub returns-in-Bad : goal.returns-in-Bad
@@ -24,3 +24,11 @@ returns-in-Log c =
 pub returns-in-Mergeinfo : goal.returns-in-Mergeinfo
 returns-in-Mergeinfo c =
     rw (c.in-Mergeinfo.is, answer_of-mergeinfo (history_in_bytes c.args.repo.now) (trees_in_bytes c.args.repo.now) (peg_view c.in-Mergeinfo.of)) c.answer_mergeinfo.ensures
+
+pub returns-in-Merged : goal.returns-in-Merged
+returns-in-Merged c =
+    rw (c.in-Merged.is, answer_of-merged (history_in_bytes c.args.repo.now) (trees_in_bytes c.args.repo.now) (peg_view c.in-Merged.of) (peg_view c.in-Merged.target)) c.answer_merged.ensures
+
+pub returns-in-Eligible : goal.returns-in-Eligible
+returns-in-Eligible c =
+    rw (c.in-Eligible.is, answer_of-eligible (history_in_bytes c.args.repo.now) (trees_in_bytes c.args.repo.now) (peg_view c.in-Eligible.of) (peg_view c.in-Eligible.target)) c.answer_eligible.ensures

@@ -32,6 +32,7 @@ returns-then-has c =
     subst (λ all. IsLookup all (parts_of c.args.peg.path.now) (Known c.in-Known.path)) names (rw c.in-Known.is at c.in-Ok.ensures.ok) in
     let there : is_there same_name (tree_of c.self.inside.trees c.args.peg.rev) c.in-Known.path ≡ true = c.has.ensures.0 c.if-has.true in
     record {
+      kept = repo.dump_is;
       of_names = known.0;
       within = within;
       there = IsThere-kept dump repo.dump_is c.self.inside.trees repo.trees_are c.in-Known.path c.args.peg.rev within there;

@@ -24,6 +24,6 @@ pub returns-in_ok-locate-in-Ok : goal.returns-in_ok-locate-in-Ok
 returns-in_ok-locate-in-Ok c =
     let repo = IsRepo-view c.repo.inside.dump c.args.repo.now c.repo.inside.index c.repo.inside.trees c.repo.view_is c.repo.invariant in
     let found : IsPegFound c.args.repo.now c.args.peg (Ok c.in-Ok.path) = rw c.in-Ok.is at c.in_ok-status.ensures in
-    IsAnswer-Location c.args.repo.now repo.dump_is c.args.peg c.in-Ok.path found c.args.rev c.in_ok-locate-in-Ok.field-0
+    IsAnswer-Location c.args.repo.now c.args.peg c.in-Ok.path found c.args.rev c.in_ok-locate-in-Ok.field-0
     (index-IsRepo c.args.repo.now c.repo.inside.index c.repo.inside.trees repo
     (λ records. c.in_ok-locate-in-Ok.field-0 ≡ location same_name (trees_to records c.args.peg.rev) c.in-Ok.path c.args.peg.rev c.args.rev) c.in_ok-locate-in-Ok.ensures.exact)

@@ -1,0 +1,106 @@
+-- What is found at the operative revisions of a source, by its kept segments.
+use Rattle.std.proofs.Common.{◌≡◌, ℕ, zero, suc, ◌+◌, ◌<◌, not, ◌&&◌, if◌then◌else◌, List, [], ◌∷◌, Option, Some, None, option_map, is_none, length, map, reverse, bytes_eq, refl, sym, ap, subst, ◌∙◌}
+use Rattle.std.specs.Prelude.{filter_map, option_and_then}
+use Rattle.path_index.specs.History.{history_to, trees_to}
+use Rattle.path_index.specs.Index.{location_in, segment_view}
+use Rattle.path_index.specs.Operative.{operative_of}
+use Rattle.path_index.specs.Segment.{AreSegments, same_place, segments_of}
+use Rattle.path_index.specs.declared.hit.Hit.{Hit}
+use Rattle.path_index.specs.declared.segment.Segment.{Segment as KeptSegment}
+use Rattle.path_index.proofs.Renaming.{same_place-rename}
+use Rattle.range_list.specs.Rangelist.{sort_of}
+use Rattle.range_list.specs.declared.run.Run.{Run}
+use Rattle.svn_path.specs.Components.{path_text}
+use Rattle.svn_path.specs.Path.{components_of, same_name}
+use Rattle.svn_path.specs.declared.names.NameId.{NameId}
+use Rattle.svn_dump.specs.Dump.{DumpValue, IsDump, history_in_bytes, history_view}
+use Rattle.svn_dump.specs.Location.{location}
+use Rattle.merge_info.specs.Line.{Line}
+use Rattle.merge_info.specs.Value.{ranges_of, runs_at, some_runs}
+use Rattle.query_answer.specs.Merged.{eligible_at, eligible_hit, found_in, hit_has, is_eligible_from, merged_at, merged_hit, merged_revision, ranges_at, ranges_in, value_has}
+use Rattle.query_answer.specs.Repo.{eligible_by, found_by, merged_by, place_by}
+use Rattle.query_answer.proofs.InBytes.{alike, hits-index, location-in_bytes, location-index, name, segments-index, text, trees-renamed, trees_by_number}
+use Rattle.query_answer.proofs.OperativePlaces.{found-operative_of, found_in-rename, found_of_hit}
+
+-- ---- by the ranges of the segments
+
+module _ (names : List (List ℕ)) (value : List Line) where
+  -- the ranges of a path have a revision if the value has it
+  has-ranges_of : (place : List (List ℕ)) (rev : ℕ) → option_and_then (λ runs. sort_of runs rev) (ranges_of value (path_text place)) ≡ value_has value place rev
+  has-ranges_of place rev = by_runs (runs_at value (path_text place))
+    where
+      by_runs : (runs : List Run) → option_and_then (λ all. sort_of all rev) (some_runs runs) ≡ sort_of runs rev
+      by_runs [] = refl
+      by_runs (run ∷ runs) = refl
+
+  merged_in : (all : List KeptSegment) (n rev : ℕ)
+      → merged_hit (map (ranges_in names value) all) (record { rev = rev; segment = n })
+      ≡ found_of_hit (λ place. merged_at (value_has value) (components_of names place)) (map segment_view all) (record { rev = rev; segment = n })
+  merged_in [] n rev = refl
+  merged_in (segment ∷ all) zero rev = by_path segment.path
+    where
+      by_path : (path : Option (List NameId))
+          → option_map (merged_revision rev) (option_and_then (λ runs. sort_of runs rev) (option_and_then (λ each. ranges_of value (path_text (components_of names each))) path))
+          ≡ option_and_then (λ place. merged_at (value_has value) (components_of names place) rev) path
+      by_path None = refl
+      by_path (Some place) = ap (option_map (merged_revision rev)) (has-ranges_of (components_of names place) rev)
+  merged_in (segment ∷ all) (suc n) rev = merged_in all n rev
+
+  module _ (target : ℕ → Option (List NameId)) (other : ℕ → Option (List (List ℕ)))
+      (alike_at : (place : List NameId) (rev : ℕ) → same_place bytes_eq (other rev) (Some (components_of names place)) ≡ same_place same_name (target rev) (Some place)) where
+    eligible_in : (all : List KeptSegment) (n rev : ℕ)
+        → eligible_hit (map (ranges_in names value) all) all target (record { rev = rev; segment = n })
+        ≡ found_of_hit (λ place. eligible_at bytes_eq (value_has value) other (components_of names place)) (map segment_view all) (record { rev = rev; segment = n })
+    eligible_in [] n rev = refl
+    eligible_in (segment ∷ all) zero rev = by_path segment.path refl
+      where
+        by_path : (path : Option (List NameId)) → segment.path ≡ path
+            → (if is_eligible_from (map (ranges_in names value) (segment ∷ all)) target (record { rev = rev; segment = 0 }) path then Some rev else None)
+            ≡ option_and_then (λ place. eligible_at bytes_eq (value_has value) other (components_of names place) rev) path
+        by_path None at = refl
+        by_path (Some place) at =
+            let has : hit_has (map (ranges_in names value) (segment ∷ all)) (record { rev = rev; segment = 0 }) ≡ value_has value (components_of names place) rev =
+            ap (λ path. option_and_then (λ runs. sort_of runs rev) (option_and_then (ranges_at names value) path)) at ∙ has-ranges_of (components_of names place) rev in
+            λ i. if is_none (has i) && not (sym (alike_at place rev) i) then Some rev else None
+    eligible_in (segment ∷ all) (suc n) rev = eligible_in all n rev
+
+module _ (dump : DumpValue) (kept : IsDump dump) (path : List NameId) (rev : ℕ) (within : rev < length dump.counts) where
+  module _ (segments : List KeptSegment) (hits : List Hit)
+      (exact : map segment_view segments ≡ segments_of same_name (trees_to dump.records rev) path rev)
+      (maximal : AreSegments (location_in dump.records path rev) (rev + 1) (map segment_view segments))
+      (hits_are : hits ≡ operative_of same_name (history_to dump.records rev) (trees_to dump.records rev) (map segment_view segments)) where
+    all_maximal : AreSegments (location same_name (trees_by_number dump kept) path rev) (rev + 1) (map segment_view segments)
+    all_maximal = subst (λ place. AreSegments place (rev + 1) (map segment_view segments)) (λ i k. location-index dump kept rev within path k i) maximal
+
+    all_hits : hits ≡ operative_of same_name (history_view dump) (trees_by_number dump kept) (map segment_view segments)
+    all_hits =
+        hits_are ∙ ap (operative_of same_name (history_to dump.records rev) (trees_to dump.records rev)) exact
+        ∙ hits-index dump kept rev within path
+        ∙ ap (operative_of same_name (history_view dump) (trees_by_number dump kept)) (sym (exact ∙ segments-index dump kept rev within path))
+
+    -- what is found at the hits, by the names of the dump
+    pub found-found_by : {X : Type 0} (find : List (List ℕ) → ℕ → Option X)
+        → reverse (filter_map (found_of_hit (λ place. find (components_of dump.names place)) (map segment_view segments)) hits) ≡ found_by dump path rev find
+    found-found_by find =
+        ap (λ all. reverse (filter_map (found_of_hit (λ place. find (components_of dump.names place)) (map segment_view segments)) all)) all_hits
+        ∙ found-operative_of same_name (history_view dump) (trees_by_number dump kept) (location same_name (trees_by_number dump kept) path rev) (λ place. find (components_of dump.names place)) rev (map segment_view segments) all_maximal
+        ∙ sym (found_in-rename (name dump kept) (text dump kept) same_name bytes_eq (alike dump kept) (history_view dump) (trees_by_number dump kept) path rev find)
+        ∙ ap (λ trees. found_in bytes_eq (history_in_bytes dump) trees (components_of dump.names path) rev find) (sym (trees-renamed dump kept))
+
+    -- the merged revisions
+    pub merged-merged_by : (value : List Line) → reverse (filter_map (merged_hit (map (ranges_in dump.names value) segments)) hits) ≡ merged_by dump path rev value
+    merged-merged_by value =
+        (λ i. reverse (filter_map (λ hit. merged_in dump.names value segments hit.segment hit.rev i) hits)) ∙ found-found_by (merged_at (value_has value))
+
+    -- the eligible revisions
+    module _ (value : List Line) (target : List NameId) (target_rev : ℕ) (target_within : target_rev < length dump.counts) where
+      place_alike : (place : List NameId) (number : ℕ) → same_place bytes_eq (place_by dump target target_rev number) (Some (components_of dump.names place))
+          ≡ same_place same_name (location_in dump.records target target_rev number) (Some place)
+      place_alike place number =
+          ap (λ found. same_place bytes_eq found (Some (components_of dump.names place))) (location-in_bytes dump kept target_rev target_within target number)
+          ∙ same_place-rename (name dump kept) same_name bytes_eq (alike dump kept) (location_in dump.records target target_rev number) (Some place)
+
+      pub eligible-eligible_by : reverse (filter_map (eligible_hit (map (ranges_in dump.names value) segments) segments (location_in dump.records target target_rev)) hits) ≡ eligible_by dump path rev target target_rev value
+      eligible-eligible_by =
+          (λ i. reverse (filter_map (λ hit. eligible_in dump.names value (location_in dump.records target target_rev) (place_by dump target target_rev) place_alike segments hit.segment hit.rev i) hits))
+          ∙ found-found_by (eligible_at bytes_eq (value_has value) (place_by dump target target_rev))

@@ -1,0 +1,27 @@
+use Rattle.std.proofs.Common.{[], ◌++◌, Global, Vec, append-nil, ap, get_or, map, sym, ◌∙◌}
+use Rattle.std.specs.List.{cons_option}
+use Rattle.std.specs.Prelude.{option_map}
+use Rattle.path_index.specs.declared.hit.Hit.{Hit}
+use Rattle.query_answer.specs.Merged.{lent_ranges, merged_hit, merged_revision}
+use Rattle.query_answer.specs.declared.merged_revision.MergedRevision.{MergedRevision}
+use Rattle.query_answer.proofs.OperativePlaces.{filter_map_more}
+use Rattle.query_answer.proofs.verbs.merged.merged_hits.Goals as goal
+use Rattle.query_answer.proofs.verbs.merged.merged_hits.Goals.{in-Some+in_ok-push, in_default}
+
+pub loop-hit-preserved : goal.loop-hit-preserved
+loop-hit-preserved c =
+    let ranges = map lent_ranges c.args.ranges.now in
+    let hits = c.args.hits.now in
+    let hit : Hit = get_or hits c.loop-hit.hit-index (record { rev = 0; segment = 0 }) in
+    let rev = hit.rev in
+    let shown = λ (v : Vec MergedRevision Global). v.items in
+    let before = c.loop-hit.found.items in
+    let more = filter_map_more (merged_hit ranges) hits c.loop-hit.hit-index (record { rev = 0; segment = 0 }) c.loop-hit-test.true before c.match-has_hit.found.items c.loop-hit.invariant in
+    elim c.match-has_hit.branch [
+      | in-Some+in_ok-push w ↦
+          more (ap shown w.found-is ∙ w.in_ok-push.ensures.items
+          ∙ ap (λ found. before ++ cons_option (option_map (merged_revision rev) found) []) (sym w.in-Some.is ∙ c.has_hit.ensures))
+      | in_default w ↦
+          more (ap shown w.found-is ∙ sym (append-nil before)
+          ∙ ap (λ found. before ++ cons_option (option_map (merged_revision rev) found) []) (sym w.in_default.is ∙ c.has_hit.ensures))
+    ]

@@ -1,0 +1,109 @@
+//! `eligible`: the operative revisions of a source that are still to be merged into a target.
+ghost use Rattle.std.specs.Prelude.{◌≡◌, ◌++◌, IfOk, OnOk, filter_map, map, reverse};
+ghost use Rattle.query_answer.specs.Answer.{IsAnswer, eligible_text};
+ghost use Rattle.query_answer.specs.Merged.{TellsPlaces, eligible_hit, is_eligible_hit, lent_ranges};
+ghost use Rattle.query_answer.specs.Repo.{IsPathFound, eligible_answer, eligible_by};
+
+use super::place::{is_at, path_at, path_in};
+use super::source::{has_hit, ranges_by_segment};
+use crate::answers::Answer;
+use crate::pair::Pair;
+use crate::query::Peg;
+use crate::repo::Repo;
+use path_index::{Hit, Segment};
+use range_list::{Ranges, push_number};
+use std::alloc::{AllocError, Global};
+
+/// The revisions of a source that are still to be merged into a target.
+pub(crate) fn answer_eligible(
+    alloc: Global,
+    repo: &Repo,
+    source: Peg<'_>,
+    target: Peg<'_>,
+) -> Result<Answer, AllocError>
+    ensures { IfOk result (IsAnswer repo.now.names (eligible_answer repo.now source.entry target.entry)) }
+{
+    match Pair::find(alloc, repo, source, target)? {
+        Err(status) => Ok(Answer::Refused(status)),
+        Ok(pair) => Ok(Answer::Eligible(eligible_of(alloc, repo, source, target, &pair)?)),
+    }
+}
+
+/// The eligible revisions of a pair, in rising order.
+fn eligible_of(
+    alloc: Global,
+    repo: &Repo,
+    source: Peg<'_>,
+    target: Peg<'_>,
+    pair: &Pair,
+) -> Result<Vec<u32>, AllocError>
+    requires source { IsPathFound repo.now source pair.now.source }
+    requires target { IsPathFound repo.now target pair.now.target }
+    ensures { IfOk result (λ found.
+        found.items ≡ eligible_by repo.now pair.now.source source.entry.rev pair.now.target target.entry.rev pair.now.mergeinfo) }
+{
+    let segments = repo.segments(source, &pair.source)?;
+    let hits = repo.operative(segments.as_slice())?;
+    let own = repo.segments(target, &pair.target)?;
+    let ranges = ranges_by_segment(alloc, repo.names(), &pair.mergeinfo, segments.as_slice())?;
+    eligible_hits(
+        alloc,
+        ranges.as_slice(),
+        segments.as_slice(),
+        own.as_slice(),
+        hits.as_slice(),
+    )
+}
+
+/// The operative revisions that the ranges of their segments lack, in rising order, but for those in which the target
+/// had the path of the segment itself.
+fn eligible_hits(
+    alloc: Global,
+    ranges: &[Option<&Ranges>],
+    segments: &[Segment],
+    target: &[Segment],
+    hits: &[Hit],
+) -> Result<Vec<u32>, AllocError>
+    ensures { IfOk result (λ found. (place : _) → TellsPlaces place target.now
+        → found.items ≡ reverse (filter_map (eligible_hit (map lent_ranges ranges.now) segments.now place) hits.now)) }
+{
+    let mut found = Vec::new(alloc);
+    for hit in hits {
+        if is_eligible(ranges, segments, target, *hit) {
+            found.push(hit.rev)?;
+        }
+    }
+    found.reverse();
+    Ok(found)
+}
+
+/// Whether the ranges of its segment lack an operative revision, and the target did not have the path of the segment
+/// itself then.
+fn is_eligible(
+    ranges: &[Option<&Ranges>],
+    segments: &[Segment],
+    target: &[Segment],
+    hit: Hit,
+) -> bool
+    ensures { (place : _) → TellsPlaces place target.now
+        → result ≡ is_eligible_hit (map lent_ranges ranges.now) segments.now place hit }
+{
+    match path_at(segments, hit.segment) {
+        Some(source) => {
+            has_hit(ranges, hit).is_none() && !is_at(path_in(target, hit.rev), source)
+        }
+        None => false,
+    }
+}
+
+/// Appends the result lines.
+pub(crate) fn write_eligible(revisions: &[u32], out: &mut Vec<u8>) -> Result<(), AllocError>
+    ensures { OnOk result (out.new.items ≡ out.old.items ++ eligible_text revisions.now) }
+{
+    for rev in revisions {
+        out.push(b'r')?;
+        push_number(out, u64::from(*rev))?;
+        out.push(b'\n')?;
+    }
+    Ok(())
+}
