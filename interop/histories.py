@@ -216,7 +216,8 @@ def properties(shop):
     shop.write("f", "")
     shop.write("no-newline", "no newline at the end")
     shop.write("looks-like-a-dump",
-               "SVN-fs-dump-format-version: 2\n\nRevision-number: 1\n\nNode-path: evil\nNode-action: delete\n\nPROPS-END\n")
+               "SVN-fs-dump-format-version: 2\n\nRevision-number: 1\n\nNode-path: evil\nNode-action: delete\n\n"
+               "PROPS-END\n")
     shop.commit("Begin")                                                     # 1
     shop.property("f", "lines", b"one\ntwo\n\nthree\n")
     shop.property("f", "headers", b"PROPS-END\n\nNode-path: d\nNode-action: delete\n\nK 3\nkey\nV 5\nvalue\n")
@@ -364,6 +365,68 @@ def drawn(shop):
         trees.append(tree)
 
 
+def inherited(shop):
+    """Values that are inherited, over levels, in part, and from the root; emptied, copied, replaced and removed."""
+    shop.make("trunk/a/b/c", "trunk/lib", "branches")
+    shop.write("trunk/f", "f\n")
+    shop.write("trunk/a/g", "g\n")
+    shop.write("trunk/a/b/h", "h\n")
+    shop.commit("Begin")                                                     # 1
+    shop.mergeinfo({"trunk": b"/a:1\n/a-b:1\n/a.b/c:1\n/a0:1"})              # 2, in another order below it
+    shop.mergeinfo({"trunk/a": b"/other:1*,2\n/others:2*"})                  # 3, of which a part is inherited
+    shop.mergeinfo({"": b"/:1,2*,3\n/vendor:2*"})                            # 4, the root as a source path
+    shop.mergeinfo({"trunk/a": b""})                                         # 5, an empty value below another
+    shop.mergeinfo({"trunk/a/b": b"/deep:2-4,5*", "trunk/f": b"/old/f:3*"})  # 6, a value below an empty one
+    shop.server("copy", "HEAD", "trunk", "branches/one")                     # 7, with its values
+    shop.server("copy", "HEAD", "trunk/lib", "branches/lib")                 # 8, without what it inherited
+    shop.mergeinfo({"branches/one": b"/trunk:7-8*"})                         # 9, of which nothing is inherited
+    shop.server("delete", "branches/one", "copy", "3", "trunk", "branches/one")                    # 10, older values
+    shop.server("delete", "trunk/a", "mkdir", "trunk/a", "delete", "trunk/f", "put", "trunk/f")    # 11, no values
+    shop.mergeinfo({"trunk": None})                                          # 12
+    shop.server("move", "branches/one", "branches/two", "copy", "9", "trunk/a/b", "trunk/a/b")     # 13
+    shop.server("copy", "12", "", "all")                                     # 14, the value of the root
+    shop.mergeinfo({"": b""})                                                # 15
+    shop.mergeinfo({"branches": b"/trunk:1-14\n/:15"})                       # 16
+    shop.mergeinfo({"": None, "branches/lib": b"/branches/two/lib:16"})      # 17
+
+
+def written(shop):
+    """Values in forms that no client writes: blanks, overlapping ranges, several lines of one path, unusual paths."""
+    shop.make("d/in/side", "e/in")
+    shop.write("d/in/f", "f\n")
+    shop.commit("Begin")                                                     # 1
+    shop.mergeinfo({"d": b"/trunk: \t 3-5,7", "e": b"/trunk:9,3-5*,1,7-8,6*\n"})              # 2
+    shop.mergeinfo({"d": b"/trunk:3-6,5-9,4,12,10-11", "e": b"/trunk:4-6*,5-9*,1-3"})         # 3
+    shop.mergeinfo({"d": b"/trunk:3*\n/b:1\n/trunk:1-2*\n/trunk:3,5\n/b:2-3*"})               # 4
+    shop.mergeinfo({"d": b"trunk:3\n/trunk/:4*\n//trunk//:5", "d/in": b"b//one/:4-5\n/b:6"})  # 5
+    shop.mergeinfo({"": b"/:3*\n:5\n//: 7-9", "e": b":1"})                   # 6, the root as a source path
+    shop.mergeinfo({"d": b"/trunk:0007,008-10*\n", "": b"/trunk:1-2147483647"})              # 7
+    shop.mergeinfo({"d": b"/a:b:3\n/ c :4\nx:5:6\n/7-8,9*:7\n", "e": b"/-:1\n/,:2\n/*:3"})   # 8
+    shop.mergeinfo({"d": "/\u00e4\u00f6:3\n/a\u0308:4\n/\U0001f600 x:5\n/\uff21:6\n/z:7".encode()})    # 9
+    shop.mergeinfo({"d": b"/trunk:2147483647,2147483645*,1-2\n/b:2147483646-2147483647*"})   # 10
+    shop.mergeinfo({"e": b"/b:1\n/a-b:2\n/a:3\n/a+:4\n/a/c:5\n/A:6\n/a/-:7", "d": b""})       # 11
+    shop.server("copy", "10", "d", "e/in/d")                                 # 12
+
+
+def malformed(shop):
+    """Malformed values: above and below good ones, of the root, copied, put right, replaced and removed."""
+    shop.make("trunk/a/b", "branches")
+    shop.write("trunk/a/f", "f\n")
+    shop.commit("Begin")                                                     # 1
+    shop.mergeinfo({"": b"/vendor:1", "trunk": b"no colon"})                 # 2
+    shop.mergeinfo({"trunk/a": b"/b:2"})                                     # 3, a good value below it
+    shop.server("copy", "HEAD", "trunk", "branches/one")                     # 4
+    shop.mergeinfo({"trunk": b"/b:1-3", "trunk/a/b": b"/b/b:5-3"})           # 5, below a good value
+    shop.mergeinfo({"": b"/vendor:0"})                                       # 6, of the root
+    shop.mergeinfo({"trunk/a/b": None, "branches": b""})                     # 7
+    shop.server("delete", "branches/one", "mkdir", "branches/one")           # 8
+    shop.mergeinfo({"branches": b"/trunk:3-5,4*", "branches/one": b"/trunk:1\n\n"})           # 9
+    shop.server("copy", "4", "branches/one/a", "branches/one/a")             # 10
+    shop.mergeinfo({"": None, "branches": b"/trunk:3,4*"})                   # 11
+    shop.mergeinfo({"branches/one": b"/trunk: 4 "})                          # 12
+    shop.mergeinfo({"branches/one": b"/trunk: 4"})                           # 13
+
+
 class Lot:
     """Pseudorandom numbers that are the same in each run, by a linear congruence."""
 
@@ -435,4 +498,5 @@ def draw(lot, trees, tree, touched):
     return []
 
 
-ALL = [branches, renames, copies, replaced, again, merges, properties, names, roots, deep, drawn]
+ALL = [branches, renames, copies, replaced, again, merges, properties, names, roots, deep, drawn, inherited, written,
+       malformed]
