@@ -7,6 +7,18 @@ import time
 
 HERE = os.path.dirname(os.path.abspath(__file__))
 
+# Runs the command that its arguments are, and prints the kilobytes that this took at most.
+PEAK = """
+import os, sys
+child = os.fork()
+if child == 0:
+    os.dup2(os.open(os.devnull, os.O_WRONLY), 1)
+    os.execv(sys.argv[1], sys.argv[1:])
+_, status, usage = os.wait4(child, 0)
+print(usage.ru_maxrss)
+sys.exit(os.waitstatus_to_exitcode(status) != 0)
+"""
+
 
 class Failed(Exception):
     pass
@@ -44,6 +56,14 @@ def run(words, feeder=None, file=None):
         output.seek(0)
         errors.seek(0)
         return Run(wall, usage, child.returncode, output.read(), errors.read())
+
+
+def peak_of(words):
+    """The peak memory of a command. The system counts what the process that starts a command had before as well, so a
+    small one of about 5 MB starts this."""
+    done = subprocess.run([sys.executable, "-I", "-S", "-c", PEAK] + words, stdin=subprocess.DEVNULL,
+                          stdout=subprocess.PIPE, check=True)
+    return int(done.stdout) * 1024
 
 
 def generate(words, file):
