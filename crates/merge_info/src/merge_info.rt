@@ -1,5 +1,5 @@
 //! The values of `svn:mergeinfo`.
-ghost use Rattle.std.specs.Prelude.{◌≡◌, [], ◌++◌, None, All, Some, IfOk, OnOk, OnErr, IsErrOf, option_map, map};
+ghost use Rattle.std.specs.Prelude.{◌≡◌, ◌↔◌, [], ◌++◌, IsTrue, None, All, Some, IfOk, OnOk, OnErr, IsErrOf, option_map, map};
 ghost use Rattle.merge_info.specs.CanonicalValue.{canonical_value, inherited_value, value_of};
 ghost use Rattle.merge_info.specs.Inherited.{inherited_lines};
 ghost use Rattle.merge_info.specs.Line.{IsLine, IsPrintedPath, line_view};
@@ -67,6 +67,13 @@ impl MergeInfo {
             Some(entry) if entry.path.as_slice() == path => Some(&entry.ranges),
             _ => None,
         }
+    }
+
+    /// Whether no path has revisions that were merged from it.
+    pub fn is_empty(&self) -> bool
+        ensures { IsTrue result ↔ (self.now ≡ []) }
+    {
+        self.entries.is_empty()
     }
 
     /// What a path inherits, given what follows the path that has this value.

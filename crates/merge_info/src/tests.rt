@@ -129,6 +129,6 @@ fn a_copy_has_the_same_text(rt: HostRuntime) -> Result<(), Fail> {
     let copy = text_of(rt.alloc(), &value.dup()?)?;
     assert!(rt; copy.as_slice() == b"/a:2*\n/b:1\n".as_slice());
     let empty = MergeInfo::empty(rt.alloc()).dup()?;
-    assert!(rt; text_of(rt.alloc(), &empty)?.is_empty());
+    assert!(rt; empty.is_empty() && text_of(rt.alloc(), &empty)?.is_empty());
     Ok(())
 }

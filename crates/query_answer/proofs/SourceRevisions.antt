@@ -1,5 +1,6 @@
 -- What is found at the operative revisions of a source, by its kept segments.
 use Rattle.std.proofs.Common.{◌≡◌, ℕ, zero, suc, ◌+◌, ◌<◌, not, ◌&&◌, if◌then◌else◌, List, [], ◌∷◌, Option, Some, None, option_map, is_none, length, map, reverse, bytes_eq, refl, sym, ap, subst, ◌∙◌}
+use Rattle.std.specs.List.{range_with_len}
 use Rattle.std.specs.Prelude.{filter_map, option_and_then}
 use Rattle.path_index.specs.History.{history_to, trees_to}
 use Rattle.path_index.specs.Index.{location_in, segment_view}
@@ -17,8 +18,8 @@ use Rattle.svn_dump.specs.Dump.{DumpValue, IsDump, history_in_bytes, history_vie
 use Rattle.svn_dump.specs.Location.{location}
 use Rattle.merge_info.specs.Line.{Line}
 use Rattle.merge_info.specs.Value.{ranges_of, runs_at, some_runs}
-use Rattle.query_answer.specs.Merged.{eligible_at, eligible_hit, found_in, hit_has, is_eligible_from, merged_at, merged_hit, merged_revision, ranges_at, ranges_in, value_has}
-use Rattle.query_answer.specs.Repo.{eligible_by, found_by, merged_by, place_by}
+use Rattle.query_answer.specs.Merged.{eligible_at, eligible_hit, found_in, hit_has, is_eligible_from, merged_at, merged_hit, merged_revision, operative_place, ranges_at, ranges_in, value_has}
+use Rattle.query_answer.specs.Repo.{eligible_by, found_by, merged_by, place_by, trees_in_bytes}
 use Rattle.query_answer.proofs.InBytes.{alike, hits-index, location-in_bytes, location-index, name, segments-index, text, trees-renamed, trees_by_number}
 use Rattle.query_answer.proofs.OperativePlaces.{found-operative_of, found_in-rename, found_of_hit}
 
@@ -104,3 +105,20 @@ module _ (dump : DumpValue) (kept : IsDump dump) (path : List NameId) (rev : ℕ
       eligible-eligible_by =
           (λ i. reverse (filter_map (λ hit. eligible_in dump.names value (location_in dump.records target target_rev) (place_by dump target target_rev) place_alike segments hit.segment hit.rev i) hits))
           ∙ found-found_by (eligible_at bytes_eq (value_has value) (place_by dump target target_rev))
+
+-- ---- a value without paths
+
+filter_map-none : {A B : Type 0} (f : A → Option B) (xs : List A) → ((x : A) → f x ≡ None) → filter_map f xs ≡ []
+filter_map-none f [] none = refl
+filter_map-none f (x ∷ xs) none = rw (none x) (filter_map-none f xs none)
+
+-- it has no revisions
+pub merged_by-empty : (dump : DumpValue) (path : List NameId) (rev : ℕ) → merged_by dump path rev [] ≡ []
+merged_by-empty dump path rev =
+    filter_map-none (λ each. option_and_then (λ place. merged_at (value_has []) place each) (operative_place bytes_eq (history_in_bytes dump) (trees_in_bytes dump) (components_of dump.names path) rev each))
+    (range_with_len 0 (rev + 1))
+    (λ each. by_place each (operative_place bytes_eq (history_in_bytes dump) (trees_in_bytes dump) (components_of dump.names path) rev each))
+  where
+    by_place : (each : ℕ) (place : Option (List (List ℕ))) → option_and_then (λ one. merged_at (value_has []) one each) place ≡ None
+    by_place each None = refl
+    by_place each (Some place) = refl

@@ -39,6 +39,9 @@ fn merged_of(
     requires { IsPathFound repo.now source pair.now.source }
     ensures { IfOk result (λ found. found.items ≡ merged_by repo.now pair.now.source source.entry.rev pair.now.mergeinfo) }
 {
+    if pair.mergeinfo.is_empty() {
+        return Ok(Vec::new(alloc));
+    }
     let segments = repo.segments(source, &pair.source)?;
     let hits = repo.operative(segments.as_slice())?;
     let ranges = ranges_by_segment(alloc, repo.names(), &pair.mergeinfo, segments.as_slice())?;
