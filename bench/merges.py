@@ -22,16 +22,42 @@ VERBS = ("merged", "eligible")
 SIZES = ((50000, 5000), (100000, 10000), (200000, 20000))
 GROWTH_QUERIES = 10
 LEAST_OF_BINDINGS = 100
-MOST_OF_TWICE = 2.4
 
 
-def pairs_of(records, count):
-    """Pairs of pegs from the later half of the history. Half of them are branches or the trunk, which are merged."""
-    lot = random.Random(2)
+def pegs_of(records):
+    """The pegs of the later half of the history."""
     pegs = [(path, rev) for path, rev, action in records if action != "delete"]
-    pegs = pegs[len(pegs) // 2:]
-    lines = [(path, rev) for path, rev in pegs if path == "trunk" or path.count("/") == 1]
-    return [(lot.choice(chosen), lot.choice(chosen)) for chosen in (pegs, lines) for _ in range(count // 2)]
+    return pegs[len(pegs) // 2:]
+
+
+def any_pairs(pegs, lot):
+    """A source and a target that need not have to do with one another."""
+    return [(lot.choice(pegs), lot.choice(pegs)) for _ in range(ASKED)]
+
+
+def merging_pairs(program, dump, folder, pegs, lot):
+    """Targets, each with a source that is in its mergeinfo and exists in the same revision."""
+    targets = [lot.choice(pegs) for _ in range(ASKED)]
+    values = answers(program, dump, folder, ["mergeinfo\t%s@%d\n" % target for target in targets])
+    pairs = [((lot.choice(lines).rpartition(":")[0][1:], target[1]), target)
+             for target, (_, lines) in zip(targets, values) if lines]
+    found = answers(program, dump, folder, ["locate\t%s@%d\t0\n" % source for source, _ in pairs])
+    return [pair for pair, (status, _) in zip(pairs, found) if status == "ok"]
+
+
+def answers(program, dump, folder, lines):
+    """The status and the result lines of each query."""
+    path = os.path.join(folder, "queries")
+    with open(path, "w") as file:
+        file.writelines(lines)
+    report = run([program, dump, path, "0", "1"], file=os.devnull).output.decode()
+    found = []
+    for line in report.split("\n")[:-1]:
+        if line.startswith("#"):
+            found.append((line.split(" ")[1], []))
+        else:
+            found[-1][1].append(line)
+    return found
 
 
 def query(verb, source, target):
@@ -72,23 +98,31 @@ def print_questions(program, folder, given, dump, records):
         load(dump, os.path.join(folder, "merged"))
         url = "file://" + os.path.join(folder, "merged")
     base = best_of(given.times, lambda: ask(program, dump, folder, []))
-    pairs = pairs_of(records, ASKED)
-    print("%-10s %10s %14s %16s %24s %10s %6s" % ("", "queries", "answer lines", "ms per query",
-                                               "ms per query, bindings", "ratio", ""))
-    for verb in VERBS:
-        lines = [query(verb, *pair) for pair in pairs]
-        taken = best_of(given.times, lambda: ask(program, dump, folder, lines))
-        each = (taken.wall - base.wall) / len(lines)
-        step = len(lines) // ASKED_OF_BINDINGS
-        other = of_bindings(url, lines[::step]) if url else None
-        shown = ("-", "-", "") if other is None else (
-            "%.3f" % (other * 1e3), "%.0f" % (other / each), "met" if other / each >= LEAST_OF_BINDINGS else "not met")
-        print("%-10s %10d %14d %16.4f %24s %10s %6s" % ((verb, len(lines), taken.output.count(b"\n") - len(lines),
-                                                        each * 1e3) + shown))
+    lot = random.Random(2)
+    pegs = pegs_of(records)
+    kinds = {"any": any_pairs(pegs, lot), "merging": merging_pairs(program, dump, folder, pegs, lot)}
+    print("| query | pairs | queries | answer lines | ms per query | ms per query, bindings | ratio | |")
+    print("|---|---|---|---|---|---|---|---|")
+    for kind, pairs in kinds.items():
+        for verb in VERBS:
+            print_question(program, folder, given, dump, url, base, kind, [query(verb, *pair) for pair in pairs])
+    print()
+
+
+def print_question(program, folder, given, dump, url, base, kind, lines):
+    taken = best_of(given.times, lambda: ask(program, dump, folder, lines))
+    each = (taken.wall - base.wall) / len(lines)
+    other = of_bindings(url, lines[::len(lines) // ASKED_OF_BINDINGS]) if url else None
+    shown = ("", "", "") if other is None else (
+        "%.2f" % (other * 1e3), "%.0f" % (other / each), "met" if other / each >= LEAST_OF_BINDINGS else "**not met**")
+    print("| `%s` | %s | %s | %s | %.4f | %s | %s | %s |" % (
+        (lines[0].split("\t")[0], kind, format(len(lines), ","), format(taken.output.count(b"\n") - len(lines), ","),
+         each * 1e3) + shown))
 
 
 def print_growth(program, folder, given):
-    print("%-10s %10s %10s %14s %16s %10s" % ("", "revisions", "runs", "answer lines", "ms per query", "growth"))
+    print("| query | revisions of the source | runs of the target | answer lines | ms per query | growth |")
+    print("|---|---|---|---|---|---|")
     before = {}
     for revisions, runs in SIZES:
         if given.quick:
@@ -102,16 +136,17 @@ def print_growth(program, folder, given):
             each = (taken.wall - base.wall) / GROWTH_QUERIES
             growth = "%.2f" % (each / before[verb]) if verb in before else ""
             before[verb] = each
-            print("%-10s %10d %10d %14d %16.3f %10s" % (verb, revisions, runs,
-                                                       taken.output.count(b"\n") // GROWTH_QUERIES - 1, each * 1e3, growth))
+            print("| `%s` | %s | %s | %s | %.2f | %s |" % (
+                verb, format(revisions, ","), format(runs, ","),
+                format(taken.output.count(b"\n") // GROWTH_QUERIES - 1, ","), each * 1e3, growth))
+    print()
 
 
 def run_merges(program, folder, given):
     dump = os.path.join(folder, "dump-of-merges")
     with open(dump, "wb") as file:
         generate(["--revisions", str(QUICK_REVISIONS if given.quick else REVISIONS)] + GENERATED, file)
-    print("merged and eligible revisions")
+    print("merged and eligible revisions, the best of %d measurements\n" % given.times)
     print_questions(program, folder, given, dump, records_of(dump))
-    print()
     print_growth(program, folder, given)
     print(flush=True)
