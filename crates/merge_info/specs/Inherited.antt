@@ -1,4 +1,5 @@
--- The mergeinfo that a path inherits from a directory above it (Subversion book, "Mergeinfo inheritance").
+-- The mergeinfo that a path inherits from a directory above it (Subversion book, "Branching and Merging", "Subtree Merges
+-- and Subtree Mergeinfo").
 use Rattle.std.specs.Prelude.{ℕ, List, ◌++◌, filter, map}
 use Rattle.svn_path.specs.Components.{parts_of, path_text}
 use Rattle.range_list.specs.declared.run.Run.{Run}

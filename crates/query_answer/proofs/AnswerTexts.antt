@@ -23,7 +23,7 @@ use Rattle.svn_dump.specs.Location.{location}
 use Rattle.svn_dump.specs.Record.{HistoryOfBytes}
 use Rattle.svn_dump.specs.Tree.{is_there, tree_of}
 use Rattle.svn_dump.specs.declared.record.NodeRecord.{NodeRecord}
-use Rattle.query_answer.specs.Answer.{Answer, IsAnswer, IsPlaceOf, IsSegmentOf, TreesOfBytes, answer_about, answer_about_pair, answer_at, answer_by_mergeinfo, answer_by_value, answer_of, eligible_line, eligible_lines, hit_line, locate_lines, location_line, log_lines, merged_line, merged_lines, mergeinfo_lines, ok_answer, refused_answer, segment_in_bytes, segment_line, segments_in_bytes, segments_lines}
+use Rattle.query_answer.specs.Answer.{Answer, IsAnswer, IsPlaceOf, HasPathOf, TreesOfBytes, answer_about, answer_about_pair, answer_at, answer_by_mergeinfo, answer_by_value, answer_of, eligible_line, eligible_lines, hit_line, locate_lines, location_line, log_lines, merged_line, merged_lines, mergeinfo_lines, ok_answer, refused_answer, segment_in_bytes, segment_line, segments_in_bytes, segments_lines}
 use Rattle.query_answer.specs.Query.{Peg, bad, eligible, locate, log, merged, mergeinfo, peg_at, peg_view, query_about, query_or_bad, segments}
 use Rattle.query_answer.specs.Repo.{IsPair, IsPathFound, IsPegFound, IsRepo, answer_from, answer_from_pair, effective_in, eligible_answer, eligible_by, index_of, locate_answer, log_answer, merged_answer, merged_by, mergeinfo_answer, peg_found, segments_answer, trees_in_bytes}
 use Rattle.query_answer.specs.declared.answers.Answer.TheVariants as kept
@@ -95,10 +95,10 @@ module _ (history : HistoryOfBytes) (trees : TreesOfBytes) where
 -- ---- by what was found of the path
 
 -- what holds of each segment holds of the kept one
-pub All-kept : (names : List (List ℕ)) (some : List KeptSegment) → All (λ segment. IsPlaceOf names segment.path) (map segment_view some) → All (IsSegmentOf names) some
-All-kept names [] each = All-nil (IsSegmentOf names)
+pub All-kept : (names : List (List ℕ)) (some : List KeptSegment) → All (λ segment. IsPlaceOf names segment.path) (map segment_view some) → All (HasPathOf names) some
+All-kept names [] each = All-nil (HasPathOf names)
 All-kept names (segment ∷ some) each =
-    All-cons (IsSegmentOf names) segment some (All-head (λ one. IsPlaceOf names one.path) (segment_view segment) (map segment_view some) each)
+    All-cons (HasPathOf names) segment some (All-head (λ one. IsPlaceOf names one.path) (segment_view segment) (map segment_view some) each)
     (All-kept names some (All-tail (λ one. IsPlaceOf names one.path) (segment_view segment) (map segment_view some) each))
 
 segments_in_bytes-view : (names : List (List ℕ)) (some : List KeptSegment) → segments_in_bytes names some ≡ map (rename_segment (λ id. name_of names id.0)) (map segment_view some)
@@ -116,7 +116,7 @@ module _ (dump : DumpValue) (peg : KeptPeg) (path : List NameId) (found : IsPath
   }
 
   module _ (kept_segments : Vec KeptSegment Global) (is : map segment_view kept_segments.items ≡ segments_of same_name (trees_to dump.records peg.rev) path peg.rev) where
-    kept_names : All (IsSegmentOf dump.names) kept_segments.items
+    kept_names : All (HasPathOf dump.names) kept_segments.items
     kept_names = All-kept dump.names kept_segments.items (subst (All (λ segment. IsPlaceOf dump.names segment.path)) (sym is) (segments-of_names dump found.kept peg.rev found.within path found.of_names))
 
     kept_in_bytes : segments_in_bytes dump.names kept_segments.items ≡ segments_of bytes_eq (trees_in_bytes dump) (components_of dump.names path) peg.rev
@@ -224,10 +224,10 @@ path_at-in_bytes names (segment ∷ kept) zero = refl
 path_at-in_bytes names (segment ∷ kept) (suc n) = path_at-in_bytes names kept n
 
 -- the path at a place is of the table, if each is
-pub IsPlaceOf-path_at : (names : List (List ℕ)) (kept : List KeptSegment) (n : ℕ) → All (IsSegmentOf names) kept → IsPlaceOf names (option_and_then (λ segment. segment.path) (slice_get kept n))
+pub IsPlaceOf-path_at : (names : List (List ℕ)) (kept : List KeptSegment) (n : ℕ) → All (HasPathOf names) kept → IsPlaceOf names (option_and_then (λ segment. segment.path) (slice_get kept n))
 IsPlaceOf-path_at names [] n all = tt
-IsPlaceOf-path_at names (segment ∷ kept) zero all = All-head (IsSegmentOf names) segment kept all
-IsPlaceOf-path_at names (segment ∷ kept) (suc n) all = IsPlaceOf-path_at names kept n (All-tail (IsSegmentOf names) segment kept all)
+IsPlaceOf-path_at names (segment ∷ kept) zero all = All-head (HasPathOf names) segment kept all
+IsPlaceOf-path_at names (segment ∷ kept) (suc n) all = IsPlaceOf-path_at names kept n (All-tail (HasPathOf names) segment kept all)
 
 -- ---- by the kept repository
 

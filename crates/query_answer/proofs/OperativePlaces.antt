@@ -15,7 +15,7 @@ use Rattle.path_index.specs.Operative.{down_from, hit_at, is_operative, operativ
 use Rattle.path_index.specs.Segment.{AreSegments, IsSegment, Segment}
 use Rattle.path_index.specs.declared.hit.Hit.{Hit}
 use Rattle.path_index.proofs.Renaming.{is_operative-rename}
-use Rattle.query_answer.specs.Merged.{found_in, operative_place}
+use Rattle.query_answer.specs.Merged.{found_in, operative_location}
 
 -- ---- numbers downwards
 
@@ -168,8 +168,8 @@ module _ {C D M N X : Type 0} (name : C → D) (text : M → N) (sameC : C → C
       ≡ found_in sameC history trees path peg (λ place. find (map name place))
   found_in-rename = λ i. filter_map (λ rev. renamed rev i) (range_with_len 0 (peg + 1))
     where
-      renamed : (rev : ℕ) → option_and_then (λ each. find each rev) (operative_place sameD (rename_history name text history) (map (rename_tree name text) trees) (map name path) peg rev)
-          ≡ option_and_then (λ each. find (map name each) rev) (operative_place sameC history trees path peg rev)
+      renamed : (rev : ℕ) → option_and_then (λ each. find each rev) (operative_location sameD (rename_history name text history) (map (rename_tree name text) trees) (map name path) peg rev)
+          ≡ option_and_then (λ each. find (map name each) rev) (operative_location sameC history trees path peg rev)
       renamed rev =
           ap (λ place. option_and_then (λ each. find each rev) (option_and_then (λ each. if is_operative sameD (rename_history name text history) (map (rename_tree name text) trees) each rev then Some each else None) place))
           (location-rename name text sameC sameD alike trees path peg rev)

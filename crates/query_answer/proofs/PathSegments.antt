@@ -17,7 +17,7 @@ use Rattle.svn_dump.specs.Dump.{DumpValue}
 use Rattle.svn_dump.proofs.Locations.{location_later}
 use Rattle.svn_dump.proofs.Origins.{OriginsFall-trees_of}
 use Rattle.query_answer.specs.Answer.{IsPlaceOf}
-use Rattle.query_answer.specs.Merged.{TellsPlaces}
+use Rattle.query_answer.specs.SourceHits.{TellsPlaces}
 use Rattle.query_answer.specs.Repo.{AreHitsIn, AreSegmentsIn, IsRepo}
 use Rattle.query_answer.specs.TreeOfNumbers.{TreeOfNumbers}
 use Rattle.query_answer.proofs.AnswerTexts.{All-kept, IsThere-IsRepo}

@@ -6,7 +6,7 @@ use Rattle.svn_path.specs.Components.{HasDot}
 use Rattle.svn_dump.specs.Number.{number_up_to, greatest_revision}
 use Rattle.svn_dump.proofs.Lines.{list_any-Lacks}
 use Rattle.svn_dump.specs.Cut.{IsCutAtLast, Lacks}
-use Rattle.query_answer.specs.Query.{bad, peg_field, query_of, query_of_fields, query_of_pair, query_of_peg, read_peg, target_field}
+use Rattle.query_answer.specs.Query.{bad, peg_field, query_of, query_of_fields, query_of_pair, query_of_peg, read_peg, third_field}
 use Rattle.svn_dump.proofs.Cuts.{CutsFirst, slice_split-cut, slice_split-uncut, list_any-cut, before_last-cut, after_last-cut}
 
 -- the parts of bytes are never none
@@ -56,8 +56,8 @@ peg_field-three line verb rest peg rev cut again none =
     ap (λ fields. slice_index_or fields 1 []) (slice_split-cut 9 line verb rest cut ∙ ap (λ more. verb ∷ more) (two_fields rest peg rev again none))
 
 -- the third field of a line with two tabs
-pub target_field-three : (line verb rest peg field : List ℕ) → CutsFirst 9 line verb rest → CutsFirst 9 rest peg field → Lacks 9 field → target_field line ≡ field
-target_field-three line verb rest peg field cut again none =
+pub third_field-three : (line verb rest peg field : List ℕ) → CutsFirst 9 line verb rest → CutsFirst 9 rest peg field → Lacks 9 field → third_field line ≡ field
+third_field-three line verb rest peg field cut again none =
     ap (λ fields. slice_index_or fields 2 []) (slice_split-cut 9 line verb rest cut ∙ ap (λ more. verb ∷ more) (two_fields rest peg field again none))
 
 -- a line with more

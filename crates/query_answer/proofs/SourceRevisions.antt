@@ -18,7 +18,8 @@ use Rattle.svn_dump.specs.Dump.{DumpValue, IsDump, history_in_bytes, history_vie
 use Rattle.svn_dump.specs.Location.{location}
 use Rattle.merge_info.specs.Line.{Line}
 use Rattle.merge_info.specs.Value.{ranges_of, runs_at, some_runs}
-use Rattle.query_answer.specs.Merged.{eligible_at, eligible_hit, found_in, hit_has, is_eligible_from, merged_at, merged_hit, merged_revision, operative_place, ranges_at, ranges_in, value_has}
+use Rattle.query_answer.specs.Merged.{eligible_at, found_in, merged_at, merged_revision, operative_location, value_has}
+use Rattle.query_answer.specs.SourceHits.{eligible_hit, hit_has, is_eligible_from, merged_hit, ranges_at, ranges_in}
 use Rattle.query_answer.specs.Repo.{eligible_by, found_by, merged_by, place_by, trees_in_bytes}
 use Rattle.query_answer.proofs.InBytes.{alike, hits-index, location-in_bytes, location-index, name, segments-index, text, trees-renamed, trees_by_number}
 use Rattle.query_answer.proofs.OperativePlaces.{found-operative_of, found_in-rename, found_of_hit}
@@ -115,9 +116,9 @@ filter_map-none f (x ∷ xs) none = rw (none x) (filter_map-none f xs none)
 -- it has no revisions
 pub merged_by-empty : (dump : DumpValue) (path : List NameId) (rev : ℕ) → merged_by dump path rev [] ≡ []
 merged_by-empty dump path rev =
-    filter_map-none (λ each. option_and_then (λ place. merged_at (value_has []) place each) (operative_place bytes_eq (history_in_bytes dump) (trees_in_bytes dump) (components_of dump.names path) rev each))
+    filter_map-none (λ each. option_and_then (λ place. merged_at (value_has []) place each) (operative_location bytes_eq (history_in_bytes dump) (trees_in_bytes dump) (components_of dump.names path) rev each))
     (range_with_len 0 (rev + 1))
-    (λ each. by_place each (operative_place bytes_eq (history_in_bytes dump) (trees_in_bytes dump) (components_of dump.names path) rev each))
+    (λ each. by_place each (operative_location bytes_eq (history_in_bytes dump) (trees_in_bytes dump) (components_of dump.names path) rev each))
   where
     by_place : (each : ℕ) (place : Option (List (List ℕ))) → option_and_then (λ one. merged_at (value_has []) one each) place ≡ None
     by_place each None = refl

@@ -17,7 +17,7 @@ use Rattle.svn_dump.specs.Location.{location}
 use Rattle.svn_dump.specs.Record.{HistoryOfBytes}
 use Rattle.svn_dump.specs.Tree.{Tree, tree_of, is_there}
 use Rattle.query_answer.specs.Effective.{effective_value}
-use Rattle.query_answer.specs.Merged.{eligible_at, found_in, merged_at, value_has}
+use Rattle.query_answer.specs.Merged.{eligible_revisions, merged_revisions, value_has}
 use Rattle.query_answer.specs.Query as query
 use Rattle.query_answer.specs.Query.{Peg, Query}
 use Rattle.query_answer.specs.declared.answers.Answer.{Answer as KeptAnswer}
@@ -54,7 +54,7 @@ peg_status trees peg =
     if nat_le (length trees) peg.rev then status.NoSuchRevision
     else (if is_there bytes_eq (tree_of trees peg.rev) peg.path then status.Ok else status.NoSuchPath)
 
--- this answer, if nothing stands against the peg
+-- the refusal, if there is one; otherwise this answer
 abbrev pub answer_if_ok : Status → Answer → Answer
 answer_if_ok status.Ok answer = answer
 answer_if_ok status.BadQuery answer = refused_answer status.BadQuery
@@ -62,16 +62,16 @@ answer_if_ok status.NoSuchRevision answer = refused_answer status.NoSuchRevision
 answer_if_ok status.NoSuchPath answer = refused_answer status.NoSuchPath
 answer_if_ok status.MalformedMergeinfo answer = refused_answer status.MalformedMergeinfo
 
--- the answer about a peg, given that for a path that is there
+-- the refusal, if the peg is not there; otherwise this answer
 abbrev pub answer_at : TreesOfBytes → Peg → Answer → Answer
 answer_at trees peg answer = answer_if_ok (peg_status trees peg) answer
 
--- the answer about a peg that may name no path
+-- the same for a peg that may have a component `.` or `..`
 abbrev pub answer_about : TreesOfBytes → Option Peg → (Peg → Answer) → Answer
 answer_about trees None answer = refused_answer status.BadQuery
 answer_about trees (Some peg) answer = answer_at trees peg (answer peg)
 
--- the answer about two pegs that may name no path; that about the first comes before that about the second
+-- the same for two pegs; a refusal of the first comes before one of the second
 abbrev pub answer_about_pair : TreesOfBytes → Option Peg → Option Peg → (Peg → Peg → Answer) → Answer
 answer_about_pair trees None target answer = refused_answer status.BadQuery
 answer_about_pair trees (Some source) None answer = refused_answer status.BadQuery
@@ -104,7 +104,7 @@ log_lines history trees peg =
     let segments = segments_of bytes_eq trees peg.path peg.rev in
     map (hit_line segments) (operative_of bytes_eq history trees segments)
 
--- the answer by the mergeinfo that holds for a peg, unless its text is malformed
+-- the answer by the effective mergeinfo, unless its text is malformed
 abbrev pub answer_by_value : Option (List Line) → (List Line → Answer) → Answer
 answer_by_value None answer = refused_answer status.MalformedMergeinfo
 answer_by_value (Some value) answer = answer value
@@ -122,24 +122,24 @@ merged_line revision = codes "r" ++ decimal revision.rev ++ (if revision.inherit
 abbrev pub eligible_line : ℕ → List ℕ
 eligible_line rev = codes "r" ++ decimal rev
 
--- the operative revisions of the source that the target's mergeinfo has, each of the place of the source in it
+-- the operative revisions of the source that the mergeinfo of the target has for the path that the source had then
 abbrev pub merged_lines : HistoryOfBytes → TreesOfBytes → Peg → List Line → List (List ℕ)
 merged_lines history trees source value =
-    map merged_line (found_in bytes_eq history trees source.path source.rev (merged_at (value_has value)))
+    map merged_line (merged_revisions bytes_eq history trees source.path source.rev (value_has value))
 
--- those that it lacks, where the target was not at that place itself
+-- those that it lacks, where the target had another path then, or none
 abbrev pub eligible_lines : HistoryOfBytes → TreesOfBytes → Peg → Peg → List Line → List (List ℕ)
 eligible_lines history trees source target value =
     map eligible_line
-    (found_in bytes_eq history trees source.path source.rev
-    (eligible_at bytes_eq (value_has value) (location bytes_eq trees target.path target.rev)))
+    (eligible_revisions bytes_eq history trees source.path source.rev (value_has value) (location bytes_eq trees target.path target.rev))
 
 -- ---- the answer
 
--- the answer about a source and a target, given that by the mergeinfo of the target
+-- the refusal, if the source or the target is not there or the mergeinfo of the target is malformed; otherwise this answer
 abbrev pub answer_to : TreesOfBytes → Peg → Peg → (List Line → Answer) → Answer
 answer_to trees source target answer = answer_at trees source (answer_at trees target (answer_by_mergeinfo trees target answer))
 
+-- the answer to a query on a history, given its trees
 unfoldable pub answer_of : HistoryOfBytes → TreesOfBytes → Query → Answer
 answer_of history trees query.bad = refused_answer status.BadQuery
 answer_of history trees (query.locate peg rev) = answer_at trees peg (ok_answer (locate_lines trees rev peg))
@@ -166,8 +166,8 @@ answer_text number answer = answer_head number answer.status ++ flat_map line_te
 abbrev pub IsPlaceOf : List (List ℕ) → Option (List NameId) → Type 0
 IsPlaceOf names place = IfSome place (IsPathOf names)
 
-abbrev pub IsSegmentOf : List (List ℕ) → KeptSegment → Type 0
-IsSegmentOf names segment = IsPlaceOf names segment.path
+abbrev pub HasPathOf : List (List ℕ) → KeptSegment → Type 0
+HasPathOf names segment = IsPlaceOf names segment.path
 
 abbrev pub segment_in_bytes : List (List ℕ) → KeptSegment → Segment (List ℕ)
 segment_in_bytes names segment = rename_segment (λ id. name_of names id.0) (segment_view segment)
@@ -222,16 +222,16 @@ abbrev pub text_at : List (List ℕ) → ℕ → KeptAnswer → List ℕ
 text_at names place answer = answer_text (place + 1) (answer_in_bytes names answer)
 
 -- each path of the answer is of the table
-abbrev pub IsAnswerOf : List (List ℕ) → KeptAnswer → Type 0
-IsAnswerOf names (kept.Refused status) = Unit {0}
-IsAnswerOf names (kept.Location place) = IsPlaceOf names place
-IsAnswerOf names (kept.Segments segments) = All (IsSegmentOf names) segments.items
-IsAnswerOf names (kept.Log segments hits) = All (IsSegmentOf names) segments.items
-IsAnswerOf names (kept.Mergeinfo value) = Unit {0}
-IsAnswerOf names (kept.Merged revisions) = Unit {0}
-IsAnswerOf names (kept.Eligible revisions) = Unit {0}
+abbrev pub HasPathsOf : List (List ℕ) → KeptAnswer → Type 0
+HasPathsOf names (kept.Refused status) = Unit {0}
+HasPathsOf names (kept.Location place) = IsPlaceOf names place
+HasPathsOf names (kept.Segments segments) = All (HasPathOf names) segments.items
+HasPathsOf names (kept.Log segments hits) = All (HasPathOf names) segments.items
+HasPathsOf names (kept.Mergeinfo value) = Unit {0}
+HasPathsOf names (kept.Merged revisions) = Unit {0}
+HasPathsOf names (kept.Eligible revisions) = Unit {0}
 
 -- the answer is this one, with paths of the table
 pub record IsAnswer (names : List (List ℕ)) (answer : Answer) (each : KeptAnswer) : Type 0 where
-  pub names_of : IsAnswerOf names each
+  pub names_of : HasPathsOf names each
   pub same : answer_in_bytes names each ≡ answer

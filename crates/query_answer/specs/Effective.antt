@@ -1,5 +1,5 @@
 -- The mergeinfo that holds for a path: its own, or what it inherits from the nearest path above it that has some
--- (Subversion book, "Branching and Merging", "Mergeinfo inheritance").
+-- (Subversion book, "Branching and Merging", "Subtree Merges and Subtree Mergeinfo").
 use Rattle.std.specs.Prelude.{ℕ, suc, zero, ◌==◌, Bool, List, [], Option, Some, None, bytes_eq, drop, length, option_and_then, option_map, take, if◌then◌else◌}
 use Rattle.merge_info.specs.CanonicalValue.{inherited_value, value_of}
 use Rattle.merge_info.specs.Line.{Line}
@@ -30,7 +30,7 @@ nearest same tree path = nearest_from same tree path (length path)
 abbrev pub value_for : List (List ℕ) → ℕ → List Line → List Line
 value_for path depth value = if depth == length path then value else inherited_value (path_text (drop depth path)) value
 
--- none holds if no path up to the root has any
+-- the empty value, if no path up to the root has mergeinfo; none, if the text is malformed
 abbrev pub effective_by : List (List ℕ) → Option (List ℕ × ℕ) → Option (List Line)
 effective_by path None = Some []
 effective_by path (Some found) = option_map (value_for path found.1) (value_of found.0)

@@ -4,5 +4,6 @@ pub mod FaultKind
 pub mod Merged
 pub mod Query
 pub mod Repo
+pub mod SourceHits
 pub mod TreeOfNumbers
 pub mod TreesError

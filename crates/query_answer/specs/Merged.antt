@@ -1,96 +1,57 @@
 -- The revisions of a source that were merged into a target, and those that are still to be merged (Subversion book,
 -- "Branching and Merging", "Mergeinfo and Previews").
-use Rattle.std.specs.Prelude.{◌≡◌, ℕ, ◌+◌, ◌≤◌, Bool, false, not, ◌&&◌, List, Option, None, Some, filter_map, is_none, map, option_and_then, option_map, slice_get, if◌then◌else◌}
-use Rattle.std.specs.Borrow.{Bor}
+use Rattle.std.specs.Prelude.{ℕ, ◌+◌, Bool, not, ◌&&◌, List, Option, None, Some, filter_map, is_none, option_and_then, option_map, if◌then◌else◌}
 use Rattle.std.specs.List.{range_with_len}
 use Rattle.svn_path.specs.Components.{path_text}
-use Rattle.svn_path.specs.Path.{components_of, same_name}
-use Rattle.svn_path.specs.declared.names.NameId.{NameId}
 use Rattle.range_list.specs.Rangelist.{sort_of}
-use Rattle.range_list.specs.declared.run.Run.{Run}
 use Rattle.merge_info.specs.Line.{Line}
-use Rattle.merge_info.specs.Value.{ranges_of, runs_at}
+use Rattle.merge_info.specs.Value.{runs_at}
 use Rattle.svn_dump.specs.History.{History}
 use Rattle.svn_dump.specs.Location.{location}
 use Rattle.svn_dump.specs.Tree.{Tree}
 use Rattle.path_index.specs.Operative.{is_operative}
-use Rattle.path_index.specs.Index.{segment_view}
-use Rattle.path_index.specs.Segment.{AreSegments, same_place}
-use Rattle.path_index.specs.declared.hit.Hit.{Hit}
-use Rattle.path_index.specs.declared.segment.Segment.{Segment as KeptSegment}
+use Rattle.path_index.specs.Segment.{same_place}
 use Rattle.query_answer.specs.declared.merged_revision.MergedRevision.{MergedRevision}
 
--- where a path was in a revision that is operative there
-abbrev pub operative_place : {C M : Type 0} → (C → C → Bool) → History C M → List (Tree C M) → List C → ℕ → ℕ → Option (List C)
-operative_place same history trees path peg rev =
-    option_and_then (λ place. if is_operative same history trees place rev then Some place else None) (location same trees path peg rev)
+-- the location of a path in a revision that is operative there
+abbrev pub operative_location : {C M : Type 0} → (C → C → Bool) → History C M → List (Tree C M) → List C → ℕ → ℕ → Option (List C)
+operative_location same history trees path peg_rev rev =
+    option_and_then (λ here. if is_operative same history trees here rev then Some here else None) (location same trees path peg_rev rev)
 
--- what is found at the places of a path in its operative revisions, in rising order
+-- what is found at the locations of a path in its operative revisions, in rising order
 abbrev pub found_in : {C M X : Type 0} → (C → C → Bool) → History C M → List (Tree C M) → List C → ℕ → (List C → ℕ → Option X) → List X
-found_in same history trees path peg find =
-    filter_map (λ rev. option_and_then (λ place. find place rev) (operative_place same history trees path peg rev)) (range_with_len 0 (peg + 1))
+found_in same history trees path peg_rev find =
+    filter_map (λ rev. option_and_then (λ here. find here rev) (operative_location same history trees path peg_rev rev)) (range_with_len 0 (peg_rev + 1))
 
--- whether the mergeinfo has a revision of a path, and if so whether it is inheritable
-abbrev pub HasRevision : Type 0 → Type 0
-HasRevision C = List C → ℕ → Option Bool
+-- for each path and revision: whether the revision is inheritable, if mergeinfo has it for the path
+abbrev pub RevisionsByPath : Type 0 → Type 0
+RevisionsByPath C = List C → ℕ → Option Bool
 
 abbrev pub merged_revision : ℕ → Bool → MergedRevision
 merged_revision rev inheritable = record { rev = rev; inheritable = inheritable }
 
--- the mergeinfo has the revision of the place
-abbrev pub merged_at : {C : Type 0} → HasRevision C → List C → ℕ → Option MergedRevision
-merged_at has place rev = option_map (merged_revision rev) (has place rev)
+-- the revision, if the mergeinfo of the target has it for the location of the source
+abbrev pub merged_at : {C : Type 0} → RevisionsByPath C → List C → ℕ → Option MergedRevision
+merged_at has here rev = option_map (merged_revision rev) (has here rev)
 
--- it hasn't, and the target was not at the place itself
-abbrev pub is_eligible : {C : Type 0} → (C → C → Bool) → HasRevision C → (ℕ → Option (List C)) → List C → ℕ → Bool
-is_eligible same has target place rev = is_none (has place rev) && not (same_place same (target rev) (Some place))
+-- the mergeinfo of the target lacks the revision for the location of the source, and the target had another location then,
+-- or none
+abbrev pub is_eligible : {C : Type 0} → (C → C → Bool) → RevisionsByPath C → (ℕ → Option (List C)) → List C → ℕ → Bool
+is_eligible same has target here rev = is_none (has here rev) && not (same_place same (target rev) (Some here))
 
-abbrev pub eligible_at : {C : Type 0} → (C → C → Bool) → HasRevision C → (ℕ → Option (List C)) → List C → ℕ → Option ℕ
-eligible_at same has target place rev = if is_eligible same has target place rev then Some rev else None
+abbrev pub eligible_at : {C : Type 0} → (C → C → Bool) → RevisionsByPath C → (ℕ → Option (List C)) → List C → ℕ → Option ℕ
+eligible_at same has target here rev = if is_eligible same has target here rev then Some rev else None
+
+-- the merged revisions of a source, given the mergeinfo of the target
+abbrev pub merged_revisions : {C M : Type 0} → (C → C → Bool) → History C M → List (Tree C M) → List C → ℕ → RevisionsByPath C → List MergedRevision
+merged_revisions same history trees path peg_rev has = found_in same history trees path peg_rev (merged_at has)
+
+-- the eligible revisions of a source, given the mergeinfo and the locations of the target
+abbrev pub eligible_revisions : {C M : Type 0} → (C → C → Bool) → History C M → List (Tree C M) → List C → ℕ → RevisionsByPath C → (ℕ → Option (List C)) → List ℕ
+eligible_revisions same history trees path peg_rev has target = found_in same history trees path peg_rev (eligible_at same has target)
 
 -- ---- of a history in bytes
 
--- whether a value has a revision of a path
-abbrev pub value_has : List Line → HasRevision (List ℕ)
+-- whether a value has a revision for a path
+abbrev pub value_has : List Line → RevisionsByPath (List ℕ)
 value_has value path rev = sort_of (runs_at value (path_text path)) rev
-
--- ---- of what is kept
-
--- the path of the segment at a place of the list
-abbrev pub place_at : List KeptSegment → ℕ → Option (List NameId)
-place_at segments n = option_and_then (λ segment. segment.path) (slice_get segments n)
-
--- the revisions of a path that a value has, if it has any
-abbrev pub ranges_at : List (List ℕ) → List Line → List NameId → Option (List Run)
-ranges_at names value path = ranges_of value (path_text (components_of names path))
-
-abbrev pub ranges_in : List (List ℕ) → List Line → KeptSegment → Option (List Run)
-ranges_in names value segment = option_and_then (ranges_at names value) segment.path
-
--- the runs of a reference
-abbrev pub lent_ranges : Option (Bor (List Run)) → Option (List Run)
-lent_ranges ranges = option_map (λ lent. lent.now) ranges
-
--- whether the ranges of its segment have an operative revision, and if so whether it is inheritable
-abbrev pub hit_has : List (Option (List Run)) → Hit → Option Bool
-hit_has ranges hit = option_and_then (λ some. option_and_then (λ runs. sort_of runs hit.rev) some) (slice_get ranges hit.segment)
-
-abbrev pub merged_hit : List (Option (List Run)) → Hit → Option MergedRevision
-merged_hit ranges hit = option_map (merged_revision hit.rev) (hit_has ranges hit)
-
--- the ranges of its segment lack it, and the target was not at the path of the segment
-abbrev pub is_eligible_from : List (Option (List Run)) → (ℕ → Option (List NameId)) → Hit → Option (List NameId) → Bool
-is_eligible_from ranges target hit None = false
-is_eligible_from ranges target hit (Some place) = is_eligible same_name (λ path rev. hit_has ranges hit) target place hit.rev
-
-abbrev pub is_eligible_hit : List (Option (List Run)) → List KeptSegment → (ℕ → Option (List NameId)) → Hit → Bool
-is_eligible_hit ranges segments target hit = is_eligible_from ranges target hit (place_at segments hit.segment)
-
-abbrev pub eligible_hit : List (Option (List Run)) → List KeptSegment → (ℕ → Option (List NameId)) → Hit → Option ℕ
-eligible_hit ranges segments target hit = if is_eligible_hit ranges segments target hit then Some hit.rev else None
-
--- the segments tell where a path was in each revision: nowhere above them
-pub record TellsPlaces (place : ℕ → Option (List NameId)) (segments : List KeptSegment) : Type 0 where
-  pub bound : ℕ
-  pub below : AreSegments place bound (map segment_view segments)
-  pub above : (rev : ℕ) → bound ≤ rev → place rev ≡ None

@@ -1,4 +1,5 @@
--- What a query line asks. Pegs are those of Subversion (Subversion book, "Peg and operative revisions").
+-- What a query line asks. A peg revision follows the last `@` of a path (Subversion book, "Peg and operative revisions");
+-- here it is required, and a number.
 use Rattle.std.specs.Prelude.{◌≡◌, ℕ, ◌==◌, Bool, List, [], ◌∷◌, Option, Some, None, codes, bytes_eq, option_map, option_and_then, slice_index_or, if◌then◌else◌}
 use Rattle.std.specs.List.{list_any, before_last, after_last, slice_split}
 use Rattle.svn_path.specs.Components.{parts_of, is_dot}
@@ -13,7 +14,7 @@ is_tab byte = byte == 9
 abbrev pub is_at_sign : ℕ → Bool
 is_at_sign byte = byte == 64
 
--- a path in the revision that its last `@` names
+-- a path in a revision, which follows the last `@` of the field
 pub record Peg : Type 0 where
   pub path : List (List ℕ)
   pub rev : ℕ
@@ -102,7 +103,7 @@ query_view (Eligible of target) = query_about eligible (peg_view of) (peg_view t
 abbrev pub raw_peg : KeptPeg → List ℕ × ℕ
 raw_peg peg = (peg.path.now, peg.rev)
 
--- those of a field with a path none of whose components is `.` or `..`
+-- the path's bytes and the revision of a field that is a peg
 abbrev pub read_peg : List ℕ → Option (List ℕ × ℕ)
 read_peg field =
     if list_any is_at_sign field
@@ -134,5 +135,5 @@ HasTargetOf field (Eligible of target) = Some (raw_peg target) ≡ read_peg fiel
 abbrev pub peg_field : List ℕ → List ℕ
 peg_field line = slice_index_or (slice_split is_tab line) 1 []
 
-abbrev pub target_field : List ℕ → List ℕ
-target_field line = slice_index_or (slice_split is_tab line) 2 []
+abbrev pub third_field : List ℕ → List ℕ
+third_field line = slice_index_or (slice_split is_tab line) 2 []

@@ -11,9 +11,9 @@ use Rattle.svn_dump.specs.Dump.{DumpValue, IsDump, history_in_bytes, history_vie
 use Rattle.svn_dump.specs.Fault.{first_fault}
 use Rattle.svn_dump.specs.Location.{location}
 use Rattle.svn_dump.specs.Tree.{tree_of, trees_of}
-use Rattle.query_answer.specs.Answer.{Answer, IsSegmentOf, TreesOfBytes, answer_about, answer_about_pair, answer_by_mergeinfo, answer_of, eligible_lines, locate_lines, log_lines, merged_lines, mergeinfo_lines, ok_answer, refused_answer, segments_lines}
+use Rattle.query_answer.specs.Answer.{Answer, HasPathOf, TreesOfBytes, answer_about, answer_about_pair, answer_by_mergeinfo, answer_of, eligible_lines, locate_lines, log_lines, merged_lines, mergeinfo_lines, ok_answer, refused_answer, segments_lines}
 use Rattle.query_answer.specs.Effective.{effective_by, effective_value}
-use Rattle.query_answer.specs.Merged.{eligible_at, found_in, merged_at, value_has}
+use Rattle.query_answer.specs.Merged.{eligible_revisions, found_in, merged_revisions, value_has}
 use Rattle.query_answer.specs.Query.{Peg, Query, peg_view}
 use Rattle.query_answer.specs.TreeOfNumbers.{TreeOfNumbers, SameTrees}
 use Rattle.merge_info.specs.Line.{Line}
@@ -41,10 +41,11 @@ pub record IsRepo (dump : DumpValue) (index : IndexValue) (trees : List TreeOfNu
 abbrev pub trees_in_bytes : DumpValue → TreesOfBytes
 trees_in_bytes dump = trees_of bytes_eq (history_in_bytes dump)
 
+-- the answer to a query on the history of the dump
 abbrev pub answer_by : DumpValue → Query → Answer
 answer_by dump query = answer_of (history_in_bytes dump) (trees_in_bytes dump) query
 
--- the answer about a peg, given that for its path and its revision
+-- the refusal, if the peg is not there; otherwise the answer about its path and its revision
 abbrev pub answer_from : DumpValue → KeptPeg → (Peg → Answer) → Answer
 answer_from dump peg answer = answer_about (trees_in_bytes dump) (peg_view peg) answer
 
@@ -62,7 +63,7 @@ abbrev pub mergeinfo_answer : DumpValue → KeptPeg → Answer
 mergeinfo_answer dump peg =
     answer_from dump peg (λ found. answer_by_mergeinfo (trees_in_bytes dump) found (λ value. ok_answer (mergeinfo_lines value)))
 
--- the answer about a source and a target, given that for their paths and the mergeinfo of the target
+-- the same for a source, a target and the mergeinfo of the target
 abbrev pub answer_from_pair : DumpValue → KeptPeg → KeptPeg → (Peg → Peg → List Line → Answer) → Answer
 answer_from_pair dump source target answer =
     answer_about_pair (trees_in_bytes dump) (peg_view source) (peg_view target)
@@ -98,7 +99,7 @@ IsPegFound dump peg (Err status) = (answer : Peg → Answer) → answer_from dum
 
 -- these are the segments of a path of the dump in a revision
 pub record AreSegmentsIn (dump : DumpValue) (path : List NameId) (rev : ℕ) (segments : List KeptSegment) : Type 0 where
-  pub of_names : All (IsSegmentOf dump.names) segments
+  pub of_names : All (HasPathOf dump.names) segments
   pub exact : AreSegmentsOf (index_of dump) path rev segments
   pub maximal : AreMaximal (index_of dump) path rev segments
 
@@ -119,7 +120,7 @@ effective_view Malformed = None
 abbrev pub effective_in : DumpValue → List NameId → ℕ → Option (List Line)
 effective_in dump path rev = effective_value (tree_of (trees_in_bytes dump) rev) (components_of dump.names path)
 
--- what that text says of a path
+-- the value that holds for a path, given the text that was found for it
 abbrev pub effective_by_number : DumpValue → List NameId → Nearest → Option (List Line)
 effective_by_number dump path found =
     effective_by (components_of dump.names path) (Some (text_of dump.values found.mergeinfo.0, found.depth))
@@ -144,7 +145,8 @@ abbrev pub found_by : {X : Type 0} → DumpValue → List NameId → ℕ → (Li
 found_by dump path rev find = found_in bytes_eq (history_in_bytes dump) (trees_in_bytes dump) (components_of dump.names path) rev find
 
 abbrev pub merged_by : DumpValue → List NameId → ℕ → List Line → List MergedRevision
-merged_by dump path rev value = found_by dump path rev (merged_at (value_has value))
+merged_by dump path rev value =
+    merged_revisions bytes_eq (history_in_bytes dump) (trees_in_bytes dump) (components_of dump.names path) rev (value_has value)
 
 -- where a path of the dump was in another revision
 abbrev pub place_by : DumpValue → List NameId → ℕ → ℕ → Option (List (List ℕ))
@@ -152,4 +154,4 @@ place_by dump path rev other = location bytes_eq (trees_in_bytes dump) (componen
 
 abbrev pub eligible_by : DumpValue → List NameId → ℕ → List NameId → ℕ → List Line → List ℕ
 eligible_by dump path rev target target_rev value =
-    found_by dump path rev (eligible_at bytes_eq (value_has value) (place_by dump target target_rev))
+    eligible_revisions bytes_eq (history_in_bytes dump) (trees_in_bytes dump) (components_of dump.names path) rev (value_has value) (place_by dump target target_rev)

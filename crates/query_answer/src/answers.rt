@@ -1,6 +1,6 @@
 //! The answer to a query, and its text.
 ghost use Rattle.std.specs.Prelude.{◌≡◌, ◌+◌, ◌++◌, OnOk};
-ghost use Rattle.query_answer.specs.Answer.{IsAnswerOf, answer_head, answer_in_bytes, text_at};
+ghost use Rattle.query_answer.specs.Answer.{HasPathsOf, answer_head, answer_in_bytes, text_at};
 
 use crate::merged_revision::MergedRevision;
 use crate::repo::Repo;
@@ -14,7 +14,8 @@ use range_list::push_number;
 use std::alloc::AllocError;
 use svn_path::Path;
 
-/// The answer to a query, with paths by the names of a repository.
+/// The answer to a query, with paths by the names of a repository. Contracts see its status and its result lines; an answer
+/// without lines may be given by more than one variant.
 #[derive(Drop)]
 pub enum Answer {
     /// There are no result lines, for this reason.
@@ -39,7 +40,7 @@ pub enum Answer {
 impl Answer {
     /// Appends the answer to the query of a place. Places begin at 0, and the printed numbers at 1.
     pub fn write(&self, repo: &Repo, place: u32, out: &mut Vec<u8>) -> Result<(), AllocError>
-        requires { IsAnswerOf repo.now.names self.now }
+        requires { HasPathsOf repo.now.names self.now }
         ensures { OnOk result (out.new.items ≡ out.old.items ++ text_at repo.now.names place self.now) }
     {
         write_head(place, self.status(), out)?;

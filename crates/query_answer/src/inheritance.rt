@@ -11,7 +11,8 @@ use merge_info::{MergeError, MergeInfo};
 use std::alloc::{AllocError, Global};
 use svn_path::{Names, Path};
 
-/// The mergeinfo that holds for a path in a revision.
+/// The mergeinfo that holds for a path in a revision. The path is by the names of the repository. If it is not in the tree of
+/// the revision, this is what it would inherit.
 pub fn effective(alloc: Global, repo: &Repo, path: &Path, rev: u32) -> Result<Effective, AllocError>
     requires { IsPathOf repo.now.names path.now }
     ensures { IfOk result (λ value. effective_view value ≡ effective_in repo.now path.now rev) }

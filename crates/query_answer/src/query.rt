@@ -1,18 +1,18 @@
 //! Query lines.
 ghost use Rattle.std.specs.Prelude.{◌≡◌, option_map};
-ghost use Rattle.query_answer.specs.Query.{HasPegOf, HasTargetOf, locate_of, peg_field, query_of, query_of_pair, query_of_peg, query_or_bad, query_view, raw_peg, read_peg, target_field};
+ghost use Rattle.query_answer.specs.Query.{HasPegOf, HasTargetOf, locate_of, peg_field, query_of, query_of_pair, query_of_peg, query_or_bad, query_view, raw_peg, read_peg, third_field};
 
 use svn_dump::{GREATEST_REVISION, number_up_to, split_at_byte, split_at_last};
 use svn_path::has_dot;
 
-/// A path in a revision, lent by a query's field.
+/// A path in a revision, borrowed from a query's field.
 #[derive(Clone, Copy, Debug)]
 pub struct Peg<'a> {
     pub path: &'a [u8],
     pub rev: u32,
 }
 
-/// What a line asks, lent by the line.
+/// What a line asks, borrowed from the line.
 #[derive(Clone, Copy, Debug)]
 pub enum Query<'a> {
     /// No query of the other forms.
@@ -50,7 +50,7 @@ impl<'a> Query<'a> {
     pub fn read(line: &'a [u8]) -> Self
         ensures query { query_view result ≡ query_of line.now }
         ensures peg { HasPegOf (peg_field line.now) result }
-        ensures target { HasTargetOf (target_field line.now) result }
+        ensures target { HasTargetOf (third_field line.now) result }
     {
         let Some((verb, rest)) = split_at_byte(b'\t', line) else {
             return Query::Bad;

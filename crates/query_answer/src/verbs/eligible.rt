@@ -1,7 +1,7 @@
 //! `eligible`: the operative revisions of a source that are still to be merged into a target.
 ghost use Rattle.std.specs.Prelude.{◌≡◌, ◌++◌, IfOk, OnOk, filter_map, map, reverse};
 ghost use Rattle.query_answer.specs.Answer.{IsAnswer, eligible_text};
-ghost use Rattle.query_answer.specs.Merged.{TellsPlaces, eligible_hit, is_eligible_hit, lent_ranges};
+ghost use Rattle.query_answer.specs.SourceHits.{TellsPlaces, eligible_hit, is_eligible_hit, lent_ranges};
 ghost use Rattle.query_answer.specs.Repo.{IsPathFound, eligible_answer, eligible_by};
 
 use super::place::{is_at, path_at, path_in};

@@ -1,6 +1,6 @@
 //! `log`: the operative revisions of a path.
 ghost use Rattle.std.specs.Prelude.{◌≡◌, ◌++◌, All, IfOk, OnOk};
-ghost use Rattle.query_answer.specs.Answer.{IsAnswer, IsSegmentOf, hit_text, log_text};
+ghost use Rattle.query_answer.specs.Answer.{IsAnswer, HasPathOf, hit_text, log_text};
 ghost use Rattle.query_answer.specs.Repo.{log_answer};
 
 use super::place::{path_at, write_place};
@@ -33,7 +33,7 @@ pub(crate) fn write_log(
     hits: &[Hit],
     out: &mut Vec<u8>,
 ) -> Result<(), AllocError>
-    requires { All (IsSegmentOf names.now) segments.now }
+    requires { All (HasPathOf names.now) segments.now }
     ensures { OnOk result (out.new.items ≡ out.old.items ++ log_text names.now segments.now hits.now) }
 {
     for hit in hits {
@@ -49,7 +49,7 @@ fn write_hit(
     hit: Hit,
     out: &mut Vec<u8>,
 ) -> Result<(), AllocError>
-    requires { All (IsSegmentOf names.now) segments.now }
+    requires { All (HasPathOf names.now) segments.now }
     ensures { OnOk result (out.new.items ≡ out.old.items ++ hit_text names.now segments.now hit) }
 {
     out.push(b'r')?;

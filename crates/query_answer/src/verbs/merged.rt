@@ -1,7 +1,7 @@
 //! `merged`: the operative revisions of a source that the mergeinfo of a target has.
 ghost use Rattle.std.specs.Prelude.{◌≡◌, ◌++◌, IfOk, OnOk, filter_map, map, reverse};
 ghost use Rattle.query_answer.specs.Answer.{IsAnswer, merged_text};
-ghost use Rattle.query_answer.specs.Merged.{lent_ranges, merged_hit};
+ghost use Rattle.query_answer.specs.SourceHits.{lent_ranges, merged_hit};
 ghost use Rattle.query_answer.specs.Repo.{IsPathFound, merged_answer, merged_by};
 
 use super::source::{has_hit, ranges_by_segment};

@@ -4,7 +4,7 @@ ghost use Rattle.std.specs.Prelude.{Some};
 ghost use Rattle.path_index.specs.Segment.{same_place};
 ghost use Rattle.svn_path.specs.Path.{same_name};
 ghost use Rattle.query_answer.specs.Answer.{IsPlaceOf, lent_place, place_text};
-ghost use Rattle.query_answer.specs.Merged.{TellsPlaces, place_at};
+ghost use Rattle.query_answer.specs.SourceHits.{TellsPlaces, place_at};
 
 use path_index::Segment;
 use std::alloc::AllocError;

@@ -1,6 +1,6 @@
 //! `segments`: where a path was located in all revisions.
 ghost use Rattle.std.specs.Prelude.{◌≡◌, ◌++◌, All, IfOk, OnOk};
-ghost use Rattle.query_answer.specs.Answer.{IsAnswer, IsSegmentOf, segment_text, segments_text};
+ghost use Rattle.query_answer.specs.Answer.{IsAnswer, HasPathOf, segment_text, segments_text};
 ghost use Rattle.query_answer.specs.Repo.{segments_answer};
 
 use super::place::write_place;
@@ -32,7 +32,7 @@ pub(crate) fn write_segments(
     segments: &[Segment],
     out: &mut Vec<u8>,
 ) -> Result<(), AllocError>
-    requires { All (IsSegmentOf names.now) segments.now }
+    requires { All (HasPathOf names.now) segments.now }
     ensures { OnOk result (out.new.items ≡ out.old.items ++ segments_text names.now segments.now) }
 {
     for segment in segments {
@@ -43,7 +43,7 @@ pub(crate) fn write_segments(
 
 /// Appends the result line of a segment.
 fn write_segment(names: &Names, segment: &Segment, out: &mut Vec<u8>) -> Result<(), AllocError>
-    requires { IsSegmentOf names.now segment.now }
+    requires { HasPathOf names.now segment.now }
     ensures { OnOk result (out.new.items ≡ out.old.items ++ segment_text names.now segment.now) }
 {
     push_number(out, u64::from(segment.lo))?;

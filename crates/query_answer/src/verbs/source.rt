@@ -1,7 +1,7 @@
 //! What mergeinfo has of the operative revisions of a source.
 ghost use Rattle.std.specs.Prelude.{◌≡◌, All, IfOk, map};
-ghost use Rattle.query_answer.specs.Answer.{IsSegmentOf};
-ghost use Rattle.query_answer.specs.Merged.{hit_has, lent_ranges, ranges_at, ranges_in};
+ghost use Rattle.query_answer.specs.Answer.{HasPathOf};
+ghost use Rattle.query_answer.specs.SourceHits.{hit_has, lent_ranges, ranges_at, ranges_in};
 ghost use Rattle.svn_path.specs.Path.{IsPathOf};
 
 use merge_info::MergeInfo;
@@ -17,7 +17,7 @@ pub(crate) fn ranges_by_segment<'a>(
     mergeinfo: &'a MergeInfo,
     segments: &[Segment],
 ) -> Result<Vec<Option<&'a Ranges>>, AllocError>
-    requires { All (IsSegmentOf names.now) segments.now }
+    requires { All (HasPathOf names.now) segments.now }
     ensures { IfOk result (λ all. map lent_ranges all.items ≡ map (ranges_in names.now mergeinfo.now) segments.now) }
 {
     let mut all = Vec::with_capacity(alloc, segments.len())?;

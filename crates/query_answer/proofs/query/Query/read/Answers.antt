@@ -1,7 +1,7 @@
 use Rattle.std.proofs.Common.{sym, subst, ◌∙◌}
 use Rattle.svn_dump.proofs.Cuts.{CutsFirst-IsCutAt}
-use Rattle.query_answer.specs.Query.{HasPegOf, HasTargetOf, target_field}
-use Rattle.query_answer.proofs.Queries.{peg_field-two, peg_field-three, query_of-uncut, query_of-two, query_of-three, query_of-four, target_field-three}
+use Rattle.query_answer.specs.Query.{HasPegOf, HasTargetOf, third_field}
+use Rattle.query_answer.proofs.Queries.{peg_field-two, peg_field-three, query_of-uncut, query_of-two, query_of-three, query_of-four, third_field-three}
 use Rattle.query_answer.proofs.query.Query.read.Goals as goal
 
 pub returns-in_default-clause-query : goal.returns-in_default-clause-query
@@ -29,7 +29,7 @@ returns-in-None-clause-peg c =
 pub returns-in-None-clause-target : goal.returns-in-None-clause-target
 returns-in-None-clause-target c =
     subst (λ field. HasTargetOf field c.of_pair.result)
-    (sym (target_field-three c.args.line.now _ _ _ _ (CutsFirst-IsCutAt 9 _ _ _ c.in-Some.ensures) (CutsFirst-IsCutAt 9 _ _ _ c.in-Some-split_at_byte.ensures) c.in-None.ensures)) c.of_pair.ensures.target
+    (sym (third_field-three c.args.line.now _ _ _ _ (CutsFirst-IsCutAt 9 _ _ _ c.in-Some.ensures) (CutsFirst-IsCutAt 9 _ _ _ c.in-Some-split_at_byte.ensures) c.in-None.ensures)) c.of_pair.ensures.target
 
 pub returns-in_default-split_at_byte-clause-target : goal.returns-in_default-split_at_byte-clause-target
-returns-in_default-split_at_byte-clause-target c = c.of_peg.ensures.target (target_field c.args.line.now)
+returns-in_default-split_at_byte-clause-target c = c.of_peg.ensures.target (third_field c.args.line.now)

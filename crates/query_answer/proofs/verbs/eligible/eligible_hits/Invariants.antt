@@ -1,7 +1,7 @@
 use Rattle.std.proofs.Common.{◌≡◌, ℕ, List, Option, map, take}
 use Rattle.std.specs.Prelude.{filter_map}
 use Rattle.svn_path.specs.declared.names.NameId.{NameId}
-use Rattle.query_answer.specs.Merged.{TellsPlaces, eligible_hit, lent_ranges}
+use Rattle.query_answer.specs.SourceHits.{TellsPlaces, eligible_hit, lent_ranges}
 use Rattle.query_answer.proofs.verbs.eligible.eligible_hits.Given as goal
 
 abbrev pub invariant-loop-hit : goal.invariant-loop-hit

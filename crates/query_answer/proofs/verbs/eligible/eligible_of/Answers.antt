@@ -3,7 +3,7 @@ use Rattle.std.specs.Prelude.{filter_map}
 use Rattle.std.proofs.lemmas.Result.{IfOk-weaker}
 use Rattle.path_index.specs.Index.{location_in}
 use Rattle.svn_path.specs.declared.names.NameId.{NameId}
-use Rattle.query_answer.specs.Merged.{TellsPlaces, eligible_hit, lent_ranges, ranges_in}
+use Rattle.query_answer.specs.SourceHits.{TellsPlaces, eligible_hit, lent_ranges, ranges_in}
 use Rattle.query_answer.specs.Repo.{AreHitsIn, eligible_by}
 use Rattle.query_answer.proofs.PathSegments.{TellsPlaces-AreSegmentsIn}
 use Rattle.query_answer.proofs.SourceRevisions.{eligible-eligible_by}

@@ -2,7 +2,7 @@ use Rattle.std.proofs.Common.{◌≡◌, Some, true, map, not, ◌&&◌, is_none
 use Rattle.path_index.specs.Segment.{same_place}
 use Rattle.svn_path.specs.Path.{same_name}
 use Rattle.query_answer.specs.Answer.{lent_place}
-use Rattle.query_answer.specs.Merged.{is_eligible_from, lent_ranges, place_at}
+use Rattle.query_answer.specs.SourceHits.{is_eligible_from, lent_ranges, place_at}
 use Rattle.query_answer.proofs.verbs.eligible.is_eligible.Goals as goal
 
 pub returns-then-is_none : goal.returns-then-is_none

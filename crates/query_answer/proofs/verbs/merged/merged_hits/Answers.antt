@@ -2,7 +2,8 @@ use Rattle.std.proofs.Common.{[], ◌++◌, Global, Vec, append-nil, ap, get_or,
 use Rattle.std.specs.List.{cons_option}
 use Rattle.std.specs.Prelude.{option_map}
 use Rattle.path_index.specs.declared.hit.Hit.{Hit}
-use Rattle.query_answer.specs.Merged.{lent_ranges, merged_hit, merged_revision}
+use Rattle.query_answer.specs.Merged.{merged_revision}
+use Rattle.query_answer.specs.SourceHits.{lent_ranges, merged_hit}
 use Rattle.query_answer.specs.declared.merged_revision.MergedRevision.{MergedRevision}
 use Rattle.query_answer.proofs.OperativePlaces.{filter_map_more}
 use Rattle.query_answer.proofs.verbs.merged.merged_hits.Goals as goal

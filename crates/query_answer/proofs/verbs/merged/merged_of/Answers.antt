@@ -1,7 +1,7 @@
 use Rattle.std.proofs.Common.{◌≡◌, map, reverse, ap, sym, ◌∙◌}
 use Rattle.std.specs.Prelude.{filter_map}
 use Rattle.std.proofs.lemmas.Result.{IfOk-weaker}
-use Rattle.query_answer.specs.Merged.{lent_ranges, merged_hit, ranges_in}
+use Rattle.query_answer.specs.SourceHits.{lent_ranges, merged_hit, ranges_in}
 use Rattle.query_answer.specs.Repo.{AreHitsIn, merged_by}
 use Rattle.query_answer.proofs.SourceRevisions.{merged-merged_by, merged_by-empty}
 use Rattle.query_answer.proofs.verbs.merged.merged_of.Goals as goal

@@ -1,5 +1,5 @@
 use Rattle.std.proofs.Common.{◌≡◌, map, take}
-use Rattle.query_answer.specs.Merged.{lent_ranges, ranges_in}
+use Rattle.query_answer.specs.SourceHits.{lent_ranges, ranges_in}
 use Rattle.query_answer.proofs.verbs.source.ranges_by_segment.Given as goal
 
 abbrev pub invariant-loop-segment : goal.invariant-loop-segment
