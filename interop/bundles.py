@@ -49,7 +49,13 @@ ODD_QUERIES = [b"", b"\t", b"locate", b"log\t", b"log\ta", b"log\ta@", b"log\ta@
                b"log\t@1\r", b"mergeinfo\t@1\t1", b"mergeinfo", b"mergeinfos\t@1", b"segments\t@1\t1",
                b"segments\t/./@1", b"locate\t@1\t1\r", b"log\t\t@1", b"\x00", b"log\t" + b"a/" * 1500 + b"@1",
                b"mergeinfo\t" + b"/" * 1500 + b"@001", b"log\t@2147483647", b"locate\t@0\t2147483647",
-               b"log\t@1" + b"0" * 5000, b"log\t@" + b"0" * 5000 + b"1"]
+               b"log\t@1" + b"0" * 5000, b"log\t@" + b"0" * 5000 + b"1", b"merged", b"eligible\t", b"merged\t@1",
+               b"eligible\t@1\t", b"merged\t@1\t@1\t", b"eligible\t@1\t@1\t@1", b"merged\t@1 @1", b"Merged\t@1\t@1",
+               b"eligible\t\t@1\t@1", b"eligibl\t@1\t@1", b"merged\t@1\t@1\r", b"eligible\t@2147483647\t@1",
+               b"merged\t@1\t@2147483647", b"eligible\t" + b"a/" * 1500 + b"@1\t@0", b"merged\t@01\t@001",
+               b"merged\t@1\t" + b"/a" * 1500 + b"@1"]
+ODD_FIELDS = [b"", b"1", b"a", b"a@", b"@", b"@x", b"a@-1", b"a@ 1", b"@1 ", b"@1\r", b"@HEAD", b"a@2147483648",
+              b"./a@1", b"a/../b@0", b"..@1", b"a/.@2147483647"]
 # The bytes that a change writes.
 BYTES = (b"\n", b"0", b"1", b"2", b"7", b" ", b":", b"/", b"@", b"-", b",", b"*", b".", b"\t", b"a", b"\r", b"\xff")
 
@@ -67,7 +73,9 @@ def changed(lot, text):
 class Draft:
     """A history in the making: the kind of each path of each revision, and the blocks of its dump.
 
-    A block is a list of its header lines and its body.
+    A block is a list of its header lines and its body. What the records named, copied and gave as mergeinfo is kept
+    for the choice of related paths: each named path with its revision, each copy with its source, and each path that
+    was given mergeinfo with a source path of it and the revision.
     """
 
     def __init__(self, lot):
@@ -75,6 +83,11 @@ class Draft:
         self.names = list(dict.fromkeys(lot.choice(FAMILIES) + lot.choice(FAMILIES)))
         self.trees = [{(): b"dir"}]
         self.blocks = []
+        self.named = []
+        self.copies = []
+        self.merges = []
+        # The share of the queries that have a source and a target.
+        self.pairs = lot.choice((0.3, 0.3, 0.3, 0.8))
         if self.chance(0.5):
             self.block([b"UUID: 0"], None, None)
         self.block([b"Revision-number: 0"], None, None)
@@ -108,11 +121,13 @@ class Draft:
     def record(self, action, path, kind=None, source=None):
         """Adds a record; the source of a copy is a path and a revision."""
         lines = [b"Node-path: " + self.spelled(path), b"Node-action: " + action]
+        self.named.append((path, len(self.trees) - 1))
         if source is not None:
+            self.copies.append((path, source[0]))
             lines += [b"Node-copyfrom-path: " + self.spelled(source[0]), b"Node-copyfrom-rev: %d" % source[1]]
         if kind is not None:
             lines.insert(1, b"Node-kind: " + kind)
-        section = self.section() if self.chance(0.05 if action == b"delete" else 0.45) else None
+        section = self.section(path) if self.chance(0.05 if action == b"delete" else 0.45) else None
         self.block(lines, section, self.lot.choice(BODIES) if kind == b"file" and self.chance(0.3) else None)
 
     def spelled(self, path):
@@ -120,10 +135,10 @@ class Draft:
         slash = b"//" if self.chance(0.03) else b"/"
         return lot.choice((b"", b"", slash)) + slash.join(path) + (slash if self.chance(0.05) else b"")
 
-    def section(self):
-        """A property section, mostly with mergeinfo."""
+    def section(self, path):
+        """A property section for a path, mostly with mergeinfo."""
         lot = self.lot
-        properties = [(MERGEINFO, self.mergeinfo()) for _ in range(lot.choice((0, 1, 1, 1, 1, 1, 1, 1, 1, 2)))]
+        properties = [(MERGEINFO, self.mergeinfo(path)) for _ in range(lot.choice((0, 1, 1, 1, 1, 1, 1, 1, 1, 2)))]
         while self.chance(0.2):
             properties.insert(lot.randrange(len(properties) + 1), (lot.choice(OTHER_NAMES), lot.choice(OTHER_VALUES)))
         return b"".join(b"K %d\n%s\nV %d\n%s\n" % (len(name), name, len(value), value)
@@ -131,27 +146,39 @@ class Draft:
 
     # Mergeinfo
 
-    def mergeinfo(self):
+    def mergeinfo(self, path):
         lot = self.lot
         if self.chance(0.04):
             return lot.choice(MALFORMED)
-        lines = [self.mergeinfo_line() for _ in range(lot.choice((0, 1, 1, 1, 2, 2, 3, 4)))]
+        lines = [self.mergeinfo_line(path) for _ in range(lot.choice((0, 1, 1, 1, 2, 2, 3, 4, 7)))]
         text = b"\n".join(lines) + lot.choice((b"", b"", b"\n"))
         return changed(lot, text) if self.chance(0.04) else text
 
-    def mergeinfo_line(self):
-        source = self.some_path(self.lot.choice(self.trees))
-        if self.chance(0.3):
-            source += (self.lot.choice(self.names),)
-        elements = [b"%s%s" % (b"0" if self.chance(0.03) else b"", each) for each in self.elements()]
+    def mergeinfo_line(self, path):
+        if self.chance(0.6):
+            source = self.related_to(path)
+        else:
+            source = self.some_path(self.lot.choice(self.trees))
+            if self.chance(0.3):
+                source += (self.lot.choice(self.names),)
+        self.merges.append((path, source, len(self.trees) - 1))
+        elements = [b"%s%s" % (b"0" if self.chance(0.03) else b"", each) for each in self.elements(source)]
         if self.chance(0.3):
             self.lot.shuffle(elements)
         return self.spelled(source) + b":" + self.lot.choice((b"", b"", b"", b" ", b"\t ")) + b",".join(elements)
 
-    def elements(self):
-        """Elements that mostly do not overlap."""
+    def bounds(self, source):
+        """Rising revisions, often some in which a record named the path, one below it or one above it."""
         lot = self.lot
-        bounds = sorted(lot.sample(range(1, 16), lot.choice((0, 1, 1, 2, 2, 3, 4, 6))))
+        known = sorted({rev for path, rev in self.named if is_below(path, source) or is_below(source, path)})
+        if known and self.chance(0.6):
+            return sorted(lot.sample(known, lot.randint(1, len(known))))
+        return sorted(lot.sample(range(1, 16), lot.choice((0, 1, 1, 2, 2, 3, 4, 6))))
+
+    def elements(self, source):
+        """Elements for a source path that mostly do not overlap."""
+        lot = self.lot
+        bounds = self.bounds(source)
         if self.chance(0.05):
             bounds.append(lot.choice((2147483647, 2147483646, 100)))
         elements = []
@@ -190,6 +217,47 @@ class Draft:
     def old_path(self):
         """A path of the tree other than the root, or None."""
         return self.some_path(self.trees[-1]) or None
+
+    def related_to(self, path):
+        """The path itself, or the source or the result of a copy that it was part of."""
+        found = [path]
+        for copy, source in self.copies:
+            if is_below(path, copy):
+                found.append(source + path[len(copy):])
+            if is_below(path, source):
+                found.append(copy + path[len(source):])
+        return self.lot.choice(found)
+
+    def merge(self):
+        """A source and a target: mergeinfo was given to the target or to a path above it, and named the source or the
+        path above it. With both, the revision."""
+        lot = self.lot
+        above, source, rev = lot.choice(self.merges)
+        rests = [path[len(above):] for path in self.trees[rev] if is_below(path, above) and path != above]
+        rests = [rest for rest in rests if self.revisions_with(source + rest, 0)]
+        rest = lot.choice(rests) if rests and self.chance(0.5) else ()
+        return source + rest, above + rest, rev
+
+    def source_and_target(self):
+        """Two paths that are mostly related, each with a revision in which it mostly is."""
+        lot = self.lot
+        for _ in range(8):
+            source = target = self.some_path(lot.choice(self.trees))
+            rev = 0
+            if self.chance(0.15):
+                source = self.some_path(lot.choice(self.trees))
+            elif self.merges and self.chance(0.85):
+                source, target, rev = self.merge()
+            source = source if self.chance(0.6) else self.related_to(source)
+            target = target if self.chance(0.8) else self.related_to(target)
+            revs, more = self.revisions_with(source, 0), self.revisions_with(target, rev)
+            if revs and more:
+                return (source, lot.choice(revs[-1:] * 3 + revs)), (target, lot.choice(more[:1] * 3 + more))
+        return (source, 0), (target, 0)
+
+    def revisions_with(self, path, first):
+        """The revisions from a first one on in whose tree the path is."""
+        return [rev for rev, tree in enumerate(self.trees) if rev >= first and path in tree]
 
     # Records. Each is left out if there is no path for it.
 
@@ -303,17 +371,25 @@ class Draft:
 # Queries
 
 
+def peg_of(draft, path, rev):
+    """A path and mostly the given peg revision."""
+    lot = draft.lot
+    youngest = len(draft.trees) - 1
+    if draft.chance(0.05):
+        rev = lot.randint(0, youngest)
+    if draft.chance(0.04):
+        rev = youngest + 1
+    if draft.chance(0.04):
+        path += (lot.choice(draft.names),)
+    return draft.spelled(path) + b"@%d" % rev
+
+
 def peg(draft):
     """A path and its peg revision, at which the path mostly exists."""
     lot = draft.lot
     youngest = len(draft.trees) - 1
     rev = lot.choice((youngest, youngest, max(lot.randint(0, youngest), lot.randint(0, youngest))))
-    path = draft.some_path(draft.trees[rev])
-    if draft.chance(0.08):
-        path, rev = draft.some_path(lot.choice(draft.trees)), lot.randint(0, youngest + 1)
-    if draft.chance(0.03):
-        path += (lot.choice(draft.names),)
-    return draft.spelled(path) + b"@%d" % rev
+    return peg_of(draft, draft.some_path(draft.trees[rev]), rev)
 
 
 def revision(draft):
@@ -321,21 +397,38 @@ def revision(draft):
     return b"%s%d" % (b"0" if draft.chance(0.03) else b"", draft.lot.randint(0, draft.lot.randint(0, len(draft.trees))))
 
 
-# The fields of each query.
+# The fields of each query with one peg.
 VERBS = {
     b"locate": (peg, revision),
     b"segments": (peg,),
     b"log": (peg,),
     b"mergeinfo": (peg,),
 }
+# The verbs with a source and a target.
+PAIRS = (b"merged", b"eligible")
+
+
+def verb_and_fields(draft):
+    lot = draft.lot
+    if draft.chance(draft.pairs):
+        return lot.choice(PAIRS), [peg_of(draft, path, rev) for path, rev in draft.source_and_target()]
+    verb = lot.choice(list(VERBS))
+    return verb, [field(draft) for field in VERBS[verb]]
+
+
+def with_odd_field(draft, fields):
+    """The fields with one replaced, left out or added."""
+    at = draft.lot.randrange(len(fields) + 1)
+    more = draft.lot.choice(([], [peg(draft)], [draft.lot.choice(ODD_FIELDS)], [draft.lot.choice(ODD_FIELDS)]))
+    return fields[:at] + more + fields[at + draft.lot.choice((0, 1, 1)):]
 
 
 def query(draft):
     lot = draft.lot
     if draft.chance(0.03):
         return lot.choice(ODD_QUERIES)
-    verb = lot.choice(list(VERBS))
-    line = b"\t".join([verb] + [field(draft) for field in VERBS[verb]])
+    verb, fields = verb_and_fields(draft)
+    line = b"\t".join([verb] + (with_odd_field(draft, fields) if draft.chance(0.03) else fields))
     return changed(lot, line).replace(b"\n", b"\r") if draft.chance(0.03) else line
 
 
