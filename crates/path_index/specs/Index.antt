@@ -49,7 +49,7 @@ AreMaximal index path rev segments =
     AreSegments (location_in index.records path rev) (rev + 1) (map segment_view segments)
 
 -- these are the operative revisions of the segments, if the segments are those of a path of some revision (Subversion
--- book, "Peg and operative revisions")
+-- book, "Examining history")
 abbrev pub AreHitsOf : IndexValue → List KeptSegment → List Hit → Type 0
 AreHitsOf index segments hits =
     (path : List NameId) (rev : ℕ) → IsThere index.records path rev → AreSegmentsOf index path rev segments

@@ -1,5 +1,5 @@
--- The operative revisions of a path (Subversion book, "Peg and operative revisions"). A copy of a path from itself one
--- revision earlier does not by itself make its revision operative on the path.
+-- The operative revisions of a path: those that changed it, as `svn log` lists them (Subversion book, "Examining history").
+-- A copy of a path from itself one revision earlier does not by itself make its revision operative on the path.
 use Rattle.std.specs.Prelude.{ℕ, zero, suc, ◌+◌, ◌-◌, pred, ◌==◌, nat_lt, Bool, false, not, ◌&&◌, ◌||◌, List, [], ◌∷◌, ◌++◌, Option, Some, None, filter, map, slice_index_or}
 use Rattle.std.specs.List.{list_any}
 use Rattle.svn_path.specs.Below.{is_below, same_path}

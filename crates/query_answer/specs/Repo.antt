@@ -148,6 +148,10 @@ abbrev pub merged_by : DumpValue → List NameId → ℕ → List Line → List 
 merged_by dump path rev value =
     merged_revisions bytes_eq (history_in_bytes dump) (trees_in_bytes dump) (components_of dump.names path) rev (value_has value)
 
+-- the merged revisions of a pair
+abbrev pub merged_in : DumpValue → KeptPeg → Pair → List MergedRevision
+merged_in dump source pair = merged_by dump pair.source source.rev pair.mergeinfo
+
 -- where a path of the dump was in another revision
 abbrev pub place_by : DumpValue → List NameId → ℕ → ℕ → Option (List (List ℕ))
 place_by dump path rev other = location bytes_eq (trees_in_bytes dump) (components_of dump.names path) rev other
@@ -155,3 +159,6 @@ place_by dump path rev other = location bytes_eq (trees_in_bytes dump) (componen
 abbrev pub eligible_by : DumpValue → List NameId → ℕ → List NameId → ℕ → List Line → List ℕ
 eligible_by dump path rev target target_rev value =
     eligible_revisions bytes_eq (history_in_bytes dump) (trees_in_bytes dump) (components_of dump.names path) rev (value_has value) (place_by dump target target_rev)
+
+abbrev pub eligible_in : DumpValue → KeptPeg → KeptPeg → Pair → List ℕ
+eligible_in dump source target pair = eligible_by dump pair.source source.rev pair.target target.rev pair.mergeinfo

@@ -1,5 +1,5 @@
 -- Merged and eligible revisions by the kept segments of a source and their operative revisions.
-use Rattle.std.specs.Prelude.{◌≡◌, ℕ, ◌≤◌, Bool, false, List, Option, None, Some, map, option_and_then, option_map, slice_get, if◌then◌else◌}
+use Rattle.std.specs.Prelude.{◌≡◌, ℕ, ◌≤◌, Bool, false, List, Option, None, Some, filter_map, map, option_and_then, option_map, reverse, slice_get, if◌then◌else◌}
 use Rattle.std.specs.Borrow.{Bor}
 use Rattle.svn_path.specs.Components.{path_text}
 use Rattle.svn_path.specs.Path.{components_of, same_name}
@@ -37,6 +37,10 @@ hit_has ranges hit = option_and_then (λ some. option_and_then (λ runs. sort_of
 abbrev pub merged_hit : List (Option (List Run)) → Hit → Option MergedRevision
 merged_hit ranges hit = option_map (merged_revision hit.rev) (hit_has ranges hit)
 
+-- the merged revisions in rising order, where the hits fall
+abbrev pub merged_of_hits : List (Option (List Run)) → List Hit → List MergedRevision
+merged_of_hits ranges hits = reverse (filter_map (merged_hit ranges) hits)
+
 -- the ranges of its segment lack it, and the target was not at the path of the segment
 abbrev pub is_eligible_from : List (Option (List Run)) → (ℕ → Option (List NameId)) → Hit → Option (List NameId) → Bool
 is_eligible_from ranges target hit None = false
@@ -47,6 +51,10 @@ is_eligible_hit ranges segments target hit = is_eligible_from ranges target hit 
 
 abbrev pub eligible_hit : List (Option (List Run)) → List KeptSegment → (ℕ → Option (List NameId)) → Hit → Option ℕ
 eligible_hit ranges segments target hit = if is_eligible_hit ranges segments target hit then Some hit.rev else None
+
+-- the eligible revisions in rising order, where the hits fall
+abbrev pub eligible_of_hits : List (Option (List Run)) → List KeptSegment → (ℕ → Option (List NameId)) → List Hit → List ℕ
+eligible_of_hits ranges segments target hits = reverse (filter_map (eligible_hit ranges segments target) hits)
 
 -- the segments tell where a path was in each revision: nowhere above them
 pub record TellsPlaces (place : ℕ → Option (List NameId)) (segments : List KeptSegment) : Type 0 where

@@ -277,7 +277,7 @@ fn effective_mergeinfo_is_looked_up(rt: HostRuntime) -> Result<(), Fail> {
 }
 
 #[test]
-fn merges_are_told_by_the_location(rt: HostRuntime) -> Result<(), Fail> {
+fn merges_are_compared_by_location(rt: HostRuntime) -> Result<(), Fail> {
     let repo = repo_of(rt.alloc(), BRANCH)?;
     let found = text_of(rt.alloc(), &repo, b"merged\t/trunk@9\t/branches@9")?;
     assert_eq!(rt; found.as_slice(), b"#1 ok\nr3*\nr6\n".as_slice());

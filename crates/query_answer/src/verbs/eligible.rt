@@ -1,8 +1,8 @@
 //! `eligible`: the operative revisions of a source that are still to be merged into a target.
-ghost use Rattle.std.specs.Prelude.{◌≡◌, ◌++◌, IfOk, OnOk, filter_map, map, reverse};
+ghost use Rattle.std.specs.Prelude.{◌≡◌, ◌++◌, IfOk, OnOk, map};
 ghost use Rattle.query_answer.specs.Answer.{IsAnswer, eligible_text};
-ghost use Rattle.query_answer.specs.SourceHits.{TellsPlaces, eligible_hit, is_eligible_hit, lent_ranges};
-ghost use Rattle.query_answer.specs.Repo.{IsPathFound, eligible_answer, eligible_by};
+ghost use Rattle.query_answer.specs.SourceHits.{TellsPlaces, eligible_of_hits, is_eligible_hit, lent_ranges};
+ghost use Rattle.query_answer.specs.Repo.{IsPathFound, eligible_answer, eligible_in};
 
 use super::place::{is_at, path_at, path_in};
 use super::source::{has_hit, ranges_by_segment};
@@ -39,8 +39,7 @@ fn eligible_of(
 ) -> Result<Vec<u32>, AllocError>
     requires source { IsPathFound repo.now source pair.now.source }
     requires target { IsPathFound repo.now target pair.now.target }
-    ensures { IfOk result (λ found.
-        found.items ≡ eligible_by repo.now pair.now.source source.entry.rev pair.now.target target.entry.rev pair.now.mergeinfo) }
+    ensures { IfOk result (λ found. found.items ≡ eligible_in repo.now source.entry target.entry pair.now) }
 {
     let segments = repo.segments(source, &pair.source)?;
     let hits = repo.operative(segments.as_slice())?;
@@ -65,7 +64,7 @@ fn eligible_hits(
     hits: &[Hit],
 ) -> Result<Vec<u32>, AllocError>
     ensures { IfOk result (λ found. (place : _) → TellsPlaces place target.now
-        → found.items ≡ reverse (filter_map (eligible_hit (map lent_ranges ranges.now) segments.now place) hits.now)) }
+        → found.items ≡ eligible_of_hits (map lent_ranges ranges.now) segments.now place hits.now) }
 {
     let mut found = Vec::new(alloc);
     for hit in hits {

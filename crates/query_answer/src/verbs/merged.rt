@@ -1,8 +1,8 @@
 //! `merged`: the operative revisions of a source that the mergeinfo of a target has.
-ghost use Rattle.std.specs.Prelude.{◌≡◌, ◌++◌, IfOk, OnOk, filter_map, map, reverse};
+ghost use Rattle.std.specs.Prelude.{◌≡◌, ◌++◌, IfOk, OnOk, map};
 ghost use Rattle.query_answer.specs.Answer.{IsAnswer, merged_text};
-ghost use Rattle.query_answer.specs.SourceHits.{lent_ranges, merged_hit};
-ghost use Rattle.query_answer.specs.Repo.{IsPathFound, merged_answer, merged_by};
+ghost use Rattle.query_answer.specs.SourceHits.{lent_ranges, merged_of_hits};
+ghost use Rattle.query_answer.specs.Repo.{IsPathFound, merged_answer, merged_in};
 
 use super::source::{has_hit, ranges_by_segment};
 use crate::answers::Answer;
@@ -37,7 +37,7 @@ fn merged_of(
     pair: &Pair,
 ) -> Result<Vec<MergedRevision>, AllocError>
     requires { IsPathFound repo.now source pair.now.source }
-    ensures { IfOk result (λ found. found.items ≡ merged_by repo.now pair.now.source source.entry.rev pair.now.mergeinfo) }
+    ensures { IfOk result (λ found. found.items ≡ merged_in repo.now source.entry pair.now) }
 {
     if pair.mergeinfo.is_empty() {
         return Ok(Vec::new(alloc));
@@ -54,7 +54,7 @@ fn merged_hits(
     ranges: &[Option<&Ranges>],
     hits: &[Hit],
 ) -> Result<Vec<MergedRevision>, AllocError>
-    ensures { IfOk result (λ found. found.items ≡ reverse (filter_map (merged_hit (map lent_ranges ranges.now)) hits.now)) }
+    ensures { IfOk result (λ found. found.items ≡ merged_of_hits (map lent_ranges ranges.now) hits.now) }
 {
     let mut found = Vec::new(alloc);
     for hit in hits {

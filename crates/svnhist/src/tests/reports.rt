@@ -251,7 +251,7 @@ fn merged_revisions_are_those_of_the_mergeinfo(rt: HostRuntime) -> Result<(), Fa
     Ok(())
 }
 
-// The target's own history is told by its path in each revision.
+// What belongs to the target's own history depends on its path in each revision.
 #[test]
 fn eligible_revisions_are_neither_merged_nor_own(rt: HostRuntime) -> Result<(), Fail> {
     for (query, wanted) in [
