@@ -20,7 +20,7 @@ READER = os.path.join(os.path.dirname(os.path.abspath(__file__)), "merge_reader.
 VERBS = ("merged", "eligible")
 # The revisions of the source, and the runs of the target's mergeinfo.
 SIZES = ((50000, 5000), (100000, 10000), (200000, 20000))
-GROWTH_QUERIES = 10
+GROWTH_QUERIES = 100
 LEAST_OF_BINDINGS = 100
 
 
