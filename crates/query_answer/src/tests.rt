@@ -53,13 +53,13 @@ Node-action: add
 Node-path: c
 Node-kind: dir
 Node-action: add
-Prop-content-length: 35
-Content-length: 35
+Prop-content-length: 40
+Content-length: 40
 
 K 13
 svn:mergeinfo
-V 1
-x
+V 6
+/a:5-3
 PROPS-END
 Node-path: a/d
 Node-kind: dir
@@ -273,6 +273,17 @@ fn effective_mergeinfo_is_looked_up(rt: HostRuntime) -> Result<(), Fail> {
     let repo = repo_of(rt.alloc(), MERGEINFO)?;
     let found = effective_text(rt.alloc(), &repo, b"/c", 1)?;
     assert!(rt; found.is_none());
+    Ok(())
+}
+
+#[test]
+fn an_answer_is_numbered_from_one(rt: HostRuntime) -> Result<(), Fail> {
+    let repo = repo_of(rt.alloc(), BRANCH)?;
+    let found = text_of(rt.alloc(), &repo, b"segments\t/branches/b@8")?;
+    assert_eq!(rt;
+        found.as_slice(),
+        b"#1 ok\n4-8 /branches/b\n3-3 -\n1-2 /trunk\n".as_slice()
+    );
     Ok(())
 }
 
