@@ -1,6 +1,8 @@
-//! Watching queries being answered.
+//! Watching places being served.
 
-/// What is called round each query, with its place from 0.
+/// What is called before and after each `Job::run`, with its place, in the thread that runs it.
+///
+/// A gate may make a worker wait. `serve` returns only if each call of its gate does.
 pub trait Gate: Sync {
     fn enter(&self, place: u32);
 

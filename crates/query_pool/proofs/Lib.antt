@@ -1,0 +1,5 @@
+mod Adding
+mod Counts
+pub mod Gathered
+mod Shares
+mod Unwrapping

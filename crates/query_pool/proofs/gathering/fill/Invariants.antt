@@ -1,0 +1,9 @@
+use Rattle.std.proofs.Common.{◌≡◌, ◌++◌}
+use Rattle.query_pool.specs.Slots.{Adds}
+use Rattle.query_pool.proofs.gathering.fill.Given as goal
+
+abbrev pub invariant-loop-place : goal.invariant-loop-place
+invariant-loop-place g l = record {
+  whole : l.yielded ++ l.place-iterator.rest.items ≡ l.fn.done.items;
+  added : Adds l.fn.slots.items l.yielded l.slots.items;
+}

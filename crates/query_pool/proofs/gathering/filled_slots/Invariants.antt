@@ -1,0 +1,11 @@
+use Rattle.std.proofs.Common.{◌≡◌, ◌++◌, length}
+use Rattle.query_pool.specs.Serving.{results_of}
+use Rattle.query_pool.specs.Slots.{Holds}
+use Rattle.query_pool.proofs.gathering.filled_slots.Given as goal
+
+abbrev pub invariant-loop-part : goal.invariant-loop-part
+invariant-loop-part g l = record {
+  whole : l.yielded ++ l.part-iterator.rest.items ≡ l.fn.parts.items;
+  len : length l.slots.items ≡ l.fn.n;
+  holds : Holds l.slots.items (results_of l.yielded);
+}

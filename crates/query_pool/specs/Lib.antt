@@ -1,0 +1,4 @@
+pub mod Gathering
+pub mod Serving
+pub mod Shares
+pub mod Slots

@@ -1,0 +1,19 @@
+//! Numbered jobs, done by several workers at once, and their results put in order.
+#![tactic(auto)]
+
+mod error;
+mod gate;
+mod gathering;
+mod job;
+mod part;
+mod serving;
+
+pub use error::GatherError;
+pub use gate::{Gate, NoGate};
+pub use gathering::gather;
+pub use job::Job;
+pub use part::Part;
+pub use serving::serve;
+
+#[cfg(test)]
+mod tests;

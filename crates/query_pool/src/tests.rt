@@ -1,0 +1,4 @@
+//! Serving and gathering.
+mod gathering;
+mod meetings;
+mod serving;

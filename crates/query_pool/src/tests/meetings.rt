@@ -1,0 +1,46 @@
+//! Places where calls wait for each other.
+
+use std::sync::atomic::{AtomicUsize, Ordering};
+
+// How often a call looks for the others before it gives up.
+const MOST_LOOKS: u32 = 100_000_000;
+
+// The first `wanted` calls wait until all of them have begun.
+#[derive(Drop)]
+pub(crate) struct Meeting {
+    wanted: usize,
+    begun: AtomicUsize,
+    met: AtomicUsize,
+}
+
+impl Meeting {
+    pub(crate) fn of(wanted: usize) -> Meeting {
+        Meeting {
+            wanted,
+            begun: AtomicUsize::new(0),
+            met: AtomicUsize::new(0),
+        }
+    }
+
+    pub(crate) fn attend(&self) {
+        let before = self.begun.fetch_add(1, Ordering::SeqCst);
+        if before < self.wanted && self.all_begin() {
+            self.met.fetch_add(1, Ordering::SeqCst);
+        }
+    }
+
+    // Whether all of them begin while this call looks.
+    fn all_begin(&self) -> bool {
+        for _ in 0..MOST_LOOKS {
+            if self.begun.load(Ordering::SeqCst) >= self.wanted {
+                return true;
+            }
+        }
+        false
+    }
+
+    // Whether each of them saw all others.
+    pub(crate) fn all_met(&self) -> bool {
+        self.met.load(Ordering::SeqCst) == self.wanted
+    }
+}

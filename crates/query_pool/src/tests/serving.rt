@@ -1,0 +1,169 @@
+//! Serving places.
+
+use crate::tests::meetings::Meeting;
+use crate::{Gate, Job, NoGate, gather, serve};
+use std::alloc::{AllocError, Global};
+use std::sync::Wait;
+use std::sync::atomic::{AtomicUsize, Ordering};
+use std::test::Fail;
+use std::thread::Threads;
+
+// A job whose calls at the places from `first` on wait for each other. Its results are the places.
+#[derive(Drop)]
+struct Attending {
+    first: u32,
+    meeting: Meeting,
+}
+
+impl Attending {
+    fn of(first: u32, wanted: usize) -> Attending {
+        Attending {
+            first,
+            meeting: Meeting::of(wanted),
+        }
+    }
+}
+
+impl Job for Attending {
+    ghost use Rattle.std.specs.Prelude.{◌≡◌, ⊤};
+
+    type Out = u32;
+
+    type State = ();
+
+    ghost has = { λ job place. ⊤ };
+
+    ghost lawful = { λ job state. ⊤ };
+
+    ghost gives = { λ job place found. found ≡ place };
+
+    fn state(&self) -> Result<(), AllocError> {
+        Ok(())
+    }
+
+    fn run(&self, place: u32, _state: &mut ()) -> Result<u32, AllocError> {
+        if place >= self.first {
+            self.meeting.attend();
+        }
+        Ok(place)
+    }
+}
+
+// Whether the results of the job are its places in order.
+fn serves_in_order<R: Threads + Wait + Sync, G: Gate>(
+    rt: &R,
+    alloc: Global,
+    job: &Attending,
+    n: u32,
+    workers: usize,
+    gate: &G,
+) -> Result<bool, Fail> {
+    if n > 1000000 || workers == 0 || workers > 64 {
+        return Ok(false);
+    }
+    let parts = serve(rt, alloc, job, n, workers, gate)?;
+    let found = gather(alloc, parts, n)?;
+    Ok(found.len() == n as usize && counts_up(found.as_slice()))
+}
+
+// Whether the numbers are 0, 1, 2 and so on.
+fn counts_up(numbers: &[u32]) -> bool {
+    let mut next: u64 = 0;
+    for each in numbers {
+        if *each as u64 != next {
+            return false;
+        }
+        next = next.saturating_add(1);
+    }
+    true
+}
+
+#[test]
+fn no_places(rt: HostRuntime) -> Result<(), Fail> {
+    let job = Attending::of(0, 0);
+    assert!(rt; serves_in_order(&rt, rt.alloc(), &job, 0, 1, &NoGate)?);
+    assert!(rt; serves_in_order(&rt, rt.alloc(), &job, 0, 64, &NoGate)?);
+    Ok(())
+}
+
+#[test]
+fn one_worker_serves_all_places(rt: HostRuntime) -> Result<(), Fail> {
+    let job = Attending::of(0, 1);
+    assert!(rt; serves_in_order(&rt, rt.alloc(), &job, 1000, 1, &NoGate)?);
+    Ok(())
+}
+
+#[test]
+fn more_workers_than_places(rt: HostRuntime) -> Result<(), Fail> {
+    let job = Attending::of(0, 3);
+    assert!(rt; serves_in_order(&rt, rt.alloc(), &job, 3, 64, &NoGate)?);
+    assert!(rt; job.meeting.all_met());
+    Ok(())
+}
+
+// One thread alone, or a lock that is held while a place is served, makes these fail.
+#[test]
+fn two_workers_of_three_places_run_at_once(rt: HostRuntime) -> Result<(), Fail> {
+    let job = Attending::of(1, 2);
+    assert!(rt; serves_in_order(&rt, rt.alloc(), &job, 3, 2, &NoGate)?);
+    assert!(rt; job.meeting.all_met());
+    Ok(())
+}
+
+// Whether so many workers run at once, for each number of places from 8 to 100.
+fn all_run_at_once<R: Threads + Wait + Sync>(
+    rt: &R,
+    alloc: Global,
+    workers: usize,
+) -> Result<bool, Fail> {
+    for n in 8..101u32 {
+        let job = Attending::of(0, workers);
+        if !serves_in_order(rt, alloc, &job, n, workers, &NoGate)? || !job.meeting.all_met() {
+            return Ok(false);
+        }
+    }
+    Ok(true)
+}
+
+#[test]
+fn all_workers_run_at_once(rt: HostRuntime) -> Result<(), Fail> {
+    assert!(rt; all_run_at_once(&rt, rt.alloc(), 2)?);
+    assert!(rt; all_run_at_once(&rt, rt.alloc(), 3)?);
+    assert!(rt; all_run_at_once(&rt, rt.alloc(), 8)?);
+    Ok(())
+}
+
+// A gate that counts the calls that are between `enter` and `leave`, and the places it was told.
+#[derive(Drop)]
+struct Counting {
+    inside: AtomicUsize,
+    entered: AtomicUsize,
+    left: AtomicUsize,
+}
+
+impl Gate for Counting {
+    fn enter(&self, place: u32) {
+        self.inside.fetch_add(1, Ordering::SeqCst);
+        self.entered.fetch_add(place as usize, Ordering::SeqCst);
+    }
+
+    fn leave(&self, place: u32) {
+        self.inside.fetch_sub(1, Ordering::SeqCst);
+        self.left.fetch_add(place as usize, Ordering::SeqCst);
+    }
+}
+
+#[test]
+fn the_gate_is_told_each_place(rt: HostRuntime) -> Result<(), Fail> {
+    let gate = Counting {
+        inside: AtomicUsize::new(0),
+        entered: AtomicUsize::new(0),
+        left: AtomicUsize::new(0),
+    };
+    let job = Attending::of(0, 1);
+    assert!(rt; serves_in_order(&rt, rt.alloc(), &job, 100, 3, &gate)?);
+    assert_eq!(rt; gate.inside.load(Ordering::SeqCst), 0);
+    assert_eq!(rt; gate.entered.load(Ordering::SeqCst), 4950);
+    assert_eq!(rt; gate.left.load(Ordering::SeqCst), 4950);
+    Ok(())
+}
