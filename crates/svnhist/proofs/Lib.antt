@@ -1,4 +1,6 @@
-pub mod Bundles
-pub mod QueryLines
-pub mod Reports
-pub mod Statuses
+mod AnswerTexts
+mod Bundles
+mod LoadErrors
+mod QueryLines
+mod Reports
+mod Statuses

@@ -1,9 +1,11 @@
+pub mod Answering
 pub mod Arguments
 pub mod Bundle
 pub mod Calls
 pub mod Device
 pub mod ExitStatus
 pub mod Load
+pub mod LoadRepo
 pub mod QueryLines
 pub mod Report
 pub mod ReportError

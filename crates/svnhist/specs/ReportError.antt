@@ -10,10 +10,10 @@ use Rattle.query_answer.specs.FaultKind.{kind_view}
 use Rattle.svnhist.specs.QueryLines.{query_lines}
 use Rattle.svnhist.specs.Report.{most_queries}
 use Rattle.query_answer.specs.declared.fault.Fault.{Fault}
+use Rattle.svnhist.specs.declared.load_repo.LoadError.{LoadError}
+use Rattle.svnhist.specs.declared.load_repo.LoadError.TheVariants as error
 use Rattle.svnhist.specs.declared.run_error.RunError.{RunError}
 use Rattle.svnhist.specs.declared.run_error.RunError.TheVariants as run
-use Rattle.query_answer.specs.declared.trees.TreesError.{TreesError}
-use Rattle.query_answer.specs.declared.trees.TreesError.TheVariants as error
 
 -- the bytes are a dump, and this is its first faulty record
 pub record IsFirstFault (dump : List ℕ) (fault : Fault) : Type 0 where
@@ -40,6 +40,6 @@ abbrev pub run_error_of_dump : DumpError → RunError
 run_error_of_dump (refusal.Refused number at) = run.Dump (refusal.Refused number at)
 run_error_of_dump refusal.Memory = run.Memory
 
-abbrev pub run_error_of_trees : TreesError → RunError
-run_error_of_trees (error.Fault fault) = run.Fault fault
-run_error_of_trees error.Memory = run.Memory
+abbrev pub run_error_of_load : LoadError → RunError
+run_error_of_load (error.Fault fault) = run.Fault fault
+run_error_of_load error.Memory = run.Memory

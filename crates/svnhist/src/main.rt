@@ -1,13 +1,14 @@
 //! Answers questions about the history of a Subversion repository, given its dump.
 #![tactic(auto)]
 
+mod answering;
 mod arguments;
 mod bundle;
 mod bundle_reader;
 mod calls;
 mod device;
-mod gate;
 mod load;
+mod load_repo;
 mod program;
 mod query_lines;
 mod report;

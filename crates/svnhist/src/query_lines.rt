@@ -1,7 +1,9 @@
 //! The lines of a list of queries.
-ghost use Rattle.std.specs.Prelude.{◌≡◌, ◌<◌, ◌∷◌, [], length, IfNone, IfSome};
+ghost use Rattle.std.specs.Prelude.{◌≡◌, ◌<◌, ◌∷◌, [], length, IfNone, IfOk, IfSome};
+ghost use Rattle.svnhist.specs.Answering.{lent_lines};
 ghost use Rattle.svnhist.specs.QueryLines.{query_lines};
 
+use std::alloc::{AllocError, Global};
 use svn_dump::split_at_byte;
 
 /// The first line, and what follows the newline that ends it.
@@ -30,4 +32,17 @@ pub(crate) fn count_lines(queries: &[u8]) -> usize
         rest = more;
     }
     count
+}
+
+/// All lines.
+pub(crate) fn lines_of(alloc: Global, queries: &[u8]) -> Result<Vec<&[u8]>, AllocError>
+    ensures { IfOk result (λ lines. lent_lines lines.items ≡ query_lines queries.now) }
+{
+    let mut lines = Vec::new(alloc);
+    let mut rest = queries;
+    'lines: while let Some((line, more)) = next_line(rest) {
+        lines.push(line)?;
+        rest = more;
+    }
+    Ok(lines)
 }

@@ -2,7 +2,8 @@
 ghost use Rattle.std.specs.Prelude.{◌≡◌, ◌++◌, IfOk, OnOk, OnErr};
 ghost use Rattle.svnhist.specs.RunError.{line_of, status_of, refused_text, refusal_name_of, fault_name_of, source_name_of, unread_text};
 
-use query_answer::{Fault, FaultKind, TreesError};
+use crate::load_repo::LoadError;
+use query_answer::{Fault, FaultKind};
 use range_list::push_number;
 use std::alloc::{AllocError, AllocFailed, Global};
 use svn_dump::DumpError;
@@ -67,15 +68,15 @@ impl From<DumpError> for RunError {
     }
 }
 
-impl From<TreesError> for RunError {
-    ghost use Rattle.svnhist.specs.ReportError.{run_error_of_trees};
+impl From<LoadError> for RunError {
+    ghost use Rattle.svnhist.specs.ReportError.{run_error_of_load};
 
-    ghost from_gives = { λ e reported. reported ≡ run_error_of_trees e };
+    ghost from_gives = { λ e reported. reported ≡ run_error_of_load e };
 
-    fn from(e: TreesError) -> RunError {
+    fn from(e: LoadError) -> RunError {
         match e {
-            TreesError::Fault(fault) => RunError::Fault(fault),
-            TreesError::Memory => RunError::Memory,
+            LoadError::Fault(fault) => RunError::Fault(fault),
+            LoadError::Memory => RunError::Memory,
         }
     }
 }

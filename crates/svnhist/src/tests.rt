@@ -7,3 +7,4 @@ mod gates;
 mod histories;
 mod inputs;
 mod reports;
+mod workers;

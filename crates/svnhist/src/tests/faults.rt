@@ -1,13 +1,13 @@
 //! Histories with a faulty record.
 ghost use Rattle.std.specs.Prelude.{◌<◌, ◌≤◌, All};
 
-use crate::gate::NoGate;
 use crate::report::report;
 use crate::run_error::RunError;
 use crate::tests::histories::{
     EXISTS, MISSING, NO_PARENT, NO_PARENT_OF_COPY, NO_SOURCE, REPLACED_BY_NOTHING, REPLACES_NOTHING,
 };
 use query_answer::{Fault, FaultKind};
+use query_pool::NoGate;
 use std::alloc::Global;
 use std::sync::Wait;
 use std::thread::Threads;
@@ -47,7 +47,7 @@ fn the_first_faulty_record_is_named(rt: HostRuntime) {
     }
 }
 
-// This cannot fail yet: `report` does not use the cuts and the workers.
+// This cannot fail yet: nothing that finds the faulty record uses the cuts and the workers.
 #[test]
 fn every_cutting_names_the_same_record(rt: HostRuntime) {
     let wanted = Some(Fault {

@@ -1,8 +1,8 @@
 //! A gate that watches the queries.
 
-use crate::gate::Gate;
 use crate::report::report;
 use crate::tests::histories::FIRST;
+use query_pool::Gate;
 use std::sync::atomic::{AtomicUsize, Ordering};
 use std::test::Fail;
 
@@ -43,7 +43,7 @@ fn the_gate_is_called_around_each_query(rt: HostRuntime) -> Result<(), Fail> {
         FIRST,
         b"locate\ttrunk@2\t1\n\nlog\tb@2\n",
         &[],
-        2,
+        1,
         &gate,
     )?;
     assert_eq!(rt; gate.left.load(Ordering::SeqCst), 3);

@@ -1,12 +1,12 @@
 //! Reports on small histories.
 
-use crate::gate::NoGate;
 use crate::report::report;
 use crate::run_error::RunError;
 use crate::tests::histories::{
     AT_SIGN, COPIED_MERGEINFO, DUMPED, DUMPED_AS_ONE, EMPTY, FIRST, GONE, MERGED, MERGEINFO_TEXTS,
     MOVES, NESTED, REPLACED,
 };
+use query_pool::NoGate;
 use std::alloc::Global;
 use std::sync::Wait;
 use std::test::Fail;
@@ -306,7 +306,6 @@ fn a_copy_of_an_older_revision_lacks_later_paths(rt: HostRuntime) -> Result<(), 
     Ok(())
 }
 
-// This cannot fail yet: `report` does not use the cuts and the workers.
 #[test]
 fn every_cutting_gives_the_same_report(rt: HostRuntime) -> Result<(), Fail> {
     let queries = b"segments\t/n/q/s@3\nlog\t/n/q/s@3\nlocate\t/n/q/s@3\t1\n";
