@@ -1,6 +1,6 @@
 //! What one worker did.
 
-/// The places that one worker served and their results, in the order in which it served them.
+/// The places that one worker served, with their results.
 #[derive(Drop)]
 pub struct Part<Out> {
     pub done: Vec<(u32, Out)>,

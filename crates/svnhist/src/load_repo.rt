@@ -47,8 +47,8 @@ impl From<TreesError> for LoadError {
 
 /// The repository of a dump, or its first faulty record.
 ///
-/// Blocks take whole revisions from 1 on by the lengths `cuts` in turn; the last length is repeated, and no lengths
-/// mean one block. Neither the cutting nor the number of workers shows in the repository.
+/// Blocks are to take whole revisions from 1 on by the lengths `cuts` in turn, the last length repeated, where no
+/// lengths mean one block. Neither they nor the workers are used yet.
 pub fn load_repo<R: Threads + Wait + Sync>(
     rt: &R,
     alloc: Global,

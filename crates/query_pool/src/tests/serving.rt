@@ -1,4 +1,5 @@
 //! Serving places.
+ghost use Rattle.std.specs.Prelude.{◌<◌, ◌≤◌};
 
 use crate::tests::meetings::Meeting;
 use crate::{Gate, Job, NoGate, gather, serve};
@@ -153,17 +154,93 @@ impl Gate for Counting {
     }
 }
 
+impl Counting {
+    fn new() -> Counting {
+        Counting {
+            inside: AtomicUsize::new(0),
+            entered: AtomicUsize::new(0),
+            left: AtomicUsize::new(0),
+        }
+    }
+}
+
 #[test]
 fn the_gate_is_told_each_place(rt: HostRuntime) -> Result<(), Fail> {
-    let gate = Counting {
-        inside: AtomicUsize::new(0),
-        entered: AtomicUsize::new(0),
-        left: AtomicUsize::new(0),
-    };
+    let gate = Counting::new();
     let job = Attending::of(0, 1);
     assert!(rt; serves_in_order(&rt, rt.alloc(), &job, 100, 3, &gate)?);
     assert_eq!(rt; gate.inside.load(Ordering::SeqCst), 0);
     assert_eq!(rt; gate.entered.load(Ordering::SeqCst), 4950);
     assert_eq!(rt; gate.left.load(Ordering::SeqCst), 4950);
+    Ok(())
+}
+
+// A job that counts its states, its runs and those inside a gate. The state of a worker, and the result, is how many
+// places it has served.
+#[derive(Drop)]
+struct Watched<'a> {
+    gate: &'a Counting,
+    states: AtomicUsize,
+    runs: AtomicUsize,
+    runs_inside: AtomicUsize,
+}
+
+impl Job for Watched<'_> {
+    ghost use Rattle.std.specs.Prelude.{⊤};
+
+    type Out = u32;
+
+    type State = u32;
+
+    ghost has = { λ job place. ⊤ };
+
+    ghost lawful = { λ job state. ⊤ };
+
+    ghost gives = { λ job place found. ⊤ };
+
+    fn state(&self) -> Result<u32, AllocError> {
+        self.states.fetch_add(1, Ordering::SeqCst);
+        Ok(0)
+    }
+
+    fn run(&self, _place: u32, state: &mut u32) -> Result<u32, AllocError> {
+        self.runs.fetch_add(1, Ordering::SeqCst);
+        if self.gate.inside.load(Ordering::SeqCst) > 0 {
+            self.runs_inside.fetch_add(1, Ordering::SeqCst);
+        }
+        *state = state.saturating_add(1);
+        Ok(*state)
+    }
+}
+
+// Serves nine places. Whether each was run once and inside the gate, by so many workers, each of which kept its state.
+fn nine_are_served<R: Threads + Wait + Sync>(
+    rt: &R,
+    alloc: Global,
+    workers: usize,
+    wanted: &[u32],
+) -> Result<bool, Fail>
+    requires some_worker { 0 < workers }
+    requires few_workers { workers ≤ 64 }
+{
+    let gate = Counting::new();
+    let job = Watched {
+        gate: &gate,
+        states: AtomicUsize::new(0),
+        runs: AtomicUsize::new(0),
+        runs_inside: AtomicUsize::new(0),
+    };
+    let parts = serve(rt, alloc, &job, 9, workers, &gate)?;
+    let found = gather(alloc, parts, 9)?;
+    let once = job.runs.load(Ordering::SeqCst) == 9;
+    let inside = job.runs_inside.load(Ordering::SeqCst) == 9;
+    let kept = job.states.load(Ordering::SeqCst) == workers;
+    Ok(once && inside && kept && found.as_slice() == wanted)
+}
+
+#[test]
+fn each_place_is_run_once_with_the_state_of_its_worker(rt: HostRuntime) -> Result<(), Fail> {
+    assert!(rt; nine_are_served(&rt, rt.alloc(), 1, &[1, 2, 3, 4, 5, 6, 7, 8, 9])?);
+    assert!(rt; nine_are_served(&rt, rt.alloc(), 3, &[1, 1, 1, 2, 2, 2, 3, 3, 3])?);
     Ok(())
 }
