@@ -16,7 +16,7 @@ use Rattle.path_index.specs.History.{AreRising, records_of, history_to}
 use Rattle.path_index.specs.Operative.{names_below, came_from_itself, is_operative, operative_in, operative_from, operative_of, hit_at}
 use Rattle.path_index.specs.Segment.{Segment, same_place, with_place, segments_up_to, segments_of}
 use Rattle.path_index.proofs.Rising.{filter_all, filter_none}
-use Rattle.path_index.proofs.NamedRevisions.{filter_down-same}
+use Rattle.path_index.proofs.DownFrom.{filter_down-same}
 
 -- ---- what holds of mapped elements
 

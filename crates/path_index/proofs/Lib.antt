@@ -1,9 +1,13 @@
 mod CameFromItself
+mod DownFrom
+mod EntriesOfPaths
 mod HistoryTo
-mod NamedRevisions
+mod HitsOfSegments
+mod NewestRecords
+mod NodesOfPaths
+mod NumbersOfNodes
 mod Operative
 mod Prefixes
-mod Pushed
 mod RecordEffects
 mod Rising
 mod Segments
@@ -11,6 +15,5 @@ mod SegmentsUpTo
 mod Spans
 mod Steps
 mod Traces
-mod Walks
 pub mod Histories
 pub mod Renaming

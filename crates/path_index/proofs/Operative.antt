@@ -13,17 +13,15 @@ use Rattle.svn_dump.specs.declared.record.NodeRecord.{NodeRecord}
 use Rattle.svn_dump.specs.declared.record.ValueId.{ValueId}
 use Rattle.svn_dump.proofs.Locations.{location_is_there, location_through}
 use Rattle.svn_dump.proofs.Origins.{OriginsFall, OriginsAreThere, OriginsFall-trees_of, OriginsAreThere-trees_of}
-use Rattle.path_index.specs.History.{history_to, records_of, trees_to, records_up_to}
+use Rattle.path_index.specs.History.{history_to, records_of, trees_to}
 use Rattle.path_index.specs.Operative.{names_below, came_from_itself, records_in, is_operative, down_from, operative_in, operative_from, operative_of, hit_at}
 use Rattle.path_index.specs.declared.hit.Hit.{Hit}
 use Rattle.path_index.specs.Segment.{AreSegments, IsSegment, Segment, segments_of}
 use Rattle.path_index.specs.Index.{IsThere}
 use Rattle.path_index.proofs.HistoryTo.{records_in-history_to}
 use Rattle.path_index.proofs.CameFromItself.{came-from_location, location-from_came}
-use Rattle.path_index.proofs.Pushed.{hits_at}
-use Rattle.path_index.proofs.Rising.{records_of-records_up_to}
 use Rattle.path_index.proofs.Segments.{AreSegments-segments_of}
-use Rattle.path_index.proofs.NamedRevisions.{filter_down-same}
+use Rattle.path_index.proofs.DownFrom.{filter_down-same}
 use Rattle.path_index.specs.NamedRevisions.{is_named, named_revisions}
 
 -- one number more, at the end
@@ -109,55 +107,40 @@ module _ {C M : Type 0} (same : C → C → Bool) (is : IsSame same) (history : 
         ∙ ap (λ revs. revs ++ first_of segment.lo)
         (filter_down-same test p n segment.hi (omega arith) (λ k up within. operative_after p named k up (omega arith)))
 
--- ---- the walk over the records, beside the segments
+-- ---- segment by segment
 
--- the hits in a segment, given its path and the records up to it
+-- the revisions, as hits of a segment
+abbrev pub hits_at : ℕ → List ℕ → List Hit
+hits_at place revs = map (hit_at place) revs
+
+-- the hits in a segment, given its path
 abbrev pub hits_in : ℕ → List NodeRecord → Segment NameId → Option (List NameId) → List Hit
 hits_in place records segment None = []
 hits_in place records segment (Some path) = hits_at place (named_revisions path segment.lo segment.hi records ++ first_of segment.lo)
 
--- the records left below a segment
-abbrev pub left_by : List NodeRecord → Segment NameId → Option (List NameId) → List NodeRecord
-left_by records segment None = records
-left_by records segment (Some path) = records_up_to segment.lo records
-
--- the hits in the segments, each walked after the one before
+-- the hits in the segments
 abbrev pub hits_from : ℕ → List NodeRecord → List (Segment NameId) → List Hit
 hits_from place records [] = []
-hits_from place records (segment ∷ segments) =
-    hits_in place (records_up_to segment.hi records) segment segment.path ++ hits_from (place + 1) (left_by (records_up_to segment.hi records) segment segment.path) segments
+hits_from place records (segment ∷ segments) = hits_in place records segment segment.path ++ hits_from (place + 1) records segments
 
 module _ (is : IsSame same_name) (history : History NameId ValueId) (trees : List (Tree NameId ValueId))
     (fall : OriginsFall same_name trees) (origins : OriginsAreThere same_name trees)
     (path : List NameId) (rev : ℕ) (there : is_there same_name (tree_of trees rev) path ≡ true) (records : List NodeRecord)
     (are : (k : ℕ) → k ≤ rev → records_in history k ≡ records_of records k) where
-  -- the records left are those of the revisions before a bound
-  abbrev AreLeft : ℕ → List NodeRecord → Type 0
-  AreLeft bound rest = (k : ℕ) → k < bound → records_of rest k ≡ records_of records k
+  in_segment : (place : ℕ) (segment : Segment NameId) → IsSegment (λ k. location same_name trees path rev k) segment → segment.hi ≤ rev → (o : Option (List NameId)) → segment.path ≡ o
+      → hits_in place records segment o ≡ map (hit_at place) (operative_in same_name history trees segment o)
+  in_segment place segment so up None at = refl
+  in_segment place segment so up (Some q) at =
+      ap (hits_at place) (sym (operative_in-segment same_name is history trees fall origins path rev there segment q so at (is_named q records)
+      (λ k to. ap (names_below same_name q) (sym (are k (omega arith))))))
 
-  in_segment : (place : ℕ) (segment : Segment NameId) → IsSegment (λ k. location same_name trees path rev k) segment → segment.hi ≤ rev → (rest : List NodeRecord)
-      → AreLeft (segment.hi + 1) rest → (o : Option (List NameId)) → segment.path ≡ o
-      → hits_in place rest segment o ≡ map (hit_at place) (operative_in same_name history trees segment o)
-  in_segment place segment so up rest left None at = refl
-  in_segment place segment so up rest left (Some q) at =
-      ap (hits_at place) (sym (operative_in-segment same_name is history trees fall origins path rev there segment q so at (is_named q rest)
-      (λ k to. ap (names_below same_name q) (left k (omega arith) ∙ sym (are k (omega arith))))))
-
-  left_in : (segment : Segment NameId) (rest : List NodeRecord) → segment.lo ≤ segment.hi → AreLeft (segment.hi + 1) rest → (o : Option (List NameId))
-      → AreLeft segment.lo (left_by rest segment o)
-  left_in segment rest ordered left None k before = left k (omega arith)
-  left_in segment rest ordered left (Some q) k before = records_of-records_up_to k segment.lo rest (omega arith) ∙ left k (omega arith)
-
-  from_segments : (place bound : ℕ) (segments : List (Segment NameId)) (rest : List NodeRecord) → AreSegments (λ k. location same_name trees path rev k) bound segments
-      → bound ≤ rev + 1 → AreLeft bound rest → hits_from place rest segments ≡ operative_from same_name history trees place segments
+  from_segments : (place bound : ℕ) (segments : List (Segment NameId)) → AreSegments (λ k. location same_name trees path rev k) bound segments
+      → bound ≤ rev + 1 → hits_from place records segments ≡ operative_from same_name history trees place segments
   unfolding operative_from
-  from_segments place bound [] rest all few left = refl
-  from_segments place bound (segment ∷ segments) rest all few left =
-      let within = records_up_to segment.hi rest in
-      let left_within : AreLeft (segment.hi + 1) within = λ k before. records_of-records_up_to k segment.hi rest (omega arith) ∙ left k (omega (arith, all.0)) in
-      let here = in_segment place segment all.1 (omega (arith, all.0)) within left_within segment.path refl in
-      let onward = from_segments (place + 1) segment.lo segments (left_by within segment segment.path) all.2 (omega (arith, all.0, all.1.ordered))
-      (left_in segment within all.1.ordered left_within segment.path) in
+  from_segments place bound [] all few = refl
+  from_segments place bound (segment ∷ segments) all few =
+      let here = in_segment place segment all.1 (omega (arith, all.0)) segment.path refl in
+      let onward = from_segments (place + 1) segment.lo segments all.2 (omega (arith, all.0, all.1.ordered)) in
       λ i. here i ++ onward i
 
 -- ---- at the trees of a list of records
@@ -170,6 +153,6 @@ hits_from-operative_of records path rev there segments so =
     let history = history_to records rev in
     let trees = trees_to records rev in
     from_segments IsSame-same_name history trees (OriginsFall-trees_of same_name history) (OriginsAreThere-trees_of same_name IsSame-same_name history) path rev there records
-    (records_in-history_to records rev) 0 (rev + 1) segments records
+    (records_in-history_to records rev) 0 (rev + 1) segments
     (AreSegments-segments_of records path rev segments so)
-    (omega arith) (λ k before. refl)
+    (omega arith)

@@ -1,5 +1,5 @@
 -- What a record of a dump does to the origin of a path, by its act.
-use Rattle.std.proofs.Common.{◌≡◌, ◌≢◌, ℕ, Bool, true, List, ◌++◌, length, drop, Option, None, Some, is_some, refl, sym, ap, subst, ◌∙◌, true≢false}
+use Rattle.std.proofs.Common.{◌≡◌, ◌≢◌, ◌⊎◌, inl, inr, IsTrue, ℕ, Bool, true, List, ◌++◌, length, drop, Option, None, Some, is_some, refl, sym, ap, subst, ◌∙◌, true≢false}
 use Rattle.svn_path.specs.Below.{below, is_below}
 use Rattle.svn_path.specs.Path.{same_name}
 use Rattle.svn_path.specs.declared.names.NameId.{NameId}
@@ -10,7 +10,7 @@ use Rattle.svn_dump.specs.declared.record.Act.{Act}
 use Rattle.svn_dump.specs.declared.record.Act.TheVariants as act
 use Rattle.svn_dump.specs.declared.record.Mi.{Mi}
 use Rattle.svn_dump.specs.declared.record.NodeRecord.{NodeRecord}
-use Rattle.path_index.specs.RecordEffect.{KeepsOrigin, SetsOrigin}
+use Rattle.path_index.specs.RecordEffect.{IsAddition, IsCopy, KeepsOrigin, SetsOrigin, SetsPath}
 use Rattle.path_index.proofs.Steps.{KeepsOrigin-delete, KeepsOrigin-change, KeepsOrigin-add, SetsOrigin-add, KeepsOrigin-copy, SetsOrigin-copy}
 
 module _ (each : NodeRecord) (path : List NameId) where
@@ -20,30 +20,19 @@ module _ (each : NodeRecord) (path : List NameId) where
   sets_as : (origin : Option (List NameId × ℕ)) (a : Act) → each.act ≡ a → SetsOrigin same_name path origin (record { path = each.path; action = action_view a }) → SetsOrigin same_name path origin (record_view each)
   sets_as origin a is sets = subst (λ b. SetsOrigin same_name path origin (record { path = each.path; action = action_view b })) (sym is) sets
 
-  -- a record that is not an addition or a copy keeps it
-  pub KeepsOrigin-other : ((replace : Bool) (kind : Kind) (mi : Mi) → each.act ≢ act.Add replace kind mi)
-      → ((replace : Bool) (from : List NameId) (from_rev : ℕ) (mi : Mi) → each.act ≢ act.Copy replace from from_rev mi) → KeepsOrigin same_name path (record_view each)
-  KeepsOrigin-other no_add no_copy = by each.act refl
-    where
-      by : (a : Act) → each.act ≡ a → KeepsOrigin same_name path (record_view each)
-      by act.Delete is = keeps_as act.Delete is (KeepsOrigin-delete same_name IsSame-same_name path each.path)
-      by (act.Change mi) is = keeps_as (act.Change mi) is (KeepsOrigin-change same_name IsSame-same_name path each.path (setting_view mi))
-      by (act.Add replace kind mi) is = absurd (no_add replace kind mi is)
-      by (act.Copy replace from from_rev mi) is = absurd (no_copy replace from from_rev mi is)
-
   -- an addition elsewhere keeps it
-  pub KeepsOrigin-Add : (replace : Bool) (kind : Kind) (mi : Mi) → each.act ≡ act.Add replace kind mi → each.path ≢ path → KeepsOrigin same_name path (record_view each)
+  KeepsOrigin-Add : (replace : Bool) (kind : Kind) (mi : Mi) → each.act ≡ act.Add replace kind mi → each.path ≢ path → KeepsOrigin same_name path (record_view each)
   KeepsOrigin-Add replace kind mi is other =
       keeps_as (act.Add replace kind mi) is (KeepsOrigin-add same_name IsSame-same_name path each.path replace kind (setting_view mi) (λ here. other (sym here)))
 
   -- one of the path leaves it without an origin
-  pub SetsOrigin-Add : (replace : Bool) (kind : Kind) (mi : Mi) → each.act ≡ act.Add replace kind mi → each.path ≡ path → SetsOrigin same_name path None (record_view each)
+  SetsOrigin-Add : (replace : Bool) (kind : Kind) (mi : Mi) → each.act ≡ act.Add replace kind mi → each.path ≡ path → SetsOrigin same_name path None (record_view each)
   SetsOrigin-Add replace kind mi is here =
       sets_as None (act.Add replace kind mi) is (SetsOrigin-add same_name IsSame-same_name path each.path replace kind (setting_view mi) (sym here))
 
   module _ (replace : Bool) (from : List NameId) (from_rev : ℕ) (mi : Mi) (is : each.act ≡ act.Copy replace from from_rev mi) where
     -- a copy to elsewhere keeps it
-    pub KeepsOrigin-Copy : (is_below same_name each.path path ≡ true → ⊥) → KeepsOrigin same_name path (record_view each)
+    KeepsOrigin-Copy : (is_below same_name each.path path ≡ true → ⊥) → KeepsOrigin same_name path (record_view each)
     KeepsOrigin-Copy other =
         keeps_as (act.Copy replace from from_rev mi) is (KeepsOrigin-copy same_name IsSame-same_name path each.path replace from from_rev (setting_view mi) other)
 
@@ -59,3 +48,30 @@ module _ (each : NodeRecord) (path : List NameId) where
             (sym (at ∙ ap (λ more. from ++ more) (drop-from_below IsSame-same_name each.path path rest left)))
             (sets_as (Some (from ++ rest, from_rev)) (act.Copy replace from from_rev mi) is
             (SetsOrigin-copy same_name IsSame-same_name path each.path replace from from_rev (setting_view mi) rest left))
+
+  -- a record that does not set it keeps it
+  pub KeepsOrigin-unset : (SetsPath each path → ⊥) → KeepsOrigin same_name path (record_view each)
+  KeepsOrigin-unset unset = by each.act refl
+    where
+      by : (a : Act) → each.act ≡ a → KeepsOrigin same_name path (record_view each)
+      by act.Delete is = keeps_as act.Delete is (KeepsOrigin-delete same_name IsSame-same_name path each.path)
+      by (act.Change mi) is = keeps_as (act.Change mi) is (KeepsOrigin-change same_name IsSame-same_name path each.path (setting_view mi))
+      by (act.Add replace kind mi) is = KeepsOrigin-Add replace kind mi is (λ own. unset (inl (subst IsAddition (sym is) tt, own)))
+      by (act.Copy replace from from_rev mi) is = KeepsOrigin-Copy replace from from_rev mi is (λ under. unset (inr (subst IsCopy (sym is) tt, under)))
+
+  -- one that sets it without a copy leaves the path without an origin
+  pub SetsOrigin-no_copy : ((replace : Bool) (from : List NameId) (from_rev : ℕ) (mi : Mi) → each.act ≢ act.Copy replace from from_rev mi) → SetsPath each path → SetsOrigin same_name path None (record_view each)
+  SetsOrigin-no_copy no_copy sets = by each.act refl sets
+    where
+      added : (a : Act) → each.act ≡ a → (IsAddition each.act × (each.path ≡ path)) ⊎ (IsCopy each.act × IsTrue (is_below same_name each.path path)) → (IsCopy a → ⊥) → IsAddition a × (each.path ≡ path)
+      added a is so never = elim so [ inl (adds, own) ↦ (subst IsAddition is adds, own) | inr (copies, under) ↦ absurd (never (subst IsCopy is copies)) ]
+
+      by : (a : Act) → each.act ≡ a → SetsPath each path → SetsOrigin same_name path None (record_view each)
+      by act.Delete is so = absurd (added act.Delete is so (λ never. never)).0
+      by (act.Change mi) is so = absurd (added (act.Change mi) is so (λ never. never)).0
+      by (act.Add replace kind mi) is so = SetsOrigin-Add replace kind mi is (added (act.Add replace kind mi) is so (λ never. never)).1
+      by (act.Copy replace from from_rev mi) is so = absurd (no_copy replace from from_rev mi is)
+
+  -- a copy that sets it is to the path or to a path above it
+  pub below_from_copy : (replace : Bool) (from : List NameId) (from_rev : ℕ) (mi : Mi) → each.act ≡ act.Copy replace from from_rev mi → SetsPath each path → is_below same_name each.path path ≡ true
+  below_from_copy replace from from_rev mi is sets = elim sets [ inl (adds, own) ↦ absurd (subst IsAddition is adds) | inr (copies, under) ↦ under ]

@@ -1,7 +1,10 @@
 -- The newest revisions through which a path stood at one place, and where it came from, by the records.
-use Rattle.std.proofs.Common.{◌≡◌, Bor, ℕ, zero, suc, ◌<◌, ◌≤◌, nat_lt, Bool, false, true, if◌then◌else◌, List, [], ◌∷◌, ◌++◌, All, IfSome, Option, None, Some, is_some, option_map, refl, sym, ap, subst, ◌∙◌, arith, inl, inr, append_assoc, append-nil, true≢false}
-use Rattle.std.proofs.lemmas.Bool.{cases_lt}
-use Rattle.std.proofs.lemmas.List.Elements.{All-nil, All-cons, All-push, All-weaker}
+use Rattle.std.proofs.Common.{◌≡◌, ℕ, zero, suc, ◌+◌, ◌<◌, leb, get_or, length, take, drop, length-drop, ◌≤◌, nat_lt, Bool, false, true, if◌then◌else◌, List, [], ◌∷◌, ◌++◌, All, IfSome, Option, None, Some, is_some, option_map, refl, sym, ap, subst, ◌∙◌, arith, inl, inr, append_assoc, true≢false}
+use Rattle.std.specs.List.Sorted.{IsNonDecreasingBy, IsPartitionPoint}
+use Rattle.std.proofs.lemmas.Bool.{cases_lt, leb-true, le-leb}
+use Rattle.std.proofs.lemmas.List.{get_or-drop, drop_more, take-append-drop}
+use Rattle.std.proofs.lemmas.Option.{slice_get-get_or}
+use Rattle.std.proofs.lemmas.List.Elements.{All-push, All-weaker}
 use Rattle.svn_path.specs.Below.{same_path}
 use Rattle.svn_path.specs.Path.{same_name}
 use Rattle.svn_path.specs.declared.names.NameId.{NameId}
@@ -17,11 +20,16 @@ use Rattle.svn_dump.proofs.Origins.{OriginsFall, OriginsFall-trees_of, OriginsAr
 use Rattle.svn_dump.proofs.Trees.{entry_from, entry_at-tree_from_revision, entry_at-first_tree}
 use Rattle.path_index.specs.History.{records_of, history_to, trees_to, AreRising}
 use Rattle.path_index.specs.Index.{IsThere}
-use Rattle.path_index.specs.RecordEffect.{origin_of_entry, KeepsOrigin, SetsOrigin}
+use Rattle.path_index.specs.RecordEffect.{origin_of_entry, origin_view, KeepsOrigin, SetsOrigin}
 use Rattle.path_index.specs.Span.{IsSpan, location_before}
 use Rattle.svn_dump.specs.declared.origin.Origin.{Origin}
-use Rattle.path_index.proofs.Rising.{AreRising-front, AreRising-behind, AreUpTo-before}
-use Rattle.path_index.proofs.Prefixes.{trees_before, tree_of-last, tree_of-earlier, start_tree-first, start_tree-suc, All-records_of, records_of-back, records_of-among, trees_to-front}
+use Rattle.path_index.proofs.EntriesOfPaths.{SetsAt-SetsPath}
+use Rattle.path_index.proofs.RecordEffects.{KeepsOrigin-unset}
+use Rattle.path_index.proofs.Rising.{AreUpTo-before}
+use Rattle.path_index.specs.Entries.{IsNewestBelow}
+use Rattle.path_index.specs.RecordsByPath.{AreByPath, SetsAt}
+use Rattle.path_index.specs.declared.records_by_path.RecordsByPath.{RecordsByPath}
+use Rattle.path_index.proofs.Prefixes.{trees_before, tree_of-last, tree_of-earlier, start_tree-first, start_tree-suc, All-records_of, records_of-back, records_of-among}
 use Rattle.path_index.proofs.Steps.{KeepsOrigin-fold, SetsOrigin-fold}
 
 -- where the path of a revision came from
@@ -105,17 +113,11 @@ module _ (records : List NodeRecord) (path : List NameId) where
 falls : (records : List NodeRecord) (last : ℕ) → OriginsFall same_name (trees_to records last)
 falls records last = OriginsFall-trees_of same_name (history_to records last)
 
-abbrev pair_of : Option Origin → Option (List NameId × ℕ)
-pair_of None = None
-pair_of (Some from) = Some (from.path, from.rev)
-
 module _ (records : List NodeRecord) (path : List NameId) (peg lo : ℕ) (there : IsThere records path peg) (low : lo ≤ peg)
     (idle : (rev : ℕ) → lo < rev → rev ≤ peg → IsIdle records path rev) where
-  -- given the origin in the oldest of the revisions, and the records before
-  IsSpan-from : (from : Option Origin) (before : Bor (List NodeRecord)) (more : List NodeRecord) → origin_at records path lo ≡ pair_of from
-      → records ≡ before.now ++ more → All (λ each. lo ≤ each.rev) more → AreRising before.now
-      → IsSpan records path peg (record { lo = lo; origin = from; before = before })
-  IsSpan-from from before more began split later rising =
+  -- given the origin in the oldest of the revisions
+  IsSpan-from : (from : Option Origin) → origin_at records path lo ≡ origin_view from → IsSpan records path peg (record { lo = lo; origin = from })
+  IsSpan-from from began =
       record {
         within = low;
         stays = λ rev above to. location_stays_here same_name (trees_to records peg) (falls records peg) path lo peg rev above to itself;
@@ -125,94 +127,102 @@ module _ (records : List NodeRecord) (path : List NameId) (peg lo : ℕ) (there 
             ∙ ap (step_back (λ p r. location same_name (trees_to records peg) p r rev) rev) came_from
             ∙ onward rev from refl;
         earlier = each_origin (λ o. o.rev < lo) from fell;
-        there = each_origin (λ o. IsThere before.now o.path o.rev) from
+        there = each_origin (λ o. IsThere records o.path o.rev) from
             (λ o is. let lower = fell o is in
-            ap (λ ts. is_there same_name (tree_of ts o.rev) o.path) (sym (fewer o.rev lower))
-            ∙ ap (λ tree. is_there same_name tree o.path) (sym (tree_of-earlier records o.rev peg (omega arith)))
-            ∙ (OriginsAreThere-trees_of same_name IsSame-same_name (history_to records peg)).there path lo o.path o.rev (came_from ∙ ap pair_of is));
-        rising = rising;
+            ap (λ tree. is_there same_name tree o.path) (sym (tree_of-earlier records o.rev peg (omega arith)))
+            ∙ (OriginsAreThere-trees_of same_name IsSame-same_name (history_to records peg)).there path lo o.path o.rev (came_from ∙ ap origin_view is));
       }
     where
       itself : (rev : ℕ) → lo ≤ rev → rev < peg → origin_of same_name (trees_to records peg) path (suc rev) ≡ Some (path, rev)
       itself = itself_through records path lo peg there idle
 
-      came_from : origin_of same_name (trees_to records peg) path lo ≡ pair_of from
+      came_from : origin_of same_name (trees_to records peg) path lo ≡ origin_view from
       came_from = origin_of-origin_at records path lo peg low ∙ began
 
       fell : (o : Origin) → from ≡ Some o → o.rev < lo
-      fell o is = (falls records peg).falls path lo o.path o.rev (came_from ∙ ap pair_of is)
-
-      fewer : (rev : ℕ) → rev < lo → trees_to records rev ≡ trees_to before.now rev
-      fewer rev past =
-          ap (λ all. trees_to all rev) split
-          ∙ trees_to-front before.now more rev (All-weaker (λ (each : NodeRecord). lo ≤ each.rev) (λ each. rev < each.rev) (λ each at. omega arith) more later)
+      fell o is = (falls records peg).falls path lo o.path o.rev (came_from ∙ ap origin_view is)
 
       onward : (rev : ℕ) (o : Option Origin) → from ≡ o
-          → step_back (λ p r. location same_name (trees_to records peg) p r rev) rev (pair_of o) ≡ location_before before.now rev o
+          → step_back (λ p r. location same_name (trees_to records peg) p r rev) rev (origin_view o) ≡ location_before records rev o
       onward rev None is = refl
       onward rev (Some o) is =
           let lower = fell o is in
           ap (λ place. if nat_lt o.rev rev then None else place)
-          (location_agree same_name (trees_to records peg) (trees_to before.now o.rev) (falls records peg) o.rev
-          (λ r within. tree_of-earlier records r peg (omega arith) ∙ sym (tree_of-earlier records r o.rev within) ∙ ap (λ ts. tree_of ts r) (fewer o.rev lower))
+          (location_agree same_name (trees_to records peg) (trees_to records o.rev) (falls records peg) o.rev
+          (λ r within. tree_of-earlier records r peg (omega arith) ∙ sym (tree_of-earlier records r o.rev within))
           o.path o.rev rev (omega arith))
 
       each_origin : (P : Origin → Type 0) (o : Option Origin) → ((from : Origin) → o ≡ Some from → P from) → IfSome o P
       each_origin P None each = tt
       each_origin P (Some o) each = each o refl
 
--- ---- the walk over the records
+-- ---- by the newest record that sets the origin
 
--- the records after these, up to the revision, keep the origin of the path
-pub record IsPassed (records : List NodeRecord) (path : List NameId) (peg : ℕ) (rest : List NodeRecord) : Type 0 where
-  pub passed : List NodeRecord
-  pub split : records ≡ rest ++ passed
-  pub keep : All (λ each. each.rev ≤ peg → KeepsOrigin same_name path (record_view each)) passed
+-- those of the records that are of no later revision keep the origin of the path
+abbrev pub Keep : List NameId → ℕ → List NodeRecord → Type 0
+Keep path peg records = All (λ each. each.rev ≤ peg → KeepsOrigin same_name path (record_view each)) records
 
-module _ (records : List NodeRecord) (path : List NameId) (peg : ℕ) where
-  -- at first
-  pub IsPassed-none : IsPassed records path peg records
-  IsPassed-none = record { passed = []; split = sym (append-nil records); keep = All-nil (λ each. each.rev ≤ peg → KeepsOrigin same_name path (record_view each)) }
-
-  module _ (rest : List NodeRecord) (before : Bor (List NodeRecord)) (each : NodeRecord) (so_far : IsPassed records path peg rest) (last : rest ≡ before.now ++ each ∷ []) where
-    split_at : records ≡ before.now ++ each ∷ so_far.passed
-    split_at = so_far.split ∙ ap (λ front. front ++ so_far.passed) last ∙ append_assoc before.now (each ∷ []) so_far.passed
-
-    -- one more
-    pub IsPassed_push : (each.rev ≤ peg → KeepsOrigin same_name path (record_view each)) → IsPassed records path peg before.now
-    IsPassed_push keeps = record {
-      passed = each ∷ so_far.passed;
-      split = split_at;
-      keep = All-cons (λ e. e.rev ≤ peg → KeepsOrigin same_name path (record_view e)) each so_far.passed keeps so_far.keep;
-    }
-
-    -- the newest record that sets the origin
-    pub IsSpan-set : AreRising records → IsThere records path peg → each.rev ≤ peg → (from : Option Origin) → SetsOrigin same_name path (pair_of from) (record_view each)
-        → IsSpan records path peg (record { lo = each.rev; origin = from; before = before })
-    IsSpan-set rising there within from sets =
-        let at : AreRising (before.now ++ each ∷ so_far.passed) = subst AreRising split_at rising in
-        let older = All-push (λ (e : NodeRecord). e.rev ≤ each.rev) before.now each (AreUpTo-before before.now each so_far.passed at) (omega arith) in
-        let idle : (rev : ℕ) → each.rev < rev → rev ≤ peg → IsIdle records path rev = λ rev past to.
-        subst (All (KeepsOrigin same_name path))
-        (sym (ap (λ all. records_of all rev) (split_at ∙ sym (append_assoc before.now (each ∷ []) so_far.passed))
-        ∙ records_of-back (before.now ++ each ∷ []) so_far.passed rev (All-weaker (λ (e : NodeRecord). e.rev ≤ each.rev) (λ e. e.rev < rev) (λ e old. omega arith) (before.now ++ each ∷ []) older)))
-        (All-records_of (KeepsOrigin same_name path) so_far.passed peg rev to so_far.keep) in
-        let began = origin_at-set records path each.rev (pair_of from) (records_of before.now each.rev) (record_view each) (records_of so_far.passed each.rev)
-        (there_through records path each.rev peg there idle each.rev (omega arith) within)
-        (ap (λ all. records_of all each.rev) split_at ∙ records_of-among before.now each so_far.passed)
-        sets (All-records_of (KeepsOrigin same_name path) so_far.passed peg each.rev within so_far.keep) in
-        IsSpan-from records path peg each.rev there within idle from before (each ∷ so_far.passed) began split_at
-        (All-cons (λ (e : NodeRecord). each.rev ≤ e.rev) each so_far.passed (omega arith) (AreRising-behind before.now each so_far.passed at))
-        (AreRising-front before.now (each ∷ so_far.passed) at)
+module _ (records : List NodeRecord) (path : List NameId) (peg : ℕ) (there : IsThere records path peg) where
+  -- the newest record that sets it
+  pub IsSpan-set : (front more : List NodeRecord) (each : NodeRecord) → records ≡ front ++ each ∷ more → Keep path peg more → AreRising records → each.rev ≤ peg
+      → (from : Option Origin) → SetsOrigin same_name path (origin_view from) (record_view each) → IsSpan records path peg (record { lo = each.rev; origin = from })
+  IsSpan-set front more each split_at keep rising within from sets =
+      let at : AreRising (front ++ each ∷ more) = subst AreRising split_at rising in
+      let older = All-push (λ (e : NodeRecord). e.rev ≤ each.rev) front each (AreUpTo-before front each more at) (omega arith) in
+      let idle : (rev : ℕ) → each.rev < rev → rev ≤ peg → IsIdle records path rev = λ rev past to.
+      subst (All (KeepsOrigin same_name path))
+      (sym (ap (λ all. records_of all rev) (split_at ∙ sym (append_assoc front (each ∷ []) more))
+      ∙ records_of-back (front ++ each ∷ []) more rev (All-weaker (λ (e : NodeRecord). e.rev ≤ each.rev) (λ e. e.rev < rev) (λ e old. omega arith) (front ++ each ∷ []) older)))
+      (All-records_of (KeepsOrigin same_name path) more peg rev to keep) in
+      let began = origin_at-set records path each.rev (origin_view from) (records_of front each.rev) (record_view each) (records_of more each.rev)
+      (there_through records path each.rev peg there idle each.rev (omega arith) within)
+      (ap (λ all. records_of all each.rev) split_at ∙ records_of-among front each more)
+      sets (All-records_of (KeepsOrigin same_name path) more peg each.rev within keep) in
+      IsSpan-from records path peg each.rev there within idle from began
 
   -- no record sets it
-  pub IsSpan-root : (rest : Bor (List NodeRecord)) → IsPassed records path peg rest.now → rest.now ≡ [] → IsThere records path peg
-      → IsSpan records path peg (record { lo = 0; origin = None; before = rest })
-  IsSpan-root rest so_far ended there =
-      let all : records ≡ so_far.passed = so_far.split ∙ ap (λ front. front ++ so_far.passed) ended in
-      let idle_at : (rev : ℕ) → rev ≤ peg → IsIdle records path rev = λ rev within.
-      subst (λ some. All (KeepsOrigin same_name path) (records_of some rev)) (sym all) (All-records_of (KeepsOrigin same_name path) so_far.passed peg rev within so_far.keep) in
+  pub IsSpan-root : Keep path peg records → IsSpan records path peg (record { lo = 0; origin = None })
+  IsSpan-root keep =
+      let idle_at : (rev : ℕ) → rev ≤ peg → IsIdle records path rev = λ rev within. All-records_of (KeepsOrigin same_name path) records peg rev within keep in
       let idle : (rev : ℕ) → 0 < rev → rev ≤ peg → IsIdle records path rev = λ rev past. idle_at rev in
       let began = origin_at-first records path (there_through records path 0 peg there idle 0 (omega arith) (omega arith)) (idle_at 0 (omega arith)) in
-      IsSpan-from records path peg 0 there (omega arith) idle None rest so_far.passed began so_far.split (λ k d within. omega arith)
-      (subst AreRising (sym ended) (λ i j d lt within. absurd (omega arith)))
+      IsSpan-from records path peg 0 there (omega arith) idle None began
+
+-- ---- as the entries of the records tell it
+
+-- records in the order of their revisions
+pub IsNonDecreasingBy-rising : (records : List NodeRecord) → AreRising records → IsNonDecreasingBy (λ each. each.rev) records
+IsNonDecreasingBy-rising records rising i j d before within = elim (cases_lt i j) [
+  | inl less ↦ rising i j d less within
+  | inr same ↦ let e : i ≡ j = omega arith in let here = ap (λ k. (get_or records k d).rev) e in omega (arith, here)
+]
+
+module _ (records : List NodeRecord) (by_path : RecordsByPath) (are : AreByPath records by_path) (path : List NameId) (peg count : ℕ) (there : IsThere records path peg) (rising : AreRising records)
+    (within : count ≤ length records) (point : IsPartitionPoint (λ each. leb each.rev peg ≡ true) (λ each. leb each.rev peg ≡ false) records count) where
+  keep_from : (first : ℕ) → ((place : ℕ) → first ≤ place → place < count → SetsAt by_path path place → ⊥) → Keep path peg (drop first records)
+  keep_from first none k d inside up =
+      let place = first + k in
+      let same : get_or (drop first records) k d ≡ get_or records place d = get_or-drop first records k d in
+      let low : place < length records = omega (arith, length-drop first records) in
+      let each = get_or records place d in
+      let up_here : each.rev ≤ peg = subst (λ (r : NodeRecord). r.rev ≤ peg) same up in
+      subst (λ r. KeepsOrigin same_name path (record_view r)) (sym same) (elim (cases_lt place count) [
+        | inl early ↦
+            KeepsOrigin-unset each path (λ sets. none place (omega arith) early (SetsAt-SetsPath records by_path are path place each (slice_get-get_or records place d low) sets))
+        | inr late ↦ absurd (true≢false (sym (le-leb each.rev peg up_here) ∙ point.1 place d late low))
+      ])
+
+  -- where some record sets it
+  pub IsSpan-newest : (place : ℕ) (each : NodeRecord) (from : Option Origin) → IsNewestBelow count (SetsAt by_path path) (Some place) → get_or records place each ≡ each
+      → SetsOrigin same_name path (origin_view from) (record_view each) → IsSpan records path peg (record { lo = each.rev; origin = from })
+  IsSpan-newest place each from newest at sets =
+      let low : place < length records = let below = newest.0 in omega (arith, below) in
+      let split : records ≡ take place records ++ each ∷ drop (place + 1) records =
+      sym (take-append-drop place records) ∙ ap (λ rest. take place records ++ rest) (drop_more records place each low ∙ ap (λ e. e ∷ drop (place + 1) records) at) in
+      let up : each.rev ≤ peg = leb-true each.rev peg (ap (λ (e : NodeRecord). leb e.rev peg) (sym at) ∙ point.0 place each (omega arith) newest.0) in
+      IsSpan-set records path peg there (take place records) (drop (place + 1) records) each split
+      (keep_from (place + 1) (λ later past below. newest.2 later (omega arith) below)) rising up from sets
+
+  -- where none does
+  pub IsSpan-none : IsNewestBelow count (SetsAt by_path path) None → IsSpan records path peg (record { lo = 0; origin = None })
+  IsSpan-none none = IsSpan-root records path peg there (keep_from 0 (λ place from below. none place below))

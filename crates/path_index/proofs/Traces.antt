@@ -9,7 +9,7 @@ use Rattle.svn_dump.specs.Location.{location}
 use Rattle.svn_dump.specs.declared.record.NodeRecord.{NodeRecord}
 use Rattle.svn_dump.proofs.Locations.{location_here, location_later}
 use Rattle.svn_dump.proofs.Origins.{OriginsFall-trees_of}
-use Rattle.path_index.specs.History.{AreRising, history_to, trees_to}
+use Rattle.path_index.specs.History.{history_to, trees_to}
 use Rattle.path_index.specs.Segment.{Segment, segments_up_to}
 use Rattle.path_index.specs.Index.{IsThere, gap_between, segment_view}
 use Rattle.path_index.specs.Span.{location_before}
@@ -35,28 +35,18 @@ location_tested records path at wanted = elim (cases_lt at wanted) [
 
 -- from this place in this revision the walk finds this
 pub record IsTraced (wanted : ℕ) (found : Option (List NameId)) (records : List NodeRecord) (place : List NameId) (at : ℕ) : Type 0 where
-  pub rising : AreRising records
   pub there : IsThere records place at
   pub finds : location same_name (trees_to records at) place at wanted ≡ found
 
--- at first, by the records of the whole history
-pub IsTraced-whole : (wanted : ℕ) (all records : List NodeRecord) (path place : List NameId) (peg : ℕ) → records ≡ all → place ≡ path → AreRising all → IsThere all path peg
-    → IsTraced wanted (location same_name (trees_to all peg) path peg wanted) records place peg
-IsTraced-whole wanted all records path place peg same here rising there =
-    let found = location same_name (trees_to all peg) path peg wanted in
-    subst (λ some. IsTraced wanted found some place peg) (sym same)
-    (subst (λ p. IsTraced wanted found all p peg) (sym here) (record { rising = rising; there = there; finds = refl }))
-
 -- without the test
-pub location_before-Some : (before : List NodeRecord) (wanted : ℕ) (o : Option Origin) (origin : Origin) → o ≡ Some origin
-    → location_before before wanted o ≡ location same_name (trees_to before origin.rev) origin.path origin.rev wanted
-location_before-Some before wanted o origin is = ap (location_before before wanted) is ∙ location_tested before origin.path origin.rev wanted
+pub location_before-Some : (records : List NodeRecord) (wanted : ℕ) (o : Option Origin) (origin : Origin) → o ≡ Some origin
+    → location_before records wanted o ≡ location same_name (trees_to records origin.rev) origin.path origin.rev wanted
+location_before-Some records wanted o origin is = ap (location_before records wanted) is ∙ location_tested records origin.path origin.rev wanted
 
 -- ---- the segments of the places
 
 -- the segments above this place's are complete, and its own ends at `hi`; below, the places are traced from here
 pub record IsGathered (place_in : ℕ → Option (List NameId)) (peg : ℕ) (segments : List (Segment NameId)) (hi : ℕ) (records : List NodeRecord) (place : List NameId) (at : ℕ) : Type 0 where
-  pub rising : AreRising records
   pub there : IsThere records place at
   pub traced : (rev : ℕ) → rev ≤ at → place_in rev ≡ location same_name (trees_to records at) place at rev
   pub same : (rev : ℕ) → at ≤ rev → rev ≤ hi → place_in rev ≡ Some place
@@ -64,20 +54,17 @@ pub record IsGathered (place_in : ℕ → Option (List NameId)) (peg : ℕ) (seg
   pub gathered : segments ++ segments_up_to same_name place_in hi ≡ segments_up_to same_name place_in peg
 
 -- at first, without a segment
-pub IsGathered-none : (all records : List NodeRecord) (path place : List NameId) (peg : ℕ) → records ≡ all → place ≡ path → AreRising all → IsThere all path peg
-    → IsGathered (λ rev. location same_name (trees_to all peg) path peg rev) peg [] peg records place peg
-IsGathered-none all records path place peg same here rising there =
-    let place_in = λ (rev : ℕ). location same_name (trees_to all peg) path peg rev in
-    subst (λ some. IsGathered place_in peg [] peg some place peg) (sym same)
-    (subst (λ p. IsGathered place_in peg [] peg all p peg) (sym here)
-    (record {
-      rising = rising;
+pub IsGathered-none : (records : List NodeRecord) (path : List NameId) (peg : ℕ) → IsThere records path peg
+    → IsGathered (λ rev. location same_name (trees_to records peg) path peg rev) peg [] peg records path peg
+IsGathered-none records path peg there =
+    let place_in = λ (rev : ℕ). location same_name (trees_to records peg) path peg rev in
+    record {
       there = there;
       traced = λ rev within. refl;
-      same = λ rev from to. (let here : rev ≡ peg = omega arith in ap place_in here) ∙ location_now all path peg;
+      same = λ rev from to. (let here : rev ≡ peg = omega arith in ap place_in here) ∙ location_now records path peg;
       high = omega arith;
       gathered = refl;
-    }))
+    }
 
 module _ (place_in : ℕ → Option (List NameId)) (peg : ℕ) (segments : List (Segment NameId)) (hi : ℕ) (records : List NodeRecord) (place : List NameId) (at : ℕ)
     (so_far : IsGathered place_in peg segments hi records place at) (lo : ℕ) (low : lo ≤ at)
@@ -97,23 +84,22 @@ module _ (place_in : ℕ → Option (List NameId)) (peg : ℕ) (segments : List 
       (λ rev past. so_far.traced rev (omega arith) ∙ none rev past)))
       ∙ so_far.gathered
 
-  module _ (before : List NodeRecord) (origin : Origin) (rising : AreRising before) (there : IsThere before origin.path origin.rev) (earlier : origin.rev < lo)
-      (back : (rev : ℕ) → rev < lo → location same_name (trees_to records at) place at rev ≡ location_before before rev (Some origin)) where
-    traced_on : (rev : ℕ) → rev ≤ origin.rev → place_in rev ≡ location same_name (trees_to before origin.rev) origin.path origin.rev rev
-    traced_on rev within = so_far.traced rev (omega arith) ∙ back rev (omega arith) ∙ location_tested before origin.path origin.rev rev
+  module _ (origin : Origin) (there : IsThere records origin.path origin.rev) (earlier : origin.rev < lo)
+      (back : (rev : ℕ) → rev < lo → location same_name (trees_to records at) place at rev ≡ location_before records rev (Some origin)) where
+    traced_on : (rev : ℕ) → rev ≤ origin.rev → place_in rev ≡ location same_name (trees_to records origin.rev) origin.path origin.rev rev
+    traced_on rev within = so_far.traced rev (omega arith) ∙ back rev (omega arith) ∙ location_tested records origin.path origin.rev rev
 
     at_origin : place_in origin.rev ≡ Some origin.path
-    at_origin = traced_on origin.rev (omega arith) ∙ location_now before origin.path origin.rev
+    at_origin = traced_on origin.rev (omega arith) ∙ location_now records origin.path origin.rev
 
     in_gap : (rev : ℕ) → origin.rev < rev → rev < lo → place_in rev ≡ None
     in_gap rev past within =
-        so_far.traced rev (omega arith) ∙ back rev within ∙ location_tested before origin.path origin.rev rev ∙ location_past before origin.path origin.rev rev past
+        so_far.traced rev (omega arith) ∙ back rev within ∙ location_tested records origin.path origin.rev rev ∙ location_past records origin.path origin.rev rev past
 
     -- where the path came from itself in the revision before, its segment continues
-    pub IsGathered-on : origin.path ≡ place → lo ≤ origin.rev + 1 → IsGathered place_in peg segments hi before place origin.rev
+    pub IsGathered-on : origin.path ≡ place → lo ≤ origin.rev + 1 → IsGathered place_in peg segments hi records place origin.rev
     IsGathered-on same near =
-        subst (λ p. IsGathered place_in peg segments hi before p origin.rev) same (record {
-          rising = rising;
+        subst (λ p. IsGathered place_in peg segments hi records p origin.rev) same (record {
           there = there;
           traced = traced_on;
           same = λ rev from to. elim (cases_lt rev lo) [
@@ -125,9 +111,8 @@ module _ (place_in : ℕ → Option (List NameId)) (peg : ℕ) (segments : List 
         })
 
     next : (more : List (Segment NameId)) → segments ++ (more ++ segments_up_to same_name place_in origin.rev) ≡ segments_up_to same_name place_in peg
-        → IsGathered place_in peg (segments ++ more) origin.rev before origin.path origin.rev
+        → IsGathered place_in peg (segments ++ more) origin.rev records origin.path origin.rev
     next more gathered = record {
-      rising = rising;
       there = there;
       traced = traced_on;
       same = λ rev from to. (let here : rev ≡ origin.rev = omega arith in ap place_in here) ∙ at_origin;
@@ -137,7 +122,7 @@ module _ (place_in : ℕ → Option (List NameId)) (peg : ℕ) (segments : List 
 
     -- where it came from another place its segment is complete
     pub IsGathered-next : origin.path ≢ place → lo ≤ origin.rev + 1
-        → IsGathered place_in peg (segments ++ record { lo = lo; hi = hi; path = Some place } ∷ []) origin.rev before origin.path origin.rev
+        → IsGathered place_in peg (segments ++ record { lo = lo; hi = hi; path = Some place } ∷ []) origin.rev records origin.path origin.rev
     IsGathered-next other near =
         let here : suc origin.rev ≡ lo = omega arith in
         next (record { lo = lo; hi = hi; path = Some place } ∷ [])
@@ -149,7 +134,7 @@ module _ (place_in : ℕ → Option (List NameId)) (peg : ℕ) (segments : List 
 
     -- and so is the gap below it
     pub IsGathered-gap : origin.rev + 1 < lo
-        → IsGathered place_in peg (segments ++ record { lo = lo; hi = hi; path = Some place } ∷ record { lo = origin.rev + 1; hi = lo - 1; path = None } ∷ []) origin.rev before origin.path origin.rev
+        → IsGathered place_in peg (segments ++ record { lo = lo; hi = hi; path = Some place } ∷ record { lo = origin.rev + 1; hi = lo - 1; path = None } ∷ []) origin.rev records origin.path origin.rev
     IsGathered-gap far =
         let below : suc (lo - 1) ≡ lo = omega arith in
         let first : suc origin.rev ≡ origin.rev + 1 = omega arith in
@@ -167,17 +152,17 @@ module _ (place_in : ℕ → Option (List NameId)) (peg : ℕ) (segments : List 
     -- both, as they are appended
     pub IsGathered_push : (origin.path ≢ place) ⊎ (origin.rev + 1 < lo)
         → IsGathered place_in peg ((segments ++ record { lo = lo; hi = hi; path = Some place } ∷ [])
-        ++ map segment_view (gap_between origin.rev lo)) origin.rev before origin.path origin.rev
+        ++ map segment_view (gap_between origin.rev lo)) origin.rev records origin.path origin.rev
     IsGathered_push ends =
         let segment : Segment NameId = record { lo = lo; hi = hi; path = Some place } in
         let gap : KeptSegment = record { lo = origin.rev + 1; hi = lo - 1; path = None } in
-        let Wanted = λ (more : List (Segment NameId)). IsGathered place_in peg ((segments ++ segment ∷ []) ++ more) origin.rev before origin.path origin.rev in
+        let Wanted = λ (more : List (Segment NameId)). IsGathered place_in peg ((segments ++ segment ∷ []) ++ more) origin.rev records origin.path origin.rev in
         elim (cases_lt (origin.rev + 1) lo) [
           | inl far ↦
               subst (λ b. Wanted (map segment_view (if b then gap ∷ [] else []))) (sym (lt-ltb (origin.rev + 1) lo far))
-              (subst (λ all. IsGathered place_in peg all origin.rev before origin.path origin.rev) (sym (append_assoc segments (segment ∷ []) (segment_view gap ∷ []))) (IsGathered-gap far))
+              (subst (λ all. IsGathered place_in peg all origin.rev records origin.path origin.rev) (sym (append_assoc segments (segment ∷ []) (segment_view gap ∷ []))) (IsGathered-gap far))
           | inr near ↦
               subst (λ b. Wanted (map segment_view (if b then gap ∷ [] else []))) (sym (le-ltb (origin.rev + 1) lo near))
-              (subst (λ all. IsGathered place_in peg all origin.rev before origin.path origin.rev) (sym (append-nil (segments ++ segment ∷ [])))
+              (subst (λ all. IsGathered place_in peg all origin.rev records origin.path origin.rev) (sym (append-nil (segments ++ segment ∷ [])))
               (IsGathered-next (⊎_elim (λ other. other) (λ far. absurd (omega arith)) ends) near))
         ]

@@ -1,7 +1,10 @@
+pub mod Entries
 pub mod History
 pub mod Index
 pub mod NamedRevisions
+pub mod Nodes
 pub mod Operative
 pub mod RecordEffect
+pub mod RecordsByPath
 pub mod Segment
 pub mod Span

@@ -1,9 +1,9 @@
--- The revisions whose records name a path, as a walk over the records finds them.
+-- The revisions whose records name a path.
 use Rattle.std.specs.Prelude.{◌≡◌, ℕ, ◌-◌, Bool, List, ◌++◌, filter, map}
 use Rattle.svn_path.specs.Path.{same_name}
 use Rattle.svn_path.specs.declared.names.NameId.{NameId}
 use Rattle.svn_dump.specs.declared.record.NodeRecord.{NodeRecord}
-use Rattle.path_index.specs.History.{AreUpTo, records_of}
+use Rattle.path_index.specs.History.{records_of}
 use Rattle.path_index.specs.Operative.{down_from, hit_at, names_below}
 use Rattle.path_index.specs.declared.hit.Hit.{Hit}
 
@@ -15,7 +15,7 @@ is_named path records rev = names_below same_name path (records_of records rev)
 abbrev pub named_revisions : List NameId → ℕ → ℕ → List NodeRecord → List ℕ
 named_revisions path lo hi records = filter (is_named path records) (down_from (hi - lo) hi)
 
--- to the hits come the revisions after `lo`, in the segment at this place, whose records name the path or one below it
-abbrev pub AddsNamed : List Hit → List Hit → ℕ → List NameId → ℕ → List NodeRecord → Type 0
-AddsNamed old new place path lo records =
-    (hi : ℕ) → AreUpTo hi records → new ≡ old ++ map (hit_at place) (named_revisions path lo hi records)
+-- to the hits come the revisions after `lo` and up to `hi`, in the segment at this place, whose records name the path
+-- or one below it
+abbrev pub AddsNamed : List Hit → List Hit → ℕ → List NameId → ℕ → ℕ → List NodeRecord → Type 0
+AddsNamed old new place path lo hi records = new ≡ old ++ map (hit_at place) (named_revisions path lo hi records)

@@ -1,23 +1,21 @@
--- The newest revisions through which a path stood at one place, and what is before them.
+-- The newest revisions through which a path stood at one place, and where it stood before.
 use Rattle.std.specs.Prelude.{◌≡◌, ℕ, ◌<◌, ◌≤◌, nat_lt, if◌then◌else◌, IfSome, List, Option, None, Some, option_and_then}
 use Rattle.svn_path.specs.declared.names.NameId.{NameId}
 use Rattle.svn_dump.specs.declared.record.NodeRecord.{NodeRecord}
-use Rattle.path_index.specs.History.{AreRising}
 use Rattle.path_index.specs.Index.{IsThere, location_in}
 use Rattle.svn_dump.specs.declared.origin.Origin.{Origin}
 use Rattle.path_index.specs.declared.span.Span.{Span}
 
--- where a path with this origin stood in an earlier revision, by the records before the one that put it there
+-- where a path with this origin stood in an earlier revision
 abbrev pub location_before : List NodeRecord → ℕ → Option Origin → Option (List NameId)
-location_before before rev origin =
-    option_and_then (λ from. if nat_lt from.rev rev then None else location_in before from.path from.rev rev) origin
+location_before records rev origin =
+    option_and_then (λ from. if nat_lt from.rev rev then None else location_in records from.path from.rev rev) origin
 
--- from `lo` up to `peg` the path stood where it stands in `peg`, and its origin is a path of the records before
+-- from `lo` up to `peg` the path stood where it stands in `peg`, and before at its origin
 pub record IsSpan (records : List NodeRecord) (path : List NameId) (peg : ℕ) (span : Span) : Type 0 where
   pub within : span.lo ≤ peg
   pub stays : (rev : ℕ) → span.lo ≤ rev → rev ≤ peg → location_in records path peg rev ≡ Some path
   pub back : (rev : ℕ) → rev < span.lo
-      → location_in records path peg rev ≡ location_before span.before.now rev span.origin
+      → location_in records path peg rev ≡ location_before records rev span.origin
   pub earlier : IfSome span.origin (λ from. from.rev < span.lo)
-  pub there : IfSome span.origin (λ from. IsThere span.before.now from.path from.rev)
-  pub rising : AreRising span.before.now
+  pub there : IfSome span.origin (λ from. IsThere records from.path from.rev)

@@ -1,10 +1,11 @@
 //! An index of the records of a history.
 ghost use Rattle.std.specs.Prelude.{◌≡◌, ◌+◌, ◌^◌, ◌<◌, ◌++◌, None, IfOk, OnOk, length};
-ghost use Rattle.path_index.specs.History.{AreRising, records_up_to};
+ghost use Rattle.path_index.specs.History.{AreRising};
 ghost use Rattle.path_index.specs.Index.{AreHitsOf, AreMaximal, AreSegmentsOf, IsThere, IsWhole, gap_between, location_in};
-ghost use Rattle.path_index.specs.NamedRevisions.{AddsNamed};
+ghost use Rattle.path_index.specs.Span.{IsSpan};
 
 use crate::hit::Hit;
+use crate::records_by_path::RecordsByPath;
 use crate::segment::Segment;
 use crate::span::Span;
 use std::alloc::{AllocError, Global};
@@ -12,11 +13,12 @@ use std::marker::Model;
 use svn_dump::NodeRecord;
 use svn_path::Path;
 
-/// The records of a history, walked from the newest to the oldest for each question.
+/// The records of a history, which are searched for each question.
 #[derive(Drop)]
 pub struct Index {
     records: Vec<NodeRecord>,
     first: u32,
+    by_path: RecordsByPath,
 }
 
 impl Model for Index {
@@ -25,6 +27,10 @@ impl Model for Index {
     ghost Value = { IndexValue };
 
     ghost view = { λ i. record { records = i.records.items; first = i.first } };
+
+    ghost use Rattle.path_index.specs.RecordsByPath.{AreByPath};
+
+    ghost invariant = { λ i. AreByPath i.records.items i.by_path };
 }
 
 impl Index {
@@ -41,6 +47,7 @@ impl Index {
         Ok(Index {
             records: kept,
             first,
+            by_path: RecordsByPath::of(alloc, records)?,
         })
     }
 
@@ -52,12 +59,11 @@ impl Index {
         ensures maximal { IfOk result (λ segments. AreMaximal self.now path.now rev segments.items) }
     {
         let mut segments = Vec::new(*self.records.allocator());
-        let mut records = self.records.as_slice();
         let mut place = path.dup()?;
         let mut at = rev;
         let mut hi = rev;
         loop {
-            let Span { lo, origin, before } = Span::up_to(records, &place, at)?;
+            let Span { lo, origin } = self.span_up_to(&place, at)?;
             let Some(origin) = origin else {
                 segments.push(Segment {
                     lo,
@@ -66,7 +72,6 @@ impl Index {
                 })?;
                 return Ok(segments);
             };
-            records = before;
             at = origin.rev;
             // A copy of the path from itself one revision earlier does not end a segment.
             if origin.path != place || at + 1 < lo {
@@ -89,22 +94,29 @@ impl Index {
         ensures exact { IfOk result (λ found. found ≡ location_in self.now.records path.now peg rev) }
         ensures above_peg { peg < rev → IfOk result (λ found. found ≡ None) }
     {
-        let mut records = self.records.as_slice();
         let mut place = path.dup()?;
         let mut at = peg;
         while at >= rev {
-            let Span { lo, origin, before } = Span::up_to(records, &place, at)?;
+            let Span { lo, origin } = self.span_up_to(&place, at)?;
             if lo <= rev {
                 return Ok(Some(place));
             }
             let Some(origin) = origin else {
                 return Ok(None);
             };
-            records = before;
             place = origin.path;
             at = origin.rev;
         }
         Ok(None)
+    }
+
+    /// The span of the path of revision `peg`.
+    fn span_up_to(&self, path: &Path, peg: u32) -> Result<Span, AllocError>
+        requires rising { AreRising self.now.records }
+        requires there { IsThere self.now.records path.now peg }
+        ensures { IfOk result (IsSpan self.now.records path.now peg) }
+    {
+        Span::up_to(self.records.as_slice(), &self.by_path, path, peg)
     }
 
     /// The operative revisions of the paths of these segments, each in its segment, the newest first.
@@ -113,11 +125,10 @@ impl Index {
         ensures { IfOk result (λ hits. AreHitsOf self.now segments.now hits.items) }
     {
         let mut hits = Vec::new(*self.records.allocator());
-        let mut rest = self.records.as_slice();
         for (place, segment) in segments.iter().enumerate() {
-            rest = up_to(rest, segment.hi);
             if let Some(path) = &segment.path {
-                rest = push_named(&mut hits, place, path, segment.lo, rest)?;
+                self.by_path
+                    .push_named(&mut hits, place, path, segment.lo, segment.hi)?;
                 if segment.lo > 0 {
                     hits.push(Hit {
                         rev: segment.lo,
@@ -143,50 +154,4 @@ fn push_gap(segments: &mut Vec<Segment>, below: u32, above: u32) -> Result<(), A
         })?;
     }
     Ok(())
-}
-
-/// The records of the revisions up to this one.
-fn up_to(records: &[NodeRecord], rev: u32) -> &[NodeRecord]
-    requires { AreRising records.now }
-    ensures { result.now ≡ records_up_to rev records.now }
-{
-    let mut rest = records;
-    while let Some((last, before)) = rest.split_last() {
-        if last.rev <= rev {
-            return rest;
-        }
-        rest = before;
-    }
-    rest
-}
-
-/// Appends the revisions after `lo` whose records name the path or a path below it, the newest first. Returns the
-/// records of the revisions up to `lo`.
-fn push_named<'a>(
-    hits: &mut Vec<Hit>,
-    place: usize,
-    path: &Path,
-    lo: u32,
-    records: &'a [NodeRecord],
-) -> Result<&'a [NodeRecord], AllocError>
-    requires { AreRising records.now }
-    ensures hits { OnOk result (AddsNamed hits.old.items hits.new.items place path.now lo records.now) }
-    ensures rest { IfOk result (λ rest. rest.now ≡ records_up_to lo records.now) }
-{
-    let mut rest = records;
-    while let Some((last, before)) = rest.split_last() {
-        if last.rev <= lo {
-            break;
-        }
-        if last.path.starts_with(path) {
-            hits.push(Hit {
-                rev: last.rev,
-                segment: place,
-            })?;
-            rest = up_to(before, last.rev - 1);
-        } else {
-            rest = before;
-        }
-    }
-    Ok(rest)
 }

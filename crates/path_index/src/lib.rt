@@ -1,10 +1,13 @@
 //! Where paths stood through the revisions of a history, and their operative revisions.
 #![tactic(auto)]
 
+mod entries;
 mod hit;
 mod index;
-mod record_effect;
+mod nodes;
+mod records_by_path;
 mod segment;
+mod set_origin;
 mod span;
 
 pub use hit::Hit;

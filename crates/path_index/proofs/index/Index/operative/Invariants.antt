@@ -1,7 +1,7 @@
 use Rattle.std.proofs.Common.{map}
-use Rattle.path_index.proofs.Walks.{IsWalked}
+use Rattle.path_index.proofs.HitsOfSegments.{AreHitsTo}
 use Rattle.path_index.specs.Index.{segment_view}
 use Rattle.path_index.proofs.index.Index.operative.Given as goal
 
 abbrev pub invariant-loop-place : goal.invariant-loop-place
-invariant-loop-place l = IsWalked l.self.records (map segment_view l.segments) l.place l.rest l.hits.items
+invariant-loop-place l = AreHitsTo l.self.records (map segment_view l.segments) l.place l.hits.items

@@ -7,7 +7,7 @@ use Rattle.svn_path.specs.declared.names.NameId.{NameId}
 use Rattle.svn_path.proofs.Orders.{paths_eq-Decides}
 use Rattle.path_index.specs.History.{trees_to}
 use Rattle.path_index.specs.Segment.{segments_of}
-use Rattle.path_index.specs.Index.{IndexValue, IsThere, gap_between, segment_view}
+use Rattle.path_index.specs.Index.{IsThere, gap_between, segment_view}
 use Rattle.svn_dump.specs.declared.origin.Origin.{Origin}
 use Rattle.path_index.proofs.Segments.{AreSegments-segments_of}
 use Rattle.path_index.proofs.Traces.{IsGathered, IsGathered-none, IsGathered-all, IsGathered-on, IsGathered_push}
@@ -30,15 +30,12 @@ pub loop-place-init : goal.loop-place-init
 loop-place-init c =
     let all = c.args.self.now.records in
     let place_in = λ (rev : ℕ). location same_name (trees_to all c.args.rev) c.args.path.now c.args.rev rev in
-    subst (λ items. IsGathered place_in c.args.rev (map segment_view items) c.args.rev c.as_slice-records.result.now c.in_ok-place.place c.args.rev) (sym c.new-segments.ensures.items)
-    (IsGathered-none all c.as_slice-records.result.now c.args.path.now c.in_ok-place.place c.args.rev
-    (c.as_slice-records.ensures.value ∙ ap (λ (index : IndexValue). index.records) c.self.view_is) c.in_ok-place.ensures c.requires.whole.rising c.requires.there)
+    subst (λ items. IsGathered place_in c.args.rev (map segment_view items) c.args.rev all c.in_ok-place.place c.args.rev) (sym c.new-segments.ensures.items)
+    (subst (λ place. IsGathered place_in c.args.rev [] c.args.rev all place c.args.rev) (sym c.in_ok-place.ensures)
+    (IsGathered-none all c.args.path.now c.args.rev c.requires.there))
 
-pub up_to-requires-clause-rising : goal.up_to-requires-clause-rising
-up_to-requires-clause-rising c = c.loop-place.invariant.rising
-
-pub up_to-requires-clause-there : goal.up_to-requires-clause-there
-up_to-requires-clause-there c = c.loop-place.invariant.there
+pub span_up_to-requires-clause-there : goal.span_up_to-requires-clause-there
+span_up_to-requires-clause-there c = c.loop-place.invariant.there
 
 all_gathered : (c : goal.In_ok-push) → map segment_view c.push.new.self.items ≡ segments_of same_name (trees_to c.args.self.now.records c.args.rev) c.args.path.now c.args.rev
 all_gathered c =
@@ -47,9 +44,9 @@ all_gathered c =
     let lo = c.in_ok-lo.field-0.lo in
     ap (map segment_view) c.in_ok-push.ensures.items
     ∙ map-append segment_view c.loop-place.segments.items (record { lo = lo; hi = c.loop-place.hi; path = Some c.loop-place.place } ∷ [])
-    ∙ IsGathered-all place_in c.args.rev (map segment_view c.loop-place.segments.items) c.loop-place.hi c.loop-place.records.now c.loop-place.place c.loop-place.at
+    ∙ IsGathered-all place_in c.args.rev (map segment_view c.loop-place.segments.items) c.loop-place.hi c.args.self.now.records c.loop-place.place c.loop-place.at
     c.loop-place.invariant lo c.in_ok-lo.ensures.within c.in_ok-lo.ensures.stays
-    (λ rev past. c.in_ok-lo.ensures.back rev past ∙ ap (location_before c.in_ok-lo.field-0.before.now rev) c.in_default.is)
+    (λ rev past. c.in_ok-lo.ensures.back rev past ∙ ap (location_before c.args.self.now.records rev) c.in_default.is)
 
 pub returns-in_default-clause-exact : goal.returns-in_default-clause-exact
 returns-in_default-clause-exact c = all_gathered c
@@ -67,9 +64,8 @@ loop-place-preserved-in-loop-place c =
     let all = c.args.self.now.records in
     let place_in = λ (rev : ℕ). location same_name (trees_to all c.args.rev) c.args.path.now c.args.rev rev in
     let lo = c.in_ok-lo.field-0.lo in
-    let before = c.in_ok-lo.field-0.before.now in
     let origin = c.in-Some.origin in
-    let there = subst (λ o. IfSome o (λ (o : Origin). IsThere before o.path o.rev)) c.in-Some.is c.in_ok-lo.ensures.there in
+    let there = subst (λ o. IfSome o (λ (o : Origin). IsThere all o.path o.rev)) c.in-Some.is c.in_ok-lo.ensures.there in
     let earlier = subst (λ o. IfSome o (λ (o : Origin). o.rev < lo)) c.in-Some.is c.in_ok-lo.ensures.earlier in
     let ends : (origin.path ≢ c.loop-place.place) ⊎ (origin.rev + 1 < lo) = elim c.then-ne.branch [
       | then-ne-via-then-ne w ↦ inl (other_by_ne origin.path c.loop-place.place w.if-ne.ensures)
@@ -78,10 +74,10 @@ loop-place-preserved-in-loop-place c =
     let pushed = ap (map segment_view) c.in_ok-push-2.ensures.items
     ∙ map-append segment_view c.loop-place.segments.items (record { lo = lo; hi = c.loop-place.hi; path = Some c.loop-place.place } ∷ []) in
     let gap = gap_between origin.rev lo in
-    subst (λ segments. IsGathered place_in c.args.rev segments origin.rev before origin.path origin.rev) (sym (ap (map segment_view) c.in_ok-push_gap.ensures ∙ map-append segment_view c.push-then-ne.new.self.items gap ∙ ap (λ front. front ++ map segment_view gap) pushed))
-    (IsGathered_push place_in c.args.rev (map segment_view c.loop-place.segments.items) c.loop-place.hi c.loop-place.records.now c.loop-place.place c.loop-place.at
-    c.loop-place.invariant lo c.in_ok-lo.ensures.within c.in_ok-lo.ensures.stays before origin c.in_ok-lo.ensures.rising there earlier
-    (λ rev past. c.in_ok-lo.ensures.back rev past ∙ ap (location_before before rev) c.in-Some.is) ends)
+    subst (λ segments. IsGathered place_in c.args.rev segments origin.rev all origin.path origin.rev) (sym (ap (map segment_view) c.in_ok-push_gap.ensures ∙ map-append segment_view c.push-then-ne.new.self.items gap ∙ ap (λ front. front ++ map segment_view gap) pushed))
+    (IsGathered_push place_in c.args.rev (map segment_view c.loop-place.segments.items) c.loop-place.hi c.args.self.now.records c.loop-place.place c.loop-place.at
+    c.loop-place.invariant lo c.in_ok-lo.ensures.within c.in_ok-lo.ensures.stays origin there earlier
+    (λ rev past. c.in_ok-lo.ensures.back rev past ∙ ap (location_before all rev) c.in-Some.is) ends)
 
 pub loop-place-smaller : goal.loop-place-smaller
 loop-place-smaller c =
@@ -93,10 +89,9 @@ loop-place-preserved c =
     let all = c.args.self.now.records in
     let place_in = λ (rev : ℕ). location same_name (trees_to all c.args.rev) c.args.path.now c.args.rev rev in
     let lo = c.in_ok-lo.field-0.lo in
-    let before = c.in_ok-lo.field-0.before.now in
     let origin = c.in-Some.origin in
-    let there = subst (λ o. IfSome o (λ (o : Origin). IsThere before o.path o.rev)) c.in-Some.is c.in_ok-lo.ensures.there in
+    let there = subst (λ o. IfSome o (λ (o : Origin). IsThere all o.path o.rev)) c.in-Some.is c.in_ok-lo.ensures.there in
     let earlier = subst (λ o. IfSome o (λ (o : Origin). o.rev < lo)) c.in-Some.is c.in_ok-lo.ensures.earlier in
-    IsGathered-on place_in c.args.rev (map segment_view c.loop-place.segments.items) c.loop-place.hi c.loop-place.records.now c.loop-place.place c.loop-place.at
-    c.loop-place.invariant lo c.in_ok-lo.ensures.within c.in_ok-lo.ensures.stays before origin c.in_ok-lo.ensures.rising there earlier
-    (λ rev past. c.in_ok-lo.ensures.back rev past ∙ ap (location_before before rev) c.in-Some.is) (same_by_ne origin.path c.loop-place.place c.if-ne.ensures) c.if-at-lo.false
+    IsGathered-on place_in c.args.rev (map segment_view c.loop-place.segments.items) c.loop-place.hi c.args.self.now.records c.loop-place.place c.loop-place.at
+    c.loop-place.invariant lo c.in_ok-lo.ensures.within c.in_ok-lo.ensures.stays origin there earlier
+    (λ rev past. c.in_ok-lo.ensures.back rev past ∙ ap (location_before all rev) c.in-Some.is) (same_by_ne origin.path c.loop-place.place c.if-ne.ensures) c.if-at-lo.false

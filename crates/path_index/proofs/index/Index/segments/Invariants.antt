@@ -8,7 +8,7 @@ use Rattle.path_index.proofs.index.Index.segments.Given as goal
 
 abbrev pub invariant-loop-place : goal.invariant-loop-place
 invariant-loop-place l =
-    IsGathered (λ rev. location same_name (trees_to l.fn.self.records l.fn.rev) l.fn.path l.fn.rev rev) l.fn.rev (map segment_view l.segments.items) l.hi l.records l.place l.at
+    IsGathered (λ rev. location same_name (trees_to l.fn.self.records l.fn.rev) l.fn.path l.fn.rev rev) l.fn.rev (map segment_view l.segments.items) l.hi l.fn.self.records l.place l.at
 
 abbrev pub decreases-loop-place : goal.decreases-loop-place
 decreases-loop-place l = l.at

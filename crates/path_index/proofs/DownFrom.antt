@@ -1,0 +1,21 @@
+-- Numbers downwards that pass a test.
+use Rattle.std.proofs.Common.{◌≡◌, ℕ, zero, suc, pred, ◌+◌, ◌<◌, ◌≤◌, Bool, false, [], filter, refl, ◌∙◌, arith}
+use Rattle.path_index.specs.Operative.{down_from}
+
+-- two tests that agree at each of the numbers keep the same
+pub filter_down-same : (p q : ℕ → Bool) (n top : ℕ) → n ≤ top + 1 → ((k : ℕ) → k ≤ top → top < k + n → p k ≡ q k)
+    → filter p (down_from n top) ≡ filter q (down_from n top)
+filter_down-same p q zero top few agree = refl
+filter_down-same p q (suc zero) top few agree = rw (agree top (omega arith) (omega arith)) refl
+filter_down-same p q (suc (suc n)) zero few agree = absurd (omega arith)
+filter_down-same p q (suc (suc n)) (suc top) few agree =
+    let rest = filter_down-same p q (suc n) top (omega arith) (λ k up within. agree k (omega arith) (omega arith)) in
+    rw (agree (suc top) (omega arith) (omega arith), rest) refl
+
+-- a test that fails at each of them keeps none
+pub filter_down-none : (p : ℕ → Bool) (n top : ℕ) → n ≤ top + 1 → ((k : ℕ) → k ≤ top → top < k + n → p k ≡ false) → filter p (down_from n top) ≡ []
+filter_down-none p n top few fails = filter_down-same p (λ k. false) n top few fails ∙ none n top
+  where
+    none : (n top : ℕ) → filter (λ k. false) (down_from n top) ≡ []
+    none zero top = refl
+    none (suc n) top = none n (pred top)

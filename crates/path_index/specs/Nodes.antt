@@ -1,0 +1,28 @@
+-- Numbers for paths: a path's node is found from the root, one component after another.
+use Rattle.std.specs.Prelude.{◌≡◌, ℕ, suc, ◌==◌, Bool, ◌&&◌, List, [], ◌∷◌, ◌++◌, Option, Some, option_map, option_and_then, position}
+use Rattle.svn_path.specs.Path.{same_name}
+use Rattle.svn_path.specs.declared.names.NameId.{NameId}
+use Rattle.path_index.specs.declared.nodes.Child.{Child}
+
+abbrev pub same_child : Child → Child → Bool
+same_child a b = a.parent == b.parent && same_name a.name b.name
+
+-- the node of a component below another node: the root is node 0, and the child at a place in the list has the number
+-- after it
+abbrev pub child_of : List Child → ℕ → NameId → Option ℕ
+child_of children parent name =
+    option_map suc (position (same_child (record { parent = parent; name = name })) children)
+
+-- the node of a path below another node
+abbrev pub node_below : List Child → ℕ → List NameId → Option ℕ
+node_below children node [] = Some node
+node_below children node (name ∷ path) =
+    option_and_then (λ child. node_below children child path) (child_of children node name)
+
+abbrev pub node_of : List Child → List NameId → Option ℕ
+node_of children path = node_below children 0 path
+
+-- children were added, and none removed
+pub record IsGrown (old new : List Child) : Type 0 where
+  pub more : List Child
+  pub grown : new ≡ old ++ more

@@ -1,0 +1,79 @@
+//! The paths of records, each once, as a tree of components.
+ghost use Rattle.std.specs.Prelude.{◌≡◌, ◌++◌, List, [], Some, IfOk, OnOk};
+ghost use Rattle.path_index.specs.Nodes.{child_of, node_of, IsGrown};
+
+use indexmap::IndexSet;
+use std::alloc::{AllocError, Global};
+use std::marker::Model;
+use svn_path::{NameId, Path};
+
+/// A node, by the node above it and its last component.
+#[derive(Clone, Copy, PartialEq, Eq, Hash)]
+struct Child {
+    parent: u32,
+    name: NameId,
+}
+
+/// The nodes of some paths and of all paths above them. The root is node 0, and the others are numbered from 1.
+#[derive(Drop)]
+pub(crate) struct Nodes {
+    children: IndexSet<Child>,
+}
+
+impl Model for Nodes {
+    ghost use Rattle.std.specs.Prelude.{List, length, ◌<◌, ◌^◌};
+    ghost use Rattle.path_index.specs.declared.nodes.Child.{Child};
+
+    ghost Value = { List Child };
+
+    ghost view = { λ n. n.children.keys };
+
+    ghost invariant = { λ n. length n.children.keys < 2 ^ 32 };
+}
+
+impl Nodes {
+    /// The root alone. It takes no memory.
+    pub(crate) fn new(alloc: Global) -> Self
+        ensures { result ≡ [] }
+    {
+        Nodes {
+            children: IndexSet::new(alloc),
+        }
+    }
+
+    /// The node of a component below another node, which is added where it is new. A tree of 4,294,967,295 nodes below
+    /// the root takes no other: that is reported as want of memory.
+    pub(crate) fn add(&mut self, parent: u32, name: NameId) -> Result<u32, AllocError>
+        ensures node { IfOk result (λ node. child_of self.new parent name ≡ Some node) }
+        ensures grown { OnOk result (IsGrown self.old self.new) }
+    {
+        if self.children.len() == u32::MAX as usize {
+            return Err(AllocError);
+        }
+        let (index, _) = self.children.insert_full(Child { parent, name })?;
+        Ok(index as u32 + 1)
+    }
+
+    /// The node of a component below another node.
+    pub(crate) fn child(&self, parent: u32, name: NameId) -> Option<u32>
+        ensures { result ≡ child_of self.now parent name }
+    {
+        self.children
+            .get_index_of(&Child { parent, name })
+            .map(|index| index as u32 + 1)
+    }
+
+    /// The node of a path.
+    pub(crate) fn find(&self, path: &Path) -> Option<u32>
+        ensures { result ≡ node_of self.now path.now }
+    {
+        let mut node = 0;
+        for name in path.parts() {
+            node = match self.child(node, *name) {
+                Some(child) => child,
+                None => return None,
+            };
+        }
+        Some(node)
+    }
+}
