@@ -1,0 +1,5 @@
+pub mod Chain
+pub mod Making
+pub mod Parts
+pub mod Sum
+pub mod Weightless

@@ -1,0 +1,4 @@
+//! Sums, and threads that run at once.
+
+mod meetings;
+mod sums;

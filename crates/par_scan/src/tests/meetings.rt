@@ -1,0 +1,200 @@
+//! Joins and makes that wait for each other, so that all of them meet only where threads run at once.
+ghost use Rattle.std.specs.Prelude.{ℕ, ◌<◌, ◌≤◌, IfOk, ⊤};
+ghost use Rattle.par_scan.specs.Chain.{IsChain};
+ghost use Rattle.par_scan.specs.Weightless.{no_weight};
+
+use crate::{Acts, Make, make_all, scan, total};
+use std::alloc::{AllocError, Global};
+use std::sync::atomic::{AtomicUsize, Ordering};
+use std::test::Fail;
+use std::thread::Threads;
+
+// The first guests wait for each other.
+#[derive(Drop)]
+struct Meeting {
+    guests: usize,
+    came: AtomicUsize,
+    met: AtomicUsize,
+}
+
+impl Meeting {
+    fn new(guests: usize) -> Meeting {
+        Meeting {
+            guests,
+            came: AtomicUsize::new(0),
+            met: AtomicUsize::new(0),
+        }
+    }
+
+    // Those who come after the first guests do not wait. A guest who waited in vain is not counted.
+    fn attend(&self) {
+        let before = self.came.fetch_add(1, Ordering::SeqCst);
+        if before >= self.guests {
+            return;
+        }
+        for _ in 0..1_000_000_000u32 {
+            if self.came.load(Ordering::SeqCst) >= self.guests {
+                self.met.fetch_add(1, Ordering::SeqCst);
+                return;
+            }
+        }
+    }
+
+    fn met(&self) -> usize {
+        self.met.load(Ordering::SeqCst)
+    }
+}
+
+// An element whose joins attend a meeting.
+#[derive(Clone, Copy)]
+struct Item<'a> {
+    meeting: &'a Meeting,
+}
+
+impl<'a> Acts for Item<'a> {
+    ghost Point = { ℕ };
+
+    ghost act = { λ _ point. point };
+
+    ghost begin = { λ _. 0 };
+
+    ghost end = { λ _. 0 };
+
+    ghost weight = { λ _. 0 };
+
+    ghost weighs = { λ items joined acts. no_weight items };
+
+    fn fits(&self, later: &Self) -> bool {
+        true
+    }
+
+    fn unit(&self) -> Result<Self, AllocError> {
+        self.dup()
+    }
+
+    fn join(&self, later: &Self) -> Result<Self, AllocError> {
+        self.meeting.attend();
+        self.dup()
+    }
+
+    fn dup(&self) -> Result<Self, AllocError> {
+        Ok(Item {
+            meeting: self.meeting,
+        })
+    }
+}
+
+// Each make attends the meeting, but for those of the numbers from 1 to `absent`.
+#[derive(Clone, Copy)]
+struct Makes<'a> {
+    meeting: &'a Meeting,
+    absent: usize,
+}
+
+impl<'a> Make for Makes<'a> {
+    type Item = Item<'a>;
+
+    ghost has = { λ _ i. ⊤ };
+
+    ghost gives = { λ _ i item. ⊤ };
+
+    fn make(&self, i: usize) -> Result<Item<'a>, AllocError> {
+        if i == 0 || i > self.absent {
+            self.meeting.attend();
+        }
+        Ok(Item {
+            meeting: self.meeting,
+        })
+    }
+}
+
+// n items, whose makes attend no meeting.
+fn items<'a>(alloc: Global, meeting: &'a Meeting, n: usize) -> Result<Vec<Item<'a>>, Fail>
+    ensures { IfOk result (λ items. IsChain (λ _. 0) (λ _. 0) (λ _. 0) items.items) }
+{
+    let mut items = Vec::new(alloc);
+    for _ in 0..n {
+        items.push(Item { meeting })?;
+    }
+    Ok(items)
+}
+
+// How many first joins of a scan of n items met, of as many as there are parts.
+fn met_in_scan<R: Threads + Sync>(
+    rt: &R,
+    alloc: Global,
+    n: usize,
+    parts: usize,
+) -> Result<usize, Fail>
+    requires some { 0 < parts }
+    requires few { parts ≤ 64 }
+{
+    let meeting = Meeting::new(parts);
+    let scanned = scan(rt, alloc, items(alloc, &meeting, n)?, parts)?;
+    Ok(if scanned.len() == n { meeting.met() } else { 0 })
+}
+
+// The same of a total.
+fn met_in_total<R: Threads + Sync>(
+    rt: &R,
+    alloc: Global,
+    n: usize,
+    parts: usize,
+) -> Result<usize, Fail>
+    requires some { 0 < parts }
+    requires few { parts ≤ 64 }
+{
+    let meeting = Meeting::new(parts);
+    let all = total(rt, alloc, items(alloc, &meeting, n)?, parts)?;
+    Ok(if all.is_some() { meeting.met() } else { 0 })
+}
+
+// How many makes of n items met, where those of the numbers from 1 to `absent` do not attend.
+fn met_in_makes<R: Threads + Sync>(
+    rt: &R,
+    alloc: Global,
+    n: usize,
+    parts: usize,
+    absent: usize,
+) -> Result<usize, Fail>
+    requires some { 0 < parts }
+    requires few { parts ≤ 64 }
+{
+    let meeting = Meeting::new(parts);
+    let makes = Makes {
+        meeting: &meeting,
+        absent,
+    };
+    let made = make_all(rt, alloc, &makes, n, parts)?;
+    Ok(if made.len() == n { meeting.met() } else { 0 })
+}
+
+#[test]
+fn the_joins_of_two_pairs_meet(rt: HostRuntime) -> Result<(), Fail> {
+    assert_eq!(rt; met_in_scan(&rt, rt.alloc(), 4, 2)?, 2);
+    assert_eq!(rt; met_in_total(&rt, rt.alloc(), 4, 2)?, 2);
+    Ok(())
+}
+
+#[test]
+fn the_first_make_and_the_last_one_meet(rt: HostRuntime) -> Result<(), Fail> {
+    assert_eq!(rt; met_in_makes(&rt, rt.alloc(), 4, 2, 2)?, 2);
+    Ok(())
+}
+
+#[test]
+fn a_join_of_each_part_meets_the_others(rt: HostRuntime) -> Result<(), Fail> {
+    for parts in [2, 3, 8] {
+        assert_eq!(rt; met_in_scan(&rt, rt.alloc(), 40, parts)?, parts);
+        assert_eq!(rt; met_in_total(&rt, rt.alloc(), 40, parts)?, parts);
+    }
+    Ok(())
+}
+
+#[test]
+fn a_make_of_each_part_meets_the_others(rt: HostRuntime) -> Result<(), Fail> {
+    for parts in [2, 3, 8] {
+        assert_eq!(rt; met_in_makes(&rt, rt.alloc(), 40, parts, 0)?, parts);
+    }
+    Ok(())
+}
