@@ -11,7 +11,7 @@ from merges import query
 from questions import GENERATED, QUICK_REVISIONS, REVISIONS, Question, best_of, records_of
 
 # The number of queries of each verb, 200,000 in all; the answers to `log` and `eligible` are long.
-ASKED = {"locate": 60000, "segments": 60000, "log": 9000, "mergeinfo": 40000, "merged": 25000, "eligible": 6000}
+ASKED = {"locate": 60000, "segments": 58500, "log": 10500, "mergeinfo": 40000, "merged": 25000, "eligible": 6000}
 WORKERS = (1, 2, 4)
 # What four workers may take of the time of one.
 MOST_OF_ONE = 0.45
@@ -44,7 +44,7 @@ def run_workers(program, folder, given):
     dump = os.path.join(folder, "workers.dump")
     revisions = QUICK_REVISIONS if given.quick else REVISIONS
     with open(dump, "wb") as file:
-        generate([str(revisions)] + GENERATED, file)
+        generate(GENERATED + ["--revisions", str(revisions)], file)
     lines = queries_of(records_of(dump), given.quick)
     path = os.path.join(folder, "workers.queries")
     none = os.path.join(folder, "none.queries")
