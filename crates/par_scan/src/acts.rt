@@ -23,7 +23,8 @@ pub trait Acts: Send + Sync + Drop + Sized {
     ghost weight: { Self → ℕ };
 
     // An element that acts as others do, one after another, weighs as much as all of them.
-    ghost weighs: { (items : List Self) (joined : Self) → ActsAsAll act items joined → weight joined ≡ sum_by weight items };
+    ghost weighs: { (items : List Self) (joined : Self) → ActsAsAll act items joined
+        → weight joined ≡ sum_by weight items };
 
     /// Whether the later element may be joined to this one.
     fn fits(&self, later: &Self) -> bool

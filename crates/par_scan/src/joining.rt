@@ -52,9 +52,11 @@ pub(crate) fn join_owned<M: Acts>(mut items: Vec<M>) -> Result<Option<M>, AllocE
 
 /// The item joined to the last of the earlier elements, or an element that acts as it does where there is none.
 pub(crate) fn join_to_last<M: Acts>(earlier: &[M], item: &M) -> Result<M, AllocError>
-    requires { (d : M) → 0 < length earlier.now → IsChain M.begin M.end M.weight (last_and_next earlier.now d item.now) }
+    requires { (d : M) → 0 < length earlier.now
+        → IsChain M.begin M.end M.weight (last_and_next earlier.now d item.now) }
     ensures first { length earlier.now ≡ 0 → IfOk result (ActsLike M.act M.begin M.end item.now) }
-    ensures next { (d : M) → 0 < length earlier.now → IfOk result (IsJoined M.act M.begin M.end (last_and_next earlier.now d item.now)) }
+    ensures next { (d : M) → 0 < length earlier.now
+        → IfOk result (IsJoined M.act M.begin M.end (last_and_next earlier.now d item.now)) }
 {
     if earlier.is_empty() {
         return item.dup();

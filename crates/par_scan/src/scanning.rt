@@ -125,7 +125,8 @@ fn scan_parts<R: Threads + Sync, M: Acts>(
     requires size { 0 < size }
     requires chain { IsChain M.begin M.end M.weight items.now }
     ensures scanned { IfOk result (λ made. AreScans M.act M.begin M.end size items.now made.0.items) }
-    ensures before { IfOk result (λ made. IsFilled (IsUpToPart M.act M.begin M.end items.now size) 0 (length made.0.items - 1) made.1.items) }
+    ensures before { IfOk result (λ made.
+        IsFilled (IsUpToPart M.act M.begin M.end items.now size) 0 (length made.0.items - 1) made.1.items) }
 {
     let scanned = scan_each(rt, alloc, items, size)?;
     let mut before = Vec::with_capacity(alloc, scanned.len() - 1)?;
@@ -147,11 +148,14 @@ fn join_parts<R: Threads + Sync, M: Acts>(
     requires len { length before.now + 1 ≡ length parts.now }
     requires fits { (part : ℕ) → part < length before.now → FitsAt M.begin M.end M.weight before.now parts.now part }
     ensures len { IfOk result (λ joined. length joined.items ≡ length before.now) }
-    ensures each { IfOk result (λ joined. (part : ℕ) (d : _) → part < length before.now → IsAfterAt M.act M.begin M.end before.now parts.now part (slice_index_or joined.items part d).items) }
+    ensures each { IfOk result (λ joined. (part : ℕ) (d : _) → part < length before.now
+        → IsAfterAt M.act M.begin M.end before.now parts.now part (slice_index_or joined.items part d).items) }
 {
     let join_part = |part: usize| -> Result<Vec<M>, AllocError>
-        requires { (part < length before.now) × (length before.now + 1 ≡ length parts.now) × FitsAt M.begin M.end M.weight before.now parts.now part }
-        ensures { IfOk result (λ joined. IsAfterAt M.act M.begin M.end before.entry.now parts.entry.now part joined.items) }
+        requires { (part < length before.now) × (length before.now + 1 ≡ length parts.now)
+            × FitsAt M.begin M.end M.weight before.now parts.now part }
+        ensures { IfOk result (λ joined.
+            IsAfterAt M.act M.begin M.end before.entry.now parts.entry.now part joined.items) }
     { join_each(alloc, &before[part], parts[part + 1].as_slice()) };
     let results = map_indices(rt, alloc, before.len(), &join_part)?;
     all_ok(alloc, results)
