@@ -167,11 +167,15 @@ fn repo_of(alloc: Global, dump: &[u8]) -> Result<Repo, Fail> {
     Ok(Repo::new(dump, index, trees))
 }
 
-/// The text of the answer to a query, numbered 1.
-fn text_of(alloc: Global, repo: &Repo, line: &[u8]) -> Result<Vec<u8>, Fail> {
-    let found = answer(alloc, repo, Query::read(line))?;
+/// The answers to these query lines on a dump, one after the other.
+fn report_of(alloc: Global, dump: &[u8], lines: &[&[u8]]) -> Result<Vec<u8>, Fail> {
+    let repo = repo_of(alloc, dump)?;
     let mut out = Vec::new(alloc);
-    found.write(repo, 0, &mut out)?;
+    let mut place: u32 = 0;
+    for line in lines {
+        answer(alloc, &repo, Query::read(line))?.write(&repo, place, &mut out)?;
+        place = place.wrapping_add(1);
+    }
     Ok(out)
 }
 
@@ -192,25 +196,31 @@ fn other_lines_are_bad_queries(rt: HostRuntime) -> Result<(), Fail> {
 
 #[test]
 fn each_verb_has_its_lines(rt: HostRuntime) -> Result<(), Fail> {
-    let repo = repo_of(rt.alloc(), DUMP)?;
-    let found = text_of(rt.alloc(), &repo, b"locate\tb@2\t1")?;
-    assert_eq!(rt; found.as_slice(), b"#1 ok\n/trunk\n".as_slice());
-    let found = text_of(rt.alloc(), &repo, b"segments\tb@2")?;
-    assert_eq!(rt; found.as_slice(), b"#1 ok\n2-2 /b\n1-1 /trunk\n".as_slice());
-    let found = text_of(rt.alloc(), &repo, b"log\tb@2")?;
-    assert_eq!(rt; found.as_slice(), b"#1 ok\nr2 /b\nr1 /trunk\n".as_slice());
+    let lines = [
+        b"locate\tb@2\t1".as_slice(),
+        b"segments\tb@2".as_slice(),
+        b"log\tb@2".as_slice(),
+    ];
+    let found = report_of(rt.alloc(), DUMP, lines.as_slice())?;
+    assert_eq!(rt;
+        found.as_slice(),
+        b"#1 ok\n/trunk\n#2 ok\n2-2 /b\n1-1 /trunk\n#3 ok\nr2 /b\nr1 /trunk\n".as_slice()
+    );
     Ok(())
 }
 
 #[test]
 fn a_peg_needs_its_revision_and_its_path(rt: HostRuntime) -> Result<(), Fail> {
-    let repo = repo_of(rt.alloc(), DUMP)?;
-    let found = text_of(rt.alloc(), &repo, b"log\tb@3")?;
-    assert_eq!(rt; found.as_slice(), b"#1 no-such-revision\n".as_slice());
-    let found = text_of(rt.alloc(), &repo, b"log\tb@1")?;
-    assert_eq!(rt; found.as_slice(), b"#1 no-such-path\n".as_slice());
-    let found = text_of(rt.alloc(), &repo, b"log\ta/../b@2")?;
-    assert_eq!(rt; found.as_slice(), b"#1 bad-query\n".as_slice());
+    let lines = [
+        b"log\tb@3".as_slice(),
+        b"log\tb@1".as_slice(),
+        b"log\ta/../b@2".as_slice(),
+    ];
+    let found = report_of(rt.alloc(), DUMP, lines.as_slice())?;
+    assert_eq!(rt;
+        found.as_slice(),
+        b"#1 no-such-revision\n#2 no-such-path\n#3 bad-query\n".as_slice()
+    );
     Ok(())
 }
 
@@ -224,38 +234,43 @@ fn a_repository_has_the_names_of_its_paths(rt: HostRuntime) -> Result<(), Fail> 
 
 #[test]
 fn mergeinfo_is_that_of_the_nearest_path(rt: HostRuntime) -> Result<(), Fail> {
-    let repo = repo_of(rt.alloc(), MERGEINFO)?;
-    let found = text_of(rt.alloc(), &repo, b"mergeinfo\ta@1")?;
-    assert_eq!(rt; found.as_slice(), b"#1 ok\n/s:1*,2\n".as_slice());
-    let found = text_of(rt.alloc(), &repo, b"mergeinfo\ta/b@1")?;
-    assert_eq!(rt; found.as_slice(), b"#1 ok\n/s/b:2\n".as_slice());
-    let found = text_of(rt.alloc(), &repo, b"mergeinfo\ta/d@1")?;
-    assert_eq!(rt; found.as_slice(), b"#1 ok\n".as_slice());
+    let lines = [
+        b"mergeinfo\ta@1".as_slice(),
+        b"mergeinfo\ta/b@1".as_slice(),
+        b"mergeinfo\ta/d@1".as_slice(),
+    ];
+    let found = report_of(rt.alloc(), MERGEINFO, lines.as_slice())?;
+    assert_eq!(rt;
+        found.as_slice(),
+        b"#1 ok\n/s:1*,2\n#2 ok\n/s/b:2\n#3 ok\n".as_slice()
+    );
     Ok(())
 }
 
 #[test]
 fn malformed_mergeinfo_has_its_status(rt: HostRuntime) -> Result<(), Fail> {
-    let repo = repo_of(rt.alloc(), MERGEINFO)?;
-    let found = text_of(rt.alloc(), &repo, b"mergeinfo\tc@1")?;
-    assert_eq!(rt; found.as_slice(), b"#1 malformed-mergeinfo\n".as_slice());
-    let found = text_of(rt.alloc(), &repo, b"log\tc@1")?;
-    assert_eq!(rt; found.as_slice(), b"#1 ok\nr1 /c\n".as_slice());
+    let lines = [b"mergeinfo\tc@1".as_slice(), b"log\tc@1".as_slice()];
+    let found = report_of(rt.alloc(), MERGEINFO, lines.as_slice())?;
+    assert_eq!(rt;
+        found.as_slice(),
+        b"#1 malformed-mergeinfo\n#2 ok\nr1 /c\n".as_slice()
+    );
     Ok(())
 }
 
 /// The effective mergeinfo of a path as it is printed, unless it is malformed.
 fn effective_text(
     alloc: Global,
-    repo: &Repo,
+    dump: &[u8],
     path: &[u8],
     rev: u32,
 ) -> Result<Option<Vec<u8>>, Fail> {
+    let repo = repo_of(alloc, dump)?;
     let path = match Path::find(alloc, repo.names(), path)? {
         Lookup::Known(path) => path,
         Lookup::Unknown => return Err("no such path")?,
     };
-    match effective(alloc, repo, &path, rev)? {
+    match effective(alloc, &repo, &path, rev)? {
         Effective::Value(value) => {
             let mut text = Vec::new(alloc);
             value.write(&mut text)?;
@@ -267,19 +282,17 @@ fn effective_text(
 
 #[test]
 fn effective_mergeinfo_is_looked_up(rt: HostRuntime) -> Result<(), Fail> {
-    let repo = repo_of(rt.alloc(), BRANCH)?;
-    let found = effective_text(rt.alloc(), &repo, b"/branches/b", 9)?;
+    let found = effective_text(rt.alloc(), BRANCH, b"/branches/b", 9)?;
     assert!(rt; found.as_deref() == Some(b"/trunk/b:6\n".as_slice()));
-    let repo = repo_of(rt.alloc(), MERGEINFO)?;
-    let found = effective_text(rt.alloc(), &repo, b"/c", 1)?;
+    let found = effective_text(rt.alloc(), MERGEINFO, b"/c", 1)?;
     assert!(rt; found.is_none());
     Ok(())
 }
 
 #[test]
 fn an_answer_is_numbered_from_one(rt: HostRuntime) -> Result<(), Fail> {
-    let repo = repo_of(rt.alloc(), BRANCH)?;
-    let found = text_of(rt.alloc(), &repo, b"segments\t/branches/b@8")?;
+    let lines = [b"segments\t/branches/b@8".as_slice()];
+    let found = report_of(rt.alloc(), BRANCH, lines.as_slice())?;
     assert_eq!(rt;
         found.as_slice(),
         b"#1 ok\n4-8 /branches/b\n3-3 -\n1-2 /trunk\n".as_slice()
@@ -289,10 +302,14 @@ fn an_answer_is_numbered_from_one(rt: HostRuntime) -> Result<(), Fail> {
 
 #[test]
 fn merges_are_compared_by_location(rt: HostRuntime) -> Result<(), Fail> {
-    let repo = repo_of(rt.alloc(), BRANCH)?;
-    let found = text_of(rt.alloc(), &repo, b"merged\t/trunk@9\t/branches@9")?;
-    assert_eq!(rt; found.as_slice(), b"#1 ok\nr3*\nr6\n".as_slice());
-    let found = text_of(rt.alloc(), &repo, b"eligible\t/trunk@8\t/branches/b@8")?;
-    assert_eq!(rt; found.as_slice(), b"#1 ok\nr3\nr6\nr7\nr8\n".as_slice());
+    let lines = [
+        b"merged\t/trunk@9\t/branches@9".as_slice(),
+        b"eligible\t/trunk@8\t/branches/b@8".as_slice(),
+    ];
+    let found = report_of(rt.alloc(), BRANCH, lines.as_slice())?;
+    assert_eq!(rt;
+        found.as_slice(),
+        b"#1 ok\nr3*\nr6\n#2 ok\nr3\nr6\nr7\nr8\n".as_slice()
+    );
     Ok(())
 }
