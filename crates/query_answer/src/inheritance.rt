@@ -11,6 +11,9 @@ use merge_info::{MergeError, MergeInfo};
 use std::alloc::{AllocError, Global};
 use svn_path::{Names, Path};
 
+/// The bytes that are reserved for a printed path at first.
+pub(crate) const USUAL_PATH_LENGTH: usize = 64;
+
 /// The mergeinfo that holds for a path in a revision. The path is by the names of the repository. If it is not in the tree of
 /// the revision, this is what it would inherit.
 pub fn effective(alloc: Global, repo: &Repo, path: &Path, rev: u32) -> Result<Effective, AllocError>
@@ -59,7 +62,7 @@ fn printed_rest(
     ensures { IfOk result (λ text. text.items ≡ path_text (drop depth (components_of names.now path.now))) }
 {
     let (_, rest) = path.parts().split_at(depth);
-    let mut text = Vec::new(alloc);
+    let mut text = Vec::with_capacity(alloc, USUAL_PATH_LENGTH)?;
     Path::of(alloc, rest)?.write(names, &mut text)?;
     Ok(text)
 }

@@ -15,6 +15,9 @@ use std::alloc::{AllocError, Global};
 use std::sync::Wait;
 use std::thread::Threads;
 
+/// The bytes that are reserved for an answer at first. Most answers are shorter.
+const USUAL_LENGTH: usize = 128;
+
 /// The queries of a run on a repository. The places are those of their lines, and the result at a place is the text of
 /// its answer.
 #[derive(Clone, Copy)]
@@ -42,7 +45,7 @@ impl Job for Answering<'_> {
     }
 
     fn run(&self, place: u32, _state: &mut ()) -> Result<Vec<u8>, AllocError> {
-        let mut text = Vec::new(self.alloc);
+        let mut text = Vec::with_capacity(self.alloc, USUAL_LENGTH)?;
         answer_line(
             self.alloc,
             self.repo,
@@ -97,11 +100,20 @@ fn answer_line(
     answer(alloc, repo, Query::read(line))?.write(repo, place, out)
 }
 
+/// How many bytes all texts have.
+fn length_of(texts: &[Vec<u8>]) -> usize {
+    let mut length: usize = 0;
+    for text in texts {
+        length = length.saturating_add(text.len());
+    }
+    length
+}
+
 /// All texts, one after another.
 fn joined(alloc: Global, texts: Vec<Vec<u8>>) -> Result<Vec<u8>, AllocError>
     ensures { IfOk result (λ out. out.items ≡ flat_map (λ text. text.items) texts.items) }
 {
-    let mut out = Vec::new(alloc);
+    let mut out = Vec::with_capacity(alloc, length_of(texts.as_slice()))?;
     for text in texts {
         out.extend_from_slice(text.as_slice())?;
     }
