@@ -5,8 +5,9 @@ ghost use Rattle.par_scan.specs.Chain.{ActsAsAll, ActsLike, IsChain, IsJoined, I
 
 use std::alloc::AllocError;
 
-/// An element acts on points, and stands between two borders. Two elements fit where the later one begins at the border
-/// at which the earlier one ends; joined they act as the later one followed by the earlier one.
+/// An element acts on points, stands between two borders, and has a weight. Two elements fit where the later one begins
+/// at the border at which the earlier one ends and both together weigh less than 2^64. Joined they act as the later one
+/// followed by the earlier one.
 pub trait Acts: Send + Sync + Drop + Sized {
     // What the elements act on.
     ghost Point: { Type 0 };

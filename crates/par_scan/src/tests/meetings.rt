@@ -45,10 +45,30 @@ impl Meeting {
     }
 }
 
-// An element whose joins attend a meeting.
+// An element of so many neighbours, whose joins attend a meeting. Where the neighbours are told apart, only the join of
+// two single ones attends whose first has an even number.
 #[derive(Clone, Copy)]
 struct Item<'a> {
     meeting: &'a Meeting,
+    number: usize,
+    count: usize,
+    are_told_apart: bool,
+}
+
+impl<'a> Item<'a> {
+    // The element of a number alone.
+    fn single(meeting: &'a Meeting, number: usize, are_told_apart: bool) -> Item<'a> {
+        Item {
+            meeting,
+            number,
+            count: 1,
+            are_told_apart,
+        }
+    }
+
+    fn is_pair_with(&self, later: &Item<'a>) -> bool {
+        self.count == 1 && later.count == 1 && self.number % 2 == 0
+    }
 }
 
 impl<'a> Acts for Item<'a> {
@@ -73,14 +93,17 @@ impl<'a> Acts for Item<'a> {
     }
 
     fn join(&self, later: &Self) -> Result<Self, AllocError> {
-        self.meeting.attend();
-        self.dup()
+        if !self.are_told_apart || self.is_pair_with(later) {
+            self.meeting.attend();
+        }
+        Ok(Item {
+            count: self.count.saturating_add(later.count),
+            ..*self
+        })
     }
 
     fn dup(&self) -> Result<Self, AllocError> {
-        Ok(Item {
-            meeting: self.meeting,
-        })
+        Ok(*self)
     }
 }
 
@@ -102,19 +125,17 @@ impl<'a> Make for Makes<'a> {
         if i == 0 || i > self.absent {
             self.meeting.attend();
         }
-        Ok(Item {
-            meeting: self.meeting,
-        })
+        Ok(Item::single(self.meeting, i, false))
     }
 }
 
-// n items, whose makes attend no meeting.
+// n items, whose makes attend no meeting; the neighbours of four are told apart.
 fn items<'a>(alloc: Global, meeting: &'a Meeting, n: usize) -> Result<Vec<Item<'a>>, Fail>
     ensures { IfOk result (λ items. IsChain (λ _. 0) (λ _. 0) (λ _. 0) items.items) }
 {
     let mut items = Vec::new(alloc);
-    for _ in 0..n {
-        items.push(Item { meeting })?;
+    for number in 0..n {
+        items.push(Item::single(meeting, number, n == 4))?;
     }
     Ok(items)
 }

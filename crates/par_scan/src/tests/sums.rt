@@ -32,7 +32,7 @@ impl Make for Successors {
 
 #[test]
 fn four_sums_are_scanned(rt: HostRuntime) -> Result<(), Fail> {
-    for parts in 1..=4usize {
+    for parts in [1, 2, 3, 4, 5, 64] {
         let scanned = scan(&rt, rt.alloc(), four(rt.alloc())?, parts)?;
         assert_eq!(rt;
             scanned.as_slice(),
@@ -44,7 +44,7 @@ fn four_sums_are_scanned(rt: HostRuntime) -> Result<(), Fail> {
 
 #[test]
 fn four_sums_have_a_total(rt: HostRuntime) -> Result<(), Fail> {
-    for parts in 1..=4usize {
+    for parts in [1, 2, 3, 4, 5, 64] {
         let all = total(&rt, rt.alloc(), four(rt.alloc())?, parts)?;
         assert_eq!(rt; all, Some(Sum(10)));
     }
@@ -62,7 +62,7 @@ fn no_items_have_no_total(rt: HostRuntime) -> Result<(), Fail> {
 
 #[test]
 fn items_are_made_by_their_numbers(rt: HostRuntime) -> Result<(), Fail> {
-    for parts in 1..=4usize {
+    for parts in [1, 2, 3, 4, 5, 64] {
         let made = make_all(&rt, rt.alloc(), &Successors, 4, parts)?;
         assert_eq!(rt;
             made.as_slice(),
