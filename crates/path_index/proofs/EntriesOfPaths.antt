@@ -1,8 +1,8 @@
--- The entries of paths, as paths and records are added.
+-- The numbers of the nodes of paths, as paths and records are added.
 use Rattle.std.proofs.Common.{◌≡◌, ◌≢◌, ℕ, zero, suc, ◌+◌, ◌-◌, ◌^◌, ◌<◌, ◌≤◌, ◌==◌, Bool, true, false, ◌⊎◌, List, [], ◌∷◌, ◌++◌, Contains, filter, length, take, drop, slice_get, None, Some, inl, inr, refl, sym, ap, subst, ◌∙◌, append_assoc, append-nil, arith, length-append, true≢false}
+use Rattle.std.specs.Global.{Vec}
 use Rattle.std.proofs.lemmas.Bool.{cases_Bool, cases_lt, false_from_ne_true, eq-eqb, eqb-true, or_right}
 use Rattle.std.proofs.lemmas.List.{take_at, take-append-drop}
-use Rattle.std.proofs.lemmas.List.Elements.{Contains-append_left, Contains-push, Contains-push_cases}
 use Rattle.std.proofs.lemmas.Option.{same_Some, slice_get_within}
 use Rattle.svn_path.specs.Below.{is_below}
 use Rattle.svn_path.specs.Path.{same_name}
@@ -13,9 +13,9 @@ use Rattle.svn_dump.specs.declared.record.Act.{Act}
 use Rattle.svn_dump.specs.declared.record.Act.TheVariants as act
 use Rattle.svn_dump.specs.declared.record.Mi.{Mi}
 use Rattle.svn_dump.specs.declared.record.NodeRecord.{NodeRecord}
-use Rattle.path_index.specs.Entries.{entry_of, has_entry}
 use Rattle.path_index.specs.NamedRevisions.{is_named, named_revisions}
 use Rattle.path_index.specs.Nodes.{node_of, IsGrown}
+use Rattle.path_index.specs.Numbers.{has_number, AddsNumbers, ArePair, HasNumber, HaveSameNumbers}
 use Rattle.path_index.specs.Operative.{down_from}
 use Rattle.path_index.specs.RecordEffect.{IsAddition, IsCopy, SetsPath}
 use Rattle.path_index.specs.RecordsByPath.{IsEntryOf, HasEntryOf, AreEntriesOf, AddsEntries, IsOfSome, AddsPath, CopiesPath, IsFrontAt, NamesPath, AreListed, AreByPath, SetsAt}
@@ -23,7 +23,7 @@ use Rattle.path_index.specs.declared.nodes.Child.{Child}
 use Rattle.path_index.specs.declared.records_by_path.RecordsByPath.{RecordsByPath}
 use Rattle.path_index.proofs.DownFrom.{filter_down-same, filter_down-none}
 use Rattle.path_index.proofs.NodesOfPaths.{node_of-grown, node_of-one}
-use Rattle.path_index.proofs.NumbersOfNodes.{entry_of-one, has_entry-Contains, Contains-has_entry}
+use Rattle.path_index.proofs.NumbersOfNodes.{has_number-HasNumber, HasNumber-has_number}
 
 -- ---- nodes that are added
 
@@ -35,118 +35,104 @@ IsGrown-again old middle new one other =
     record { more = one.more ++ other.more; grown = other.grown ∙ ap (λ front. front ++ other.more) one.grown ∙ append_assoc old one.more other.more }
 
 module _ (old new : List Child) (grown : IsGrown old new) where
-  IsEntryOf-grown : (P : List NameId → ℕ → Type 0) (entry : ℕ) → IsEntryOf old P entry → IsEntryOf new P entry
-  IsEntryOf-grown P entry of = record {
-    path = of.path;
-    node = of.node;
-    number = of.number;
-    found = node_of-grown old new of.path of.node grown of.found;
-    is = of.is;
-    small = of.small;
-    holds = of.holds;
+  IsEntryOf-grown : (P : List NameId → ℕ → Type 0) (node number : ℕ) → IsEntryOf old P node number → IsEntryOf new P node number
+  IsEntryOf-grown P node number of = record { path = of.path; found = node_of-grown old new of.path node grown of.found; small = of.small; holds = of.holds }
+
+  HasEntryOf-grown : (path : List NameId) (number : ℕ) (lists : List (Vec ℕ)) → HasEntryOf old path number lists → HasEntryOf new path number lists
+  HasEntryOf-grown path number lists has = record { node = has.node; found = node_of-grown old new path has.node grown has.found; within = has.within }
+
+  pub AreEntriesOf-grown : (P : List NameId → ℕ → Type 0) (lists : List (Vec ℕ)) → AreEntriesOf old P lists → AreEntriesOf new P lists
+  AreEntriesOf-grown P lists are = record {
+    sound = λ node number has. IsEntryOf-grown P node number (are.sound node number has);
+    complete = λ path number holds. HasEntryOf-grown path number lists (are.complete path number holds);
   }
 
-  HasEntryOf-grown : (path : List NameId) (number : ℕ) (entries : List ℕ) → HasEntryOf old path number entries → HasEntryOf new path number entries
-  HasEntryOf-grown path number entries has = record { node = has.node; found = node_of-grown old new path has.node grown has.found; within = has.within }
-
-  pub AreEntriesOf-grown : (P : List NameId → ℕ → Type 0) (entries : List ℕ) → AreEntriesOf old P entries → AreEntriesOf new P entries
-  AreEntriesOf-grown P entries are = record {
-    sound = λ entry within. IsEntryOf-grown P entry (are.sound entry within);
-    complete = λ path number holds. HasEntryOf-grown path number entries (are.complete path number holds);
-  }
-
-  pub AddsEntries-grown : (P : List NameId → ℕ → Type 0) (before after : List ℕ) → AddsEntries old P before after → AddsEntries new P before after
+  pub AddsEntries-grown : (P : List NameId → ℕ → Type 0) (before after : List (Vec ℕ)) → AddsEntries old P before after → AddsEntries new P before after
   AddsEntries-grown P before after adds = record {
     kept = adds.kept;
-    sound = λ entry within. elim (adds.sound entry within) [ inl kept ↦ inl kept | inr of ↦ inr (IsEntryOf-grown P entry of) ];
+    sound = λ node number has. elim (adds.sound node number has) [ inl kept ↦ inl kept | inr of ↦ inr (IsEntryOf-grown P node number of) ];
     complete = λ path number holds. HasEntryOf-grown path number after (adds.complete path number holds);
   }
 
-IsEntryOf-weaker : (nodes : List Child) (P Q : List NameId → ℕ → Type 0) → ((path : List NameId) (number : ℕ) → P path number → Q path number) → (entry : ℕ) → IsEntryOf nodes P entry → IsEntryOf nodes Q entry
-IsEntryOf-weaker nodes P Q weaker entry of = record {
-  path = of.path;
-  node = of.node;
-  number = of.number;
-  found = of.found;
-  is = of.is;
-  small = of.small;
-  holds = weaker of.path of.number of.holds;
-}
+pub IsEntryOf-weaker : (nodes : List Child) (P Q : List NameId → ℕ → Type 0) → ((path : List NameId) (number : ℕ) → P path number → Q path number) → (node number : ℕ) → IsEntryOf nodes P node number
+    → IsEntryOf nodes Q node number
+IsEntryOf-weaker nodes P Q weaker node number of = record { path = of.path; found = of.found; small = of.small; holds = weaker of.path number of.holds }
 
-HasEntryOf-more : (nodes : List Child) (path : List NameId) (number : ℕ) (old new : List ℕ) → ((entry : ℕ) → Contains old entry → Contains new entry) → HasEntryOf nodes path number old → HasEntryOf nodes path number new
-HasEntryOf-more nodes path number old new kept has = record { node = has.node; found = has.found; within = kept (entry_of has.node number) has.within }
+pub HasEntryOf-more : (nodes : List Child) (path : List NameId) (number : ℕ) (old new : List (Vec ℕ)) → ((node number : ℕ) → HasNumber old node number → HasNumber new node number) → HasEntryOf nodes path number old
+    → HasEntryOf nodes path number new
+HasEntryOf-more nodes path number old new kept has = record { node = has.node; found = has.found; within = kept has.node number has.within }
 
--- ---- entries that are added
+-- ---- numbers that are added
 
 -- where nothing holds, none
-pub AddsEntries-none : (nodes : List Child) (P : List NameId → ℕ → Type 0) (entries : List ℕ) → ((path : List NameId) (number : ℕ) → P path number → ⊥) → AddsEntries nodes P entries entries
-AddsEntries-none nodes P entries never = record {
-  kept = λ entry within. within;
-  sound = λ entry within. inl within;
+pub AddsEntries-none : (nodes : List Child) (P : List NameId → ℕ → Type 0) (lists : List (Vec ℕ)) → ((path : List NameId) (number : ℕ) → P path number → ⊥) → AddsEntries nodes P lists lists
+AddsEntries-none nodes P lists never = record {
+  kept = λ node number has. has;
+  sound = λ node number has. inl has;
   complete = λ path number holds. absurd (never path number holds);
 }
 
 -- one more
-pub AddsEntries_push : (nodes : List Child) (P Q : List NameId → ℕ → Type 0) (old new : List ℕ) (path : List NameId) (node number : ℕ) → AddsEntries nodes P old new → node_of nodes path ≡ Some node → number < 2 ^ 32
+pub AddsEntries-more : (nodes : List Child) (P Q : List NameId → ℕ → Type 0) (old middle new : List (Vec ℕ)) (path : List NameId) (node number : ℕ) → AddsEntries nodes P old middle → AddsNumbers (ArePair node number) middle new
+    → node_of nodes path ≡ Some node → number < 2 ^ 32
     → ((p : List NameId) (n : ℕ) → P p n → Q p n) → Q path number → ((p : List NameId) (n : ℕ) → Q p n → P p n ⊎ ((p ≡ path) × (n ≡ number)))
-    → AddsEntries nodes Q old (new ++ entry_of node number ∷ [])
-AddsEntries_push nodes P Q old new path node number adds found small weaker here cases =
-    let all = new ++ entry_of node number ∷ [] in
-    let kept = λ (entry : ℕ) (within : Contains new entry). Contains-append_left new (entry_of node number ∷ []) entry within in
-    let added : HasEntryOf nodes path number all = record { node = node; found = found; within = Contains-push new (entry_of node number) } in
+    → AddsEntries nodes Q old new
+AddsEntries-more nodes P Q old middle new path node number adds inserted found small weaker here cases =
+    let added : HasEntryOf nodes path number new = record { node = node; found = found; within = inserted.complete node number (refl, refl) } in
     record {
-      kept = λ entry within. kept entry (adds.kept entry within);
-      sound = λ entry within. elim (Contains-push_cases new (entry_of node number) entry within) [
-        | inl earlier ↦ elim (adds.sound entry earlier) [ inl before ↦ inl before | inr of ↦ inr (IsEntryOf-weaker nodes P Q weaker entry of) ]
-        | inr is ↦ inr (record { path = path; node = node; number = number; found = found; is = sym is; small = small; holds = here })
+      kept = λ other each has. inserted.kept other each (adds.kept other each has);
+      sound = λ other each has. elim (inserted.sound other each has) [
+        | inl earlier ↦ elim (adds.sound other each earlier) [ inl before ↦ inl before | inr of ↦ inr (IsEntryOf-weaker nodes P Q weaker other each of) ]
+        | inr (is_node, is_number) ↦
+            inr (record { path = path; found = found ∙ ap Some (sym is_node); small = omega (arith, is_number); holds = subst (Q path) (sym is_number) here })
       ];
       complete = λ p n holds. elim (cases p n holds) [
-        | inl earlier ↦ HasEntryOf-more nodes p n new all kept (adds.complete p n earlier)
-        | inr (same, number_same) ↦ subst (λ q. HasEntryOf nodes q n all) (sym same) (subst (λ m. HasEntryOf nodes path m all) (sym number_same) added)
+        | inl earlier ↦ HasEntryOf-more nodes p n middle new inserted.kept (adds.complete p n earlier)
+        | inr (same, number_same) ↦ subst (λ q. HasEntryOf nodes q n new) (sym same) (subst (λ m. HasEntryOf nodes path m new) (sym number_same) added)
       ];
     }
 
 -- those of the paths above a path: the root
-pub AddsEntries-root : (nodes : List Child) (whole : List NameId) (rev : ℕ) (old : List ℕ) → rev < 2 ^ 32 → AddsEntries nodes (IsFrontAt whole 0 rev) old (old ++ entry_of 0 rev ∷ [])
-AddsEntries-root nodes whole rev old small =
-    AddsEntries_push nodes (λ p n. ⊥) (IsFrontAt whole 0 rev) old old [] 0 rev (AddsEntries-none nodes (λ p n. ⊥) old (λ p n never. never)) refl small
+pub AddsEntries-root : (nodes : List Child) (whole : List NameId) (rev : ℕ) (old new : List (Vec ℕ)) → rev < 2 ^ 32 → AddsNumbers (ArePair 0 rev) old new → AddsEntries nodes (IsFrontAt whole 0 rev) old new
+AddsEntries-root nodes whole rev old new small inserted =
+    AddsEntries-more nodes (λ p n. ⊥) (IsFrontAt whole 0 rev) old old new [] 0 rev (AddsEntries-none nodes (λ p n. ⊥) old (λ p n never. never)) inserted refl small
     (λ p n never. absurd never) ((0, omega arith, refl), refl)
     (λ p n ((k, few, is), at). let none : k ≡ 0 = omega arith in inr (is ∙ ap (λ m. take m whole) none, at))
 
 -- and one after another
-pub AddsEntries-next : (nodes : List Child) (whole : List NameId) (most rev node : ℕ) (old new : List ℕ) → AddsEntries nodes (IsFrontAt whole most rev) old new → node_of nodes (take (most + 1) whole) ≡ Some node
-    → rev < 2 ^ 32 → AddsEntries nodes (IsFrontAt whole (most + 1) rev) old (new ++ entry_of node rev ∷ [])
-AddsEntries-next nodes whole most rev node old new adds found small =
-    AddsEntries_push nodes (IsFrontAt whole most rev) (IsFrontAt whole (most + 1) rev) old new (take (most + 1) whole) node rev adds found small
+pub AddsEntries-next : (nodes : List Child) (whole : List NameId) (most rev node : ℕ) (old middle new : List (Vec ℕ)) → AddsEntries nodes (IsFrontAt whole most rev) old middle → node_of nodes (take (most + 1) whole) ≡ Some node
+    → rev < 2 ^ 32 → AddsNumbers (ArePair node rev) middle new → AddsEntries nodes (IsFrontAt whole (most + 1) rev) old new
+AddsEntries-next nodes whole most rev node old middle new adds found small inserted =
+    AddsEntries-more nodes (IsFrontAt whole most rev) (IsFrontAt whole (most + 1) rev) old middle new (take (most + 1) whole) node rev adds inserted found small
     (λ p n ((k, few, is), at). ((k, omega arith, is), at)) ((most + 1, omega arith, refl), refl)
     (λ p n ((k, few, is), at). elim (cases_lt most k) [
       | inl last ↦ let same : k ≡ most + 1 = omega arith in inr (is ∙ ap (λ m. take m whole) same, at)
       | inr earlier ↦ inl ((k, earlier, is), at)
     ])
 
--- ---- the entries of records
+-- ---- the numbers of records
 
 -- at first
-pub AreEntriesOf-none : (nodes : List Child) (IsOf : NodeRecord → ℕ → List NameId → ℕ → Type 0) (records : List NodeRecord) (entries : List ℕ) → entries ≡ [] → AreEntriesOf nodes (IsOfSome IsOf records 0) entries
-AreEntriesOf-none nodes IsOf records entries none = record {
-  sound = λ entry within. absurd (let below = (subst (λ all. Contains all entry) none within).1 in omega (arith, below));
+pub AreEntriesOf-none : (nodes : List Child) (IsOf : NodeRecord → ℕ → List NameId → ℕ → Type 0) (records : List NodeRecord) → AreEntriesOf nodes (IsOfSome IsOf records 0) []
+AreEntriesOf-none nodes IsOf records = record {
+  sound = λ node number (k, within, is). absurd (omega (arith, within));
   complete = λ path number of. absurd (let early = of.early in omega (arith, early));
 }
 
 -- one record more
-pub AreEntriesOf-more : (old_nodes nodes : List Child) (IsOf : NodeRecord → ℕ → List NameId → ℕ → Type 0) (records : List NodeRecord) (place : ℕ) (each : NodeRecord) (old new : List ℕ)
+pub AreEntriesOf-more : (old_nodes nodes : List Child) (IsOf : NodeRecord → ℕ → List NameId → ℕ → Type 0) (records : List NodeRecord) (place : ℕ) (each : NodeRecord) (old new : List (Vec ℕ))
     → IsGrown old_nodes nodes → slice_get records place ≡ Some each → AreEntriesOf old_nodes (IsOfSome IsOf records place) old → AddsEntries nodes (IsOf each place) old new
     → AreEntriesOf nodes (IsOfSome IsOf records (place + 1)) new
 AreEntriesOf-more old_nodes nodes IsOf records place each old new grown at are adds =
     let before = AreEntriesOf-grown old_nodes nodes grown (IsOfSome IsOf records place) old are in
     record {
-      sound = λ entry within. elim (adds.sound entry within) [
+      sound = λ node number has. elim (adds.sound node number has) [
         | inl earlier ↦
             IsEntryOf-weaker nodes (IsOfSome IsOf records place) (IsOfSome IsOf records (place + 1))
-            (λ path number of. record { place = of.place; each = of.each; early = (let early = of.early in omega (arith, early)); at = of.at; so = of.so }) entry (before.sound entry earlier)
+            (λ path n of. record { place = of.place; each = of.each; early = (let early = of.early in omega (arith, early)); at = of.at; so = of.so }) node number (before.sound node number earlier)
         | inr of ↦
             IsEntryOf-weaker nodes (IsOf each place) (IsOfSome IsOf records (place + 1))
-            (λ path number so. record { place = place; each = each; early = omega arith; at = at; so = so }) entry of
+            (λ path n so. record { place = place; each = each; early = omega arith; at = at; so = so }) node number of
       ];
       complete = λ path number of. elim (cases_lt of.place place) [
         | inl earlier ↦
@@ -160,7 +146,7 @@ AreEntriesOf-more old_nodes nodes IsOf records place each old new grown at are a
     }
 
 -- all three lists, where each gets those of the record
-pub AreListed-more : (old_nodes nodes : List Child) (records : List NodeRecord) (place : ℕ) (each : NodeRecord) (added copied named added' copied' named' : List ℕ) → IsGrown old_nodes nodes → slice_get records place ≡ Some each
+pub AreListed-more : (old_nodes nodes : List Child) (records : List NodeRecord) (place : ℕ) (each : NodeRecord) (added copied named added' copied' named' : List (Vec ℕ)) → IsGrown old_nodes nodes → slice_get records place ≡ Some each
     → AreListed records place old_nodes added copied named → AddsEntries nodes (AddsPath each place) added added' → AddsEntries nodes (CopiesPath each place) copied copied' → AddsEntries nodes (NamesPath each place) named named'
     → AreListed records (place + 1) nodes added' copied' named'
 AreListed-more old_nodes nodes records place each added copied named added' copied' named' grown at so adds copies names = record {
@@ -169,16 +155,15 @@ AreListed-more old_nodes nodes records place each added copied named added' copi
   of_named = AreEntriesOf-more old_nodes nodes NamesPath records place each named named' grown at so.of_named names;
 }
 
-module _ (Is : Act → Type 0) (nodes : List Child) (each : NodeRecord) (place : ℕ) (old : List ℕ) where
+module _ (Is : Act → Type 0) (nodes : List Child) (each : NodeRecord) (place : ℕ) (old : List (Vec ℕ)) where
   abbrev IsOwn : List NameId → ℕ → Type 0
   IsOwn path number = Is each.act × (each.path ≡ path) × (number ≡ place)
 
   -- a record with such an act adds its own path
-  pub AddsEntries-own : (act : Act) → each.act ≡ act → Is act → (node : ℕ) (new : List ℕ) → node_of nodes each.path ≡ Some node → place < 2 ^ 32 → new ≡ old ++ entry_of node place ∷ [] → AddsEntries nodes IsOwn old new
-  AddsEntries-own act is so node new found small pushed =
-      subst (AddsEntries nodes IsOwn old) (sym pushed)
-      (AddsEntries_push nodes (λ p n. ⊥) IsOwn old old each.path node place (AddsEntries-none nodes (λ p n. ⊥) old (λ p n never. never)) found small
-      (λ p n never. absurd never) (subst Is (sym is) so, refl, refl) (λ p n (acts, own, here). inr (sym own, here)))
+  pub AddsEntries-own : (act : Act) → each.act ≡ act → Is act → (node : ℕ) (new : List (Vec ℕ)) → node_of nodes each.path ≡ Some node → place < 2 ^ 32 → AddsNumbers (ArePair node place) old new → AddsEntries nodes IsOwn old new
+  AddsEntries-own act is so node new found small inserted =
+      AddsEntries-more nodes (λ p n. ⊥) IsOwn old old new each.path node place (AddsEntries-none nodes (λ p n. ⊥) old (λ p n never. never)) inserted found small
+      (λ p n never. absurd never) (subst Is (sym is) so, refl, refl) (λ p n (acts, own, here). inr (sym own, here))
 
   -- another adds none
   pub AddsEntries-other : (Is each.act → ⊥) → AddsEntries nodes IsOwn old old
@@ -205,27 +190,32 @@ not_IsCopy each not_so = by each.act refl
     by (act.Add replace kind mi) is so = so
     by (act.Copy replace from from_rev mi) is so = not_so replace from from_rev mi is
 
--- the same entries in another order
-pub AreEntriesOf-same : (nodes : List Child) (P : List NameId → ℕ → Type 0) (old new : List ℕ) → ((entry : ℕ) → (Contains new entry → Contains old entry) × (Contains old entry → Contains new entry))
-    → AreEntriesOf nodes P old → AreEntriesOf nodes P new
+-- the same numbers again
+AreEntriesOf-same : (nodes : List Child) (P : List NameId → ℕ → Type 0) (old new : List (Vec ℕ)) → HaveSameNumbers old new → AreEntriesOf nodes P old → AreEntriesOf nodes P new
 AreEntriesOf-same nodes P old new same are = record {
-  sound = λ entry within. are.sound entry ((same entry).0 within);
-  complete = λ path number holds. HasEntryOf-more nodes path number old new (λ entry. (same entry).1) (are.complete path number holds);
+  sound = λ node number has. are.sound node number (subst (λ all. Contains all number) (same node) has);
+  complete = λ path number holds. HasEntryOf-more nodes path number old new (λ node n. subst (λ all. Contains all n) (sym (same node))) (are.complete path number holds);
 }
 
--- an entry of a path's node is there exactly where it should be
-pub holds-from_entry : (nodes : List Child) (P : List NameId → ℕ → Type 0) (entries : List ℕ) (path : List NameId) (number : ℕ) → AreEntriesOf nodes P entries → number < 2 ^ 32 → HasEntryOf nodes path number entries → P path number
-holds-from_entry nodes P entries path number are small has =
-    let of = are.sound (entry_of has.node number) has.within in
-    let (node, same) = entry_of-one has.node of.node number of.number small of.small of.is in
-    let paths : of.path ≡ path = node_of-one nodes of.path path has.node (of.found ∙ ap Some (sym node)) has.found in
-    subst (λ p. P p number) paths (subst (λ n. P of.path n) (sym same) of.holds)
+pub AreListed-same : (records : List NodeRecord) (count : ℕ) (nodes : List Child) (added copied named added' copied' named' : List (Vec ℕ)) → HaveSameNumbers added added' → HaveSameNumbers copied copied'
+    → HaveSameNumbers named named' → AreListed records count nodes added copied named → AreListed records count nodes added' copied' named'
+AreListed-same records count nodes added copied named added' copied' named' adds copies names so = record {
+  of_added = AreEntriesOf-same nodes (IsOfSome AddsPath records count) added added' adds so.of_added;
+  of_copied = AreEntriesOf-same nodes (IsOfSome CopiesPath records count) copied copied' copies so.of_copied;
+  of_named = AreEntriesOf-same nodes (IsOfSome NamesPath records count) named named' names so.of_named;
+}
+
+-- a path's node has exactly the numbers that it should have
+pub holds-HasEntryOf : (nodes : List Child) (P : List NameId → ℕ → Type 0) (lists : List (Vec ℕ)) (path : List NameId) (number : ℕ) → AreEntriesOf nodes P lists → HasEntryOf nodes path number lists → P path number
+holds-HasEntryOf nodes P lists path number are has =
+    let of = are.sound has.node number has.within in
+    subst (λ p. P p number) (node_of-one nodes of.path path has.node of.found has.found) of.holds
 
 -- of a path that has a node
-pub Contains-HasEntryOf : (nodes : List Child) (path : List NameId) (node number : ℕ) (entries : List ℕ) → node_of nodes path ≡ Some node → HasEntryOf nodes path number entries → Contains entries (entry_of node number)
-Contains-HasEntryOf nodes path node number entries found has =
+pub HasNumber-HasEntryOf : (nodes : List Child) (path : List NameId) (node number : ℕ) (lists : List (Vec ℕ)) → node_of nodes path ≡ Some node → HasEntryOf nodes path number lists → HasNumber lists node number
+HasNumber-HasEntryOf nodes path node number lists found has =
     let same : has.node ≡ node = same_Some has.node node (sym has.found ∙ found) in
-    subst (λ n. Contains entries (entry_of n number)) same has.within
+    subst (λ n. HasNumber lists n number) same has.within
 
 -- ---- the revisions in which a path is named
 
@@ -267,13 +257,13 @@ take-from_is_below whole path below =
     let (rest, is) = (is_below-append IsSame-same_name path whole).0 below in
     (length path, omega (arith, ap length is, length-append path rest), sym (ap (take (length path)) is ∙ take_at path rest (length path) refl))
 
--- what is found by the entries are the revisions whose records name the path
-has_entry-is_named : (records : List NodeRecord) (by_path : RecordsByPath) → AreByPath records by_path → (path : List NameId) (node : ℕ) → node_of by_path.nodes path ≡ Some node → (rev : ℕ) → rev < 2 ^ 32
-    → has_entry by_path.named (entry_of node rev) ≡ is_named path records rev
-has_entry-is_named records by_path are path node found rev small = elim (cases_Bool (has_entry by_path.named (entry_of node rev))) [
+-- what is found by the numbers are the revisions whose records name the path
+has_number-is_named : (records : List NodeRecord) (by_path : RecordsByPath) → AreByPath records by_path → (path : List NameId) (node : ℕ) → node_of by_path.nodes path ≡ Some node → (rev : ℕ)
+    → has_number by_path.named node rev ≡ is_named path records rev
+has_number-is_named records by_path are path node found rev = elim (cases_Bool (has_number by_path.named node rev)) [
   | inl has ↦
-      let of = holds-from_entry by_path.nodes (IsOfSome NamesPath records (length records)) by_path.named path rev are.listed.of_named small
-      (record { node = node; found = found; within = Contains-has_entry by_path.named (entry_of node rev) has }) in
+      let of = holds-HasEntryOf by_path.nodes (IsOfSome NamesPath records (length records)) by_path.named path rev are.listed.of_named
+      (record { node = node; found = found; within = HasNumber-has_number by_path.named node rev has }) in
       let ((n, few, is), at) = of.so in
       has ∙ sym (is_named-from_place path rev records of.place of.each of.at (sym at) (is_below-from_take of.each.path path n is))
   | inr lacks ↦
@@ -281,7 +271,7 @@ has_entry-is_named records by_path are path node found rev small = elim (cases_B
       let (place, each, at, here, below) = place-from_is_named path rev records named in
       let front = take-from_is_below each.path path below in
       let has = are.listed.of_named.complete path rev (record { place = place; each = each; early = slice_get_within records place each at; at = at; so = (front, sym here) }) in
-      true≢false (sym (has_entry-Contains by_path.named (entry_of node rev) (Contains-HasEntryOf by_path.nodes path node rev by_path.named found has)) ∙ lacks)))
+      true≢false (sym (has_number-HasNumber by_path.named node rev (HasNumber-HasEntryOf by_path.nodes path node rev by_path.named found has)) ∙ lacks)))
 ]
 
 -- a path without a node is named in none
@@ -292,12 +282,12 @@ is_named-none records by_path are path none rev = false_from_ne_true (is_named p
     let has = are.listed.of_named.complete path rev (record { place = place; each = each; early = slice_get_within records place each at; at = at; so = (front, sym here) }) in
     let never : None ≡ Some has.node = sym none ∙ has.found in cc)
 
--- so the revisions that are found by the entries are those of the records
-pub named_revisions-entries : (records : List NodeRecord) (by_path : RecordsByPath) → AreByPath records by_path → (path : List NameId) (node lo hi : ℕ) → node_of by_path.nodes path ≡ Some node → hi < 2 ^ 32
-    → filter (λ rev. has_entry by_path.named (entry_of node rev)) (down_from (hi - lo) hi) ≡ named_revisions path lo hi records
-named_revisions-entries records by_path are path node lo hi found small =
-    filter_down-same (λ rev. has_entry by_path.named (entry_of node rev)) (is_named path records) (hi - lo) hi (omega arith)
-    (λ rev up within. has_entry-is_named records by_path are path node found rev (omega arith))
+-- so the revisions that are found by the numbers are those of the records
+pub named_revisions-numbers : (records : List NodeRecord) (by_path : RecordsByPath) → AreByPath records by_path → (path : List NameId) (node lo hi : ℕ) → node_of by_path.nodes path ≡ Some node
+    → filter (has_number by_path.named node) (down_from (hi - lo) hi) ≡ named_revisions path lo hi records
+named_revisions-numbers records by_path are path node lo hi found =
+    filter_down-same (has_number by_path.named node) (is_named path records) (hi - lo) hi (omega arith)
+    (λ rev up within. has_number-is_named records by_path are path node found rev)
 
 pub named_revisions-none : (records : List NodeRecord) (by_path : RecordsByPath) → AreByPath records by_path → (path : List NameId) (lo hi : ℕ) → node_of by_path.nodes path ≡ None
     → named_revisions path lo hi records ≡ []
@@ -307,20 +297,20 @@ named_revisions-none records by_path are path lo hi none =
 -- ---- the records that set the origin of a path
 
 module _ (records : List NodeRecord) (by_path : RecordsByPath) (are : AreByPath records by_path) (path : List NameId) where
-  -- by the entries the record at the place sets it
-  pub SetsPath-SetsAt : (place : ℕ) → place < 2 ^ 32 → SetsAt by_path path place → (each : NodeRecord) × (slice_get records place ≡ Some each) × SetsPath each path
-  SetsPath-SetsAt place small sets = elim sets [
+  -- by the numbers the record at the place sets it
+  pub SetsPath-SetsAt : (place : ℕ) → SetsAt by_path path place → (each : NodeRecord) × (slice_get records place ≡ Some each) × SetsPath each path
+  SetsPath-SetsAt place sets = elim sets [
     | inl (n, has) ↦
-        let of = holds-from_entry by_path.nodes (IsOfSome CopiesPath records (length records)) by_path.copied (take n path) place are.listed.of_copied small has in
+        let of = holds-HasEntryOf by_path.nodes (IsOfSome CopiesPath records (length records)) by_path.copied (take n path) place are.listed.of_copied has in
         let (copies, own, here) = of.so in
         (of.each, ap (slice_get records) here ∙ of.at, inr (copies, is_below-from_take path of.each.path n own))
     | inr has ↦
-        let of = holds-from_entry by_path.nodes (IsOfSome AddsPath records (length records)) by_path.added path place are.listed.of_added small has in
+        let of = holds-HasEntryOf by_path.nodes (IsOfSome AddsPath records (length records)) by_path.added path place are.listed.of_added has in
         let (adds, own, here) = of.so in
         (of.each, ap (slice_get records) here ∙ of.at, inl (adds, own))
   ]
 
-  -- and so do the entries where the record does
+  -- and so do the numbers where the record does
   pub SetsAt-SetsPath : (place : ℕ) (each : NodeRecord) → slice_get records place ≡ Some each → SetsPath each path → SetsAt by_path path place
   SetsAt-SetsPath place each at sets = elim sets [
     | inl (adds, own) ↦

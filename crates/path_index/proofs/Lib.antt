@@ -3,6 +3,9 @@ mod DownFrom
 mod EntriesOfPaths
 mod HistoryTo
 mod HitsOfSegments
+mod JoinedRecords
+mod ListsOfNodes
+mod MappedNodes
 mod NewestRecords
 mod NodesOfPaths
 mod NumbersOfNodes

@@ -1,37 +1,37 @@
 -- The newest of the records that set the origin of a path, found along the paths above it.
-use Rattle.std.proofs.Common.{◌≡◌, ℕ, ◌+◌, ◌<◌, ◌≤◌, ◌⊎◌, List, [], Contains, length, take, Option, None, Some, inl, inr, refl, sym, ap, subst, ◌∙◌, arith}
+use Rattle.std.proofs.Common.{◌≡◌, ℕ, ◌+◌, ◌<◌, ◌≤◌, ◌⊎◌, List, [], length, take, Option, None, Some, inl, inr, refl, sym, ap, subst, ◌∙◌, arith}
 use Rattle.std.proofs.lemmas.Bool.{cases_lt}
 use Rattle.std.proofs.lemmas.List.{take_all}
 use Rattle.svn_path.specs.declared.names.NameId.{NameId}
-use Rattle.path_index.specs.Entries.{entry_of, newer_of, IsNewestBelow}
 use Rattle.path_index.specs.Nodes.{node_of}
+use Rattle.path_index.specs.Numbers.{newer_of, HasNumber, IsNewestBelow}
 use Rattle.path_index.specs.RecordsByPath.{HasEntryOf, SetsAt}
 use Rattle.path_index.specs.declared.records_by_path.RecordsByPath.{RecordsByPath}
-use Rattle.path_index.proofs.EntriesOfPaths.{Contains-HasEntryOf}
+use Rattle.path_index.proofs.EntriesOfPaths.{HasNumber-HasEntryOf}
 use Rattle.path_index.proofs.NodesOfPaths.{node_of-take_none}
 use Rattle.path_index.proofs.NumbersOfNodes.{IsNewestBelow-newer, IsNewestBelow-same}
 
 module _ (by_path : RecordsByPath) (path : List NameId) (count : ℕ) where
-  -- by the entries the record at the place copies to one of the first so many paths above the path
+  -- by the numbers the record at the place copies to one of the first so many paths above the path
   abbrev pub IsCopiedAt : ℕ → ℕ → Type 0
   IsCopiedAt most place = (n : ℕ) × (n ≤ most) × HasEntryOf by_path.nodes (take n path) place by_path.copied
 
   -- at first
-  pub IsNewestBelow-root : (newest : Option ℕ) → IsNewestBelow count (λ place. Contains by_path.copied (entry_of 0 place)) newest → IsNewestBelow count (IsCopiedAt 0) newest
+  pub IsNewestBelow-root : (newest : Option ℕ) → IsNewestBelow count (HasNumber by_path.copied 0) newest → IsNewestBelow count (IsCopiedAt 0) newest
   IsNewestBelow-root newest is =
-      IsNewestBelow-same count (λ place. Contains by_path.copied (entry_of 0 place)) (IsCopiedAt 0)
+      IsNewestBelow-same count (HasNumber by_path.copied 0) (IsCopiedAt 0)
       (λ place below within. (0, omega arith, record { node = 0; found = refl; within = within }))
       (λ place below (n, few, has).
       let none : n ≡ 0 = omega arith in
-      Contains-HasEntryOf by_path.nodes [] 0 place by_path.copied refl (subst (λ m. HasEntryOf by_path.nodes (take m path) place by_path.copied) none has))
+      HasNumber-HasEntryOf by_path.nodes [] 0 place by_path.copied refl (subst (λ m. HasEntryOf by_path.nodes (take m path) place by_path.copied) none has))
       newest is
 
   module _ (most : ℕ) (newest : Option ℕ) (so_far : IsNewestBelow count (IsCopiedAt most) newest) where
     -- one path more
-    pub IsNewestBelow-next : (node : ℕ) (other : Option ℕ) → node_of by_path.nodes (take (most + 1) path) ≡ Some node → IsNewestBelow count (λ place. Contains by_path.copied (entry_of node place)) other
+    pub IsNewestBelow-next : (node : ℕ) (other : Option ℕ) → node_of by_path.nodes (take (most + 1) path) ≡ Some node → IsNewestBelow count (HasNumber by_path.copied node) other
         → IsNewestBelow count (IsCopiedAt (most + 1)) (newer_of newest other)
     IsNewestBelow-next node other found is =
-        let Here = λ (place : ℕ). Contains by_path.copied (entry_of node place) in
+        let Here = HasNumber by_path.copied node in
         IsNewestBelow-same count (λ place. IsCopiedAt most place ⊎ Here place) (IsCopiedAt (most + 1))
         (λ place below either. elim either [
           | inl (n, few, has) ↦ (n, omega arith, has)
@@ -40,7 +40,7 @@ module _ (by_path : RecordsByPath) (path : List NameId) (count : ℕ) where
         (λ place below (n, few, has). elim (cases_lt most n) [
           | inl last ↦
               let same : n ≡ most + 1 = omega arith in
-              inr (Contains-HasEntryOf by_path.nodes (take (most + 1) path) node place by_path.copied found (subst (λ m. HasEntryOf by_path.nodes (take m path) place by_path.copied) same has))
+              inr (HasNumber-HasEntryOf by_path.nodes (take (most + 1) path) node place by_path.copied found (subst (λ m. HasEntryOf by_path.nodes (take m path) place by_path.copied) same has))
           | inr earlier ↦ inl (n, earlier, has)
         ])
         (newer_of newest other) (IsNewestBelow-newer count (IsCopiedAt most) Here newest other so_far is)
@@ -62,10 +62,10 @@ module _ (by_path : RecordsByPath) (path : List NameId) (count : ℕ) where
         newest so_far
 
     -- at the path itself
-    pub IsNewestBelow-end : length path ≤ most → (node : ℕ) (other : Option ℕ) → node_of by_path.nodes path ≡ Some node → IsNewestBelow count (λ place. Contains by_path.added (entry_of node place)) other
+    pub IsNewestBelow-end : length path ≤ most → (node : ℕ) (other : Option ℕ) → node_of by_path.nodes path ≡ Some node → IsNewestBelow count (HasNumber by_path.added node) other
         → IsNewestBelow count (SetsAt by_path path) (newer_of newest other)
     IsNewestBelow-end long node other found is =
-        let Here = λ (place : ℕ). Contains by_path.added (entry_of node place) in
+        let Here = HasNumber by_path.added node in
         IsNewestBelow-same count (λ place. IsCopiedAt most place ⊎ Here place) (SetsAt by_path path)
         (λ place below either. elim either [
           | inl (n, few, has) ↦ inl (n, has)
@@ -78,6 +78,6 @@ module _ (by_path : RecordsByPath) (path : List NameId) (count : ℕ) where
                 inl (most, omega arith, subst (λ p. HasEntryOf by_path.nodes p place by_path.copied) same has)
             | inr within ↦ inl (n, within, has)
           ]
-          | inr has ↦ inr (Contains-HasEntryOf by_path.nodes path node place by_path.added found has)
+          | inr has ↦ inr (HasNumber-HasEntryOf by_path.nodes path node place by_path.added found has)
         ])
         (newer_of newest other) (IsNewestBelow-newer count (IsCopiedAt most) Here newest other so_far is)

@@ -31,7 +31,7 @@ position-grown p xs more i found =
     let same : position_or_len p (xs ++ more) ≡ i = first-grown p xs more within ∙ is in
     cond-true _ _ _ (lt-ltb (position_or_len p (xs ++ more)) (length (xs ++ more)) (omega (arith, length-append xs more))) ∙ ap Some same
 
-place_from_child : (o : Option ℕ) (node : ℕ) → option_map suc o ≡ Some node → (place : ℕ) × (o ≡ Some place) × (suc place ≡ node)
+pub place_from_child : (o : Option ℕ) (node : ℕ) → option_map suc o ≡ Some node → (place : ℕ) × (o ≡ Some place) × (suc place ≡ node)
 place_from_child None node found = cc
 place_from_child (Some place) node found = (place, refl, same_Some (suc place) node found)
 
@@ -40,7 +40,7 @@ same_child-is a b same =
     let (parents, names) = and_parts (a.parent == b.parent) (same_name a.name b.name) same in
     (eqb-true a.parent b.parent parents, IsSame-same_name.true_is a.name b.name names)
 
-child_at : (children : List Child) (parent : ℕ) (name : NameId) (place : ℕ) (d : Child) → position (same_child (record { parent = parent; name = name })) children ≡ Some place
+pub child_at : (children : List Child) (parent : ℕ) (name : NameId) (place : ℕ) (d : Child) → position (same_child (record { parent = parent; name = name })) children ≡ Some place
     → (parent ≡ (get_or children place d).parent) × (name ≡ (get_or children place d).name)
 child_at children parent name place d at =
     let child : Child = record { parent = parent; name = name } in
@@ -68,6 +68,15 @@ child_of-root : (children : List Child) (parent : ℕ) (name : NameId) → child
 child_of-root children parent name found =
     let (place, at, is) = place_from_child (position (same_child (record { parent = parent; name = name })) children) 0 found in
     absurd (omega arith)
+
+-- it is among them
+pub child_of-within : (children : List Child) (parent : ℕ) (name : NameId) (node : ℕ) → child_of children parent name ≡ Some node → node ≤ length children
+child_of-within children parent name node found =
+    let p = same_child (record { parent = parent; name = name }) in
+    let (place, at, is) = place_from_child (position p children) node found in
+    let (below, here) = cond_some (nat_lt (position_or_len p children) (length children)) (position_or_len p children) place at in
+    let within = ltb-true (position_or_len p children) (length children) below in
+    omega (arith, within, here, is)
 
 -- ---- paths
 
@@ -108,7 +117,7 @@ pub node_of-grown : (old new : List Child) (path : List NameId) (node : ℕ) →
 node_of-grown old new path node grown found =
     subst (λ children. node_of children path ≡ Some node) (sym grown.grown) (node_below-grown old grown.more 0 path node found)
 
-last_or_none : {X : Type 0} (xs : List X) → (xs ≡ []) ⊎ ((front : List X) × (last : X) × (xs ≡ front ++ last ∷ []))
+pub last_or_none : {X : Type 0} (xs : List X) → (xs ≡ []) ⊎ ((front : List X) × (last : X) × (xs ≡ front ++ last ∷ []))
 last_or_none [] = inl refl
 last_or_none (x ∷ xs) = elim (last_or_none xs) [
   | inl none ↦ inr ([], x, ap (λ rest. x ∷ rest) none)
@@ -116,7 +125,7 @@ last_or_none (x ∷ xs) = elim (last_or_none xs) [
 ]
 
 -- the node before the last component
-node_before : (children : List Child) (path front : List NameId) (last : NameId) (node : ℕ) → path ≡ front ++ last ∷ [] → node_of children path ≡ Some node
+pub node_before : (children : List Child) (path front : List NameId) (last : NameId) (node : ℕ) → path ≡ front ++ last ∷ [] → node_of children path ≡ Some node
     → (above : ℕ) × (node_of children front ≡ Some above) × (child_of children above last ≡ Some node)
 node_before children path front last node is found =
     let whole : node_of children (front ++ last ∷ []) ≡ Some node = ap (node_of children) (sym is) ∙ found in
@@ -157,6 +166,15 @@ one_within (suc most) children p q node short one other =
 -- a node is that of one path alone
 pub node_of-one : (children : List Child) (p q : List NameId) (node : ℕ) → node_of children p ≡ Some node → node_of children q ≡ Some node → p ≡ q
 node_of-one children p q node one other = one_within (length p + 1) children p q node (omega arith) one other
+
+-- it is among them
+pub node_of-within : (children : List Child) (path : List NameId) (node : ℕ) → node_of children path ≡ Some node → node ≤ length children
+node_of-within children path node found = elim (last_or_none path) [
+  | inl none ↦ let root : node ≡ 0 = same_Some node 0 (sym found ∙ ap (node_of children) none) in omega (arith, root)
+  | inr (front, last, is) ↦
+      let (above, at, child) = node_before children path front last node is found in
+      child_of-within children above last node child
+]
 
 -- ---- the paths above a path, from the root on
 

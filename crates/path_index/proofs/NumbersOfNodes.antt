@@ -1,32 +1,23 @@
--- The numbers that a node has in a sorted list of entries.
-use Rattle.std.proofs.Common.{◌≡◌, leb, ℕ, zero, suc, pred, ◌+◌, ◌-◌, ◌^◌, ◌<◌, ◌≤◌, max, Bool, true, false, ◌⊎◌, List, [], ◌∷◌, ◌++◌, All, AllPairs, Contains, map, filter, length, get_or, take, Option, None, Some, inl, inr, refl, sym, ap, subst, ◌∙◌, append_assoc, append-nil, arith, true≢false}
-use Rattle.std.specs.List.Sorted.{IsPartitionPoint, IsNonDecreasing, IsStrictlyIncreasing}
+-- The numbers of a node, in rising order.
+use Rattle.std.proofs.Common.{◌≡◌, leb, ℕ, zero, suc, pred, ◌+◌, ◌-◌, ◌<◌, ◌≤◌, max, Bool, true, false, ◌⊎◌, List, [], ◌∷◌, ◌++◌, All, Contains, map, filter, slice_get, length, get_or, take, Option, None, Some, inl, inr, refl, sym, ap, subst, ◌∙◌, append_assoc, append-nil, arith, true≢false}
+use Rattle.std.specs.Global.{Vec}
+use Rattle.std.specs.List.Sorted.{IsPartitionPoint, IsNonDecreasing}
 use Rattle.std.proofs.lemmas.Bool.{cases_lt, false_from_ne_true, eqb-true, leb-true, le-leb}
 use Rattle.std.proofs.lemmas.List.Elements.{All-contains, Contains-append_left, Contains-push, Contains-push_cases}
-use Rattle.std.proofs.lemmas.List.Kept.{AllPairs-from_increasing}
 use Rattle.std.proofs.lemmas.Cmp.{nat_eq_equiv}
 use Rattle.std.proofs.lemmas.Map.Views.{list_any-from_Contains, Contains-from_any}
-use Rattle.std.proofs.lemmas.List.{length_push, get_or_push, get_or_append_left, length-take-le, get_or-take}
-use Rattle.path_index.specs.Entries.{entry_of, has_entry, newer_of, IsNewestBelow, IsUpTo}
+use Rattle.std.proofs.lemmas.List.{length_push, get_or_push, get_or_append_left, length-take-le, get_or-take, get_or_default}
+use Rattle.std.proofs.lemmas.Option.{get_or_from_slice_get, slice_get-get_or, slice_get_within}
+use Rattle.path_index.specs.Numbers.{has_number, newer_of, numbers_of, HasNumber, IsNewestBelow, IsRising, IsUpTo}
 use Rattle.path_index.specs.Operative.{down_from, hit_at}
 use Rattle.path_index.specs.declared.hit.Hit.{Hit}
 use Rattle.path_index.proofs.DownFrom.{filter_down-none}
 
--- ---- entries
+pub has_number-HasNumber : (lists : List (Vec ℕ)) (node number : ℕ) → HasNumber lists node number → has_number lists node number ≡ true
+has_number-HasNumber lists node number has = list_any-from_Contains nat_eq_equiv number (numbers_of lists node) has
 
--- an entry is of one node with one number
-pub entry_of-one : (node node' number number' : ℕ) → number < 2 ^ 32 → number' < 2 ^ 32 → entry_of node number ≡ entry_of node' number' → (node ≡ node') × (number ≡ number')
-entry_of-one node node' number number' small small' same = (omega arith, omega arith)
-
--- its number is below 2^32
-pub fits_number : (node top last first : ℕ) → first ≡ entry_of node 0 → top < 2 ^ 32 → last ≤ entry_of node top → last - first < 2 ^ 32
-fits_number node top last first is small low = omega arith
-
-pub has_entry-Contains : (entries : List ℕ) (entry : ℕ) → Contains entries entry → has_entry entries entry ≡ true
-has_entry-Contains entries entry within = list_any-from_Contains nat_eq_equiv entry entries within
-
-pub Contains-has_entry : (entries : List ℕ) (entry : ℕ) → has_entry entries entry ≡ true → Contains entries entry
-Contains-has_entry entries entry has = Contains-from_any (λ x y. eqb-true x y) entry entries has
+pub HasNumber-has_number : (lists : List (Vec ℕ)) (node number : ℕ) → has_number lists node number ≡ true → HasNumber lists node number
+HasNumber-has_number lists node number has = Contains-from_any (λ x y. eqb-true x y) number (numbers_of lists node) has
 
 -- ---- the newest of two
 
@@ -53,14 +44,14 @@ IsNewestBelow-same limit P Q to from (Some newest) is = (is.0, to newest is.0 is
 -- ---- the end of a list in rising order
 
 -- the last is above the others
-pub last_above : (front : List ℕ) (last : ℕ) → AllPairs (λ each later. each < later) (front ++ last ∷ []) → (entry : ℕ) → Contains front entry → entry < last
+pub last_above : (front : List ℕ) (last : ℕ) → IsRising (front ++ last ∷ []) → (entry : ℕ) → Contains front entry → entry < last
 last_above front last rising entry (k, within, at) =
     let less = rising k (length front) entry within (omega (arith, length_push front last)) in
     let first : get_or (front ++ last ∷ []) k entry ≡ entry = get_or_append_left front (last ∷ []) entry k within ∙ at in
     let second : get_or (front ++ last ∷ []) (length front) entry ≡ last = get_or_push front last entry (length front) refl in
     omega (arith, less, first, second)
 
-pub rising_front : (front : List ℕ) (last : ℕ) → AllPairs (λ each later. each < later) (front ++ last ∷ []) → AllPairs (λ each later. each < later) front
+pub rising_front : (front : List ℕ) (last : ℕ) → IsRising (front ++ last ∷ []) → IsRising front
 rising_front front last rising i j d before within =
     let less = rising i j d before (omega (arith, length_push front last)) in
     let first : get_or (front ++ last ∷ []) i d ≡ get_or front i d = get_or_append_left front (last ∷ []) d i (omega arith) in
@@ -68,56 +59,69 @@ rising_front front last rising i j d before within =
     omega (arith, less, first, second)
 
 -- so none is above it
-pub le_from_last : (front : List ℕ) (last : ℕ) (all : List ℕ) → all ≡ front ++ last ∷ [] → AllPairs (λ each later. each < later) all → (entry : ℕ) → Contains all entry → entry ≤ last
+pub le_from_last : (front : List ℕ) (last : ℕ) (all : List ℕ) → all ≡ front ++ last ∷ [] → IsRising all → (entry : ℕ) → Contains all entry → entry ≤ last
 le_from_last front last all ends rising entry within = elim (Contains-push_cases front last entry (subst (λ xs. Contains xs entry) ends within)) [
-  | inl earlier ↦ let less = last_above front last (subst (AllPairs (λ each later. each < later)) ends rising) entry earlier in omega (arith, less)
+  | inl earlier ↦ let less = last_above front last (subst IsRising ends rising) entry earlier in omega (arith, less)
   | inr here ↦ omega (arith, here)
 ]
 
--- ---- the entries up to one
+-- ---- the numbers up to one
 
-pub IsNonDecreasing-increasing : (entries : List ℕ) → IsStrictlyIncreasing entries → IsNonDecreasing entries
-IsNonDecreasing-increasing entries increasing i j d before within = elim (cases_lt i j) [
-  | inl less ↦ let rises = AllPairs-from_increasing entries increasing i j d less within in omega (arith, rises)
-  | inr same ↦ let e : i ≡ j = omega arith in let here = ap (λ k. get_or entries k d) e in omega (arith, here)
+pub IsNonDecreasing-rising : (numbers : List ℕ) → IsRising numbers → IsNonDecreasing numbers
+IsNonDecreasing-rising numbers rising i j d before within = elim (cases_lt i j) [
+  | inl less ↦ let rises = rising i j d less within in omega (arith, rises)
+  | inr same ↦ let e : i ≡ j = omega arith in let here = ap (λ k. get_or numbers k d) e in omega (arith, here)
 ]
 
-pub IsUpTo-take : (last count : ℕ) (entries : List ℕ) → IsStrictlyIncreasing entries → count ≤ length entries → IsPartitionPoint (λ each. leb each last ≡ true) (λ each. leb each last ≡ false) entries count
-    → IsUpTo last entries (take count entries)
-IsUpTo-take last count entries increasing bound point =
-    let long : length (take count entries) ≡ count = length-take-le count entries bound in
-    let at = λ (k d : ℕ) (within : k < length (take count entries)). let same : get_or (take count entries) k d ≡ get_or entries k d = get_or-take count entries k d (omega arith) in same in
-    let all : All (λ each. each ≤ last) (take count entries) = λ k d within. subst (λ each. each ≤ last) (sym (at k d within)) (leb-true (get_or entries k d) last (point.0 k d (omega arith) (omega arith))) in
+pub IsUpTo-take : (last count : ℕ) (numbers : List ℕ) → IsRising numbers → count ≤ length numbers → IsPartitionPoint (λ each. leb each last ≡ true) (λ each. leb each last ≡ false) numbers count
+    → IsUpTo last numbers (take count numbers)
+IsUpTo-take last count numbers rising bound point =
+    let long : length (take count numbers) ≡ count = length-take-le count numbers bound in
+    let at = λ (k d : ℕ) (within : k < length (take count numbers)). let same : get_or (take count numbers) k d ≡ get_or numbers k d = get_or-take count numbers k d (omega arith) in same in
+    let all : All (λ each. each ≤ last) (take count numbers) = λ k d within. subst (λ each. each ≤ last) (sym (at k d within)) (leb-true (get_or numbers k d) last (point.0 k d (omega arith) (omega arith))) in
     record {
       rising = λ i j d before within.
-          let less = AllPairs-from_increasing entries increasing i j d before (omega arith) in
+          let less = rising i j d before (omega arith) in
           omega (arith, less, at i d (omega arith), at j d within);
       within = all;
-      among = λ entry (k, within, here). (k, omega arith, sym (at k entry within) ∙ here);
-      whole = λ entry (k, within, here) low. elim (cases_lt k count) [
-        | inl early ↦ let inside : k < length (take count entries) = omega arith in (k, inside, at k entry inside ∙ here)
-        | inr late ↦ absurd (let high = point.1 k entry late within in true≢false (sym (le-leb entry last low) ∙ ap (λ each. leb each last) (sym here) ∙ high))
+      among = λ number (k, within, here). (k, omega arith, sym (at k number within) ∙ here);
+      whole = λ number (k, within, here) low. elim (cases_lt k count) [
+        | inl early ↦ let inside : k < length (take count numbers) = omega arith in (k, inside, at k number inside ∙ here)
+        | inr late ↦ absurd (let high = point.1 k number late within in true≢false (sym (le-leb number last low) ∙ ap (λ each. leb each last) (sym here) ∙ high))
       ];
     }
 
 -- ---- the greatest number below a limit
 
--- where the last entry is not below the node's first, its number
-pub IsNewestBelow-last : (entries front : List ℕ) (node limit last : ℕ) → 0 < limit → IsUpTo (entry_of node (limit - 1)) entries front → Contains front last → ((entry : ℕ) → Contains front entry → entry ≤ last)
-    → entry_of node 0 ≤ last → IsNewestBelow limit (λ number. Contains entries (entry_of node number)) (Some (last - entry_of node 0))
-IsNewestBelow-last entries front node limit last some up within above high =
-    let most : last ≤ entry_of node (limit - 1) = All-contains (λ each. each ≤ entry_of node (limit - 1)) front last up.within within in
-    let is : last ≡ entry_of node (last - entry_of node 0) = omega arith in (
-      omega arith,
-      subst (Contains entries) is (up.among last within),
-      λ number past below among. let less = above (entry_of node number) (up.whole (entry_of node number) among (omega arith)) in omega (arith, less, is),
-    )
-
--- where it is below, none
-pub IsNewestBelow-none : (entries front : List ℕ) (node limit : ℕ) → 0 < limit → IsUpTo (entry_of node (limit - 1)) entries front → ((entry : ℕ) → Contains front entry → entry < entry_of node 0)
-    → IsNewestBelow limit (λ number. Contains entries (entry_of node number)) None
-IsNewestBelow-none entries front node limit some up low =
-    λ number below among. let less = low (entry_of node number) (up.whole (entry_of node number) among (omega arith)) in omega (arith, less)
+-- the last of those up to the one before the limit
+pub IsNewestBelow-last : (numbers front : List ℕ) (limit : ℕ) → 0 < limit → IsUpTo (limit - 1) numbers front → IsNewestBelow limit (Contains numbers) (slice_get front (length front - 1))
+IsNewestBelow-last numbers front limit some up = by (slice_get front (length front - 1)) refl
+  where
+    by : (o : Option ℕ) → slice_get front (length front - 1) ≡ o → IsNewestBelow limit (Contains numbers) o
+    by None none = λ number below has.
+        let (k, within, at) = up.whole number has (omega arith) in
+        let never : None ≡ Some (get_or front (length front - 1) 0) = sym none ∙ slice_get-get_or front (length front - 1) 0 (omega arith) in
+        cc
+    by (Some last) is =
+        let inside = slice_get_within front (length front - 1) last is in
+        let at : get_or front (length front - 1) last ≡ last = get_or_from_slice_get front (length front - 1) last last is in
+        let most : last ≤ limit - 1 = subst (λ each. each ≤ limit - 1) at (up.within (length front - 1) last inside) in (
+          omega arith,
+          up.among last (length front - 1, inside, at),
+          λ number past below has.
+              let (k, within, here) = up.whole number has (omega arith) in
+              elim (cases_lt k (length front - 1)) [
+                | inl earlier ↦
+                    let less = up.rising k (length front - 1) last earlier inside in
+                    let same = get_or_default front k number last within in
+                    omega (arith, less, same, here, at)
+                | inr end ↦
+                    let final : k ≡ length front - 1 = omega arith in
+                    let same = get_or_default front k number last within in
+                    let moved = ap (λ n. get_or front n last) final in
+                    omega (arith, moved, same, here, at)
+              ],
+        )
 
 -- ---- numbers downwards
 
@@ -135,87 +139,76 @@ filter_down-next p lo next (suc gap) top after is none here =
 
 -- ---- the hits of a node
 
-module _ (entries : List ℕ) (place node lo hi : ℕ) (old : List Hit) where
+module _ (lists : List (Vec ℕ)) (place node lo hi : ℕ) (old : List Hit) where
   abbrev has : ℕ → Bool
-  has number = has_entry entries (entry_of node number)
+  has number = has_number lists node number
 
   abbrev numbers_up_to : ℕ → List ℕ
   numbers_up_to top = filter has (down_from (top - lo) top)
 
-  -- the hits so far and those of the numbers up to `top` are those of all numbers; the rest are the entries up to there
+  -- the hits so far and those of the numbers up to `top` are those of all numbers; the rest are the numbers up to there
   pub record IsPushed (rest : List ℕ) (hits : List Hit) : Type 0 where
     pub top : ℕ
-    pub rising : AllPairs (λ each later. each < later) rest
-    pub small : top < 2 ^ 32
-    pub within : (entry : ℕ) → Contains rest entry → entry ≤ entry_of node top
-    pub among : (entry : ℕ) → Contains rest entry → Contains entries entry
-    pub whole : (number : ℕ) → number ≤ top → has number ≡ true → Contains rest (entry_of node number)
+    pub rising : IsRising rest
+    pub within : (number : ℕ) → Contains rest number → number ≤ top
+    pub among : (number : ℕ) → Contains rest number → HasNumber lists node number
+    pub whole : (number : ℕ) → number ≤ top → has number ≡ true → Contains rest number
     pub found : hits ++ map (hit_at place) (numbers_up_to top) ≡ old ++ map (hit_at place) (numbers_up_to hi)
 
   -- at first
-  pub IsPushed-start : (rest : List ℕ) → hi < 2 ^ 32 → IsUpTo (entry_of node hi) entries rest → IsPushed rest old
-  IsPushed-start rest small up = record {
+  pub IsPushed-start : (rest : List ℕ) → IsUpTo hi (numbers_of lists node) rest → IsPushed rest old
+  IsPushed-start rest up = record {
     top = hi;
     rising = up.rising;
-    small = small;
-    within = λ entry among. All-contains (λ each. each ≤ entry_of node hi) rest entry up.within among;
+    within = λ number among. All-contains (λ each. each ≤ hi) rest number up.within among;
     among = up.among;
-    whole = λ number below has. up.whole (entry_of node number) (Contains-has_entry entries (entry_of node number) has) (omega arith);
+    whole = λ number below has. up.whole number (HasNumber-has_number lists node number has) below;
     found = refl;
   }
 
   module _ (rest : List ℕ) (hits : List Hit) (so_far : IsPushed rest hits) where
-    -- where no entry is left after that of `lo`, all are found
-    pub hits-IsPushed : ((entry : ℕ) → Contains rest entry → entry ≤ entry_of node lo) → hits ≡ old ++ map (hit_at place) (numbers_up_to hi)
+    -- where no number is left after `lo`, all are found
+    pub hits-IsPushed : ((number : ℕ) → Contains rest number → number ≤ lo) → hits ≡ old ++ map (hit_at place) (numbers_up_to hi)
     hits-IsPushed none =
         let ended : numbers_up_to so_far.top ≡ [] = filter_down-none has (so_far.top - lo) so_far.top (omega arith)
-        (λ number to from. false_from_ne_true (has number) (λ is. let low = none (entry_of node number) (so_far.whole number to is) in omega arith)) in
+        (λ number to from. false_from_ne_true (has number) (λ is. let low = none number (so_far.whole number to is) in omega (arith, low))) in
         sym (append-nil hits) ∙ ap (λ more. hits ++ map (hit_at place) more) (sym ended) ∙ so_far.found
 
-    module _ (before : List ℕ) (last number : ℕ) (ends : rest ≡ before ++ last ∷ []) (after : entry_of node lo < last) (is : number ≡ last - entry_of node 0) where
-      rising_ends : AllPairs (λ each later. each < later) (before ++ last ∷ [])
-      rising_ends = subst (AllPairs (λ each later. each < later)) ends so_far.rising
+    module _ (before : List ℕ) (last : ℕ) (ends : rest ≡ before ++ last ∷ []) (after : lo < last) where
+      rising_ends : IsRising (before ++ last ∷ [])
+      rising_ends = subst IsRising ends so_far.rising
 
       last_in : Contains rest last
       last_in = subst (λ all. Contains all last) (sym ends) (Contains-push before last)
 
-      last_is : last ≡ entry_of node number
-      last_is = omega arith
+      up : last ≤ so_far.top
+      up = so_far.within last last_in
 
-      up : number ≤ so_far.top
-      up = let most = so_far.within last last_in in omega (arith, most, last_is)
-
-      in_before : (k : ℕ) → k < number → Contains rest (entry_of node k) → Contains before (entry_of node k)
-      in_before k below within = elim (Contains-push_cases before last (entry_of node k) (subst (λ all. Contains all (entry_of node k)) ends within)) [
+      in_before : (k : ℕ) → k < last → Contains rest k → Contains before k
+      in_before k below within = elim (Contains-push_cases before last k (subst (λ all. Contains all k) ends within)) [
         | inl earlier ↦ earlier
-        | inr here ↦ absurd (omega (arith, last_is))
+        | inr here ↦ absurd (omega (arith, here))
       ]
 
-      not_past : (k : ℕ) → number < k → Contains rest (entry_of node k) → ⊥
-      not_past k past within = elim (Contains-push_cases before last (entry_of node k) (subst (λ all. Contains all (entry_of node k)) ends within)) [
-        | inl earlier ↦ let less = last_above before last rising_ends (entry_of node k) earlier in omega (arith, last_is, less)
-        | inr here ↦ omega (arith, last_is, here)
+      not_past : (k : ℕ) → last < k → Contains rest k → ⊥
+      not_past k past within = elim (Contains-push_cases before last k (subst (λ all. Contains all k) ends within)) [
+        | inl earlier ↦ let less = last_above before last rising_ends k earlier in omega (arith, less)
+        | inr here ↦ omega (arith, here)
       ]
 
-      -- the last entry adds its number
-      pub IsPushed_push : IsPushed before (hits ++ hit_at place number ∷ [])
-      IsPushed_push =
-          let low : lo < number = omega (arith, last_is) in
-          record {
-            top = pred number;
-            rising = rising_front before last rising_ends;
-            small = omega (arith, up, so_far.small);
-            within = λ entry among.
-                let less = last_above before last rising_ends entry among in
-                let below : last ≡ suc (entry_of node (pred number)) = omega (arith, last_is) in
-                omega (arith, less, below);
-            among = λ entry among. so_far.among entry (subst (λ all. Contains all entry) (sym ends) (Contains-append_left before (last ∷ []) entry among));
-            whole = λ k below has. in_before k (omega arith) (so_far.whole k (omega (arith, up)) has);
-            found =
-                append_assoc hits (hit_at place number ∷ []) (map (hit_at place) (numbers_up_to (pred number)))
-                ∙ ap (λ revs. hits ++ map (hit_at place) revs)
-                (sym (filter_down-next has lo number (so_far.top - number) so_far.top low (omega (arith, up))
-                (λ k past within. false_from_ne_true (has k) (λ is. not_past k past (so_far.whole k within is)))
-                (has_entry-Contains entries (entry_of node number) (subst (Contains entries) last_is (so_far.among last last_in)))))
-                ∙ so_far.found;
-          }
+      -- the last number is the next hit
+      pub IsPushed_push : IsPushed before (hits ++ hit_at place last ∷ [])
+      IsPushed_push = record {
+        top = pred last;
+        rising = rising_front before last rising_ends;
+        within = λ number among. let less = last_above before last rising_ends number among in omega (arith, less);
+        among = λ number among. so_far.among number (subst (λ all. Contains all number) (sym ends) (Contains-append_left before (last ∷ []) number among));
+        whole = λ k below has. in_before k (omega arith) (so_far.whole k (omega (arith, up)) has);
+        found =
+            append_assoc hits (hit_at place last ∷ []) (map (hit_at place) (numbers_up_to (pred last)))
+            ∙ ap (λ revs. hits ++ map (hit_at place) revs)
+            (sym (filter_down-next has lo last (so_far.top - last) so_far.top after (omega (arith, up))
+            (λ k past within. false_from_ne_true (has k) (λ is. not_past k past (so_far.whole k within is)))
+            (has_number-HasNumber lists node last (so_far.among last last_in))))
+            ∙ so_far.found;
+      }

@@ -26,7 +26,7 @@ use Rattle.svn_dump.specs.declared.origin.Origin.{Origin}
 use Rattle.path_index.proofs.EntriesOfPaths.{SetsAt-SetsPath}
 use Rattle.path_index.proofs.RecordEffects.{KeepsOrigin-unset}
 use Rattle.path_index.proofs.Rising.{AreUpTo-before}
-use Rattle.path_index.specs.Entries.{IsNewestBelow}
+use Rattle.path_index.specs.Numbers.{IsNewestBelow}
 use Rattle.path_index.specs.RecordsByPath.{AreByPath, SetsAt}
 use Rattle.path_index.specs.declared.records_by_path.RecordsByPath.{RecordsByPath}
 use Rattle.path_index.proofs.Prefixes.{trees_before, tree_of-last, tree_of-earlier, start_tree-first, start_tree-suc, All-records_of, records_of-back, records_of-among}
@@ -188,7 +188,7 @@ module _ (records : List NodeRecord) (path : List NameId) (peg : ℕ) (there : I
       let began = origin_at-first records path (there_through records path 0 peg there idle 0 (omega arith) (omega arith)) (idle_at 0 (omega arith)) in
       IsSpan-from records path peg 0 there (omega arith) idle None began
 
--- ---- as the entries of the records tell it
+-- ---- as the numbers of the records tell it
 
 -- records in the order of their revisions
 pub IsNonDecreasingBy-rising : (records : List NodeRecord) → AreRising records → IsNonDecreasingBy (λ each. each.rev) records

@@ -1,8 +1,9 @@
-pub mod Entries
 pub mod History
 pub mod Index
+pub mod Joining
 pub mod NamedRevisions
 pub mod Nodes
+pub mod Numbers
 pub mod Operative
 pub mod RecordEffect
 pub mod RecordsByPath

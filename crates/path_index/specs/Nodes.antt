@@ -1,5 +1,5 @@
 -- Numbers for paths: a path's node is found from the root, one component after another.
-use Rattle.std.specs.Prelude.{◌≡◌, ℕ, suc, ◌==◌, Bool, ◌&&◌, List, [], ◌∷◌, ◌++◌, Option, Some, option_map, option_and_then, position}
+use Rattle.std.specs.Prelude.{◌≡◌, ℕ, suc, ◌+◌, ◌≤◌, ◌==◌, Bool, ◌&&◌, List, [], ◌∷◌, ◌++◌, Option, Some, length, slice_get, option_map, option_and_then, position}
 use Rattle.svn_path.specs.Path.{same_name}
 use Rattle.svn_path.specs.declared.names.NameId.{NameId}
 use Rattle.path_index.specs.declared.nodes.Child.{Child}
@@ -26,3 +26,13 @@ node_of children path = node_below children 0 path
 pub record IsGrown (old new : List Child) : Type 0 where
   pub more : List Child
   pub grown : new ≡ old ++ more
+
+-- each node stands after the one above it
+abbrev pub AreOrdered : List Child → Type 0
+AreOrdered children = (place : ℕ) (child : Child) → slice_get children place ≡ Some child → child.parent ≤ place
+
+-- each path with a node among some children has the node to which that is mapped
+pub record AreNodesOf (later children : List Child) (nodes : List ℕ) : Type 0 where
+  pub all : length nodes ≡ length later + 1
+  pub mapped : (path : List NameId) (node : ℕ) → node_of later path ≡ Some node
+      → node_of children path ≡ slice_get nodes node

@@ -1,39 +1,39 @@
 -- What the records by their paths say of the records.
-use Rattle.std.specs.Prelude.{◌≡◌, ℕ, ◌^◌, ◌<◌, ◌≤◌, ◌⊎◌, List, Contains, Some, length, slice_get, take}
+use Rattle.std.specs.Prelude.{◌≡◌, ℕ, ◌+◌, ◌^◌, ◌<◌, ◌≤◌, ◌⊎◌, List, ◌++◌, Some, length, slice_get, take}
+use Rattle.std.specs.Global.{Vec}
 use Rattle.svn_path.specs.declared.names.NameId.{NameId}
 use Rattle.svn_dump.specs.declared.record.NodeRecord.{NodeRecord}
-use Rattle.path_index.specs.Entries.{entry_of}
 use Rattle.path_index.specs.Nodes.{node_of}
+use Rattle.path_index.specs.Numbers.{HasNumber}
 use Rattle.path_index.specs.RecordEffect.{IsAddition, IsCopy}
 use Rattle.path_index.specs.declared.nodes.Child.{Child}
 use Rattle.path_index.specs.declared.records_by_path.RecordsByPath.{RecordsByPath}
 
--- the entry is the node of a path with a number, of which this holds
-pub record IsEntryOf (children : List Child) (Holds : List NameId → ℕ → Type 0) (entry : ℕ) : Type 0 where
+-- the node is that of a path of which this holds with the number
+pub record IsEntryOf (children : List Child) (Holds : List NameId → ℕ → Type 0) (node number : ℕ) : Type 0 where
   pub path : List NameId
-  pub node : ℕ
-  pub number : ℕ
   pub found : node_of children path ≡ Some node
-  pub is : entry ≡ entry_of node number
   pub small : number < 2 ^ 32
   pub holds : Holds path number
 
--- some of the entries is the node of the path with the number
-pub record HasEntryOf (children : List Child) (path : List NameId) (number : ℕ) (entries : List ℕ) : Type 0 where
+-- the node of the path has the number
+pub record HasEntryOf (children : List Child) (path : List NameId) (number : ℕ) (lists : List (Vec ℕ)) : Type 0 where
   pub node : ℕ
   pub found : node_of children path ≡ Some node
-  pub within : Contains entries (entry_of node number)
+  pub within : HasNumber lists node number
 
--- the entries are the nodes of all paths with all numbers of which this holds
-pub record AreEntriesOf (children : List Child) (Holds : List NameId → ℕ → Type 0) (entries : List ℕ) : Type 0 where
-  pub sound : (entry : ℕ) → Contains entries entry → IsEntryOf children Holds entry
-  pub complete : (path : List NameId) (number : ℕ) → Holds path number → HasEntryOf children path number entries
+-- the nodes of all paths have all numbers of which this holds with the path, and no others
+pub record AreEntriesOf (children : List Child) (Holds : List NameId → ℕ → Type 0) (lists : List (Vec ℕ)) : Type 0 where
+  pub sound : (node number : ℕ) → HasNumber lists node number → IsEntryOf children Holds node number
+  pub complete : (path : List NameId) (number : ℕ) → Holds path number → HasEntryOf children path number lists
 
--- those of them that are new are
-pub record AddsEntries (children : List Child) (Holds : List NameId → ℕ → Type 0) (old new : List ℕ) : Type 0 where
-  pub kept : (entry : ℕ) → Contains old entry → Contains new entry
-  pub sound : (entry : ℕ) → Contains new entry → Contains old entry ⊎ IsEntryOf children Holds entry
-  pub complete : (path : List NameId) (number : ℕ) → Holds path number → HasEntryOf children path number new
+-- those are the numbers that come to the nodes
+pub record AddsEntries (children : List Child) (Holds : List NameId → ℕ → Type 0) (old new : List (Vec ℕ)) : Type 0
+  where
+    pub kept : (node number : ℕ) → HasNumber old node number → HasNumber new node number
+    pub sound : (node number : ℕ) → HasNumber new node number
+        → HasNumber old node number ⊎ IsEntryOf children Holds node number
+    pub complete : (path : List NameId) (number : ℕ) → Holds path number → HasEntryOf children path number new
 
 -- some of the first records is so related to the path and the number
 pub record IsOfSome (IsOf : NodeRecord → ℕ → List NameId → ℕ → Type 0) (records : List NodeRecord) (count : ℕ)
@@ -60,20 +60,39 @@ IsFrontAt whole most rev path number = ((n : ℕ) × (n ≤ most) × (path ≡ t
 abbrev pub NamesPath : NodeRecord → ℕ → List NameId → ℕ → Type 0
 NamesPath each place path number = IsFrontAt each.path (length each.path) each.rev path number
 
--- the entries are those of the first records
-pub record AreListed (records : List NodeRecord) (count : ℕ) (nodes : List Child) (added copied named : List ℕ) : Type 0
-  where
-    pub of_added : AreEntriesOf nodes (IsOfSome AddsPath records count) added
-    pub of_copied : AreEntriesOf nodes (IsOfSome CopiesPath records count) copied
-    pub of_named : AreEntriesOf nodes (IsOfSome NamesPath records count) named
+-- the numbers are those of the first records
+pub record AreListed (records : List NodeRecord) (count : ℕ) (nodes : List Child) (added copied named : List (Vec ℕ))
+    : Type 0 where
+  pub of_added : AreEntriesOf nodes (IsOfSome AddsPath records count) added
+  pub of_copied : AreEntriesOf nodes (IsOfSome CopiesPath records count) copied
+  pub of_named : AreEntriesOf nodes (IsOfSome NamesPath records count) named
 
 -- they are those of the records of a history
 pub record AreByPath (records : List NodeRecord) (by_path : RecordsByPath) : Type 0 where
   pub few : length records < 2 ^ 32
   pub listed : AreListed records (length records) by_path.nodes by_path.added by_path.copied by_path.named
 
--- by the entries, the record at this place adds the path without a copy, or copies to it or to a path above it
+-- by the numbers, the record at this place adds the path without a copy, or copies to it or to a path above it
 abbrev pub SetsAt : RecordsByPath → List NameId → ℕ → Type 0
 SetsAt by_path path place =
     ((n : ℕ) × HasEntryOf by_path.nodes (take n path) place by_path.copied)
     ⊎ HasEntryOf by_path.nodes path place by_path.added
+
+-- they are of the records of two neighbouring parts of a history, the first of which has so many records
+pub record AreNeighbours (one other : RecordsByPath) (count : ℕ) : Type 0 where
+  pub records : List NodeRecord
+  pub more : List NodeRecord
+  pub first : AreByPath records one
+  pub second : AreByPath more other
+  pub is : length records ≡ count
+  pub few : length records + length more < 2 ^ 32
+
+-- the joined ones are of the records of both parts
+abbrev pub IsOfBoth : RecordsByPath → RecordsByPath → ℕ → RecordsByPath → Type 0
+IsOfBoth one other count joined =
+    (records more : List NodeRecord) → length records ≡ count → length records + length more < 2 ^ 32
+    → AreByPath records one → AreByPath more other → AreByPath (records ++ more) joined
+
+-- they are of the same records
+abbrev pub IsOfSameRecords : RecordsByPath → RecordsByPath → Type 0
+IsOfSameRecords one copy = (records : List NodeRecord) → AreByPath records one → AreByPath records copy

@@ -2,6 +2,7 @@
 ghost use Rattle.std.specs.Prelude.{◌≡◌, ◌+◌, ◌^◌, ◌<◌, ◌++◌, None, IfOk, OnOk, length};
 ghost use Rattle.path_index.specs.History.{AreRising};
 ghost use Rattle.path_index.specs.Index.{AreHitsOf, AreMaximal, AreSegmentsOf, IsThere, IsWhole, gap_between, location_in};
+ghost use Rattle.path_index.specs.Joining.{records_up_to_end};
 ghost use Rattle.path_index.specs.Span.{IsSpan};
 
 use crate::hit::Hit;
@@ -16,9 +17,9 @@ use svn_path::Path;
 /// The records of a history, which are searched for each question.
 #[derive(Drop)]
 pub struct Index {
-    records: Vec<NodeRecord>,
-    first: u32,
-    by_path: RecordsByPath,
+    pub(crate) records: Vec<NodeRecord>,
+    pub(crate) first: u32,
+    pub(crate) by_path: RecordsByPath,
 }
 
 impl Model for Index {
@@ -29,8 +30,9 @@ impl Model for Index {
     ghost view = { λ i. record { records = i.records.items; first = i.first } };
 
     ghost use Rattle.path_index.specs.RecordsByPath.{AreByPath};
+    ghost use Rattle.std.specs.Prelude.{◌+◌, ◌^◌, ◌<◌, length};
 
-    ghost invariant = { λ i. AreByPath i.records.items i.by_path };
+    ghost invariant = { λ i. AreByPath i.records.items i.by_path × (i.first + length i.records.items < 2 ^ 32) };
 }
 
 impl Index {
@@ -41,14 +43,19 @@ impl Index {
         ensures first { IfOk result (λ index. index.first ≡ first) }
     {
         let mut kept = Vec::with_capacity(alloc, records.len())?;
-        for each in records {
-            kept.push(each.dup()?)?;
-        }
+        push_all(&mut kept, records)?;
         Ok(Index {
             records: kept,
             first,
             by_path: RecordsByPath::of(alloc, records)?,
         })
+    }
+
+    /// How many records precede those that follow the index.
+    pub(crate) fn end(&self) -> u64
+        ensures { result ≡ records_up_to_end self.now }
+    {
+        u64::from(self.first) + self.records.len() as u64
     }
 
     /// The location segments of the path of a revision, through all revisions up to it, the newest first.
@@ -139,6 +146,16 @@ impl Index {
         }
         Ok(hits)
     }
+}
+
+/// Appends copies of these records.
+pub(crate) fn push_all(kept: &mut Vec<NodeRecord>, records: &[NodeRecord]) -> Result<(), AllocError>
+    ensures { OnOk result (kept.new.items ≡ kept.old.items ++ records.now) }
+{
+    for each in records {
+        kept.push(each.dup()?)?;
+    }
+    Ok(())
 }
 
 /// Appends the segment between two revisions, in which the path stood nowhere, if any revision is between them.

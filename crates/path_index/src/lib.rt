@@ -1,10 +1,11 @@
 //! Where paths stood through the revisions of a history, and their operative revisions.
 #![tactic(auto)]
 
-mod entries;
 mod hit;
 mod index;
+mod joining;
 mod nodes;
+mod numbers;
 mod records_by_path;
 mod segment;
 mod set_origin;

@@ -1,6 +1,6 @@
 //! The paths of records, each once, as a tree of components.
-ghost use Rattle.std.specs.Prelude.{◌≡◌, ◌++◌, List, [], Some, IfOk, OnOk};
-ghost use Rattle.path_index.specs.Nodes.{child_of, node_of, IsGrown};
+ghost use Rattle.std.specs.Prelude.{◌≡◌, ◌≤◌, ◌++◌, List, [], Some, length, IfOk, OnOk};
+ghost use Rattle.path_index.specs.Nodes.{child_of, node_of, AreNodesOf, IsGrown};
 
 use indexmap::IndexSet;
 use std::alloc::{AllocError, Global};
@@ -22,13 +22,14 @@ pub(crate) struct Nodes {
 
 impl Model for Nodes {
     ghost use Rattle.std.specs.Prelude.{List, length, ◌<◌, ◌^◌};
+    ghost use Rattle.path_index.specs.Nodes.{AreOrdered};
     ghost use Rattle.path_index.specs.declared.nodes.Child.{Child};
 
     ghost Value = { List Child };
 
     ghost view = { λ n. n.children.keys };
 
-    ghost invariant = { λ n. length n.children.keys < 2 ^ 32 };
+    ghost invariant = { λ n. (length n.children.keys < 2 ^ 32) × AreOrdered n.children.keys };
 }
 
 impl Nodes {
@@ -41,9 +42,19 @@ impl Nodes {
         }
     }
 
+    /// The same nodes again.
+    pub(crate) fn dup(&self) -> Result<Self, AllocError>
+        ensures { IfOk result (λ nodes. nodes ≡ self.now) }
+    {
+        Ok(Nodes {
+            children: self.children.clone()?,
+        })
+    }
+
     /// The node of a component below another node, which is added where it is new. A tree of 4,294,967,295 nodes below
     /// the root takes no other: that is reported as want of memory.
     pub(crate) fn add(&mut self, parent: u32, name: NameId) -> Result<u32, AllocError>
+        requires { parent ≤ length self.old }
         ensures node { IfOk result (λ node. child_of self.new parent name ≡ Some node) }
         ensures grown { OnOk result (IsGrown self.old self.new) }
     {
@@ -52,6 +63,20 @@ impl Nodes {
         }
         let (index, _) = self.children.insert_full(Child { parent, name })?;
         Ok(index as u32 + 1)
+    }
+
+    /// Adds the nodes of another tree. Returns the node of each, from the root on.
+    pub(crate) fn add_all(&mut self, later: &Nodes) -> Result<Vec<u32>, AllocError>
+        ensures nodes { IfOk result (λ nodes. AreNodesOf later.now self.new nodes.items) }
+        ensures grown { OnOk result (IsGrown self.old self.new) }
+    {
+        let mut nodes = Vec::with_capacity(*self.children.allocator(), later.children.len() + 1)?;
+        nodes.push(0)?;
+        for child in later.children.as_slice() {
+            let node = self.add(nodes[child.parent as usize], child.name)?;
+            nodes.push(node)?;
+        }
+        Ok(nodes)
     }
 
     /// The node of a component below another node.

@@ -1,14 +1,14 @@
 //! The records of a history by the paths that they name.
-ghost use Rattle.std.specs.Prelude.{◌≡◌, ◌+◌, ◌^◌, ◌<◌, List, [], Some, length, slice_get, IfOk, OnOk};
+ghost use Rattle.std.specs.Prelude.{◌≡◌, ◌+◌, ◌^◌, ◌<◌, List, Some, length, slice_get, IfOk, OnOk};
 ghost use Rattle.svn_dump.specs.declared.record.NodeRecord.{NodeRecord as Record};
-ghost use Rattle.path_index.specs.Entries.{IsNewestBelow};
 ghost use Rattle.path_index.specs.NamedRevisions.{AddsNamed};
 ghost use Rattle.path_index.specs.Nodes.{node_of, IsGrown};
-ghost use Rattle.path_index.specs.RecordsByPath.{AddsEntries, AreByPath, AreListed, IsFrontAt, SetsAt};
+ghost use Rattle.path_index.specs.Numbers.{IsNewestBelow};
+ghost use Rattle.path_index.specs.RecordsByPath.{AddsEntries, AreByPath, AreListed, AreNeighbours, IsFrontAt, IsOfBoth, IsOfSameRecords, SetsAt};
 
-use crate::entries::{Entries, entry, newer};
 use crate::hit::Hit;
 use crate::nodes::Nodes;
+use crate::numbers::{Numbers, newer};
 use std::alloc::{AllocError, Global};
 use svn_dump::{Act, NodeRecord};
 use svn_path::Path;
@@ -18,66 +18,12 @@ use svn_path::Path;
 pub(crate) struct RecordsByPath {
     /// The paths that records name, and all paths above them.
     nodes: Nodes,
-    /// The paths that are added without a copy, each with the place of the record.
-    added: Entries,
-    /// The paths that are copied to, each with the place of the record.
-    copied: Entries,
-    /// The paths that are named and all paths above them, each with the revision.
-    named: Entries,
-}
-
-/// The same, not sorted yet.
-#[derive(Drop)]
-struct Draft {
-    nodes: Nodes,
-    added: Vec<u64>,
-    copied: Vec<u64>,
-    named: Vec<u64>,
-}
-
-impl Draft {
-    /// Adds the path and all paths above it, with the revision. Returns the path's node.
-    fn name(&mut self, path: &Path, rev: u32) -> Result<u32, AllocError>
-        ensures node { IfOk result (λ node. node_of self.new.nodes path.now ≡ Some node) }
-        ensures grown { OnOk result (IsGrown self.old.nodes self.new.nodes) }
-        ensures named { OnOk result (AddsEntries self.new.nodes (IsFrontAt path.now (length path.now) rev)
-            self.old.named.items self.new.named.items) }
-        ensures added { self.new.added ≡ self.old.added }
-        ensures copied { self.new.copied ≡ self.old.copied }
-    {
-        let mut node = 0;
-        self.named.push(entry(0, rev))?;
-        for name in path.parts() {
-            node = self.nodes.add(node, *name)?;
-            self.named.push(entry(node, rev))?;
-        }
-        Ok(node)
-    }
-
-    /// Adds the record at this place.
-    fn add(&mut self, place: u32, each: &NodeRecord) -> Result<(), AllocError>
-        ensures { OnOk result ((records : List Record) → slice_get records place ≡ Some each.now
-            → AreListed records place self.old.nodes self.old.added.items self.old.copied.items self.old.named.items
-            → AreListed records (place + 1)
-            self.new.nodes self.new.added.items self.new.copied.items self.new.named.items) }
-    {
-        let node = self.name(&each.path, each.rev)?;
-        match &each.act {
-            Act::Add { .. } => self.added.push(entry(node, place))?,
-            Act::Copy { .. } => self.copied.push(entry(node, place))?,
-            _ => {}
-        }
-        Ok(())
-    }
-}
-
-/// How many entries the paths of the records make, with all paths above them.
-fn count_named(records: &[NodeRecord]) -> usize {
-    let mut count: usize = 0;
-    for each in records {
-        count = count.saturating_add(each.path.len()).saturating_add(1);
-    }
-    count
+    /// For each path the places of the records that add it without a copy.
+    added: Numbers,
+    /// For each path the places of the records that copy to it.
+    copied: Numbers,
+    /// For each path the revisions that name it or a path below it.
+    named: Numbers,
 }
 
 impl RecordsByPath {
@@ -86,21 +32,78 @@ impl RecordsByPath {
         requires { length records.now < 2 ^ 32 }
         ensures { IfOk result (AreByPath records.now) }
     {
-        let mut draft = Draft {
+        let mut by_path = RecordsByPath {
             nodes: Nodes::new(alloc),
-            added: Vec::new(alloc),
-            copied: Vec::new(alloc),
-            named: Vec::with_capacity(alloc, count_named(records))?,
+            added: Numbers::new(alloc),
+            copied: Numbers::new(alloc),
+            named: Numbers::new(alloc),
         };
         for (place, each) in records.iter().enumerate() {
-            draft.add(place as u32, each)?;
+            by_path.add(place as u32, each)?;
         }
+        Ok(by_path)
+    }
+
+    /// Adds the record at this place.
+    fn add(&mut self, place: u32, each: &NodeRecord) -> Result<(), AllocError>
+        ensures { OnOk result ((records : List Record) → slice_get records place ≡ Some each.now
+            → AreListed records place self.old.nodes self.old.added self.old.copied self.old.named
+            → AreListed records (place + 1) self.new.nodes self.new.added self.new.copied self.new.named) }
+    {
+        let node = self.name(&each.path, each.rev)?;
+        match &each.act {
+            Act::Add { .. } => self.added.insert(node, place)?,
+            Act::Copy { .. } => self.copied.insert(node, place)?,
+            _ => {}
+        }
+        Ok(())
+    }
+
+    /// Adds the path and all paths above it, with the revision. Returns the path's node.
+    fn name(&mut self, path: &Path, rev: u32) -> Result<u32, AllocError>
+        ensures node { IfOk result (λ node. node_of self.new.nodes path.now ≡ Some node) }
+        ensures grown { OnOk result (IsGrown self.old.nodes self.new.nodes) }
+        ensures named { OnOk result (AddsEntries self.new.nodes (IsFrontAt path.now (length path.now) rev)
+            self.old.named self.new.named) }
+        ensures added { self.new.added ≡ self.old.added }
+        ensures copied { self.new.copied ≡ self.old.copied }
+    {
+        let mut node = 0;
+        self.named.insert(0, rev)?;
+        for name in path.parts() {
+            node = self.nodes.add(node, *name)?;
+            self.named.insert(node, rev)?;
+        }
+        Ok(node)
+    }
+
+    /// The same again.
+    pub(crate) fn dup(&self) -> Result<Self, AllocError>
+        ensures { IfOk result (IsOfSameRecords self.now) }
+    {
         Ok(RecordsByPath {
-            nodes: draft.nodes,
-            added: Entries::of(draft.added),
-            copied: Entries::of(draft.copied),
-            named: Entries::of(draft.named),
+            nodes: self.nodes.dup()?,
+            added: self.added.dup()?,
+            copied: self.copied.dup()?,
+            named: self.named.dup()?,
         })
+    }
+
+    /// The records of both, where `count` records are before those of `later`.
+    pub(crate) fn join(&self, later: &RecordsByPath, count: u32) -> Result<Self, AllocError>
+        requires { AreNeighbours self.now later.now count }
+        ensures { IfOk result (IsOfBoth self.now later.now count) }
+    {
+        let mut joined = self.dup()?;
+        let nodes = joined.nodes.add_all(&later.nodes)?;
+        joined
+            .added
+            .insert_all(&later.added, nodes.as_slice(), count)?;
+        joined
+            .copied
+            .insert_all(&later.copied, nodes.as_slice(), count)?;
+        joined.named.insert_all(&later.named, nodes.as_slice(), 0)?;
+        Ok(joined)
     }
 
     /// The place of the newest of the first `count` records that add the path without a copy, or copy to it or to a

@@ -1,9 +1,11 @@
-//! An index of two records: `a` is added in revision 1 and copied to `b` in revision 2; and one of six records, in
-//! which `a` is deleted before it is copied, and `b` is replaced by itself and by a new directory.
-ghost use Rattle.std.specs.Prelude.{◌≡◌, [], ◌∷◌, IfOk};
+//! An index of two records: `a` is added in revision 1 and copied to `b` in revision 2; one of two joined parts;
+//! and one of six records, in which `a` is deleted before it is copied, and `b` is replaced by itself and by a new
+//! directory.
+ghost use Rattle.std.specs.Prelude.{◌≡◌, ◌≤◌, [], ◌∷◌, IfOk};
 ghost use Rattle.path_index.specs.Index.{IsThere, IsWhole};
 
 use crate::{Hit, Index, Segment};
+use par_scan::Acts;
 use std::alloc::Global;
 use std::test::Fail;
 use svn_dump::{Act, Kind, Mi, NodeRecord};
@@ -71,6 +73,49 @@ fn operative_revisions_of_both_segments_are_found(rt: HostRuntime) -> Result<(),
     let hits = index.operative(segments.as_slice())?;
     let wanted = [Hit { rev: 2, segment: 0 }, Hit { rev: 1, segment: 1 }];
     assert_eq!(rt; hits.as_slice(), wanted.as_slice());
+    Ok(())
+}
+
+// An index of a record that adds `a`, which so many others precede.
+fn index_of_addition(alloc: Global, first: u32) -> Result<Index, Fail>
+    requires { first ≤ 1 }
+{
+    let added = NodeRecord {
+        rev: 1,
+        path: path_of(alloc, NameId(0))?,
+        act: Act::Add {
+            replace: false,
+            kind: Kind::Dir,
+            mi: Mi::Keep,
+        },
+    };
+    Ok(Index::build(alloc, [added].as_slice(), first)?)
+}
+
+// How many records there are up to the end of an index and one that follows it, joined; 0 where they do not fit.
+fn end_of_joined(alloc: Global, earlier: &Index) -> Result<u64, Fail> {
+    let later = index_of_addition(alloc, 1)?;
+    if !earlier.fits(&later) {
+        return Ok(0);
+    }
+    Ok(earlier.join(&later)?.end())
+}
+
+// The same of a copy of an index and of its unit.
+fn ends_of_copies(index: &Index) -> Result<(u64, u64), Fail> {
+    let copied = index.dup()?.end();
+    Ok((copied, index.unit()?.end()))
+}
+
+// All three of an index of one record.
+fn ends(alloc: Global) -> Result<(u64, (u64, u64)), Fail> {
+    let index = index_of_addition(alloc, 0)?;
+    Ok((end_of_joined(alloc, &index)?, ends_of_copies(&index)?))
+}
+
+#[test]
+fn neighbours_are_joined(rt: HostRuntime) -> Result<(), Fail> {
+    assert_eq!(rt; ends(rt.alloc())?, (2, (1, 0)));
     Ok(())
 }
 

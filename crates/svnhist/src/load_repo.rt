@@ -4,7 +4,7 @@ ghost use Rattle.svn_dump.specs.Dump.{history_in_bytes};
 ghost use Rattle.svn_dump.specs.Fault.{first_fault};
 ghost use Rattle.svnhist.specs.LoadRepo.{IsLoadError};
 
-use path_index::Index;
+use crate::block_index::index_of;
 use query_answer::{Fault, Repo, Trees, TreesError};
 use std::alloc::{AllocError, Global};
 use std::sync::Wait;
@@ -47,8 +47,9 @@ impl From<TreesError> for LoadError {
 
 /// The repository of a dump, or its first faulty record.
 ///
-/// Blocks are to take whole revisions from 1 on by the lengths `cuts` in turn, the last length repeated, where no
-/// lengths mean one block. Neither they nor the workers are used yet.
+/// At most `workers` threads at a time make the indexes of blocks, which are then joined. Blocks take whole revisions
+/// from 1 on by the lengths `cuts` in turn; the last length is repeated, and no lengths mean one block. Of more than
+/// 1,024 blocks neighbours are taken together.
 pub fn load_repo<R: Threads + Wait + Sync>(
     rt: &R,
     alloc: Global,
@@ -63,10 +64,7 @@ pub fn load_repo<R: Threads + Wait + Sync>(
     ensures lawful { OnOk result (first_fault bytes_eq (history_in_bytes dump) ≡ None) }
     ensures faulty { IfErr result (IsLoadError dump) }
 {
-    let _ = rt;
-    let _ = cuts;
-    let _ = workers;
     let trees = Trees::build(alloc, &dump)?;
-    let index = Index::build(alloc, dump.records(), 0)?;
+    let index = index_of(rt, alloc, &dump, cuts, workers)?;
     Ok(Repo::new(dump, index, trees))
 }

@@ -3,9 +3,12 @@
 
 mod answering;
 mod arguments;
+mod block_index;
+mod blocks;
 mod bundle;
 mod bundle_reader;
 mod calls;
+mod cutting;
 mod device;
 mod load;
 mod load_repo;

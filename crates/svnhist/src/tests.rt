@@ -1,5 +1,6 @@
 //! Reports, inputs and outputs at small examples.
 
+mod cuttings;
 mod devices;
 mod errors;
 mod faults;

@@ -611,3 +611,30 @@ Content-length: 10
 
 PROPS-END
 ";
+
+pub(crate) const SPARSE: &[u8] = b"SVN-fs-dump-format-version: 2
+
+Revision-number: 0
+
+Revision-number: 1
+
+Revision-number: 2
+
+Node-path: a
+Node-kind: dir
+Node-action: add
+
+Revision-number: 3
+
+Revision-number: 4
+
+Revision-number: 5
+
+Node-path: b
+Node-action: add
+Node-copyfrom-rev: 4
+Node-copyfrom-path: a
+
+Revision-number: 6
+
+";

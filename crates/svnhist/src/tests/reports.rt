@@ -4,7 +4,7 @@ use crate::report::report;
 use crate::run_error::RunError;
 use crate::tests::histories::{
     AT_SIGN, COPIED_MERGEINFO, DUMPED, DUMPED_AS_ONE, EMPTY, FIRST, GONE, MERGED, MERGEINFO_TEXTS,
-    MOVES, NESTED, REPLACED,
+    MOVES, NESTED, REPLACED, SPARSE,
 };
 use query_pool::NoGate;
 use std::alloc::Global;
@@ -21,7 +21,7 @@ pub(crate) fn report_of<R: Threads + Wait + Sync>(
     report(rt, alloc, dump, queries, &[], 1, &NoGate)
 }
 
-// Whether the report is the wanted one.
+// Whether the report is the wanted one, however the history is cut into blocks and however many workers there are.
 fn reports<R: Threads + Wait + Sync>(
     rt: &R,
     alloc: Global,
@@ -29,8 +29,15 @@ fn reports<R: Threads + Wait + Sync>(
     queries: &[u8],
     wanted: &[u8],
 ) -> Result<bool, RunError> {
-    let found = report_of(rt, alloc, dump, queries)?;
-    Ok(found.as_slice() == wanted)
+    for cuts in [[].as_slice(), &[1], &[2, 1], &[3]] {
+        for workers in [1, 3] {
+            let found = report(rt, alloc, dump, queries, cuts, workers, &NoGate)?;
+            if found.as_slice() != wanted {
+                return Ok(false);
+            }
+        }
+    }
+    Ok(true)
 }
 
 #[test]
@@ -296,26 +303,15 @@ fn each_verb_refuses_wrong_pegs(rt: HostRuntime) -> Result<(), Fail> {
 #[test]
 fn a_copy_of_an_older_revision_lacks_later_paths(rt: HostRuntime) -> Result<(), Fail> {
     let queries = b"segments\t/m/q/s@3\n";
-    for cuts in [[].as_slice(), &[1], &[2, 1], &[3]] {
-        let found = report(&rt, rt.alloc(), NESTED, queries, cuts, 1, &NoGate)?;
-        assert!(rt;
-            found.as_slice() == b"#1 no-such-path\n".as_slice(),
-            "{cuts:?}"
-        );
-    }
+    assert!(rt; reports(&rt, rt.alloc(), NESTED, queries, b"#1 no-such-path\n")?);
     Ok(())
 }
 
 #[test]
-fn every_cutting_gives_the_same_report(rt: HostRuntime) -> Result<(), Fail> {
-    let queries = b"segments\t/n/q/s@3\nlog\t/n/q/s@3\nlocate\t/n/q/s@3\t1\n";
-    let wanted = report_of(&rt, rt.alloc(), NESTED, queries)?;
-    for cuts in [[2, 1].as_slice(), &[1], &[3]] {
-        for workers in [1, 2, 8] {
-            let found = report(&rt, rt.alloc(), NESTED, queries, cuts, workers, &NoGate)?;
-            assert!(rt; found == wanted, "{cuts:?}");
-        }
-    }
+fn blocks_may_have_no_records(rt: HostRuntime) -> Result<(), Fail> {
+    let queries = b"segments\t/b@6\nlog\t/b@6\nlocate\t/b@6\t3\nlocate\t/b@6\t1\n";
+    let wanted = b"#1 ok\n5-6 /b\n2-4 /a\n#2 ok\nr5 /b\nr2 /a\n#3 ok\n/a\n#4 ok\n-\n";
+    assert!(rt; reports(&rt, rt.alloc(), SPARSE, queries, wanted)?);
     Ok(())
 }
 

@@ -23,7 +23,7 @@ loop-place-preserved c =
     drop-map segment_view place segments
     ∙ ap (map segment_view) (drop_more segments place kept c.loop-place-test.true ∙ ap (λ each. each ∷ drop (place + 1) segments) (sym c.index-segments-place.is))
     ∙ ap (λ more. segment ∷ more) (sym (drop-map segment_view (place + 1) segments)) in
-    let are : AreByPath records c.self.inside.by_path = subst (λ all. AreByPath all c.self.inside.by_path) (ap (λ (index : IndexValue). index.records) c.self.view_is) c.self.invariant in
+    let are : AreByPath records c.self.inside.by_path = subst (λ all. AreByPath all c.self.inside.by_path) (ap (λ (index : IndexValue). index.records) c.self.view_is) c.self.invariant.0 in
     let shown = λ (v : Vec Hit Global). v.items in
     let found = c.match-segment.hits.items in
     elim c.match-segment.branch [

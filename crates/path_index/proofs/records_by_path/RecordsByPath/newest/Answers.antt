@@ -1,6 +1,6 @@
 use Rattle.std.proofs.Common.{◌≡◌, ◌+◌, None, Some, take, refl, sym, ap, subst, ◌∙◌}
 use Rattle.std.proofs.lemmas.List.{take_all}
-use Rattle.path_index.specs.Entries.{newer_of, IsNewestBelow}
+use Rattle.path_index.specs.Numbers.{newer_of, IsNewestBelow}
 use Rattle.path_index.specs.Nodes.{node_of}
 use Rattle.path_index.specs.RecordsByPath.{SetsAt}
 use Rattle.path_index.proofs.NewestRecords.{IsCopiedAt, IsNewestBelow-root, IsNewestBelow-next, IsNewestBelow-stop, IsNewestBelow-end}

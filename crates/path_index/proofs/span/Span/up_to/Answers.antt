@@ -34,7 +34,7 @@ set_origin-requires c =
     let place = c.in-Some.place in
     let below = c.in-Some.ensures.0 in
     let low : place ≤ length records = omega (arith, below, c.partition_point-count.ensures.bound) in
-    let (each, at, sets) = SetsPath-SetsAt records c.args.by_path.now c.requires.by_path c.args.path.now place (omega (arith, below, c.partition_point-count.ensures.bound, c.requires.by_path.few)) c.in-Some.ensures.1 in
+    let (each, at, sets) = SetsPath-SetsAt records c.args.by_path.now c.requires.by_path c.args.path.now place c.in-Some.ensures.1 in
     let same : each ≡ c.index-records-place.result =
     same_Some each c.index-records-place.result
     (sym at ∙ slice_get-get_or records place c.index-records-place.result (omega (arith, below, c.partition_point-count.ensures.bound)) ∙ ap Some (sym c.index-records-place.is)) in

@@ -1,0 +1,160 @@
+-- The records of two neighbouring parts of a history by their paths.
+use Rattle.std.proofs.Common.{◌≡◌, ℕ, ◌+◌, ◌-◌, ◌^◌, ◌<◌, ◌≤◌, ◌⊎◌, List, ◌++◌, length, get_or, slice_get, Some, inl, inr, refl, sym, ap, subst, ◌∙◌, arith, length-append}
+use Rattle.std.specs.Global.{Vec}
+use Rattle.std.proofs.lemmas.Bool.{cases_lt}
+use Rattle.std.proofs.lemmas.List.{get_or_append_left, get_or-append-add}
+use Rattle.std.proofs.lemmas.Option.{get_or_from_slice_get, slice_get-get_or, slice_get_within}
+use Rattle.svn_path.specs.declared.names.NameId.{NameId}
+use Rattle.svn_dump.specs.declared.record.NodeRecord.{NodeRecord}
+use Rattle.path_index.specs.Nodes.{AreNodesOf, IsGrown}
+use Rattle.path_index.specs.Numbers.{AddsNumbers, FitShifted, IsMoved}
+use Rattle.path_index.specs.RecordsByPath.{AddsPath, AreByPath, AreEntriesOf, CopiesPath, IsOfSome, NamesPath}
+use Rattle.path_index.specs.declared.nodes.Child.{Child}
+use Rattle.path_index.specs.declared.records_by_path.RecordsByPath.{RecordsByPath}
+use Rattle.path_index.proofs.EntriesOfPaths.{AreEntriesOf-grown, HasEntryOf-more, IsEntryOf-weaker}
+use Rattle.path_index.proofs.NodesOfPaths.{node_of-within}
+
+-- ---- the numbers of both
+
+-- of the first with P, of the second with Q, whose numbers are shifted
+record AreBoth (P Q R : List NameId → ℕ → Type 0) (shift : ℕ) : Type 0 where
+  first : (path : List NameId) (number : ℕ) → P path number → R path number
+  second : (path : List NameId) (number : ℕ) → Q path number → R path (number + shift)
+  small : (path : List NameId) (number : ℕ) → Q path number → number < 2 ^ 32 → number + shift < 2 ^ 32
+  either : (path : List NameId) (number : ℕ) → R path number → P path number ⊎ ((earlier : ℕ) × Q path earlier × (number ≡ earlier + shift))
+
+AreEntriesOf-both : (P Q R : List NameId → ℕ → Type 0) (shift : ℕ) → AreBoth P Q R shift → (old_nodes nodes later_nodes : List Child) (mapped : List ℕ) (old new later : List (Vec ℕ)) → IsGrown old_nodes nodes
+    → AreNodesOf later_nodes nodes mapped → AddsNumbers (IsMoved later mapped (length mapped) shift) old new → AreEntriesOf old_nodes P old → AreEntriesOf later_nodes Q later → AreEntriesOf nodes R new
+AreEntriesOf-both P Q R shift both old_nodes nodes later_nodes mapped old new later grown nodes_of adds one other =
+    let before = AreEntriesOf-grown old_nodes nodes grown P old one in
+    record {
+      sound = λ node number has. elim (adds.sound node number has) [
+        | inl earlier ↦ IsEntryOf-weaker nodes P R both.first node number (before.sound node number earlier)
+        | inr moved ↦
+            let of = other.sound moved.from moved.earlier moved.has in
+            record {
+              path = of.path;
+              found = nodes_of.mapped of.path moved.from of.found ∙ moved.mapped;
+              small = (let small = both.small of.path moved.earlier of.holds of.small in let is = moved.is in omega (arith, small, is));
+              holds = subst (R of.path) (sym moved.is) (both.second of.path moved.earlier of.holds);
+            }
+      ];
+      complete = λ path number holds. elim (both.either path number holds) [
+        | inl p ↦ HasEntryOf-more nodes path number old new adds.kept (before.complete path number p)
+        | inr (earlier, q, is) ↦
+            let has = other.complete path earlier q in
+            let inside : has.node < length mapped = let within = node_of-within later_nodes path has.node has.found in let all = nodes_of.all in omega (arith, within, all) in
+            let at = slice_get-get_or mapped has.node 0 inside in
+            record {
+              node = get_or mapped has.node 0;
+              found = nodes_of.mapped path has.node has.found ∙ at;
+              within = adds.complete (get_or mapped has.node 0) number (record { from = has.node; early = inside; mapped = at; earlier = earlier; has = has.within; is = is });
+            }
+      ];
+    }
+
+-- ---- the records of both
+
+module _ (records more : List NodeRecord) where
+  slice_get-first : (place : ℕ) (each : NodeRecord) → slice_get records place ≡ Some each → slice_get (records ++ more) place ≡ Some each
+  slice_get-first place each at =
+      let within = slice_get_within records place each at in
+      slice_get-get_or (records ++ more) place each (omega (arith, within, length-append records more))
+      ∙ ap Some (get_or_append_left records more each place within ∙ get_or_from_slice_get records place each each at)
+
+  slice_get-second : (place : ℕ) (each : NodeRecord) → slice_get more place ≡ Some each → slice_get (records ++ more) (length records + place) ≡ Some each
+  slice_get-second place each at =
+      let within = slice_get_within more place each at in
+      slice_get-get_or (records ++ more) (length records + place) each (omega (arith, within, length-append records more))
+      ∙ ap Some (get_or-append-add records more place each ∙ get_or_from_slice_get more place each each at)
+
+  slice_get-before : (place : ℕ) (each : NodeRecord) → place < length records → slice_get (records ++ more) place ≡ Some each → slice_get records place ≡ Some each
+  slice_get-before place each within at =
+      slice_get-get_or records place each within
+      ∙ ap Some (sym (get_or_append_left records more each place within) ∙ get_or_from_slice_get (records ++ more) place each each at)
+
+  slice_get-after : (place : ℕ) (each : NodeRecord) → length records ≤ place → slice_get (records ++ more) place ≡ Some each → slice_get more (place - length records) ≡ Some each
+  slice_get-after place each past at =
+      let within = slice_get_within (records ++ more) place each at in
+      let is : length records + (place - length records) ≡ place = omega arith in
+      slice_get-get_or more (place - length records) each (omega (arith, within, length-append records more))
+      ∙ ap Some (sym (get_or-append-add records more (place - length records) each) ∙ ap (λ n. get_or (records ++ more) n each) is ∙ get_or_from_slice_get (records ++ more) place each each at)
+
+  module _ (IsOf : NodeRecord → ℕ → List NameId → ℕ → Type 0) (shift : ℕ)
+      (forth : (each : NodeRecord) (place : ℕ) (path : List NameId) (number : ℕ) → IsOf each place path number → IsOf each (length records + place) path (number + shift))
+      (back : (each : NodeRecord) (place : ℕ) (path : List NameId) (number : ℕ) → length records ≤ place → IsOf each place path number → (earlier : ℕ) × IsOf each (place - length records) path earlier × (number ≡ earlier + shift))
+      (small : (path : List NameId) (number : ℕ) → IsOfSome IsOf more (length more) path number → number < 2 ^ 32 → number + shift < 2 ^ 32) where
+    AreBoth-records : AreBoth (IsOfSome IsOf records (length records)) (IsOfSome IsOf more (length more)) (IsOfSome IsOf (records ++ more) (length (records ++ more))) shift
+    AreBoth-records = record {
+      first = λ path number of. record {
+        place = of.place;
+        each = of.each;
+        early = (let early = of.early in omega (arith, early, length-append records more));
+        at = slice_get-first of.place of.each of.at;
+        so = of.so;
+      };
+      second = λ path number of. record {
+        place = length records + of.place;
+        each = of.each;
+        early = (let early = of.early in omega (arith, early, length-append records more));
+        at = slice_get-second of.place of.each of.at;
+        so = forth of.each of.place path number of.so;
+      };
+      small = small;
+      either = λ path number of. elim (cases_lt of.place (length records)) [
+        | inl before ↦ inl (record { place = of.place; each = of.each; early = before; at = slice_get-before of.place of.each before of.at; so = of.so })
+        | inr past ↦
+            let (earlier, so, is) = back of.each of.place path number past of.so in
+            let rest : of.place - length records < length more = let early = of.early in omega (arith, early, length-append records more, past) in
+            inr (earlier, record { place = of.place - length records; each = of.each; early = rest; at = slice_get-after of.place of.each past of.at; so = so }, is)
+      ];
+    }
+
+-- ---- both by their paths
+
+module _ (records more : List NodeRecord) (few : length records + length more < 2 ^ 32) (one other : RecordsByPath) (first : AreByPath records one) (second : AreByPath more other) where
+  added_early : (path : List NameId) (number : ℕ) → IsOfSome AddsPath more (length more) path number → number + length records < 2 ^ 32
+  added_early path number of = let (adds, own, here) = of.so in let early = of.early in omega (arith, early, here)
+
+  copied_early : (path : List NameId) (number : ℕ) → IsOfSome CopiesPath more (length more) path number → number + length records < 2 ^ 32
+  copied_early path number of = let (copies, own, here) = of.so in let early = of.early in omega (arith, early, here)
+
+  pub FitShifted-added : FitShifted other.added (length records)
+  FitShifted-added = record { fits = λ node number has. let of = second.listed.of_added.sound node number has in added_early of.path number of.holds }
+
+  pub FitShifted-copied : FitShifted other.copied (length records)
+  FitShifted-copied = record { fits = λ node number has. let of = second.listed.of_copied.sound node number has in copied_early of.path number of.holds }
+
+  pub FitShifted-named : FitShifted other.named 0
+  FitShifted-named = record { fits = λ node number has. let of = second.listed.of_named.sound node number has in let small = of.small in omega (arith, small) }
+
+  module _ (joined : RecordsByPath) (mapped : List ℕ) (grown : IsGrown one.nodes joined.nodes) (nodes_of : AreNodesOf other.nodes joined.nodes mapped)
+      (added : AddsNumbers (IsMoved other.added mapped (length mapped) (length records)) one.added joined.added)
+      (copied : AddsNumbers (IsMoved other.copied mapped (length mapped) (length records)) one.copied joined.copied)
+      (named : AddsNumbers (IsMoved other.named mapped (length mapped) 0) one.named joined.named) where
+    of_both : (IsOf : NodeRecord → ℕ → List NameId → ℕ → Type 0) (shift : ℕ)
+        → AreBoth (IsOfSome IsOf records (length records)) (IsOfSome IsOf more (length more)) (IsOfSome IsOf (records ++ more) (length (records ++ more))) shift
+        → (old new later : List (Vec ℕ)) → AddsNumbers (IsMoved later mapped (length mapped) shift) old new → AreEntriesOf one.nodes (IsOfSome IsOf records (length records)) old
+        → AreEntriesOf other.nodes (IsOfSome IsOf more (length more)) later → AreEntriesOf joined.nodes (IsOfSome IsOf (records ++ more) (length (records ++ more))) new
+    of_both IsOf shift both old new later adds =
+        AreEntriesOf-both (IsOfSome IsOf records (length records)) (IsOfSome IsOf more (length more)) (IsOfSome IsOf (records ++ more) (length (records ++ more))) shift both one.nodes joined.nodes other.nodes mapped old new later
+        grown nodes_of adds
+
+    pub AreByPath-both : AreByPath (records ++ more) joined
+    AreByPath-both = record {
+      few = omega (arith, few, length-append records more);
+      listed = record {
+        of_added = of_both AddsPath (length records)
+            (AreBoth-records records more AddsPath (length records) (λ each place path number (adds, own, here). (adds, own, omega (arith, here)))
+            (λ each place path number past (adds, own, here). (place - length records, (adds, own, refl), omega (arith, here))) (λ path number of low. added_early path number of))
+            one.added joined.added other.added added first.listed.of_added second.listed.of_added;
+        of_copied = of_both CopiesPath (length records)
+            (AreBoth-records records more CopiesPath (length records) (λ each place path number (copies, own, here). (copies, own, omega (arith, here)))
+            (λ each place path number past (copies, own, here). (place - length records, (copies, own, refl), omega (arith, here))) (λ path number of low. copied_early path number of))
+            one.copied joined.copied other.copied copied first.listed.of_copied second.listed.of_copied;
+        of_named = of_both NamesPath 0
+            (AreBoth-records records more NamesPath 0 (λ each place path number (front, at). (front, omega (arith, at)))
+            (λ each place path number past so. (number, so, omega arith)) (λ path number of low. omega (arith, low)))
+            one.named joined.named other.named named first.listed.of_named second.listed.of_named;
+      };
+    }

@@ -1,0 +1,229 @@
+-- Lists of numbers of nodes, as numbers are inserted.
+use Rattle.std.proofs.Common.{◌≡◌, ◌≢◌, ℕ, zero, suc, map, ◌+◌, ◌-◌, ◌<◌, ◌≤◌, ◌⊎◌, List, [], ◌∷◌, ◌++◌, Contains, ltb, true, false, true≢false, set, length, get_or, slice_get, Some, inl, inr, refl, sym, ap, subst, ◌∙◌, arith}
+use Rattle.std.specs.Global.{Vec}
+use Rattle.std.specs.List.{insert}
+use Rattle.std.specs.List.Sorted.{IsPartitionPoint}
+use Rattle.std.proofs.lemmas.Bool.{cases_eq, cases_lt, lt-ltb, ltb-true}
+use Rattle.std.proofs.lemmas.List.{get_or-set_same, get_or-set_other, length-set, length_push, get_or_push, get_or_append_left}
+use Rattle.std.proofs.lemmas.List.Edits.{length-insert, get_or-insert_at, get_or-insert_below, get_or-insert_above}
+use Rattle.std.proofs.lemmas.List.Elements.{Contains-append_left, Contains-push, Contains-push_cases}
+use Rattle.std.proofs.lemmas.Option.{same_Some, slice_get-get_or, slice_get_past}
+use Rattle.path_index.specs.Numbers.{items_of, numbers_of, AddsNumbers, AreAllRising, ArePair, HasNumber, HaveSameNumbers, IsMoved, IsPlaceOf, IsRising, IsShifted, IsWith}
+
+-- ---- the numbers of one node
+
+pub numbers_of-within : (lists : List (Vec ℕ)) (node : ℕ) (d : Vec ℕ) → node < length lists → numbers_of lists node ≡ (get_or lists node d).items
+numbers_of-within lists node d within = ap items_of (slice_get-get_or lists node d within)
+
+pub numbers_of-past : (lists : List (Vec ℕ)) (node : ℕ) → length lists ≤ node → numbers_of lists node ≡ []
+numbers_of-past lists node past = ap items_of (slice_get_past lists node past)
+
+pub numbers_of-set : (lists : List (Vec ℕ)) (node : ℕ) (list : Vec ℕ) → node < length lists → numbers_of (set lists node list) node ≡ list.items
+numbers_of-set lists node list within =
+    numbers_of-within (set lists node list) node list (omega (arith, length-set lists node list)) ∙ ap (λ (v : Vec ℕ). v.items) (get_or-set_same lists node list list within)
+
+pub numbers_of-set_other : (lists : List (Vec ℕ)) (node : ℕ) (list : Vec ℕ) (other : ℕ) → other ≢ node → numbers_of (set lists node list) other ≡ numbers_of lists other
+numbers_of-set_other lists node list other differs = elim (cases_lt other (length lists)) [
+  | inl within ↦
+      numbers_of-within (set lists node list) other list (omega (arith, length-set lists node list))
+      ∙ ap (λ (v : Vec ℕ). v.items) (get_or-set_other lists node other list list differs) ∙ sym (numbers_of-within lists other list within)
+  | inr past ↦ numbers_of-past (set lists node list) other (omega (arith, length-set lists node list)) ∙ sym (numbers_of-past lists other past)
+]
+
+-- an empty list more
+pub HaveSameNumbers_push : (lists : List (Vec ℕ)) (list : Vec ℕ) → list.items ≡ [] → HaveSameNumbers lists (lists ++ list ∷ [])
+HaveSameNumbers_push lists list none node = elim (cases_lt node (length lists)) [
+  | inl within ↦
+      numbers_of-within (lists ++ list ∷ []) node list (omega (arith, length_push lists list))
+      ∙ ap (λ (v : Vec ℕ). v.items) (get_or_append_left lists (list ∷ []) list node within) ∙ sym (numbers_of-within lists node list within)
+  | inr past ↦ elim (cases_lt (length lists) node) [
+    | inl far ↦ numbers_of-past (lists ++ list ∷ []) node (omega (arith, length_push lists list)) ∙ sym (numbers_of-past lists node past)
+    | inr here ↦
+        let is : length lists ≡ node = omega arith in
+        numbers_of-within (lists ++ list ∷ []) node list (omega (arith, length_push lists list))
+        ∙ ap (λ (v : Vec ℕ). v.items) (get_or_push lists list list node is) ∙ none ∙ sym (numbers_of-past lists node past)
+  ]
+]
+
+pub AreAllRising-same : (old new : List (Vec ℕ)) → HaveSameNumbers old new → AreAllRising old → AreAllRising new
+AreAllRising-same old new same rising node = subst IsRising (sym (same node)) (rising node)
+
+pub AreAllRising-set : (lists : List (Vec ℕ)) (node : ℕ) (list : Vec ℕ) → node < length lists → AreAllRising lists → IsRising list.items → AreAllRising (set lists node list)
+AreAllRising-set lists node list within rising own other = elim (cases_eq other node) [
+  | inl is ↦ subst IsRising (sym (ap (numbers_of (set lists node list)) is ∙ numbers_of-set lists node list within)) own
+  | inr differs ↦ subst IsRising (sym (numbers_of-set_other lists node list other differs)) (rising other)
+]
+
+-- ---- a number more
+
+pub IsPlaceOf-from_point : (number : ℕ) (numbers : List ℕ) (place : ℕ) → place ≤ length numbers → IsPartitionPoint (λ each. ltb each number ≡ true) (λ each. ltb each number ≡ false) numbers place → IsPlaceOf number numbers place
+IsPlaceOf-from_point number numbers place bound point = record {
+  bound = bound;
+  before = λ k d below. ltb-true (get_or numbers k d) number (point.0 k d (omega arith) below);
+  after = λ k d from within. elim (cases_lt (get_or numbers k d) number) [
+    | inl less ↦ absurd (true≢false (sym (lt-ltb (get_or numbers k d) number less) ∙ point.1 k d from within))
+    | inr least ↦ least
+  ];
+}
+
+module _ (numbers : List ℕ) (number place : ℕ) (at : IsPlaceOf number numbers place) where
+  abbrev after : List ℕ
+  after = insert numbers place number
+
+  long : length after ≡ length numbers + 1
+  long = length-insert numbers place number at.bound
+
+  at_place : (k d : ℕ) → k ≡ place → get_or after k d ≡ number
+  at_place k d is = ap (λ n. get_or after n d) is ∙ get_or-insert_at numbers place number d at.bound
+
+  at_below : (k d : ℕ) → k < place → get_or after k d ≡ get_or numbers k d
+  at_below k d below = get_or-insert_below numbers place number d k below at.bound
+
+  at_above : (k d : ℕ) → place < k → get_or after k d ≡ get_or numbers (k - 1) d
+  at_above k d above =
+      let is : k ≡ k - 1 + 1 = omega arith in
+      ap (λ n. get_or after n d) is ∙ get_or-insert_above numbers place number d (k - 1) (omega arith) at.bound
+
+  module _ (rising : IsRising numbers) (new : (d : ℕ) → place < length numbers → get_or numbers place d ≢ number) where
+    above_place : (k d : ℕ) → place ≤ k → k < length numbers → number < get_or numbers k d
+    above_place k d from within = elim (cases_eq place k) [
+      | inl is ↦ let least = at.after k d from within in let other : get_or numbers k d ≢ number = subst (λ n. get_or numbers n d ≢ number) is (new d (omega arith)) in omega (arith, least, other)
+      | inr differs ↦ let least = at.after place d (omega arith) (omega arith) in let less = rising place k d (omega arith) within in omega (arith, least, less)
+    ]
+
+    pub IsRising-insert : IsRising after
+    IsRising-insert i j d before within = elim (cases_lt j place) [
+      | inl below ↦ let less = rising i j d before (omega (arith, at.bound)) in omega (arith, less, at_below i d (omega arith), at_below j d below)
+      | inr from ↦ elim (cases_lt place j) [
+        | inr to ↦ let less = at.before i d (omega arith) in omega (arith, less, at_below i d (omega arith), at_place j d (omega arith))
+        | inl past ↦ elim (cases_lt i place) [
+          | inl low ↦ let less = rising i (j - 1) d (omega arith) (omega (arith, long)) in omega (arith, less, at_below i d low, at_above j d past)
+          | inr high ↦ elim (cases_lt place i) [
+            | inl higher ↦ let less = rising (i - 1) (j - 1) d (omega arith) (omega (arith, long)) in omega (arith, less, at_above i d higher, at_above j d past)
+            | inr here ↦ let less = above_place (j - 1) d (omega arith) (omega (arith, long)) in omega (arith, less, at_place i d (omega arith), at_above j d past)
+          ]
+        ]
+      ]
+    ]
+
+  pub IsWith-insert : IsWith number numbers after
+  IsWith-insert = record {
+    kept = λ each (k, within, is). elim (cases_lt k place) [
+      | inl below ↦ (k, omega (arith, long), at_below k each below ∙ is)
+      | inr from ↦ (k + 1, omega (arith, long), get_or-insert_above numbers place number each k from at.bound ∙ is)
+    ];
+    sound = λ each (k, within, is). elim (cases_lt k place) [
+      | inl below ↦ inl (k, omega (arith, at.bound), sym (at_below k each below) ∙ is)
+      | inr from ↦ elim (cases_lt place k) [
+        | inl past ↦ inl (k - 1, omega (arith, long), sym (at_above k each past) ∙ is)
+        | inr here ↦ inr (sym is ∙ at_place k each (omega arith))
+      ]
+    ];
+    here = (place, omega (arith, long, at.bound), at_place place number refl);
+  }
+
+  pub IsWith-here : place < length numbers → get_or numbers place number ≡ number → IsWith number numbers numbers
+  IsWith-here within is = record { kept = λ each has. has; sound = λ each has. inl has; here = (place, within, is) }
+
+-- ---- the numbers that come
+
+-- where nothing holds, none
+pub AddsNumbers-none : (P : ℕ → ℕ → Type 0) (lists : List (Vec ℕ)) → ((node number : ℕ) → P node number → ⊥) → AddsNumbers P lists lists
+AddsNumbers-none P lists never = record {
+  kept = λ node number has. has;
+  sound = λ node number has. inl has;
+  complete = λ node number so. absurd (never node number so);
+}
+
+-- first some, then others
+pub AddsNumbers-then : (P Q R : ℕ → ℕ → Type 0) (old middle new : List (Vec ℕ)) → AddsNumbers P old middle → AddsNumbers Q middle new
+    → ((node number : ℕ) → P node number → R node number) → ((node number : ℕ) → Q node number → R node number) → ((node number : ℕ) → R node number → P node number ⊎ Q node number)
+    → AddsNumbers R old new
+AddsNumbers-then P Q R old middle new one other first second cases = record {
+  kept = λ node number has. other.kept node number (one.kept node number has);
+  sound = λ node number has. elim (other.sound node number has) [
+    | inl middle ↦ elim (one.sound node number middle) [ inl old ↦ inl old | inr p ↦ inr (first node number p) ]
+    | inr q ↦ inr (second node number q)
+  ];
+  complete = λ node number r. elim (cases node number r) [
+    | inl p ↦ other.kept node number (one.complete node number p)
+    | inr q ↦ other.complete node number q
+  ];
+}
+
+-- after the lists were copied
+pub AddsNumbers-same : (P : ℕ → ℕ → Type 0) (old middle new : List (Vec ℕ)) → HaveSameNumbers old middle → AddsNumbers P middle new → AddsNumbers P old new
+AddsNumbers-same P old middle new same adds = record {
+  kept = λ node number has. adds.kept node number (subst (λ all. Contains all number) (sym (same node)) has);
+  sound = λ node number has. elim (adds.sound node number has) [ inl before ↦ inl (subst (λ all. Contains all number) (same node) before) | inr p ↦ inr p ];
+  complete = adds.complete;
+}
+
+-- one number
+pub AddsNumbers-set : (lists : List (Vec ℕ)) (node number : ℕ) (list : Vec ℕ) → node < length lists → IsWith number (numbers_of lists node) list.items → AddsNumbers (ArePair node number) lists (set lists node list)
+AddsNumbers-set lists node number list within inserted = record {
+  kept = λ other each has. elim (cases_eq other node) [
+    | inl is ↦ subst (λ all. Contains all each) (sym (here other is)) (inserted.kept each (subst (λ n. HasNumber lists n each) is has))
+    | inr differs ↦ subst (λ all. Contains all each) (sym (numbers_of-set_other lists node list other differs)) has
+  ];
+  sound = λ other each has. elim (cases_eq other node) [
+    | inl is ↦ elim (inserted.sound each (subst (λ all. Contains all each) (here other is) has)) [
+      | inl before ↦ inl (subst (λ n. HasNumber lists n each) (sym is) before)
+      | inr new ↦ inr (is, new)
+    ]
+    | inr differs ↦ inl (subst (λ all. Contains all each) (numbers_of-set_other lists node list other differs) has)
+  ];
+  complete = λ other each (is, new). subst (λ all. Contains all each) (sym (here other is)) (subst (Contains list.items) (sym new) inserted.here);
+}
+  where
+    here : (other : ℕ) → other ≡ node → numbers_of (set lists node list) other ≡ list.items
+    here other is = ap (numbers_of (set lists node list)) is ∙ numbers_of-set lists node list within
+
+pub AddsNumbers-none_shifted : (old new : List (Vec ℕ)) (shift node : ℕ) → HaveSameNumbers old new → AddsNumbers (IsShifted [] shift node) old new
+AddsNumbers-none_shifted old new shift node same =
+    AddsNumbers-same (IsShifted [] shift node) old new new same
+    (AddsNumbers-none (IsShifted [] shift node) new (λ n k so. let below = so.within.1 in omega (arith, below)))
+
+-- ---- copies
+
+abbrev pub items_in : Vec ℕ → List ℕ
+items_in list = list.items
+
+numbers_of-map : (lists : List (Vec ℕ)) (node : ℕ) → numbers_of lists node ≡ get_or (map items_in lists) node []
+numbers_of-map [] node = refl
+numbers_of-map (list ∷ lists) zero = refl
+numbers_of-map (list ∷ lists) (suc node) = numbers_of-map lists node
+
+pub HaveSameNumbers-map : (old new : List (Vec ℕ)) → map items_in new ≡ map items_in old → HaveSameNumbers old new
+HaveSameNumbers-map old new same node = numbers_of-map new node ∙ ap (λ all. get_or all node []) same ∙ sym (numbers_of-map old node)
+
+-- ---- the numbers of other nodes
+
+pub AddsNumbers-next_shifted : (old middle new : List (Vec ℕ)) (done : List ℕ) (each shift node : ℕ) → AddsNumbers (IsShifted done shift node) old middle → AddsNumbers (ArePair node (each + shift)) middle new
+    → AddsNumbers (IsShifted (done ++ each ∷ []) shift node) old new
+AddsNumbers-next_shifted old middle new done each shift node one other =
+    AddsNumbers-then (IsShifted done shift node) (ArePair node (each + shift)) (IsShifted (done ++ each ∷ []) shift node) old middle new one other
+    (λ n k so. record { here = so.here; earlier = so.earlier; within = Contains-append_left done (each ∷ []) so.earlier so.within; is = so.is })
+    (λ n k (here, is). record { here = here; earlier = each; within = Contains-push done each; is = is })
+    (λ n k so. elim (Contains-push_cases done each so.earlier so.within) [
+      | inl before ↦ inl (record { here = so.here; earlier = so.earlier; within = before; is = so.is })
+      | inr last ↦ inr (so.here, so.is ∙ ap (λ e. e + shift) (sym last))
+    ])
+
+pub AddsNumbers-next_node : (old middle new lists : List (Vec ℕ)) (nodes : List ℕ) (count shift node : ℕ) → slice_get nodes count ≡ Some node → AddsNumbers (IsMoved lists nodes count shift) old middle
+    → AddsNumbers (IsShifted (numbers_of lists count) shift node) middle new → AddsNumbers (IsMoved lists nodes (count + 1) shift) old new
+AddsNumbers-next_node old middle new lists nodes count shift node at one other =
+    AddsNumbers-then (IsMoved lists nodes count shift) (IsShifted (numbers_of lists count) shift node) (IsMoved lists nodes (count + 1) shift) old middle new one other
+    (λ n k so. record { from = so.from; early = (let early = so.early in omega (arith, early)); mapped = so.mapped; earlier = so.earlier; has = so.has; is = so.is })
+    (λ n k so. record { from = count; early = omega arith; mapped = at ∙ ap Some (sym so.here); earlier = so.earlier; has = so.within; is = so.is })
+    (λ n k so. elim (cases_lt so.from count) [
+      | inl before ↦ inl (record { from = so.from; early = before; mapped = so.mapped; earlier = so.earlier; has = so.has; is = so.is })
+      | inr last ↦
+          let here : so.from ≡ count = let early = so.early in omega (arith, early, last) in
+          inr (record {
+            here = same_Some n node (sym so.mapped ∙ ap (slice_get nodes) here ∙ at);
+            earlier = so.earlier;
+            within = subst (λ m. HasNumber lists m so.earlier) here so.has;
+            is = so.is;
+          })
+    ])

@@ -1,0 +1,56 @@
+use Rattle.std.proofs.Common.{◌≡◌, ◌+◌, Some, refl, take, length, sym, ap, subst, ◌∙◌, arith}
+use Rattle.std.proofs.lemmas.List.{take_all}
+use Rattle.path_index.specs.Nodes.{node_of}
+use Rattle.path_index.specs.RecordsByPath.{AddsEntries, IsFrontAt}
+use Rattle.path_index.proofs.EntriesOfPaths.{AddsEntries-root, AddsEntries-next, AddsEntries-grown, IsGrown-none, IsGrown-again}
+use Rattle.path_index.proofs.NodesOfPaths.{node_of-grown, node_of-take_more, node_of-within}
+use Rattle.path_index.proofs.records_by_path.RecordsByPath.name.Goals as goal
+
+pub loop-name-init : goal.loop-name-init
+loop-name-init c =
+    let old = c.args.self.now in
+    let parts = c.parts-name-items.result.now in
+    record {
+      node = refl;
+      grown = IsGrown-none old.nodes;
+      named = AddsEntries-root old.nodes parts c.args.rev old.named c.insert.new.self (omega (arith, c.ranges.rev.fits)) c.in_ok-insert.ensures;
+      added = refl;
+      copied = refl;
+    }
+
+pub add-requires : goal.add-requires
+add-requires c = node_of-within c.loop-name.self.nodes (take c.loop-name.name-index c.parts-name-items.result.now) c.loop-name.node c.loop-name.invariant.node
+
+pub loop-name-preserved : goal.loop-name-preserved
+loop-name-preserved c =
+    let old = c.args.self.now in
+    let before = c.loop-name.self in
+    let nodes = c.add.new.self in
+    let parts = c.parts-name-items.result.now in
+    let n = c.loop-name.name-index in
+    let so = c.loop-name.invariant in
+    let grown = c.in_ok-node.ensures.grown in
+    let node : node_of nodes (take (n + 1) parts) ≡ Some c.in_ok-node.node =
+    node_of-take_more nodes parts n (record { 0 = 0 }) c.loop-name.node c.loop-name-test.true (node_of-grown before.nodes nodes (take n parts) c.loop-name.node grown so.node)
+    ∙ c.in_ok-node.ensures.node in
+    record {
+      node = node;
+      grown = IsGrown-again old.nodes before.nodes nodes so.grown grown;
+      named = AddsEntries-next nodes parts n c.args.rev c.in_ok-node.node old.named before.named c.insert-in-loop-name.new.self
+          (AddsEntries-grown before.nodes nodes grown (IsFrontAt parts n c.args.rev) old.named before.named so.named) node (omega (arith, c.ranges.rev.fits)) c.in_ok-insert-2.ensures;
+      added = so.added;
+      copied = so.copied;
+    }
+
+pub returns-clause-node : goal.returns-clause-node
+returns-clause-node c =
+    let parts = c.parts-name-items.result.now in
+    ap (node_of c.loop-name.self.nodes) (sym c.parts-name-items.ensures ∙ sym (take_all c.loop-name.name-index parts (omega arith))) ∙ c.loop-name.invariant.node
+
+pub returns-clause-named : goal.returns-clause-named
+returns-clause-named c =
+    let parts = c.parts-name-items.result.now in
+    let whole : parts ≡ c.args.path.now = c.parts-name-items.ensures in
+    let all : c.loop-name.name-index ≡ length c.args.path.now = omega (arith, ap length whole, c.loop-name-test.false, c.loop-name.auto.name-index-end) in
+    subst (λ path. AddsEntries c.loop-name.self.nodes (IsFrontAt path (length c.args.path.now) c.args.rev) c.args.self.now.named c.loop-name.self.named) whole
+    (subst (λ n. AddsEntries c.loop-name.self.nodes (IsFrontAt parts n c.args.rev) c.args.self.now.named c.loop-name.self.named) all c.loop-name.invariant.named)

@@ -1,0 +1,59 @@
+//! Joining the indexes of neighbouring parts of a history.
+ghost use Rattle.std.specs.Prelude.{◌≡◌, ◌++◌, IfOk};
+
+use crate::index::{Index, push_all};
+use par_scan::Acts;
+use std::alloc::{AllocError, Global};
+use svn_dump::NodeRecord;
+
+impl Acts for Index {
+    ghost use Rattle.std.specs.Prelude.{List};
+    ghost use Rattle.svn_dump.specs.declared.record.NodeRecord.{NodeRecord};
+    ghost use Rattle.par_scan.specs.Weightless.{no_weight};
+    ghost use Rattle.path_index.specs.Joining.{put_before, records_before, records_up_to_end};
+
+    ghost Point = { List NodeRecord };
+
+    ghost act = { put_before };
+
+    ghost begin = { records_before };
+
+    ghost end = { records_up_to_end };
+
+    ghost weight = { λ _. 0 };
+
+    ghost weighs = { λ items joined acts. no_weight items };
+
+    fn fits(&self, later: &Self) -> bool {
+        self.end() == u64::from(later.first)
+    }
+
+    fn unit(&self) -> Result<Self, AllocError> {
+        Index::build(*self.records.allocator(), &[], self.first)
+    }
+
+    fn join(&self, later: &Self) -> Result<Self, AllocError> {
+        let alloc = *self.records.allocator();
+        let mut records = Vec::with_capacity(alloc, self.records.len() + later.records.len())?;
+        push_all(&mut records, self.records.as_slice())?;
+        push_all(&mut records, later.records.as_slice())?;
+        let by_path = self
+            .by_path
+            .join(&later.by_path, self.records.len() as u32)?;
+        Ok(Index {
+            records,
+            first: self.first,
+            by_path,
+        })
+    }
+
+    fn dup(&self) -> Result<Self, AllocError> {
+        let mut records = Vec::with_capacity(*self.records.allocator(), self.records.len())?;
+        push_all(&mut records, self.records.as_slice())?;
+        Ok(Index {
+            records,
+            first: self.first,
+            by_path: self.by_path.dup()?,
+        })
+    }
+}

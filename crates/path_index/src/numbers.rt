@@ -1,0 +1,203 @@
+//! Rising lists of numbers, one for each node.
+ghost use Rattle.std.specs.Prelude.{◌≡◌, ℕ, ◌+◌, ◌-◌, ◌^◌, ◌<◌, ◌++◌, [], All, filter, length, map, IfOk, OnOk};
+ghost use Rattle.path_index.specs.Numbers.{has_number, newer_of, numbers_of, AddsNumbers, AreAllRising, ArePair, FitShifted};
+ghost use Rattle.path_index.specs.Numbers.{HasNumber, HaveSameNumbers, IsMoved, IsNewestBelow, IsPlaceOf, IsRising};
+ghost use Rattle.path_index.specs.Numbers.{IsShifted, IsUpTo, IsWith};
+ghost use Rattle.path_index.specs.Operative.{down_from, hit_at};
+
+use crate::hit::Hit;
+use std::alloc::{AllocError, Global};
+use std::marker::Model;
+
+/// The numbers of nodes, each node's in rising order. Nodes past the end of the lists have none.
+#[derive(Drop)]
+pub(crate) struct Numbers {
+    lists: Vec<Vec<u32>>,
+}
+
+impl Model for Numbers {
+    ghost use Rattle.std.specs.Prelude.{ℕ, List};
+    ghost use Rattle.std.specs.Global.{Vec};
+    ghost use Rattle.path_index.specs.Numbers.{AreAllRising};
+
+    ghost Value = { List (Vec ℕ) };
+
+    ghost view = { λ n. n.lists.items };
+
+    ghost invariant = { λ n. AreAllRising n.lists.items };
+}
+
+/// The newer of two places of records.
+pub(crate) fn newer(one: Option<u32>, other: Option<u32>) -> Option<u32>
+    ensures { result ≡ newer_of one other }
+{
+    match (one, other) {
+        (None, _) => other,
+        (_, None) => one,
+        (Some(a), Some(b)) => Some(if a < b { b } else { a }),
+    }
+}
+
+/// The place of the first of these numbers that is not below a number.
+fn place_of(numbers: &[u32], number: u32) -> usize
+    requires { IsRising numbers.now }
+    ensures { IsPlaceOf number numbers.now result }
+{
+    match numbers.last() {
+        Some(last) if *last < number => numbers.len(),
+        _ => numbers.partition_point(|each| *each < number),
+    }
+}
+
+/// Inserts a number at its place, if it is not there.
+fn insert_number(numbers: &mut Vec<u32>, number: u32) -> Result<(), AllocError>
+    requires { IsRising numbers.old.items }
+    ensures rising { IsRising numbers.new.items }
+    ensures with { OnOk result (IsWith number numbers.old.items numbers.new.items) }
+{
+    let place = place_of(numbers.as_slice(), number);
+    if place == numbers.len() || numbers[place] != number {
+        numbers.insert(place, number)?;
+    }
+    Ok(())
+}
+
+/// Appends empty lists, so that the node has one.
+fn extend_to(lists: &mut Vec<Vec<u32>>, node: usize) -> Result<(), AllocError>
+    ensures same { HaveSameNumbers lists.old.items lists.new.items }
+    ensures within { OnOk result (node < length lists.new.items) }
+{
+    let alloc = *lists.allocator();
+    while lists.len() <= node {
+        lists.push(Vec::new(alloc))?;
+    }
+    Ok(())
+}
+
+impl Numbers {
+    /// No numbers. It takes no memory.
+    pub(crate) fn new(alloc: Global) -> Self
+        ensures { result ≡ [] }
+    {
+        Numbers {
+            lists: Vec::new(alloc),
+        }
+    }
+
+    /// The same numbers again.
+    pub(crate) fn dup(&self) -> Result<Self, AllocError>
+        ensures { IfOk result (HaveSameNumbers self.now) }
+    {
+        let alloc = *self.lists.allocator();
+        let mut lists = Vec::with_capacity(alloc, self.lists.len())?;
+        for list in &self.lists {
+            lists.push(Vec::from_slice(alloc, list.as_slice())?)?;
+        }
+        Ok(Numbers { lists })
+    }
+
+    /// The numbers of a node.
+    fn of(&self, node: usize) -> &[u32]
+        ensures numbers { result.now ≡ numbers_of self.now node }
+        ensures rising { IsRising result.now }
+    {
+        match self.lists.get(node) {
+            Some(list) => list.as_slice(),
+            None => &[],
+        }
+    }
+
+    /// Inserts a number of a node, if it is not there.
+    pub(crate) fn insert(&mut self, node: u32, number: u32) -> Result<(), AllocError>
+        ensures { OnOk result (AddsNumbers (ArePair node number) self.old self.new) }
+    {
+        extend_to(&mut self.lists, node as usize)?;
+        insert_number(&mut self.lists[node as usize], number)
+    }
+
+    /// Makes room for so many more numbers of a node.
+    fn reserve(&mut self, node: usize, more: usize) -> Result<(), AllocError>
+        ensures { HaveSameNumbers self.old self.new }
+    {
+        if more == 0 {
+            return Ok(());
+        }
+        extend_to(&mut self.lists, node)?;
+        self.lists[node].reserve_exact(more)
+    }
+
+    /// Inserts these numbers plus a shift at a node.
+    fn insert_shifted(&mut self, node: u32, numbers: &[u32], shift: u32) -> Result<(), AllocError>
+        requires { All (λ number. number + shift < 2 ^ 32) numbers.now }
+        ensures { OnOk result (AddsNumbers (IsShifted numbers.now shift node) self.old self.new) }
+    {
+        self.reserve(node as usize, numbers.len())?;
+        for number in numbers {
+            self.insert(node, *number + shift)?;
+        }
+        Ok(())
+    }
+
+    /// Inserts the numbers of other nodes plus a shift, each at the node to which its own is mapped.
+    pub(crate) fn insert_all(
+        &mut self,
+        later: &Numbers,
+        nodes: &[u32],
+        shift: u32,
+    ) -> Result<(), AllocError>
+        requires { FitShifted later.now shift }
+        ensures { OnOk result (AddsNumbers (IsMoved later.now nodes.now (length nodes.now) shift) self.old self.new) }
+    {
+        for (from, node) in nodes.iter().enumerate() {
+            self.insert_shifted(*node, later.of(from), shift)?;
+        }
+        self.lists.shrink_to_fit();
+        Ok(())
+    }
+
+    /// The numbers of a node up to this one.
+    fn up_to(&self, node: u32, last: u32) -> &[u32]
+        ensures { IsUpTo last (numbers_of self.now node) result.now }
+    {
+        let numbers = self.of(node as usize);
+        let count = numbers.partition_point(|each| *each <= last);
+        let (front, _) = numbers.split_at(count);
+        front
+    }
+
+    /// The greatest number below a limit that the node has.
+    pub(crate) fn newest_below(&self, node: u32, limit: u32) -> Option<u32>
+        ensures { IsNewestBelow limit (HasNumber self.now node) result }
+    {
+        if limit == 0 {
+            return None;
+        }
+        self.up_to(node, limit - 1).last().copied()
+    }
+
+    /// Appends the node's numbers after `lo` and up to `hi` as hits of a segment, the greatest first.
+    pub(crate) fn push_hits(
+        &self,
+        hits: &mut Vec<Hit>,
+        place: usize,
+        node: u32,
+        lo: u32,
+        hi: u32,
+    ) -> Result<(), AllocError>
+        ensures { OnOk result (hits.new.items ≡ hits.old.items
+            ++ map (hit_at place) (filter (has_number self.now node) (down_from (hi - lo) hi))) }
+    {
+        let mut rest = self.up_to(node, hi);
+        while let Some((last, before)) = rest.split_last() {
+            if *last <= lo {
+                break;
+            }
+            hits.push(Hit {
+                rev: *last,
+                segment: place,
+            })?;
+            rest = before;
+        }
+        Ok(())
+    }
+}

@@ -1,0 +1,24 @@
+-- Blocks of the records of a history, each between two borders, which are numbers of records.
+use Rattle.std.specs.Prelude.{◌≡◌, ℕ, ◌+◌, ◌-◌, ◌^◌, ◌<◌, ◌≤◌, List, length}
+use Rattle.std.specs.Prelude.{slice_index, slice_range}
+use Rattle.svn_dump.specs.declared.record.NodeRecord.{NodeRecord}
+use Rattle.path_index.specs.Index.{IndexValue}
+
+-- the borders rise from the first one to the last one
+pub record AreBorders (first last : ℕ) (borders : List ℕ) : Type 0 where
+  pub some : 0 < length borders
+  pub starts : slice_index borders 0 ≡ first
+  pub rise : (i j : ℕ) → i ≤ j → j < length borders → slice_index borders i ≤ slice_index borders j
+  pub ends : slice_index borders (length borders - 1) ≡ last
+
+-- there is a block of that number, and its records are among these
+pub record HasBlock (records : List NodeRecord) (borders : List ℕ) (block : ℕ) : Type 0 where
+  pub inside : block + 1 < length borders
+  pub rises : slice_index borders block ≤ slice_index borders (block + 1)
+  pub ends : slice_index borders (block + 1) ≤ length records
+  pub few : length records < 2 ^ 32
+
+-- the index is of the records of that block
+pub record IsIndexOfBlock (all : List NodeRecord) (borders : List ℕ) (block : ℕ) (index : IndexValue) : Type 0 where
+  pub records : index.records ≡ slice_range all (slice_index borders block) (slice_index borders (block + 1))
+  pub first : index.first ≡ slice_index borders block

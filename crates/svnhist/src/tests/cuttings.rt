@@ -1,0 +1,93 @@
+//! Cutting histories into blocks.
+ghost use Rattle.std.specs.Prelude.{◌^◌, ◌<◌, All};
+
+use crate::cutting::cut;
+use crate::report::report;
+use crate::tests::reports::report_of;
+use query_pool::NoGate;
+use std::alloc::{AllocError, Global};
+use std::test::Fail;
+
+// Whether revision 0 and the last revisions of the blocks are the wanted ones.
+fn ends_are(alloc: Global, cuts: &[u32], last: usize, wanted: &[usize]) -> Result<bool, AllocError>
+    requires cuts { All (λ length. 0 < length) cuts.now }
+    requires last { last < 2 ^ 32 }
+{
+    let ends = cut(alloc, cuts, last)?;
+    Ok(ends.as_slice() == wanted)
+}
+
+#[test]
+fn blocks_take_revisions_by_the_lengths_in_turn(rt: HostRuntime) -> Result<(), Fail> {
+    assert!(rt; ends_are(rt.alloc(), &[1], 3, &[0, 1, 2, 3])?);
+    assert!(rt; ends_are(rt.alloc(), &[2, 1], 6, &[0, 2, 3, 4, 5, 6])?);
+    assert!(rt; ends_are(rt.alloc(), &[3], 7, &[0, 3, 6, 7])?);
+    assert!(rt; ends_are(rt.alloc(), &[1, 4], 6, &[0, 1, 5, 6])?);
+    Ok(())
+}
+
+#[test]
+fn no_lengths_mean_one_block(rt: HostRuntime) -> Result<(), Fail> {
+    assert!(rt; ends_are(rt.alloc(), &[], 7, &[0, 7])?);
+    assert!(rt; ends_are(rt.alloc(), &[8], 7, &[0, 7])?);
+    assert!(rt; ends_are(rt.alloc(), &[], 0, &[0])?);
+    assert!(rt; ends_are(rt.alloc(), &[2], 0, &[0])?);
+    Ok(())
+}
+
+// Of blocks of one revision each: how many are left, and the last revisions of the first one and of the last one.
+fn blocks_of_one(
+    alloc: Global,
+    last: usize,
+) -> Result<(usize, Option<usize>, Option<usize>), AllocError>
+    requires { last < 2 ^ 32 }
+{
+    let ends = cut(alloc, &[1], last)?;
+    Ok((
+        ends.len().saturating_sub(1),
+        ends.get(1).copied(),
+        ends.last().copied(),
+    ))
+}
+
+#[test]
+fn of_more_than_1024_blocks_neighbours_are_taken_together(rt: HostRuntime) -> Result<(), Fail> {
+    assert_eq!(rt;
+        blocks_of_one(rt.alloc(), 1024)?,
+        (1024, Some(1), Some(1024))
+    );
+    assert_eq!(rt;
+        blocks_of_one(rt.alloc(), 1025)?,
+        (513, Some(2), Some(1025))
+    );
+    assert_eq!(rt;
+        blocks_of_one(rt.alloc(), 2049)?,
+        (683, Some(3), Some(2049))
+    );
+    Ok(())
+}
+
+// A dump of so many revisions, each of which adds a file.
+fn long_dump(alloc: Global, last: u32) -> Result<Vec<u8>, Fail>
+    requires { last < 2 ^ 31 }
+{
+    let start = b"SVN-fs-dump-format-version: 2\n\nRevision-number: 0\n\n";
+    let mut dump = Vec::from_slice(alloc, start)?;
+    for rev in 1..=last {
+        let text = format!(in alloc;
+            "Revision-number: {rev}\n\nNode-path: f{rev}\nNode-kind: file\nNode-action: add\n\n"
+        )?;
+        dump.extend_from_slice(text.as_bytes())?;
+    }
+    Ok(dump)
+}
+
+#[test]
+fn a_long_history_is_cut_too(rt: HostRuntime) -> Result<(), Fail> {
+    let dump = long_dump(rt.alloc(), 1100)?;
+    let queries = b"log\t/@1100\nlog\t/f1025@1100\nsegments\t/f3@1100\nlocate\t/f7@9\t7\n";
+    let wanted = report_of(&rt, rt.alloc(), dump.as_slice(), queries)?;
+    let found = report(&rt, rt.alloc(), dump.as_slice(), queries, &[1], 3, &NoGate)?;
+    assert!(rt; found == wanted && found.ends_with(b"#4 ok\n/f7\n"));
+    Ok(())
+}
