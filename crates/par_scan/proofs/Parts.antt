@@ -1,9 +1,8 @@
 -- What holds of the parts of a list and of what is made of them.
-use Rattle.std.proofs.Common.{◌≡◌, ℕ, zero, suc, ◌+◌, ◌-◌, ◌*◌, ◌/◌, ◌%◌, ◌<◌, ◌≤◌, min, List, [], ◌∷◌, ◌++◌, length, get_or, take, drop, map, refl, sym, ap, subst, ◌∙◌, arith, ⊎_elim, length-append, length-drop, length-take, take-append-drop, IfOk, Result, Ok}
+use Rattle.std.proofs.Common.{◌≡◌, ℕ, zero, suc, ◌+◌, ◌-◌, ◌*◌, ◌/◌, ◌%◌, ◌<◌, ◌≤◌, min, List, [], ◌∷◌, ◌++◌, length, get_or, take, drop, map, sym, ap, subst, ◌∙◌, arith, ⊎_elim, length-append, length-drop, length-take, take-append-drop, IfOk, Result, Ok}
 use Rattle.std.proofs.lemmas.Result.{IfOk-at_ok}
-use Rattle.std.proofs.lemmas.List.Sums.{sum_by-cons, sum_by-take-drop}
 use Rattle.std.proofs.Math.Seq.{get_or-append_right}
-use Rattle.std.proofs.lemmas.List.{drop-drop, get_or_append_left, get_or-drop, get_or_push, length_push, length-map, take_all, take-append-le}
+use Rattle.std.proofs.lemmas.List.{get_or_append_left, get_or_push, length_push, length-map, take_all, take-append-le}
 use Rattle.std.proofs.Math.ListN.{get_or-map}
 use Rattle.std.proofs.Math.Nat.{suc-mul, zero-mul, one-mul, add-mul, mul-le-mul_right}
 use Rattle.std.proofs.lemmas.Bool.{cases_lt}
@@ -13,10 +12,10 @@ use Rattle.std.proofs.lemmas.List.Concat.{flat_map-cons}
 use denote.Ref.{Bor}
 use denote.Param.Members.{Shared}
 use Rattle.std.specs.Fork.{GivesChunks, GivesEach, IsChunk, slice_chunk}
-use Rattle.par_scan.specs.Chain.{ActsAsAll, act_all, ActsLike, AreJoinedUpTo, IsChain, IsJoined, Meet}
+use Rattle.par_scan.specs.Chain.{ActsAsAll, ActsLike, AreJoinedUpTo, IsChain, IsJoined}
 use Rattle.par_scan.specs.Making.{AreMade}
 use Rattle.par_scan.specs.Parts.{AreOfParts, EachFits, IsAfter, IsFilled, IsScan, IsUpTo, IsUpToPart}
-use Rattle.par_scan.proofs.Chains.{act_all-append, IsChain-drop, IsChain-next, IsChain-take, IsJoined-alike, IsJoined-next, last-cons}
+use Rattle.par_scan.proofs.Chains.{IsChain-drop, IsChain-next, IsChain-take, IsJoined-alike, IsJoined-next}
 
 -- one element more
 pub IsFilled-push : {M : Type 0} (Suits : ℕ → M → Type 0) (start count : ℕ) (xs : List M) (y : M) → IsFilled Suits start count xs → Suits (start + count) y → IsFilled Suits start (count + 1) (xs ++ y ∷ [])
@@ -128,83 +127,6 @@ AreOfParts-threads {F} {M} {X} {E} g f IsOf size items results values some count
     (λ part d below.
     let call = (gives part d below).1 in
     subst (λ l. IfOk (get_or results part d) (IsOf l)) call.argument_is.value (says (part * size) call.argument (get_or results part d) call.call)))
-
-module _ {M X : Type 0} (IsOf : List M → X → Type 0) (size : ℕ) (items : List M) (x : X) (xs : List X) (parts : AreOfParts IsOf size items (x ∷ xs)) where
-  pub AreOfParts-first : IsOf (take size items) x
-  AreOfParts-first = subst (λ n. IsOf (take size (drop n items)) x) (zero-mul size) (parts.each 0 x (omega arith))
-
-  pub AreOfParts-rest : AreOfParts IsOf size (drop size items) xs
-  AreOfParts-rest =
-      record {
-        covers = omega (arith, parts.covers, suc-mul (length xs) size, length-drop size items);
-        inside = λ part below. omega (arith, parts.inside (suc part) (omega arith), suc-mul part size, length-drop size items);
-        each = λ part d below.
-            let next : size + part * size ≡ suc part * size = omega (arith, suc-mul part size) in
-            let same : slice_chunk items size (suc part) ≡ slice_chunk (drop size items) size part =
-            ap (take size) (sym (drop-drop (part * size) size items ∙ ap (λ n. drop n items) next)) in
-            subst (λ l. IsOf l (get_or xs part d)) same (parts.each (suc part) d (omega arith));
-      }
-
-module _ {M P : Type 0} (act : M → P → P) (begin end : M → ℕ) (size : ℕ) where
-  -- all totals act as all items
-  parts-act : (items totals : List M) (p : P) → AreOfParts (IsJoined act begin end) size items totals → act_all act totals p ≡ act_all act items p
-  parts-act [] [] p parts = refl
-  parts-act (x ∷ xs) [] p parts = absurd (omega (arith, parts.covers, zero-mul size))
-  parts-act items (t ∷ ts) p parts =
-      (AreOfParts-first _ size items t ts parts).acts (act_all act ts p)
-      ∙ ap (act_all act (take size items)) (parts-act (drop size items) ts p (AreOfParts-rest _ size items t ts parts))
-      ∙ sym (act_all-append act (take size items) (drop size items) p)
-      ∙ ap (λ l. act_all act l p) (take-append-drop size items)
-
-  parts-ends : (items : List M) (t : M) (ts : List M) (d : M) → AreOfParts (IsJoined act begin end) size items (t ∷ ts) → end (get_or (t ∷ ts) (length (t ∷ ts) - 1) d) ≡ end (get_or items (length items - 1) d)
-  parts-ends items t [] d parts =
-      let rest : AreOfParts (IsJoined act begin end) size (drop size items) [] = AreOfParts-rest _ size items t [] parts in
-      let short : length items ≤ size = omega (arith, rest.covers, zero-mul size, length-drop size items) in
-      (AreOfParts-first _ size items t [] parts).ends d ∙ ap (λ l. end (get_or l (length l - 1) d)) (take_all size items short)
-  parts-ends items t (u ∷ us) d parts =
-      let rest : AreOfParts (IsJoined act begin end) size (drop size items) (u ∷ us) = AreOfParts-rest _ size items t (u ∷ us) parts in
-      let left = length-drop size items in
-      let last : size + (length (drop size items) - 1) ≡ length items - 1 = omega (arith, rest.inside 0 (omega arith), zero-mul size) in
-      ap end (last-cons t u us d) ∙ parts-ends (drop size items) u us d rest
-      ∙ ap end (get_or-drop size items (length (drop size items) - 1) d ∙ ap (λ i. get_or items i d) last)
-
-  -- the totals of all parts, joined, are all items joined
-  pub IsJoined-parts : (items totals : List M) (r : M) → AreOfParts (IsJoined act begin end) size items totals → IsJoined act begin end totals r → IsJoined act begin end items r
-  IsJoined-parts items [] r parts j = absurd (omega (arith, j.some))
-  IsJoined-parts items (t ∷ ts) r parts j =
-      let first : IsJoined act begin end (take size items) t = AreOfParts-first _ size items t ts parts in
-      let some : 0 < length items = omega (arith, parts.inside 0 (omega arith)) in
-      record {
-        some = some;
-        acts = λ p. j.acts p ∙ parts-act items (t ∷ ts) p parts;
-        begins = λ d. j.begins d ∙ first.begins d ∙ ap begin
-            (sym (get_or_append_left (take size items) (drop size items) d 0 first.some) ∙ ap (λ l. get_or l 0 d) (take-append-drop size items));
-        ends = λ d. j.ends d ∙ parts-ends items t ts d parts;
-      }
-
-module _ {M P : Type 0} (act : M → P → P) (begin end weight : M → ℕ) (weighs : (l : List M) (j : M) → ActsAsAll act l j → weight j ≡ sum_by weight l) (size : ℕ) where
-  parts-meet : (items totals : List M) → IsChain begin end weight items → AreOfParts (IsJoined act begin end) size items totals → Meet begin end totals
-  parts-meet items [] chain parts = tt
-  parts-meet items (t ∷ []) chain parts = tt
-  parts-meet items (t ∷ u ∷ ts) chain parts =
-      let rest : AreOfParts (IsJoined act begin end) size (drop size items) (u ∷ ts) = AreOfParts-rest _ size items t (u ∷ ts) parts in
-      let pair = IsChain-next act begin end weight weighs size size items t u chain (AreOfParts-first _ size items t (u ∷ ts) parts) (AreOfParts-first _ size (drop size items) u ts rest) in
-      (pair.meet.0, parts-meet (drop size items) (u ∷ ts) (IsChain-drop begin end weight size items chain) rest)
-
-  parts-weigh : (items totals : List M) → AreOfParts (IsJoined act begin end) size items totals → sum_by weight totals ≡ sum_by weight items
-  parts-weigh [] [] parts = refl
-  parts-weigh (x ∷ xs) [] parts = absurd (omega (arith, parts.covers, zero-mul size))
-  parts-weigh items (t ∷ ts) parts = omega (
-    arith,
-    sum_by-cons weight t ts,
-    weighs (take size items) t (AreOfParts-first _ size items t ts parts).acts,
-    parts-weigh (drop size items) ts (AreOfParts-rest _ size items t ts parts),
-    sum_by-take-drop weight items size,
-  )
-
-  -- the totals of all parts of a chain are a chain
-  pub IsChain-parts : (items totals : List M) → IsChain begin end weight items → AreOfParts (IsJoined act begin end) size items totals → IsChain begin end weight totals
-  IsChain-parts items totals chain parts = record { meet = parts-meet items totals chain parts; light = omega (arith, chain.light, parts-weigh items totals parts) }
 
 -- the last element of a scan is all items, joined
 pub scan-end : {M P : Type 0} (act : M → P → P) (begin end : M → ℕ) (items scanned : List M) (d : M) → 0 < length items → IsScan act begin end items scanned → IsJoined act begin end items (get_or scanned (length scanned - 1) d)

@@ -37,19 +37,6 @@ pub(crate) fn join_all<M: Acts>(items: &[M]) -> Result<M, AllocError>
     earlier.join(&later)
 }
 
-/// All items joined, or the only one itself, or `None` of no items.
-pub(crate) fn join_owned<M: Acts>(mut items: Vec<M>) -> Result<Option<M>, AllocError>
-    requires { IsChain M.begin M.end M.weight items.items }
-    ensures joined { IfOk result (λ total. IfSome total (IsJoined M.act M.begin M.end items.items)) }
-    ensures none { IfOk result (λ total. IfNone total (items.items ≡ [])) }
-{
-    if items.len() < 2 {
-        return Ok(items.pop());
-    }
-    let joined = join_all(items.as_slice())?;
-    Ok(Some(joined))
-}
-
 /// The item joined to the last of the earlier elements, or an element that acts as it does where there is none.
 pub(crate) fn join_to_last<M: Acts>(earlier: &[M], item: &M) -> Result<M, AllocError>
     requires { (d : M) → 0 < length earlier.now

@@ -6,6 +6,7 @@ ghost use Rattle.std.specs.Prelude.{
   ◌-◌,
   ◌<◌,
   ◌≤◌,
+  ◌++◌,
   [],
   IfOk,
   IfSome,
@@ -15,6 +16,7 @@ ghost use Rattle.std.specs.Prelude.{
   vec_len,
 };
 ghost use Rattle.par_scan.specs.Chain.{AreJoinedUpTo, IsChain, IsJoined};
+ghost use denote.Param.Send.{IsSend, IsSync};
 ghost use Rattle.par_scan.specs.Parts.{
   AreOfParts,
   AreScans,
@@ -27,9 +29,9 @@ ghost use Rattle.par_scan.specs.Parts.{
 
 use crate::acts::Acts;
 use crate::gathering::{all_ok, append_all};
-use crate::joining::{join_all, join_each, join_owned, join_to_last, last_of, scan_run};
+use crate::joining::{join_all, join_each, join_to_last, last_of, scan_run};
 use std::alloc::{AllocError, Global};
-use std::thread::{Threads, map_chunks, map_indices};
+use std::thread::{self, Threads, map_chunks, map_indices};
 
 /// For each place an element that is all items up to that place, joined in order. The work is divided into at most
 /// `parts` parts of neighbours, each done in a thread of its own, or by the caller where none can be started.
@@ -59,7 +61,7 @@ pub fn scan<R: Threads + Sync, M: Acts>(
 pub fn total<R: Threads + Sync, M: Acts>(
     rt: &R,
     alloc: Global,
-    items: Vec<M>,
+    mut items: Vec<M>,
     parts: usize,
 ) -> Result<Option<M>, AllocError>
     requires chain { IsChain M.begin M.end M.weight items.items }
@@ -69,30 +71,52 @@ pub fn total<R: Threads + Sync, M: Acts>(
     ensures none { IfOk result (λ total. IfNone total (items.items ≡ [])) }
 {
     if items.len() < 2 {
-        return join_owned(items);
+        return Ok(items.pop());
     }
-    let size = items.len().div_ceil(parts);
-    let totals = part_totals(rt, alloc, items.as_slice(), size)?;
-    join_owned(totals)
+    let joined = join_across(rt, items.as_slice(), parts)?;
+    Ok(Some(joined))
 }
 
-// All items of each part joined.
-fn part_totals<R: Threads + Sync, M: Acts>(
+// All items joined, by at most so many threads at a time: each half is joined on its own.
+#[cycle(join_across)]
+fn join_across<R: Threads + Sync, M: Acts>(
     rt: &R,
-    alloc: Global,
     items: &[M],
-    size: usize,
-) -> Result<Vec<M>, AllocError>
-    requires size { 0 < size }
+    parts: usize,
+) -> Result<M, AllocError>
+    requires some { 0 < length items.now }
     requires chain { IsChain M.begin M.end M.weight items.now }
-    ensures { IfOk result (λ totals. AreOfParts (IsJoined M.act M.begin M.end) size items.now totals.items) }
+    ensures { IfOk result (IsJoined M.act M.begin M.end items.now) }
 {
-    let join_part = |_start: usize, part: &[M]| -> Result<M, AllocError>
-        requires { (0 < length part.now) × IsChain M.begin M.end M.weight part.now }
-        ensures { IfOk result (IsJoined M.act M.begin M.end part.now) }
-    { join_all(part) };
-    let results = map_chunks(rt, alloc, items, size, &join_part)?;
-    all_ok(alloc, results)
+    if parts < 2 || items.len() < 4 {
+        return join_all(items);
+    }
+    let (front, back) = halves(items);
+    let join_front = || -> Result<M, AllocError>
+        requires { IsSync R.row × IsSync M.row × IsSend M.row
+            × (0 < length front.now) × IsChain M.begin M.end M.weight front.now }
+        ensures { IfOk result (IsJoined M.act M.begin M.end front.entry.now) }
+    { join_across(rt, front, parts / 2) };
+    let join_back = || -> Result<M, AllocError>
+        requires { IsSync R.row × IsSync M.row × IsSend M.row
+            × (0 < length back.now) × IsChain M.begin M.end M.weight back.now }
+        ensures { IfOk result (IsJoined M.act M.begin M.end back.entry.now) }
+    { join_across(rt, back, parts - parts / 2) };
+    let (earlier, later) = thread::join(rt, join_front, join_back);
+    earlier?.join(&later?)
+}
+
+// The two halves of some items.
+fn halves<M: Acts>(items: &[M]) -> (&[M], &[M])
+    requires some { 1 < length items.now }
+    requires chain { IsChain M.begin M.end M.weight items.now }
+    ensures whole { items.now ≡ result.0.now ++ result.1.now }
+    ensures front { (0 < length result.0.now) × (length result.0.now < length items.now) }
+    ensures back { (0 < length result.1.now) × (length result.1.now < length items.now) }
+    ensures front_chain { IsChain M.begin M.end M.weight result.0.now }
+    ensures back_chain { IsChain M.begin M.end M.weight result.1.now }
+{
+    items.split_at(items.len() / 2)
 }
 
 // Each part scanned on its own.

@@ -1,13 +1,13 @@
 -- The ends of blocks rise from 0 to the last revision, also where neighbouring blocks are taken together.
 use Rattle.std.proofs.Common.{◌≡◌, ℕ, ◌+◌, ◌-◌, ◌*◌, ◌/◌, ◌%◌, ◌<◌, ◌≤◌, min, sum, List, length, map, get_or, sym, ap, ap₂, subst, ◌∙◌, ◌⊎◌, inl, inr, [], ◌∷◌, ◌++◌, All, arith}
 use Rattle.std.specs.List.{range_with_len}
-use Rattle.std.proofs.Math.Nat.{add-mul, eq-or-lt_of_le, lt_of_mul-lt-mul_right, mul-le-mul_right, one-mul, zero-mul}
+use Rattle.std.proofs.Math.Nat.{add-mul, eq-or-lt_of_le, lt_of_mul-lt-mul_right, mul-le-mul_right, mul_comm, one-mul, zero-mul}
 use Rattle.std.proofs.lemmas.Grind.{div_ceil_times}
 use Rattle.std.proofs.lemmas.List.{length_push}
 use Rattle.std.proofs.lemmas.List.FromFn.{get_or-map-range_with_len, length-map-range_with_len, map-range_with_len_more, sum_by-map-range_with_len_more, take-map-range_with_len}
 use Rattle.std.proofs.lemmas.List.Sums.{sum_by-take-le}
 use Rattle.svnhist.specs.Blocks.{AreBorders}
-use Rattle.svnhist.specs.Cutting.{AreBlockEnds, block_length, end_of, every_end}
+use Rattle.svnhist.specs.Cutting.{AreBlockEnds, block_length, end_of, every_end, neighbours}
 
 -- more blocks end no earlier
 end_of-le : (cuts : List ℕ) (last i j : ℕ) → i ≤ j → end_of cuts last i ≤ end_of cuts last j
@@ -72,6 +72,13 @@ pub every_end-more : (ends : List ℕ) (blocks size n next : ℕ) (kept : List �
 every_end-more ends blocks size n next kept at is =
     ap₂ (λ l i. l ++ get_or ends i 0 ∷ []) is at
     ∙ sym (map-range_with_len_more (λ block. get_or ends (min blocks (block * size)) 0) 0 n n (omega arith))
+
+-- so many neighbours, taken `most` times, are all blocks
+pub neighbours-cover : (most blocks size : ℕ) → 0 < most → size ≡ neighbours most blocks → blocks ≤ most * size
+neighbours-cover most blocks size some is =
+    let parts = blocks / most + min 1 (blocks % most) in
+    let above : parts ≤ size = omega (arith, is) in
+    omega (arith, (div_ceil_times blocks most some).0, mul-le-mul_right most above, mul_comm size most)
 
 -- of neighbours taken together there are few
 pub every_end-few : (size most : ℕ) (ends : List ℕ) → 0 < size → length ends ≤ most * size + 1 → length (every_end size ends) ≤ most + 1

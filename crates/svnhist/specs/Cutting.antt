@@ -4,9 +4,6 @@ use Rattle.std.specs.Prelude.{slice_index_or}
 use Rattle.std.specs.Int.{div_ceil}
 use Rattle.std.specs.List.{range_with_len}
 
-abbrev pub most_blocks : ℕ
-most_blocks = 1024
-
 -- how many revisions a block takes: the length of its number, or the last one, or all revisions where there is none
 abbrev pub block_length : List ℕ → ℕ → ℕ → ℕ
 block_length cuts all block = slice_index_or cuts (min block (length cuts - 1)) all
@@ -28,12 +25,12 @@ every_end size ends =
     let blocks = length ends - 1 in
     map (λ n. slice_index ends (min blocks (n * size))) (range_with_len 0 (div_ceil blocks size + 1))
 
--- how many neighbours of so many blocks are taken together
-abbrev pub neighbours : ℕ → ℕ
-neighbours blocks = max (div_ceil blocks most_blocks) 1
+-- how many neighbours of so many blocks are taken together, so that at most `most` are left
+abbrev pub neighbours : ℕ → ℕ → ℕ
+neighbours most blocks = max (div_ceil blocks most) 1
 
 -- the ends of blocks, of which neighbours are taken together where there are too many
-pub record IsCut (cuts : List ℕ) (last : ℕ) (ends : List ℕ) : Type 0 where
+pub record IsCut (cuts : List ℕ) (most last : ℕ) (ends : List ℕ) : Type 0 where
   pub all : List ℕ
   pub are : AreBlockEnds cuts last all
-  pub together : ends ≡ every_end (neighbours (length all - 1)) all
+  pub together : ends ≡ every_end (neighbours most (length all - 1)) all

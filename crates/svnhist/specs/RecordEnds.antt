@@ -20,7 +20,7 @@ pub record AreRecordEnds (counts : List ℕ) (sums : List Sum) : Type 0 where
   pub each : (rev : ℕ) → rev < length counts → sum_at sums rev ≡ record_end counts rev
 
 -- how many records there are up to the end of no block and of each block
-pub record AreRecordBorders (cuts counts borders : List ℕ) : Type 0 where
+pub record AreRecordBorders (cuts : List ℕ) (most : ℕ) (counts borders : List ℕ) : Type 0 where
   pub ends : List ℕ
-  pub cut : IsCut cuts (length counts - 1) ends
+  pub cut : IsCut cuts most (length counts - 1) ends
   pub each : borders ≡ map (record_end counts) ends

@@ -13,6 +13,7 @@ use std::thread::Threads;
 use svn_dump::Dump;
 
 /// The index of all records of a dump. The blocks that `cuts` make of its revisions are indexed in parallel and joined.
+/// Each join copies, so neighbouring blocks are taken together until there is one for each worker.
 pub(crate) fn index_of<R: Threads + Sync>(
     rt: &R,
     alloc: Global,
@@ -50,11 +51,11 @@ fn record_borders<R: Threads + Sync>(
     requires cuts { All (λ length. 0 < length) cuts.now }
     requires some_worker { 0 < workers }
     requires few_workers { workers ≤ 64 }
-    ensures exact { IfOk result (λ borders. AreRecordBorders cuts.now dump.now.counts borders.items) }
+    ensures exact { IfOk result (λ borders. AreRecordBorders cuts.now workers dump.now.counts borders.items) }
     ensures rise { IfOk result (λ borders. AreBorders 0 (length dump.now.records) borders.items) }
 {
     let sums = record_ends(rt, alloc, dump, workers)?;
-    let ends = cut(alloc, cuts, sums.len() - 1)?;
+    let ends = cut(alloc, cuts, sums.len() - 1, workers)?;
     sums_at(alloc, sums.as_slice(), ends.as_slice())
 }
 

@@ -1,25 +1,28 @@
 //! Cutting the revisions of a history into blocks.
 ghost use Rattle.std.specs.Prelude.{◌≡◌, ◌+◌, ◌^◌, ◌<◌, ◌≤◌, All, IfOk, length};
 ghost use Rattle.svnhist.specs.Blocks.{AreBorders};
-ghost use Rattle.svnhist.specs.Cutting.{AreBlockEnds, IsCut, block_length, every_end, most_blocks};
+ghost use Rattle.svnhist.specs.Cutting.{AreBlockEnds, IsCut, block_length, every_end};
 
 use std::alloc::{AllocError, Global};
 
-/// How many blocks there are at most.
-const MOST_BLOCKS: usize = 1024;
-
 /// Revision 0 and the last revision of each block, of `last` revisions from 1 on. Blocks take revisions by the lengths
-/// `cuts` in turn; the last length is repeated, and no lengths mean one block. Of too many blocks neighbours are taken
-/// together.
-pub(crate) fn cut(alloc: Global, cuts: &[u32], last: usize) -> Result<Vec<usize>, AllocError>
+/// `cuts` in turn; the last length is repeated, and no lengths mean one block. Neighbouring blocks are taken together so
+/// that at most `most` are left.
+pub(crate) fn cut(
+    alloc: Global,
+    cuts: &[u32],
+    last: usize,
+    most: usize,
+) -> Result<Vec<usize>, AllocError>
     requires cuts { All (λ length. 0 < length) cuts.now }
     requires few_revisions { last < 2 ^ 32 }
-    ensures exact { IfOk result (λ ends. IsCut cuts.now last ends.items) }
+    requires some_block { 0 < most }
+    ensures exact { IfOk result (λ ends. IsCut cuts.now most last ends.items) }
     ensures borders { IfOk result (λ ends. AreBorders 0 last ends.items) }
-    ensures few { IfOk result (λ ends. length ends.items ≤ most_blocks + 1) }
+    ensures few { IfOk result (λ ends. length ends.items ≤ most + 1) }
 {
     let ends = block_ends(alloc, cuts, last)?;
-    let size = (ends.len() - 1).div_ceil(MOST_BLOCKS).max(1);
+    let size = (ends.len() - 1).div_ceil(most).max(1);
     take_together(alloc, ends.as_slice(), size)
 }
 

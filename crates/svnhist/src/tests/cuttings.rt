@@ -8,62 +8,46 @@ use query_pool::NoGate;
 use std::alloc::{AllocError, Global};
 use std::test::Fail;
 
-// Whether revision 0 and the last revisions of the blocks are the wanted ones.
-fn ends_are(alloc: Global, cuts: &[u32], last: usize, wanted: &[usize]) -> Result<bool, AllocError>
+// Whether revision 0 and the last revisions of at most so many blocks are the wanted ones.
+fn ends_are(
+    alloc: Global,
+    cuts: &[u32],
+    last: usize,
+    most: usize,
+    wanted: &[usize],
+) -> Result<bool, AllocError>
     requires cuts { All (λ length. 0 < length) cuts.now }
     requires last { last < 2 ^ 32 }
+    requires most { 0 < most }
 {
-    let ends = cut(alloc, cuts, last)?;
+    let ends = cut(alloc, cuts, last, most)?;
     Ok(ends.as_slice() == wanted)
 }
 
 #[test]
 fn blocks_take_revisions_by_the_lengths_in_turn(rt: HostRuntime) -> Result<(), Fail> {
-    assert!(rt; ends_are(rt.alloc(), &[1], 3, &[0, 1, 2, 3])?);
-    assert!(rt; ends_are(rt.alloc(), &[2, 1], 6, &[0, 2, 3, 4, 5, 6])?);
-    assert!(rt; ends_are(rt.alloc(), &[3], 7, &[0, 3, 6, 7])?);
-    assert!(rt; ends_are(rt.alloc(), &[1, 4], 6, &[0, 1, 5, 6])?);
+    assert!(rt; ends_are(rt.alloc(), &[1], 3, 64, &[0, 1, 2, 3])?);
+    assert!(rt; ends_are(rt.alloc(), &[2, 1], 6, 64, &[0, 2, 3, 4, 5, 6])?);
+    assert!(rt; ends_are(rt.alloc(), &[3], 7, 64, &[0, 3, 6, 7])?);
+    assert!(rt; ends_are(rt.alloc(), &[1, 4], 6, 64, &[0, 1, 5, 6])?);
     Ok(())
 }
 
 #[test]
 fn no_lengths_mean_one_block(rt: HostRuntime) -> Result<(), Fail> {
-    assert!(rt; ends_are(rt.alloc(), &[], 7, &[0, 7])?);
-    assert!(rt; ends_are(rt.alloc(), &[8], 7, &[0, 7])?);
-    assert!(rt; ends_are(rt.alloc(), &[], 0, &[0])?);
-    assert!(rt; ends_are(rt.alloc(), &[2], 0, &[0])?);
+    assert!(rt; ends_are(rt.alloc(), &[], 7, 64, &[0, 7])?);
+    assert!(rt; ends_are(rt.alloc(), &[8], 7, 64, &[0, 7])?);
+    assert!(rt; ends_are(rt.alloc(), &[], 0, 64, &[0])?);
+    assert!(rt; ends_are(rt.alloc(), &[2], 0, 64, &[0])?);
     Ok(())
 }
 
-// Of blocks of one revision each: how many are left, and the last revisions of the first one and of the last one.
-fn blocks_of_one(
-    alloc: Global,
-    last: usize,
-) -> Result<(usize, Option<usize>, Option<usize>), AllocError>
-    requires { last < 2 ^ 32 }
-{
-    let ends = cut(alloc, &[1], last)?;
-    Ok((
-        ends.len().saturating_sub(1),
-        ends.get(1).copied(),
-        ends.last().copied(),
-    ))
-}
-
 #[test]
-fn of_more_than_1024_blocks_neighbours_are_taken_together(rt: HostRuntime) -> Result<(), Fail> {
-    assert_eq!(rt;
-        blocks_of_one(rt.alloc(), 1024)?,
-        (1024, Some(1), Some(1024))
-    );
-    assert_eq!(rt;
-        blocks_of_one(rt.alloc(), 1025)?,
-        (513, Some(2), Some(1025))
-    );
-    assert_eq!(rt;
-        blocks_of_one(rt.alloc(), 2049)?,
-        (683, Some(3), Some(2049))
-    );
+fn neighbours_of_too_many_blocks_are_taken_together(rt: HostRuntime) -> Result<(), Fail> {
+    assert!(rt; ends_are(rt.alloc(), &[1], 7, 1, &[0, 7])?);
+    assert!(rt; ends_are(rt.alloc(), &[1], 7, 7, &[0, 1, 2, 3, 4, 5, 6, 7])?);
+    assert!(rt; ends_are(rt.alloc(), &[1], 7, 6, &[0, 2, 4, 6, 7])?);
+    assert!(rt; ends_are(rt.alloc(), &[2, 1], 9, 3, &[0, 4, 7, 9])?);
     Ok(())
 }
 

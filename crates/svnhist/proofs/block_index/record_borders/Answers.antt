@@ -50,7 +50,7 @@ returns-clause-exact g c =
     IfOk-weaker c.sums_at.result _ _
     (λ found is. record {
       ends = ends;
-      cut = subst (λ n. IsCut c.args.cuts.now (n - 1) ends) (len ∙ are.len) c.in_ok-ends.ensures.exact;
+      cut = subst (λ n. IsCut c.args.cuts.now c.args.workers (n - 1) ends) (len ∙ are.len) c.in_ok-ends.ensures.exact;
       each = is ∙ read;
     })
     c.sums_at.ensures

@@ -2,15 +2,15 @@ use Rattle.std.proofs.Common.{◌≡◌, ◌-◌, max, ◌+◌, ◌*◌, ◌<◌
 use Rattle.std.proofs.lemmas.Result.{IfOk-weaker}
 use Rattle.svnhist.specs.Blocks.{AreBorders}
 use Rattle.svnhist.specs.Cutting.{every_end, neighbours}
-use Rattle.svnhist.proofs.BlockEnds.{AreBorders-every, every_end-few}
+use Rattle.svnhist.proofs.BlockEnds.{AreBorders-every, every_end-few, neighbours-cover}
 use Rattle.svnhist.proofs.cutting.cut.Goals as goal
 
 pub returns-clause-exact : goal.returns-clause-exact
 returns-clause-exact c =
     let ends = c.in_ok-ends.ends.items in
     let len : c.len.result ≡ length ends = search rules in
-    let size : c.max-size.result ≡ neighbours (length ends - 1) =
-    c.max-size.ensures ∙ ap (λ n. max n 1) c.div_ceil.ensures ∙ ap (λ n. neighbours (n - 1)) len in
+    let size : c.max-size.result ≡ neighbours c.args.most (length ends - 1) =
+    c.max-size.ensures ∙ ap (λ n. max n 1) c.div_ceil.ensures ∙ ap (λ n. neighbours c.args.most (n - 1)) len in
     IfOk-weaker c.take_together.result _ _
     (λ kept is. record {
       all = ends;
@@ -34,7 +34,10 @@ returns-clause-few c =
     let ends = c.in_ok-ends.ends.items in
     let some : 0 < size = omega (arith, c.max-size.ensures) in
     let len : c.len.result ≡ length ends = search rules in
-    let covers : length ends ≤ 1024 * size + 1 = omega (arith, len, c.max-size.ensures, c.div_ceil.ensures) in
+    let is : size ≡ neighbours c.args.most (length ends - 1) =
+    c.max-size.ensures ∙ ap (λ n. max n 1) c.div_ceil.ensures ∙ ap (λ n. neighbours c.args.most (n - 1)) len in
+    let covers : length ends ≤ c.args.most * size + 1 =
+    omega (arith, neighbours-cover c.args.most (length ends - 1) size c.requires.some_block is) in
     IfOk-weaker c.take_together.result _ _
-    (λ kept is. subst (λ l. length l ≤ 1025) (sym (is ∙ ap (every_end size) c.as_slice.ensures.value)) (every_end-few size 1024 ends some covers))
+    (λ kept is. subst (λ l. length l ≤ c.args.most + 1) (sym (is ∙ ap (every_end size) c.as_slice.ensures.value)) (every_end-few size c.args.most ends some covers))
     c.take_together.ensures

@@ -1,0 +1,23 @@
+use Rattle.std.proofs.Common.{rules, sym, subst}
+use Rattle.std.proofs.lemmas.Result.{IfOk-weaker}
+use Rattle.par_scan.specs.Chain.{IsChain, IsJoined}
+use Rattle.par_scan.proofs.Chains.{IsChain-pair, IsJoined-both}
+use Rattle.par_scan.proofs.scanning.+join_across.Goals as goal
+
+pub join-requires : goal.join-requires
+join-requires g t c =
+    let m = g.M.Acts in
+    let earlier : IsJoined m.act m.begin m.end c.halves.result.0.now c.in_ok-earlier.field-0 = search rules in
+    let later : IsJoined m.act m.begin m.end c.halves.result.1.now c.in_ok-later.field-0 = search rules in
+    IsChain-pair m.act m.begin m.end m.weight m.weighs _ _ _ _
+    (subst (IsChain m.begin m.end m.weight) c.halves.ensures.whole c.requires.chain) earlier later
+
+pub returns : goal.returns
+returns g t c =
+    let m = g.M.Acts in
+    let earlier : IsJoined m.act m.begin m.end c.halves.result.0.now c.in_ok-earlier.field-0 = search rules in
+    let later : IsJoined m.act m.begin m.end c.halves.result.1.now c.in_ok-later.field-0 = search rules in
+    IfOk-weaker _ _ _
+    (λ x j. subst (λ l. IsJoined m.act m.begin m.end l x) (sym c.halves.ensures.whole)
+    (IsJoined-both m.act m.begin m.end _ _ _ _ x earlier later j))
+    c.join.ensures
