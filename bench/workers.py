@@ -1,7 +1,7 @@
 """How long the answers take with one, two and four workers, on a history whose trees fit into memory.
 
-The queries are of all verbs, in an order that is drawn once. The program is run with them and without any; the
-difference is the time of the answers.
+The queries are of all verbs, in an order that is drawn once. The program is run with them, and with lines of the same
+lengths that are no queries; the difference is the time of the answers.
 """
 import os
 import random
@@ -47,16 +47,16 @@ def run_workers(program, folder, given):
         generate(GENERATED + ["--revisions", str(revisions)], file)
     lines = queries_of(records_of(dump), given.quick)
     path = os.path.join(folder, "workers.queries")
-    none = os.path.join(folder, "none.queries")
+    refused = os.path.join(folder, "refused.queries")
     with open(path, "w") as file:
         file.writelines(lines)
-    with open(none, "w"):
-        pass
+    with open(refused, "w") as file:
+        file.writelines("-" + line[1:] for line in lines)
     print("## Workers\n\n| workers | queries | report, MB | seconds | relative to one | |\n|---|---|---|---|---|---|")
     first = None
     report = None
     for workers in WORKERS:
-        base = best_of(given.times, lambda: answer(program, dump, none, workers, 0))
+        base = best_of(given.times, lambda: answer(program, dump, refused, workers, 0))
         taken = best_of(given.times, lambda: answer(program, dump, path, workers, len(lines)))
         seconds = taken.wall - base.wall
         if first is None:

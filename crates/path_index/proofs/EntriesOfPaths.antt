@@ -112,13 +112,6 @@ AddsEntries-next nodes whole most rev node old middle new adds found small inser
 
 -- ---- the numbers of records
 
--- at first
-pub AreEntriesOf-none : (nodes : List Child) (IsOf : NodeRecord → ℕ → List NameId → ℕ → Type 0) (records : List NodeRecord) → AreEntriesOf nodes (IsOfSome IsOf records 0) []
-AreEntriesOf-none nodes IsOf records = record {
-  sound = λ node number (k, within, is). absurd (omega (arith, within));
-  complete = λ path number of. absurd (let early = of.early in omega (arith, early));
-}
-
 -- one record more
 pub AreEntriesOf-more : (old_nodes nodes : List Child) (IsOf : NodeRecord → ℕ → List NameId → ℕ → Type 0) (records : List NodeRecord) (place : ℕ) (each : NodeRecord) (old new : List (Vec ℕ))
     → IsGrown old_nodes nodes → slice_get records place ≡ Some each → AreEntriesOf old_nodes (IsOfSome IsOf records place) old → AddsEntries nodes (IsOf each place) old new

@@ -56,24 +56,24 @@ AreEntriesOf-both P Q R shift both old_nodes nodes later_nodes mapped old new la
 -- ---- the records of both
 
 module _ (records more : List NodeRecord) where
-  slice_get-first : (place : ℕ) (each : NodeRecord) → slice_get records place ≡ Some each → slice_get (records ++ more) place ≡ Some each
+  pub slice_get-first : (place : ℕ) (each : NodeRecord) → slice_get records place ≡ Some each → slice_get (records ++ more) place ≡ Some each
   slice_get-first place each at =
       let within = slice_get_within records place each at in
       slice_get-get_or (records ++ more) place each (omega (arith, within, length-append records more))
       ∙ ap Some (get_or_append_left records more each place within ∙ get_or_from_slice_get records place each each at)
 
-  slice_get-second : (place : ℕ) (each : NodeRecord) → slice_get more place ≡ Some each → slice_get (records ++ more) (length records + place) ≡ Some each
+  pub slice_get-second : (place : ℕ) (each : NodeRecord) → slice_get more place ≡ Some each → slice_get (records ++ more) (length records + place) ≡ Some each
   slice_get-second place each at =
       let within = slice_get_within more place each at in
       slice_get-get_or (records ++ more) (length records + place) each (omega (arith, within, length-append records more))
       ∙ ap Some (get_or-append-add records more place each ∙ get_or_from_slice_get more place each each at)
 
-  slice_get-before : (place : ℕ) (each : NodeRecord) → place < length records → slice_get (records ++ more) place ≡ Some each → slice_get records place ≡ Some each
+  pub slice_get-before : (place : ℕ) (each : NodeRecord) → place < length records → slice_get (records ++ more) place ≡ Some each → slice_get records place ≡ Some each
   slice_get-before place each within at =
       slice_get-get_or records place each within
       ∙ ap Some (sym (get_or_append_left records more each place within) ∙ get_or_from_slice_get (records ++ more) place each each at)
 
-  slice_get-after : (place : ℕ) (each : NodeRecord) → length records ≤ place → slice_get (records ++ more) place ≡ Some each → slice_get more (place - length records) ≡ Some each
+  pub slice_get-after : (place : ℕ) (each : NodeRecord) → length records ≤ place → slice_get (records ++ more) place ≡ Some each → slice_get more (place - length records) ≡ Some each
   slice_get-after place each past at =
       let within = slice_get_within (records ++ more) place each at in
       let is : length records + (place - length records) ≡ place = omega arith in

@@ -4,6 +4,7 @@ mod EntriesOfPaths
 mod HistoryTo
 mod HitsOfSegments
 mod JoinedRecords
+mod KeptRecords
 mod ListsOfNodes
 mod MappedNodes
 mod NewestRecords

@@ -4,7 +4,7 @@ use Rattle.std.specs.Global.{Vec}
 use Rattle.std.specs.List.{insert}
 use Rattle.std.specs.List.Sorted.{IsPartitionPoint}
 use Rattle.std.proofs.lemmas.Bool.{cases_eq, cases_lt, lt-ltb, ltb-true}
-use Rattle.std.proofs.lemmas.List.{get_or-set_same, get_or-set_other, length-set, length_push, get_or_push, get_or_append_left}
+use Rattle.std.proofs.lemmas.List.{get_or-set_same, get_or-set_other, length-set}
 use Rattle.std.proofs.lemmas.List.Edits.{length-insert, get_or-insert_at, get_or-insert_below, get_or-insert_above}
 use Rattle.std.proofs.lemmas.List.Elements.{Contains-append_left, Contains-push, Contains-push_cases}
 use Rattle.std.proofs.lemmas.Option.{same_Some, slice_get-get_or, slice_get_past}
@@ -30,29 +30,8 @@ numbers_of-set_other lists node list other differs = elim (cases_lt other (lengt
   | inr past ↦ numbers_of-past (set lists node list) other (omega (arith, length-set lists node list)) ∙ sym (numbers_of-past lists other past)
 ]
 
--- an empty list more
-pub HaveSameNumbers_push : (lists : List (Vec ℕ)) (list : Vec ℕ) → list.items ≡ [] → HaveSameNumbers lists (lists ++ list ∷ [])
-HaveSameNumbers_push lists list none node = elim (cases_lt node (length lists)) [
-  | inl within ↦
-      numbers_of-within (lists ++ list ∷ []) node list (omega (arith, length_push lists list))
-      ∙ ap (λ (v : Vec ℕ). v.items) (get_or_append_left lists (list ∷ []) list node within) ∙ sym (numbers_of-within lists node list within)
-  | inr past ↦ elim (cases_lt (length lists) node) [
-    | inl far ↦ numbers_of-past (lists ++ list ∷ []) node (omega (arith, length_push lists list)) ∙ sym (numbers_of-past lists node past)
-    | inr here ↦
-        let is : length lists ≡ node = omega arith in
-        numbers_of-within (lists ++ list ∷ []) node list (omega (arith, length_push lists list))
-        ∙ ap (λ (v : Vec ℕ). v.items) (get_or_push lists list list node is) ∙ none ∙ sym (numbers_of-past lists node past)
-  ]
-]
-
 pub AreAllRising-same : (old new : List (Vec ℕ)) → HaveSameNumbers old new → AreAllRising old → AreAllRising new
 AreAllRising-same old new same rising node = subst IsRising (sym (same node)) (rising node)
-
-pub AreAllRising-set : (lists : List (Vec ℕ)) (node : ℕ) (list : Vec ℕ) → node < length lists → AreAllRising lists → IsRising list.items → AreAllRising (set lists node list)
-AreAllRising-set lists node list within rising own other = elim (cases_eq other node) [
-  | inl is ↦ subst IsRising (sym (ap (numbers_of (set lists node list)) is ∙ numbers_of-set lists node list within)) own
-  | inr differs ↦ subst IsRising (sym (numbers_of-set_other lists node list other differs)) (rising other)
-]
 
 -- ---- a number more
 
@@ -121,9 +100,6 @@ module _ (numbers : List ℕ) (number place : ℕ) (at : IsPlaceOf number number
     ];
     here = (place, omega (arith, long, at.bound), at_place place number refl);
   }
-
-  pub IsWith-here : place < length numbers → get_or numbers place number ≡ number → IsWith number numbers numbers
-  IsWith-here within is = record { kept = λ each has. has; sound = λ each has. inl has; here = (place, within, is) }
 
 -- ---- the numbers that come
 

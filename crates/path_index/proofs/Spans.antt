@@ -1,6 +1,6 @@
 -- The newest revisions through which a path stood at one place, and where it came from, by the records.
 use Rattle.std.proofs.Common.{◌≡◌, ℕ, zero, suc, ◌+◌, ◌<◌, leb, get_or, length, take, drop, length-drop, ◌≤◌, nat_lt, Bool, false, true, if◌then◌else◌, List, [], ◌∷◌, ◌++◌, All, IfSome, Option, None, Some, is_some, option_map, refl, sym, ap, subst, ◌∙◌, arith, inl, inr, append_assoc, true≢false}
-use Rattle.std.specs.List.Sorted.{IsNonDecreasingBy, IsPartitionPoint}
+use Rattle.std.specs.List.Sorted.{IsPartitionPoint}
 use Rattle.std.proofs.lemmas.Bool.{cases_lt, leb-true, le-leb}
 use Rattle.std.proofs.lemmas.List.{get_or-drop, drop_more, take-append-drop}
 use Rattle.std.proofs.lemmas.Option.{slice_get-get_or}
@@ -189,13 +189,6 @@ module _ (records : List NodeRecord) (path : List NameId) (peg : ℕ) (there : I
       IsSpan-from records path peg 0 there (omega arith) idle None began
 
 -- ---- as the numbers of the records tell it
-
--- records in the order of their revisions
-pub IsNonDecreasingBy-rising : (records : List NodeRecord) → AreRising records → IsNonDecreasingBy (λ each. each.rev) records
-IsNonDecreasingBy-rising records rising i j d before within = elim (cases_lt i j) [
-  | inl less ↦ rising i j d less within
-  | inr same ↦ let e : i ≡ j = omega arith in let here = ap (λ k. (get_or records k d).rev) e in omega (arith, here)
-]
 
 module _ (records : List NodeRecord) (by_path : RecordsByPath) (are : AreByPath records by_path) (path : List NameId) (peg count : ℕ) (there : IsThere records path peg) (rising : AreRising records)
     (within : count ≤ length records) (point : IsPartitionPoint (λ each. leb each.rev peg ≡ true) (λ each. leb each.rev peg ≡ false) records count) where

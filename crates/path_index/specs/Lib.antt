@@ -1,3 +1,4 @@
+pub mod GhostRecords
 pub mod History
 pub mod Index
 pub mod Joining
@@ -6,6 +7,7 @@ pub mod Nodes
 pub mod Numbers
 pub mod Operative
 pub mod RecordEffect
+pub mod Records
 pub mod RecordsByPath
 pub mod Segment
 pub mod Span

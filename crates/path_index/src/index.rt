@@ -6,6 +6,7 @@ ghost use Rattle.path_index.specs.Joining.{records_up_to_end};
 ghost use Rattle.path_index.specs.Span.{IsSpan};
 
 use crate::hit::Hit;
+use crate::records::Records;
 use crate::records_by_path::RecordsByPath;
 use crate::segment::Segment;
 use crate::span::Span;
@@ -14,10 +15,13 @@ use std::marker::Model;
 use svn_dump::NodeRecord;
 use svn_path::Path;
 
+/// The hits that are reserved at first.
+const USUAL_HITS: usize = 16;
+
 /// The records of a history, which are searched for each question.
 #[derive(Drop)]
 pub struct Index {
-    pub(crate) records: Vec<NodeRecord>,
+    pub(crate) records: Records,
     pub(crate) first: u32,
     pub(crate) by_path: RecordsByPath,
 }
@@ -27,12 +31,12 @@ impl Model for Index {
 
     ghost Value = { IndexValue };
 
-    ghost view = { λ i. record { records = i.records.items; first = i.first } };
+    ghost view = { λ i. record { records = i.records; first = i.first } };
 
     ghost use Rattle.path_index.specs.RecordsByPath.{AreByPath};
     ghost use Rattle.std.specs.Prelude.{◌+◌, ◌^◌, ◌<◌, length};
 
-    ghost invariant = { λ i. AreByPath i.records.items i.by_path × (i.first + length i.records.items < 2 ^ 32) };
+    ghost invariant = { λ i. AreByPath i.records i.by_path × (i.first + length i.records < 2 ^ 32) };
 }
 
 impl Index {
@@ -42,10 +46,8 @@ impl Index {
         ensures records { IfOk result (λ index. index.records ≡ records.now) }
         ensures first { IfOk result (λ index. index.first ≡ first) }
     {
-        let mut kept = Vec::with_capacity(alloc, records.len())?;
-        push_all(&mut kept, records)?;
         Ok(Index {
-            records: kept,
+            records: Records::of(alloc, records)?,
             first,
             by_path: RecordsByPath::of(alloc, records)?,
         })
@@ -65,7 +67,7 @@ impl Index {
         ensures exact { IfOk result (λ segments. AreSegmentsOf self.now path.now rev segments.items) }
         ensures maximal { IfOk result (λ segments. AreMaximal self.now path.now rev segments.items) }
     {
-        let mut segments = Vec::new(*self.records.allocator());
+        let mut segments = Vec::new(self.records.allocator());
         let mut place = path.dup()?;
         let mut at = rev;
         let mut hi = rev;
@@ -123,7 +125,7 @@ impl Index {
         requires there { IsThere self.now.records path.now peg }
         ensures { IfOk result (IsSpan self.now.records path.now peg) }
     {
-        Span::up_to(self.records.as_slice(), &self.by_path, path, peg)
+        Span::up_to(&self.records, &self.by_path, path, peg)
     }
 
     /// The operative revisions of the paths of these segments, each in its segment, the newest first.
@@ -131,7 +133,7 @@ impl Index {
         requires { IsWhole self.now }
         ensures { IfOk result (λ hits. AreHitsOf self.now segments.now hits.items) }
     {
-        let mut hits = Vec::new(*self.records.allocator());
+        let mut hits = Vec::with_capacity(self.records.allocator(), USUAL_HITS)?;
         for (place, segment) in segments.iter().enumerate() {
             if let Some(path) = &segment.path {
                 self.by_path
@@ -146,16 +148,6 @@ impl Index {
         }
         Ok(hits)
     }
-}
-
-/// Appends copies of these records.
-pub(crate) fn push_all(kept: &mut Vec<NodeRecord>, records: &[NodeRecord]) -> Result<(), AllocError>
-    ensures { OnOk result (kept.new.items ≡ kept.old.items ++ records.now) }
-{
-    for each in records {
-        kept.push(each.dup()?)?;
-    }
-    Ok(())
 }
 
 /// Appends the segment between two revisions, in which the path stood nowhere, if any revision is between them.

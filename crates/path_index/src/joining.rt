@@ -1,10 +1,8 @@
 //! Joining the indexes of neighbouring parts of a history.
-ghost use Rattle.std.specs.Prelude.{◌≡◌, ◌++◌, IfOk};
 
-use crate::index::{Index, push_all};
+use crate::index::Index;
 use par_scan::Acts;
-use std::alloc::{AllocError, Global};
-use svn_dump::NodeRecord;
+use std::alloc::AllocError;
 
 impl Acts for Index {
     ghost use Rattle.std.specs.Prelude.{List};
@@ -29,29 +27,21 @@ impl Acts for Index {
     }
 
     fn unit(&self) -> Result<Self, AllocError> {
-        Index::build(*self.records.allocator(), &[], self.first)
+        Index::build(self.records.allocator(), &[], self.first)
     }
 
     fn join(&self, later: &Self) -> Result<Self, AllocError> {
-        let alloc = *self.records.allocator();
-        let mut records = Vec::with_capacity(alloc, self.records.len() + later.records.len())?;
-        push_all(&mut records, self.records.as_slice())?;
-        push_all(&mut records, later.records.as_slice())?;
-        let by_path = self
-            .by_path
-            .join(&later.by_path, self.records.len() as u32)?;
+        let count = self.records.len() as u32;
         Ok(Index {
-            records,
+            records: self.records.join(&later.records)?,
             first: self.first,
-            by_path,
+            by_path: self.by_path.join(&later.by_path, count)?,
         })
     }
 
     fn dup(&self) -> Result<Self, AllocError> {
-        let mut records = Vec::with_capacity(*self.records.allocator(), self.records.len())?;
-        push_all(&mut records, self.records.as_slice())?;
         Ok(Index {
-            records,
+            records: self.records.dup()?,
             first: self.first,
             by_path: self.by_path.dup()?,
         })

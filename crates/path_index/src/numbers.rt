@@ -1,6 +1,6 @@
 //! Rising lists of numbers, one for each node.
 ghost use Rattle.std.specs.Prelude.{◌≡◌, ℕ, ◌+◌, ◌-◌, ◌^◌, ◌<◌, ◌++◌, [], All, filter, length, map, IfOk, OnOk};
-ghost use Rattle.path_index.specs.Numbers.{has_number, newer_of, numbers_of, AddsNumbers, AreAllRising, ArePair, FitShifted};
+ghost use Rattle.path_index.specs.Numbers.{has_number, newer_of, numbers_of, AddsNumbers, ArePair, FitShifted};
 ghost use Rattle.path_index.specs.Numbers.{HasNumber, HaveSameNumbers, IsMoved, IsNewestBelow, IsPlaceOf, IsRising};
 ghost use Rattle.path_index.specs.Numbers.{IsShifted, IsUpTo, IsWith};
 ghost use Rattle.path_index.specs.Operative.{down_from, hit_at};
@@ -45,6 +45,7 @@ fn place_of(numbers: &[u32], number: u32) -> usize
 {
     match numbers.last() {
         Some(last) if *last < number => numbers.len(),
+        Some(last) if *last == number => numbers.len() - 1,
         _ => numbers.partition_point(|each| *each < number),
     }
 }

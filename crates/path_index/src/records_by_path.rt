@@ -4,7 +4,8 @@ ghost use Rattle.svn_dump.specs.declared.record.NodeRecord.{NodeRecord as Record
 ghost use Rattle.path_index.specs.NamedRevisions.{AddsNamed};
 ghost use Rattle.path_index.specs.Nodes.{node_of, IsGrown};
 ghost use Rattle.path_index.specs.Numbers.{IsNewestBelow};
-ghost use Rattle.path_index.specs.RecordsByPath.{AddsEntries, AreByPath, AreListed, AreNeighbours, IsFrontAt, IsOfBoth, IsOfSameRecords, SetsAt};
+ghost use Rattle.path_index.specs.RecordsByPath.{AddsEntries, AreByPath, AreListed, AreNeighbours, IsFrontAt};
+ghost use Rattle.path_index.specs.RecordsByPath.{IsOfBoth, IsOfSameRecords, SetsAt};
 
 use crate::hit::Hit;
 use crate::nodes::Nodes;

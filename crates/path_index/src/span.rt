@@ -5,10 +5,10 @@ ghost use Rattle.path_index.specs.Index.{IsThere};
 ghost use Rattle.path_index.specs.RecordsByPath.{AreByPath};
 ghost use Rattle.path_index.specs.Span.{IsSpan};
 
+use crate::records::Records;
 use crate::records_by_path::RecordsByPath;
-use crate::set_origin::set_origin;
 use std::alloc::AllocError;
-use svn_dump::{NodeRecord, Origin};
+use svn_dump::Origin;
 use svn_path::Path;
 
 /// The revisions from `lo` up to a given one, through which a path stood at one place.
@@ -22,7 +22,7 @@ pub(crate) struct Span {
 impl Span {
     /// The span of the path of revision `peg`, by the records of a history.
     pub(crate) fn up_to(
-        records: &[NodeRecord],
+        records: &Records,
         by_path: &RecordsByPath,
         path: &Path,
         peg: u32,
@@ -32,17 +32,16 @@ impl Span {
         requires there { IsThere records.now path.now peg }
         ensures { IfOk result (IsSpan records.now path.now peg) }
     {
-        let count = records.partition_point(|each| each.rev <= peg);
+        let count = records.count_up_to(peg);
         let Some(place) = by_path.newest(path, count as u32) else {
             return Ok(Span {
                 lo: 0,
                 origin: None,
             });
         };
-        let each = &records[place as usize];
         Ok(Span {
-            lo: each.rev,
-            origin: set_origin(each, path)?,
+            lo: records.rev(place),
+            origin: records.origin(place, path)?,
         })
     }
 }

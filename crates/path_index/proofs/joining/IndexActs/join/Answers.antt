@@ -5,13 +5,10 @@ use Rattle.path_index.proofs.joining.IndexActs.join.Goals as goal
 
 pub invariant_of-result : goal.invariant_of-result
 invariant_of-result c =
-    let records = c.self.inside.records.items in
-    let more = c.later.inside.records.items in
-    let by_path = c.in_ok-by_path.by_path in
-    let all : c.push_all-2.new.kept.items ≡ records ++ more =
-    c.in_ok-push_all-2.ensures
-    ∙ (λ i. (c.in_ok-push_all.ensures ∙ (λ j. c.in_ok-records.ensures.items j ++ c.as_slice.ensures.value j)) i ++ c.as_slice-2.ensures.value i) in
+    let records = c.self.inside.records in
+    let more = c.later.inside.records in
     let meets : c.self.inside.first + length records ≡ c.later.inside.first = ap records_up_to_end c.self.view_is ∙ c.requires.meet.0 ∙ ap records_before (sym c.later.view_is) in
     let few : c.self.inside.first + length (records ++ more) < 2 ^ 32 = omega (arith, length-append records more, meets, c.later.invariant.1) in
-    let both : AreByPath (records ++ more) by_path = c.in_ok-by_path.ensures records more (omega (arith, c.len-3.ensures)) (omega (arith, few, length-append records more)) c.self.invariant.0 c.later.invariant.0 in
-    subst (λ kept. AreByPath kept by_path × (c.self.inside.first + length kept < 2 ^ 32)) (sym all) (both, few)
+    let by_path = c.in_ok-join-2.field-0 in
+    let both : AreByPath (records ++ more) by_path = c.in_ok-join-2.ensures records more (sym c.len-count.ensures) (omega (arith, few, length-append records more)) c.self.invariant.0 c.later.invariant.0 in
+    subst (λ kept. AreByPath kept by_path × (c.self.inside.first + length kept < 2 ^ 32)) (sym c.in_ok-join.ensures) (both, few)

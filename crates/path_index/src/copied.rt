@@ -1,0 +1,32 @@
+//! What an index keeps of a copy.
+
+ghost use Rattle.std.specs.Prelude.{◌≡◌, ◌+◌, ◌^◌, ◌<◌, IfOk};
+
+use std::alloc::AllocError;
+use svn_path::Path;
+
+/// The place of a record that copies, where it copies to, and from where.
+#[derive(Drop)]
+pub(crate) struct Copied {
+    pub place: u32,
+    pub to: Path,
+    pub from: Path,
+    pub from_rev: u32,
+}
+
+impl Copied {
+    ghost use Rattle.path_index.specs.Records.{moved_by};
+
+    /// The same copy at a later place.
+    pub(crate) fn moved(&self, shift: u32) -> Result<Self, AllocError>
+        requires { self.now.place + shift < 2 ^ 32 }
+        ensures { IfOk result (λ copied. copied ≡ moved_by shift self.now) }
+    {
+        Ok(Copied {
+            place: self.place + shift,
+            to: self.to.dup()?,
+            from: self.from.dup()?,
+            from_rev: self.from_rev,
+        })
+    }
+}

@@ -1,0 +1,165 @@
+//! What an index keeps of its records.
+ghost use Rattle.std.specs.Prelude.{◌≡◌, ◌+◌, ◌^◌, ◌<◌, ◌++◌, All, Some, length, map, option_copied, slice_get};
+ghost use Rattle.std.specs.Prelude.{IfOk, OnOk};
+ghost use Rattle.svn_dump.specs.declared.record.NodeRecord.{NodeRecord as Record};
+ghost use Rattle.path_index.specs.History.{AreRising};
+ghost use Rattle.path_index.specs.Records.{moved_by, AddsCopy, IsCopyAt, IsCountUpTo, IsOriginAt, SetsPathAt};
+
+use crate::copied::Copied;
+use crate::ghost_records::GhostRecords;
+use std::alloc::{AllocError, Global};
+use std::marker::Model;
+use svn_dump::{Act, NodeRecord, Origin};
+use svn_path::Path;
+
+/// What an index keeps of its records: the revision of each, and the paths and the source revision of each copy.
+#[derive(Drop)]
+pub(crate) struct Records {
+    revs: Vec<u32>,
+    /// The copies in the order of the records.
+    copies: Vec<Copied>,
+    all: GhostRecords,
+}
+
+impl Model for Records {
+    ghost use Rattle.std.specs.Prelude.{List};
+    ghost use Rattle.svn_dump.specs.declared.record.NodeRecord.{NodeRecord as Record};
+    ghost use Rattle.path_index.specs.Records.{AreKept};
+
+    ghost Value = { List Record };
+
+    ghost view = { λ r. r.all.records };
+
+    ghost invariant = { λ r. AreKept r.all.records r.revs.items r.copies.items };
+}
+
+/// Appends the record at this place, if it is a copy.
+fn push_copy(copies: &mut Vec<Copied>, place: u32, each: &NodeRecord) -> Result<(), AllocError>
+    ensures { OnOk result (AddsCopy place each.now copies.old.items copies.new.items) }
+{
+    if let Act::Copy { from, from_rev, .. } = &each.act {
+        copies.push(Copied {
+            place,
+            to: each.path.dup()?,
+            from: from.dup()?,
+            from_rev: *from_rev,
+        })?;
+    }
+    Ok(())
+}
+
+/// Appends these copies at later places.
+fn push_moved(copies: &mut Vec<Copied>, more: &[Copied], shift: u32) -> Result<(), AllocError>
+    requires { All (λ each. each.place + shift < 2 ^ 32) more.now }
+    ensures { OnOk result (copies.new.items ≡ copies.old.items ++ map (moved_by shift) more.now) }
+{
+    for each in more {
+        copies.push(each.moved(shift)?)?;
+    }
+    Ok(())
+}
+
+impl Records {
+    /// These records.
+    pub(crate) fn of(alloc: Global, records: &[NodeRecord]) -> Result<Self, AllocError>
+        requires { length records.now < 2 ^ 32 }
+        ensures { IfOk result (λ kept. kept ≡ records.now) }
+    {
+        let mut revs = Vec::with_capacity(alloc, records.len())?;
+        let mut copies = Vec::new(alloc);
+        let mut all = GhostRecords::new();
+        for (place, each) in records.iter().enumerate() {
+            revs.push(each.rev)?;
+            push_copy(&mut copies, place as u32, each)?;
+            all.push(each);
+        }
+        Ok(Records { revs, copies, all })
+    }
+
+    /// The same records again.
+    pub(crate) fn dup(&self) -> Result<Self, AllocError>
+        requires { length self.now < 2 ^ 32 }
+        ensures { IfOk result (λ kept. kept ≡ self.now) }
+    {
+        let alloc = self.allocator();
+        let revs = Vec::from_slice(alloc, self.revs.as_slice())?;
+        let mut copies = Vec::with_capacity(alloc, self.copies.len())?;
+        push_moved(&mut copies, self.copies.as_slice(), 0)?;
+        Ok(Records {
+            revs,
+            copies,
+            all: self.all.dup(),
+        })
+    }
+
+    /// These records and the later ones.
+    pub(crate) fn join(&self, later: &Records) -> Result<Self, AllocError>
+        requires { length self.now + length later.now < 2 ^ 32 }
+        ensures { IfOk result (λ kept. kept ≡ self.now ++ later.now) }
+    {
+        let alloc = self.allocator();
+        let mut revs = Vec::with_capacity(alloc, self.revs.len() + later.revs.len())?;
+        revs.extend_from_slice(self.revs.as_slice())?;
+        revs.extend_from_slice(later.revs.as_slice())?;
+        let mut copies = Vec::with_capacity(alloc, self.copies.len() + later.copies.len())?;
+        push_moved(&mut copies, self.copies.as_slice(), 0)?;
+        push_moved(&mut copies, later.copies.as_slice(), self.revs.len() as u32)?;
+        Ok(Records {
+            revs,
+            copies,
+            all: self.all.join(&later.all),
+        })
+    }
+
+    /// How many records there are.
+    pub(crate) fn len(&self) -> usize
+        ensures { result ≡ length self.now }
+    {
+        self.revs.len()
+    }
+
+    pub(crate) fn allocator(&self) -> Global {
+        *self.revs.allocator()
+    }
+
+    /// How many records are of revisions up to this one.
+    pub(crate) fn count_up_to(&self, rev: u32) -> usize
+        requires { AreRising self.now }
+        ensures { IsCountUpTo rev self.now result }
+    {
+        self.revs.partition_point(|each| *each <= rev)
+    }
+
+    /// The revision of the record at this place.
+    pub(crate) fn rev(&self, place: u32) -> u32
+        requires { place < length self.now }
+        ensures { (each : Record) → slice_get self.now place ≡ Some each → result ≡ each.rev }
+    {
+        self.revs[place as usize]
+    }
+
+    /// The copy of the record at this place.
+    fn copy_at(&self, place: u32) -> Option<&Copied>
+        ensures { IsCopyAt self.now place (option_copied result) }
+    {
+        let index = self.copies.partition_point(|each| each.place < place);
+        match self.copies.get(index) {
+            Some(copied) if copied.place == place => Some(copied),
+            _ => None,
+        }
+    }
+
+    /// The origin of the path after the record at this place, which adds it, or copies to it or to a path above it.
+    pub(crate) fn origin(&self, place: u32, path: &Path) -> Result<Option<Origin>, AllocError>
+        requires { SetsPathAt self.now place path.now }
+        ensures { IfOk result (IsOriginAt self.now place path.now) }
+    {
+        match self.copy_at(place) {
+            Some(copied) => Ok(Some(Origin {
+                path: path.rebase(&copied.to, &copied.from)?,
+                rev: copied.from_rev,
+            })),
+            None => Ok(None),
+        }
+    }
+}
