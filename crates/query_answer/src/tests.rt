@@ -167,16 +167,21 @@ fn repo_of(alloc: Global, dump: &[u8]) -> Result<Repo, Fail> {
     Ok(Repo::new(dump, index, trees))
 }
 
-/// The answers to these query lines on a dump, one after the other.
-fn report_of(alloc: Global, dump: &[u8], lines: &[&[u8]]) -> Result<Vec<u8>, Fail> {
-    let repo = repo_of(alloc, dump)?;
+/// The answers to these query lines, one after the other.
+fn answers(alloc: Global, repo: &Repo, lines: &[&[u8]]) -> Result<Vec<u8>, Fail> {
     let mut out = Vec::new(alloc);
     let mut place: u32 = 0;
     for line in lines {
-        answer(alloc, &repo, Query::read(line))?.write(&repo, place, &mut out)?;
+        answer(alloc, repo, Query::read(line))?.write(repo, place, &mut out)?;
         place = place.wrapping_add(1);
     }
     Ok(out)
+}
+
+/// The same on a dump.
+fn report_of(alloc: Global, dump: &[u8], lines: &[&[u8]]) -> Result<Vec<u8>, Fail> {
+    let repo = repo_of(alloc, dump)?;
+    answers(alloc, &repo, lines)
 }
 
 #[test]
@@ -224,11 +229,20 @@ fn a_peg_needs_its_revision_and_its_path(rt: HostRuntime) -> Result<(), Fail> {
     Ok(())
 }
 
+/// How many names a repository has, and whether two are among them.
+fn names_of(alloc: Global, dump: &[u8]) -> Result<(usize, bool, bool), Fail> {
+    let repo = repo_of(alloc, dump)?;
+    let names = repo.names();
+    Ok((
+        names.len(),
+        names.find(b"trunk").is_some(),
+        names.find(b"b").is_some(),
+    ))
+}
+
 #[test]
 fn a_repository_has_the_names_of_its_paths(rt: HostRuntime) -> Result<(), Fail> {
-    let repo = repo_of(rt.alloc(), DUMP)?;
-    let names = repo.names();
-    assert!(rt; names.len() == 2 && names.find(b"trunk").is_some() && names.find(b"b").is_some());
+    assert_eq!(rt; names_of(rt.alloc(), DUMP)?, (2, true, true));
     Ok(())
 }
 
@@ -261,16 +275,15 @@ fn malformed_mergeinfo_has_its_status(rt: HostRuntime) -> Result<(), Fail> {
 /// The effective mergeinfo of a path as it is printed, unless it is malformed.
 fn effective_text(
     alloc: Global,
-    dump: &[u8],
+    repo: &Repo,
     path: &[u8],
     rev: u32,
 ) -> Result<Option<Vec<u8>>, Fail> {
-    let repo = repo_of(alloc, dump)?;
     let path = match Path::find(alloc, repo.names(), path)? {
         Lookup::Known(path) => path,
         Lookup::Unknown => return Err("no such path")?,
     };
-    match effective(alloc, &repo, &path, rev)? {
+    match effective(alloc, repo, &path, rev)? {
         Effective::Value(value) => {
             let mut text = Vec::new(alloc);
             value.write(&mut text)?;
@@ -280,11 +293,22 @@ fn effective_text(
     }
 }
 
+/// The same on a dump.
+fn effective_of(
+    alloc: Global,
+    dump: &[u8],
+    path: &[u8],
+    rev: u32,
+) -> Result<Option<Vec<u8>>, Fail> {
+    let repo = repo_of(alloc, dump)?;
+    effective_text(alloc, &repo, path, rev)
+}
+
 #[test]
 fn effective_mergeinfo_is_looked_up(rt: HostRuntime) -> Result<(), Fail> {
-    let found = effective_text(rt.alloc(), BRANCH, b"/branches/b", 9)?;
+    let found = effective_of(rt.alloc(), BRANCH, b"/branches/b", 9)?;
     assert!(rt; found.as_deref() == Some(b"/trunk/b:6\n".as_slice()));
-    let found = effective_text(rt.alloc(), MERGEINFO, b"/c", 1)?;
+    let found = effective_of(rt.alloc(), MERGEINFO, b"/c", 1)?;
     assert!(rt; found.is_none());
     Ok(())
 }

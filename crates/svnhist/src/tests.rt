@@ -7,5 +7,6 @@ mod faults;
 mod gates;
 mod histories;
 mod inputs;
+mod joined;
 mod reports;
 mod workers;
