@@ -22,6 +22,11 @@ pub record IsChain {M : Type 0} (begin end weight : M → ℕ) (items : List M) 
   pub meet : Meet begin end items
   pub light : sum_by weight items < 2 ^ 64
 
+-- a chain of at least one element
+pub record IsSomeChain {M : Type 0} (begin end weight : M → ℕ) (items : List M) : Type 0 where
+  pub some : 0 < length items
+  pub chain : IsChain begin end weight items
+
 -- the element changes no point, and both its borders are where the other one begins
 pub record IsUnitOf {M P : Type 0} (act : M → P → P) (begin end : M → ℕ) (later unit : M) : Type 0 where
   pub acts : (point : P) → act unit point ≡ point

@@ -15,7 +15,7 @@ ghost use Rattle.std.specs.Prelude.{
   slice_index_or,
   vec_len,
 };
-ghost use Rattle.par_scan.specs.Chain.{AreJoinedUpTo, IsChain, IsJoined};
+ghost use Rattle.par_scan.specs.Chain.{AreJoinedUpTo, IsChain, IsJoined, IsSomeChain};
 ghost use denote.Param.Send.{IsSend, IsSync};
 ghost use Rattle.par_scan.specs.Parts.{
   AreOfParts,
@@ -93,13 +93,11 @@ fn join_across<R: Threads + Sync, M: Acts>(
     }
     let (front, back) = halves(items);
     let join_front = || -> Result<M, AllocError>
-        requires { IsSync R.row × IsSync M.row × IsSend M.row
-            × (0 < length front.now) × IsChain M.begin M.end M.weight front.now }
+        requires { IsSync R.row × IsSync M.row × IsSend M.row × IsSomeChain M.begin M.end M.weight front.now }
         ensures { IfOk result (IsJoined M.act M.begin M.end front.entry.now) }
     { join_across(rt, front, parts / 2) };
     let join_back = || -> Result<M, AllocError>
-        requires { IsSync R.row × IsSync M.row × IsSend M.row
-            × (0 < length back.now) × IsChain M.begin M.end M.weight back.now }
+        requires { IsSync R.row × IsSync M.row × IsSend M.row × IsSomeChain M.begin M.end M.weight back.now }
         ensures { IfOk result (IsJoined M.act M.begin M.end back.entry.now) }
     { join_across(rt, back, parts - parts / 2) };
     let (earlier, later) = thread::join(rt, join_front, join_back);
@@ -111,10 +109,10 @@ fn halves<M: Acts>(items: &[M]) -> (&[M], &[M])
     requires some { 1 < length items.now }
     requires chain { IsChain M.begin M.end M.weight items.now }
     ensures whole { items.now ≡ result.0.now ++ result.1.now }
-    ensures front { (0 < length result.0.now) × (length result.0.now < length items.now) }
-    ensures back { (0 < length result.1.now) × (length result.1.now < length items.now) }
-    ensures front_chain { IsChain M.begin M.end M.weight result.0.now }
-    ensures back_chain { IsChain M.begin M.end M.weight result.1.now }
+    ensures front { length result.0.now < length items.now }
+    ensures back { length result.1.now < length items.now }
+    ensures front_chain { IsSomeChain M.begin M.end M.weight result.0.now }
+    ensures back_chain { IsSomeChain M.begin M.end M.weight result.1.now }
 {
     items.split_at(items.len() / 2)
 }

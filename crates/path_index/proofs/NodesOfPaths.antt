@@ -99,8 +99,8 @@ node_of_push children path name node found =
     by (Some child) = refl
 
 -- a path with a node has one for each path above it
-pub node_of-front : (children : List Child) (front rest : List NameId) (node : ℕ) → node_of children (front ++ rest) ≡ Some node → (above : ℕ) × (node_of children front ≡ Some above)
-node_of-front children front rest node found = by (node_of children front) refl
+pub node_of-append_left : (children : List Child) (front rest : List NameId) (node : ℕ) → node_of children (front ++ rest) ≡ Some node → (above : ℕ) × (node_of children front ≡ Some above)
+node_of-append_left children front rest node found = by (node_of children front) refl
   where
     by : (o : Option ℕ) → node_of children front ≡ o → (above : ℕ) × (node_of children front ≡ Some above)
     by None is = let never : None ≡ Some node = ap (option_and_then (λ under. node_below children under rest)) (sym is) ∙ sym (node_below-append children 0 front rest) ∙ found in cc
@@ -129,7 +129,7 @@ pub node_before : (children : List Child) (path front : List NameId) (last : Nam
     → (above : ℕ) × (node_of children front ≡ Some above) × (child_of children above last ≡ Some node)
 node_before children path front last node is found =
     let whole : node_of children (front ++ last ∷ []) ≡ Some node = ap (node_of children) (sym is) ∙ found in
-    let (above, at) = node_of-front children front (last ∷ []) node whole in
+    let (above, at) = node_of-append_left children front (last ∷ []) node whole in
     (above, at, sym (node_of_push children front last above at) ∙ whole)
 
 -- given that no shorter path shares its node
@@ -158,14 +158,14 @@ one_by_shorter children p q node one other shorter = elim (last_or_none p) [
   ]
 ]
 
-one_within : (most : ℕ) (children : List Child) (p q : List NameId) (node : ℕ) → length p < most → node_of children p ≡ Some node → node_of children q ≡ Some node → p ≡ q
-one_within zero children p q node short one other = absurd (omega arith)
-one_within (suc most) children p q node short one other =
-    one_by_shorter children p q node one other (λ p_front q_front above less at at'. one_within most children p_front q_front above (omega arith) at at')
+one_if_short : (most : ℕ) (children : List Child) (p q : List NameId) (node : ℕ) → length p < most → node_of children p ≡ Some node → node_of children q ≡ Some node → p ≡ q
+one_if_short zero children p q node short one other = absurd (omega arith)
+one_if_short (suc most) children p q node short one other =
+    one_by_shorter children p q node one other (λ p_front q_front above less at at'. one_if_short most children p_front q_front above (omega arith) at at')
 
 -- a node is that of one path alone
 pub node_of-one : (children : List Child) (p q : List NameId) (node : ℕ) → node_of children p ≡ Some node → node_of children q ≡ Some node → p ≡ q
-node_of-one children p q node one other = one_within (length p + 1) children p q node (omega arith) one other
+node_of-one children p q node one other = one_if_short (length p + 1) children p q node (omega arith) one other
 
 -- it is among them
 pub node_of-within : (children : List Child) (path : List NameId) (node : ℕ) → node_of children path ≡ Some node → node ≤ length children
@@ -182,7 +182,7 @@ node_of-within children path node found = elim (last_or_none path) [
 pub node_of-take : (children : List Child) (path : List NameId) (n m : ℕ) (node : ℕ) → n ≤ m → node_of children (take m path) ≡ Some node → (above : ℕ) × (node_of children (take n path) ≡ Some above)
 node_of-take children path n m node less found =
     let longer : take m path ≡ take n path ++ drop n (take m path) = sym (take-append-drop n (take m path)) ∙ ap (λ front. front ++ drop n (take m path)) (take-take n m path less) in
-    node_of-front children (take n path) (drop n (take m path)) node (ap (node_of children) (sym longer) ∙ found)
+    node_of-append_left children (take n path) (drop n (take m path)) node (ap (node_of children) (sym longer) ∙ found)
 
 -- the next path
 pub node_of-take_more : (children : List Child) (path : List NameId) (n : ℕ) (d : NameId) (node : ℕ) → n < length path → node_of children (take n path) ≡ Some node

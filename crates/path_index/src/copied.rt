@@ -1,5 +1,4 @@
 //! What an index keeps of a copy.
-
 ghost use Rattle.std.specs.Prelude.{◌≡◌, ◌+◌, ◌^◌, ◌<◌, IfOk};
 
 use std::alloc::AllocError;
