@@ -20,5 +20,6 @@ pub mod Property
 pub mod ReadError
 pub mod Record
 pub mod Refusal
+pub mod State
 pub mod Texts
 pub mod Tree
