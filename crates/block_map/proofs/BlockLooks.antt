@@ -1,0 +1,276 @@
+-- The roots of the trees of a block, and what they show.
+use Rattle.std.proofs.Common.{◌≡◌, ℕ, ◌+◌, ◌-◌, ◌^◌, ◌<◌, ◌≤◌, Bool, List, [], ◌∷◌, ◌++◌, Option, None, Some, get_or, length, inl, inr, refl, sym, ap, subst, ◌∙◌, arith}
+use Rattle.std.specs.Prelude.{Result, Ok, Err, IfOk, OnOk, fold, slice_get}
+use Rattle.std.proofs.lemmas.Bool.{cases_lt}
+use Rattle.std.proofs.lemmas.List.{length_push}
+use Rattle.std.proofs.lemmas.List.Sums.{fold-append}
+use Rattle.std.proofs.lemmas.Option.{same_Some, slice_get-get_or, slice_get_within}
+use Rattle.svn_path.specs.Below.{below}
+use Rattle.svn_path.specs.Path.{same_name}
+use Rattle.svn_path.specs.declared.names.NameId.{NameId}
+use Rattle.svn_path.proofs.Belows.{IsSame-same_name, append-from_below}
+use Rattle.svn_dump.specs.History.{Record}
+use Rattle.svn_dump.specs.declared.record.ValueId.{ValueId}
+use Rattle.block_map.specs.Block.{IsBlock, IsRootAfter, IsRootAt, SameBlock, ShowsAction, ShowsTick, end_of_block, look_after_action, look_after_record, look_in_block}
+use Rattle.block_map.specs.Look.{Found, Look, found_after, known, look, look_after, look_at, looks_of, with_look}
+use Rattle.block_map.specs.Trie.{IsGrown, IsNodeOf, IsSound, PutsNode, TrieValue, at_path, at_root, found_below, nothing}
+use Rattle.block_map.specs.declared.block.Block.{Block}
+use Rattle.block_map.specs.declared.node.Node.{Node}
+use Rattle.block_map.specs.declared.part.NodeId.{NodeId}
+use Rattle.block_map.proofs.BlockNodes.{slice_get_last}
+use Rattle.block_map.proofs.GrownTries.{AreMore-none, IsGrown-again, found_below-grown, slice_get-front, slice_get-grown}
+use Rattle.block_map.proofs.Standings.{look_at-append, look_at_push}
+
+-- ---- one more record
+
+module _ {C M : Type 0} (same : C → C → Bool) (lo : ℕ) where
+  looks_of-push : (records : List (Record C M)) (each : Record C M) → looks_of same lo (records ++ each ∷ []) ≡ with_look same lo (looks_of same lo records) each
+  unfolding looks_of
+  looks_of-push records each = fold-append (with_look same lo) [] records (each ∷ [])
+
+  length-fold : (looks : List (Look C M)) (records : List (Record C M)) → length (fold (with_look same lo) looks records) ≡ length looks + length records
+  length-fold looks [] = omega arith
+  length-fold looks (each ∷ records) =
+      omega (arith, length-fold (with_look same lo looks each) records, length_push looks (look_after same lo looks each))
+
+  -- there is one look for each record
+  pub length-looks_of : (records : List (Record C M)) → length (looks_of same lo records) ≡ length records
+  unfolding looks_of
+  length-looks_of records = omega (arith, length-fold [] records)
+
+  -- it leaves what was found before
+  pub look_push-before : (records : List (Record C M)) (each : Record C M) (tick : ℕ) (path : List C) → tick ≤ lo + length records
+      → look same lo (records ++ each ∷ []) tick path ≡ look same lo records tick path
+  look_push-before records each tick path within =
+      ap (λ looks. look_at lo looks tick path) (looks_of-push records each)
+      ∙ look_at-append lo (looks_of same lo records) (look_after same lo (looks_of same lo records) each ∷ []) tick path (omega (arith, within, length-looks_of records))
+
+  -- and what is found after it is what it leaves
+  pub look_push-last : (records : List (Record C M)) (each : Record C M) (tick : ℕ) (path : List C) → tick ≡ lo + length records + 1
+      → look same lo (records ++ each ∷ []) tick path ≡ look_after same lo (looks_of same lo records) each path
+  look_push-last records each tick path last =
+      ap (λ looks. look_at lo looks tick path) (looks_of-push records each)
+      ∙ look_at_push lo (looks_of same lo records) (look_after same lo (looks_of same lo records) each) tick path (omega (arith, last, length-looks_of records))
+
+-- ---- roots
+
+-- the root of a tick
+pub IsRootAt-at : (block : Block) (tick : ℕ) (id : NodeId) → IsBlock block → block.start < tick → tick ≤ end_of_block block
+    → id ≡ get_or block.roots.items (tick - block.start - 1) id → IsRootAt block tick id
+IsRootAt-at block tick id is after within at =
+    let place = tick - block.start - 1 in
+    let tick_is : block.start + place + 1 ≡ tick = omega (arith, after) in
+    let inside : place < length block.roots.items = omega (arith, after, within, is.roots) in
+    subst (λ each. IsRootAt block each id) tick_is (is.each place id (slice_get-get_or block.roots.items place id inside ∙ ap Some (sym at)))
+
+pub IsRootAt-within : (block : Block) (tick : ℕ) (id : NodeId) → IsRootAt block tick id → id.0 < length block.trie.nodes
+IsRootAt-within block tick id root = slice_get_within block.trie.nodes id.0 root.node root.at
+
+pub ShowsTick-node : (block : Block) (tick : ℕ) (id : NodeId) (node : Node) → IsRootAt block tick id → slice_get block.trie.nodes id.0 ≡ Some node → ShowsTick block tick node
+ShowsTick-node block tick id node root at = subst (ShowsTick block tick) (same_Some root.node node (sym root.at ∙ at)) root.shows
+
+-- the same records say the same
+pub look_in_block-same : (old new : Block) (tick : ℕ) (path : List NameId) → SameBlock old new → look_in_block old tick path ≡ look_in_block new tick path
+look_in_block-same old new tick path same =
+    let lo = sym same.start in
+    let records = sym same.records in
+    λ i. known (lo i) (look same_name (lo i) (records i) tick path)
+
+-- the last root is that of the newest tree
+pub IsRootAt-last : (block : Block) (id : NodeId) → IsBlock block → slice_get block.roots.items (length block.roots.items - 1) ≡ Some id → IsRootAt block (end_of_block block) id
+IsRootAt-last block id is at =
+    let inside = slice_get_within block.roots.items (length block.roots.items - 1) id at in
+    subst (λ tick. IsRootAt block tick id) (omega (arith, inside, is.roots)) (is.each (length block.roots.items - 1) id at)
+
+-- a root stays as nodes, parts and places are added
+pub IsRootAt-same : (old new : Block) (tick : ℕ) (id : NodeId) → IsSound old.trie → SameBlock old new → IsRootAt old tick id → IsRootAt new tick id
+IsRootAt-same old new tick id sound same root = record {
+  node = root.node;
+  at = slice_get-grown old.trie.nodes new.trie.nodes id.0 same.trie.nodes (slice_get_within old.trie.nodes id.0 root.node root.at) ∙ root.at;
+  shows = λ path.
+      found_below-grown old.trie new.trie sound same.trie (at_root root.node) path (sound.nodes id.0 root.node root.at) ∙ root.shows path
+      ∙ look_in_block-same old new tick path same;
+}
+
+-- and so the block does
+pub IsBlock-same : (old new : Block) → IsBlock old → SameBlock old new → IsBlock new
+IsBlock-same old new is same = record {
+  few = omega (arith, is.few, same.start, ap length same.records);
+  sound = same.sound;
+  roots = ap length same.roots ∙ is.roots ∙ sym (ap length same.records);
+  each = λ place id at.
+      let was = is.each place id (subst (λ items. slice_get items place ≡ Some id) same.roots at) in
+      subst (λ tick. IsRootAt new tick id) (ap (λ n. n + place + 1) (sym same.start)) (IsRootAt-same old new (old.start + place + 1) id is.sound same was);
+}
+
+pub end_of_block-same : (old new : Block) → SameBlock old new → end_of_block new ≡ end_of_block old
+end_of_block-same old new same = omega (arith, same.start, ap length same.records)
+
+-- a node of the old trie shows the same
+pub ShowsTick-same : (old new : Block) (tick : ℕ) (node : Node) → IsSound old.trie → SameBlock old new → IsNodeOf old.trie node → ShowsTick old tick node → ShowsTick new tick node
+ShowsTick-same old new tick node sound same is shows = λ path.
+    found_below-grown old.trie new.trie sound same.trie (at_root node) path is ∙ shows path ∙ look_in_block-same old new tick path same
+
+-- blocks that are the same in two steps
+pub SameBlock-again : (one two three : Block) → SameBlock one two → SameBlock two three → SameBlock one three
+SameBlock-again one two three first second = record {
+  start = second.start ∙ first.start;
+  roots = second.roots ∙ first.roots;
+  records = second.records ∙ first.records;
+  trie = IsGrown-again one.trie two.trie three.trie first.trie second.trie;
+  sound = second.sound;
+}
+
+-- ---- the tree after one more record
+
+-- what is found after a record, by what it leaves at its path and below it
+abbrev found_by_cases : Block → Record NameId ValueId → List NameId → Option (List NameId) → Found NameId ValueId
+found_by_cases block each path None = look_in_block block (end_of_block block) path
+found_by_cases block each path (Some rest) = look_after_action block each.path each.action rest
+
+look_after_record-cases : (block : Block) (each : Record NameId ValueId) (path : List NameId)
+    → look_after_record block each path ≡ found_by_cases block each path (below same_name each.path path)
+look_after_record-cases block each path = by (below same_name each.path path) refl
+  where
+    looks : List (Look NameId ValueId)
+    looks = looks_of same_name block.start block.records.records
+
+    end_is : block.start + length looks ≡ end_of_block block
+    end_is = ap (λ n. block.start + n) (length-looks_of same_name block.start block.records.records)
+
+    by : (left : Option (List NameId)) → below same_name each.path path ≡ left
+        → known block.start (elim left [
+          | None ↦ look_at block.start looks (block.start + length looks) path
+          | Some rest ↦ found_after block.start looks each.action (look_at block.start looks (block.start + length looks) path) rest
+        ])
+        ≡ found_by_cases block each path left
+    by None is = ap (λ tick. known block.start (look_at block.start looks tick path)) end_is
+    by (Some rest) is =
+        ap (λ tick. known block.start (found_after block.start looks each.action (look_at block.start looks tick path) rest)) end_is
+        ∙ ap (λ whole. known block.start (found_after block.start looks each.action (look_at block.start looks (end_of_block block) whole) rest))
+        (append-from_below IsSame-same_name each.path path rest is)
+
+-- ---- nodes that are added
+
+-- a node that was added is found
+pub pushed_node : (old new : TrieValue) (node : Node) (id : NodeId) → id.0 ≡ length old.nodes → new ≡ record old { nodes = old.nodes ++ node ∷ [] } → slice_get new.nodes id.0 ≡ Some node
+pushed_node old new node id at added = ap (λ trie. slice_get trie.nodes id.0) added ∙ slice_get_last old.nodes node id.0 at
+
+pub IsGrown-pushed : (old new : TrieValue) (node : Node) → new ≡ record old { nodes = old.nodes ++ node ∷ [] } → IsGrown old new
+IsGrown-pushed old new node added = subst (IsGrown old) (sym added) (record {
+  nodes = record { more = node ∷ []; grown = refl };
+  parts = AreMore-none old.parts;
+  places = AreMore-none old.places;
+})
+
+-- it shows what it showed before
+pub IsRootAt-pushed : (block : Block) (new : TrieValue) (tick : ℕ) (node : Node) (id : NodeId) → IsSound block.trie → IsNodeOf block.trie node → ShowsTick block tick node → id.0 ≡ length block.trie.nodes
+    → new ≡ record block.trie { nodes = block.trie.nodes ++ node ∷ [] } → IsRootAt (record block { trie = new }) tick id
+IsRootAt-pushed block new tick node id sound is shows at added = record {
+  node = node;
+  at = pushed_node block.trie new node id at added;
+  shows = λ path. found_below-grown block.trie new sound (IsGrown-pushed block.trie new node added) (at_root node) path is ∙ shows path;
+}
+
+-- two facts of the value of an `Ok`
+pub IfOk-both : {T E : Type 0} (r : Result T E) (P Q : T → Type 0) (R : Type 0) → ((x : T) → P x → R → Q x) → IfOk r P → OnOk r R → IfOk r Q
+IfOk-both (Ok x) P Q R both p q = both x p q
+IfOk-both (Err e) P Q R both p q = tt
+
+-- ---- the root of the next tree
+
+-- a node that was put at the record's path
+pub IsRootAfter-put : (block : Block) (put new : TrieValue) (root node after : Node) (each : Record NameId ValueId) (id : NodeId) → IsSound put → IsNodeOf put after
+    → ShowsTick block (end_of_block block) root → ShowsAction block root each.path each.action node → PutsNode block.trie put (Some root) each.path node after
+    → id.0 ≡ length put.nodes → new ≡ record put { nodes = put.nodes ++ after ∷ [] } → IsRootAfter (record block { trie = new }) each id
+IsRootAfter-put block put new root node after each id sound is shows acts puts at added = record {
+  node = after;
+  at = pushed_node put new after id at added;
+  shows = λ path.
+      found_below-grown put new sound (IsGrown-pushed put new after added) (at_root after) path is
+      ∙ puts nothing path ∙ by path (below same_name each.path path) ∙ sym (look_after_record-cases block each path);
+}
+  where
+    by : (path : List NameId) (left : Option (List NameId)) → elim left [
+      | None ↦ found_below block.trie (at_root root) path
+      | Some rest ↦ found_below block.trie (record { node = Some node; outside = (at_path block.trie (at_root root) each.path).outside }) rest
+    ] ≡ found_by_cases block each path left
+    by path None = shows path
+    by path (Some rest) = acts rest
+
+-- or the same root again, where the record leaves everything as it is
+pub IsRootAfter-same : (block : Block) (each : Record NameId ValueId) (id : NodeId) → IsRootAt block (end_of_block block) id
+    → ((rest : List NameId) → look_after_action block each.path each.action rest ≡ look_in_block block (end_of_block block) (each.path ++ rest)) → IsRootAfter block each id
+IsRootAfter-same block each id root leaves = record {
+  node = root.node;
+  at = root.at;
+  shows = λ path. root.shows path ∙ by path (below same_name each.path path) refl ∙ sym (look_after_record-cases block each path);
+}
+  where
+    by : (path : List NameId) (left : Option (List NameId)) → below same_name each.path path ≡ left → look_in_block block (end_of_block block) path ≡ found_by_cases block each path left
+    by path None is = refl
+    by path (Some rest) is = ap (look_in_block block (end_of_block block)) (append-from_below IsSame-same_name each.path path rest is) ∙ sym (leaves rest)
+
+-- ---- a block with one more record
+
+module _ (old new : Block) (each : Record NameId ValueId) (id : NodeId) (block : IsBlock old) (few : end_of_block old + 1 < 2 ^ 32) (sound : IsSound new.trie) (grown : IsGrown old.trie new.trie)
+    (start : new.start ≡ old.start) (roots : new.roots.items ≡ old.roots.items ++ id ∷ []) (records : new.records.records ≡ old.records.records ++ each ∷ [])
+    (after : IsRootAfter (record old { trie = new.trie }) each id) where
+  one_more : length new.records.records ≡ length old.records.records + 1
+  one_more = ap length records ∙ length_push old.records.records each
+
+  -- the look of the new block, by the records of the old one
+  look_is : (tick : ℕ) (path : List NameId) → look_in_block new tick path ≡ known old.start (look same_name old.start (old.records.records ++ each ∷ []) tick path)
+  look_is tick path = λ i. known (start i) (look same_name (start i) (records i) tick path)
+
+  -- the roots there were
+  earlier : (tick : ℕ) (root : NodeId) → tick ≤ end_of_block old → IsRootAt old tick root → IsRootAt new tick root
+  earlier tick root within was = record {
+    node = was.node;
+    at = slice_get-grown old.trie.nodes new.trie.nodes root.0 grown.nodes (slice_get_within old.trie.nodes root.0 was.node was.at) ∙ was.at;
+    shows = λ path.
+        found_below-grown old.trie new.trie block.sound grown (at_root was.node) path (block.sound.nodes root.0 was.node was.at) ∙ was.shows path
+        ∙ sym (look_is tick path ∙ ap (known old.start) (look_push-before same_name old.start old.records.records each tick path within));
+  }
+
+  -- and the last one
+  last_root : (tick : ℕ) → tick ≡ end_of_block old + 1 → IsRootAt new tick id
+  last_root tick last = record {
+    node = after.node;
+    at = after.at;
+    shows = λ path. after.shows path ∙ sym (look_is tick path ∙ ap (known old.start) (look_push-last same_name old.start old.records.records each tick path last));
+  }
+
+  pub IsBlock-push : IsBlock new
+  IsBlock-push = record {
+    few = omega (arith, few, start, one_more);
+    sound = sound;
+    roots = ap length roots ∙ length_push old.roots.items id ∙ omega (arith, block.roots, one_more);
+    each = λ place root at. by place root (subst (λ items. slice_get items place ≡ Some root) roots at);
+  }
+    where
+      by : (place : ℕ) (root : NodeId) → slice_get (old.roots.items ++ id ∷ []) place ≡ Some root → IsRootAt new (new.start + place + 1) root
+      by place root at = elim (cases_lt place (length old.roots.items)) [
+        | inl within ↦
+            let was = block.each place root (sym (slice_get-front old.roots.items (id ∷ []) place within) ∙ at) in
+            subst (λ tick. IsRootAt new tick root) (ap (λ n. n + place + 1) (sym start)) (earlier (old.start + place + 1) root (omega (arith, within, block.roots)) was)
+        | inr past ↦
+            let inside = slice_get_within (old.roots.items ++ id ∷ []) place root at in
+            let last : place ≡ length old.roots.items = omega (arith, past, inside, length_push old.roots.items id) in
+            let is : id ≡ root = same_Some id root (sym (slice_get_last old.roots.items id place last) ∙ at) in
+            subst (IsRootAt new (new.start + place + 1)) is (last_root (new.start + place + 1) (omega (arith, start, last, block.roots)))
+      ]
+
+-- a record that leaves everything as it is in a block leaves it so in the same block
+pub IsRootAfter-kept : (old new : Block) (each : Record NameId ValueId) (id : NodeId) → SameBlock old new → IsRootAt new (end_of_block new) id
+    → ((rest : List NameId) → look_after_action old each.path each.action rest ≡ look_in_block old (end_of_block old) (each.path ++ rest)) → IsRootAfter new each id
+IsRootAfter-kept old new each id same root leaves =
+    IsRootAfter-same new each id root (λ rest. sym (action rest) ∙ leaves rest
+    ∙ ap (λ tick. look_in_block old tick (each.path ++ rest)) (sym (end_of_block-same old new same)) ∙ look_in_block-same old new (end_of_block new) (each.path ++ rest) same)
+  where
+    action : (rest : List NameId) → look_after_action old each.path each.action rest ≡ look_after_action new each.path each.action rest
+    action rest =
+        let lo = sym same.start in
+        let records = sym same.records in
+        λ i. known (lo i) (found_after (lo i) (looks_of same_name (lo i) (records i)) each.action
+        (look same_name (lo i) (records i) (lo i + length (records i)) (each.path ++ rest)) rest)

@@ -1,0 +1,72 @@
+-- The nearest mergeinfo among the first components of a path.
+use Rattle.std.proofs.Common.{◌≡◌, ℕ, ◌+◌, ◌≤◌, ◌⊎◌, List, Option, None, Some, option_map, length, take, inl, inr, refl, sym, ap, ◌∙◌, arith}
+use Rattle.std.specs.Option.{option_or}
+use Rattle.std.proofs.lemmas.Bool.{cases_lt}
+use Rattle.std.proofs.lemmas.Option.{same_Some}
+use Rattle.svn_path.specs.declared.names.NameId.{NameId}
+use Rattle.svn_dump.specs.declared.record.ValueId.{ValueId}
+use Rattle.block_map.specs.Map.{IsNearestOrNone, nearest_view}
+use Rattle.block_map.specs.declared.nearest.Nearest.{Nearest}
+
+-- none of the first components has any
+abbrev pub HasNoneUpTo : (List NameId → Option ValueId) → List NameId → ℕ → ℕ → Type 0
+HasNoneUpTo own path from depth = (more : ℕ) → from ≤ more → more ≤ depth → own (take more path) ≡ None
+
+-- the nearest mergeinfo from the first so many components up to the root
+abbrev pub IsNearestUpTo : (List NameId → Option ValueId) → List NameId → ℕ → Option Nearest → Type 0
+IsNearestUpTo own path depth None = HasNoneUpTo own path 0 depth
+IsNearestUpTo own path depth (Some nearest) =
+    (nearest.depth ≤ depth) × (own (take nearest.depth path) ≡ Some nearest.mi) × HasNoneUpTo own path (nearest.depth + 1) depth
+
+module _ (own : List NameId → Option ValueId) (path : List NameId) where
+  -- what was found at so many components, as it is kept
+  abbrev pub IsFoundAt : ℕ → Option Nearest → Type 0
+  IsFoundAt depth found = option_map nearest_view found ≡ option_map (λ mi. (mi, depth)) (own (take depth path))
+
+  abbrev with_depth : ℕ → ValueId → ValueId × ℕ
+  with_depth depth mi = (mi, depth)
+
+  found_none : (depth : ℕ) (o : Option ValueId) → None ≡ option_map (with_depth depth) o → o ≡ None
+  found_none depth None is = refl
+  found_none depth (Some mi) is = cc
+
+  found_some : (depth : ℕ) (nearest : Nearest) (o : Option ValueId) → Some (nearest_view nearest) ≡ option_map (with_depth depth) o
+      → (nearest.depth ≡ depth) × (o ≡ Some nearest.mi)
+  found_some depth nearest None is = cc
+  found_some depth nearest (Some mi) is =
+      let both : nearest_view nearest ≡ with_depth depth mi = same_Some (nearest_view nearest) (with_depth depth mi) is in
+      (ap (λ each. each.1) both, ap (λ each. Some each.0) (sym both))
+
+  at_or_below : (n m : ℕ) → n ≤ m + 1 → (n ≤ m) ⊎ (n ≡ m + 1)
+  at_or_below n m less = elim (cases_lt m n) [ inl above ↦ inr (omega (arith, above, less)) | inr upto ↦ inl upto ]
+
+  -- at the root
+  pub IsNearestUpTo-root : (found : Option Nearest) → IsFoundAt 0 found → IsNearestUpTo own path 0 found
+  IsNearestUpTo-root None is = λ more from upto. let zero_is : more ≡ 0 = omega (arith, upto) in ap (λ n. own (take n path)) zero_is ∙ found_none 0 (own (take 0 path)) is
+  IsNearestUpTo-root (Some nearest) is =
+      let (depth, mi) = found_some 0 nearest (own (take 0 path)) is in
+      (omega (arith, depth), ap (λ n. own (take n path)) depth ∙ mi, λ more from upto. absurd (omega (arith, from, upto)))
+
+  -- and one component further down
+  pub IsNearestUpTo-more : (depth : ℕ) (found before : Option Nearest) → IsFoundAt (depth + 1) found → IsNearestUpTo own path depth before
+      → IsNearestUpTo own path (depth + 1) (option_or found before)
+  IsNearestUpTo-more depth (Some nearest) before is was =
+      let (at, mi) = found_some (depth + 1) nearest (own (take (depth + 1) path)) is in
+      (omega (arith, at), ap (λ n. own (take n path)) at ∙ mi, λ more from upto. absurd (omega (arith, from, upto, at)))
+  IsNearestUpTo-more depth None None is was = λ more from upto. elim (at_or_below more depth upto) [
+    | inl less ↦ was more from less
+    | inr last ↦ ap (λ n. own (take n path)) last ∙ found_none (depth + 1) (own (take (depth + 1) path)) is
+  ]
+  IsNearestUpTo-more depth None (Some nearest) is was = (
+    omega (arith, was.0),
+    was.1,
+    λ more from upto. elim (at_or_below more depth upto) [
+      | inl less ↦ was.2 more from less
+      | inr last ↦ ap (λ n. own (take n path)) last ∙ found_none (depth + 1) (own (take (depth + 1) path)) is
+    ],
+  )
+
+  -- of the whole path
+  pub IsNearestOrNone-all : (depth : ℕ) (found : Option Nearest) → depth ≡ length path → IsNearestUpTo own path depth found → IsNearestOrNone own path found
+  IsNearestOrNone-all depth None all up = λ more from upto. up more from (omega (arith, upto, all))
+  IsNearestOrNone-all depth (Some nearest) all up = ((omega (arith, up.0, all), up.1), λ more from upto. up.2 more from (omega (arith, upto, all)))

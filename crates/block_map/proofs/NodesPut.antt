@@ -1,0 +1,156 @@
+-- What is found below a node where another one was put at a path.
+use Rattle.std.proofs.Common.{◌≡◌, ◌==◌, true, false, List, [], ◌∷◌, ◌++◌, Option, None, Some, IfSome, length, if◌then◌else◌, inl, inr, refl, sym, ap, subst, ◌∙◌, arith}
+use Rattle.std.specs.Option.{option_and_then, unwrap_or}
+use Rattle.std.specs.Prelude.{slice_get}
+use Rattle.std.proofs.lemmas.Bool.{cases_Bool}
+use Rattle.svn_dump.specs.declared.record.ValueId.{ValueId}
+use Rattle.svn_path.specs.Below.{below}
+use Rattle.svn_path.specs.Path.{same_name}
+use Rattle.svn_path.specs.declared.names.NameId.{NameId}
+use Rattle.svn_path.proofs.Belows.{IsSame-same_name}
+use Rattle.block_map.specs.Look.{Found}
+use Rattle.block_map.specs.Node.{untouched}
+use Rattle.block_map.specs.Parts.{AreMore, SetsChild, child_in}
+use Rattle.block_map.specs.Trie.{At, IsGrown, IsNodeOf, IsSound, LookOfNumbers, PutsNode, TrieValue, at_path, child_at, child_of, found_below, found_here, inside}
+use Rattle.block_map.specs.declared.node.Node.{Node}
+use Rattle.block_map.specs.declared.part.NodeId.{NodeId}
+use Rattle.block_map.specs.declared.part.PartId.{PartId}
+use Rattle.block_map.proofs.GrownTries.{AreMore-none, child_in-grown, found_below-grown, inside-grown}
+use Rattle.block_map.proofs.PartLookups.{eqb-turned, slice_get-last}
+use Rattle.block_map.proofs.PartSteps.{found_within-empty}
+
+-- a node and what is found there without it
+abbrev from_node : Option Node → LookOfNumbers → At
+from_node node outside = record { node = node; outside = outside }
+
+-- ---- a node of which nothing is known
+
+-- an untouched node has no child
+child_of-untouched : (trie : TrieValue) (name : NameId) → child_of trie untouched name ≡ None
+child_of-untouched trie name = ap (option_and_then (λ (id : NodeId). slice_get trie.nodes id.0)) (found_within-empty trie.parts 0 name.0)
+
+-- so its children are found as where there is no node
+child_at-untouched : (trie : TrieValue) (before : Option Node) (outside : LookOfNumbers) (name : NameId)
+    → child_at trie (from_node before outside) name ≡ child_at trie (from_node (Some (unwrap_or before untouched)) outside) name
+child_at-untouched trie None outside name = ap (λ node. from_node node (λ rest. outside (name ∷ rest))) (sym (child_of-untouched trie name))
+child_at-untouched trie (Some node) outside name = refl
+
+-- and below it
+found_below-untouched : (trie : TrieValue) (before : Option Node) (outside : LookOfNumbers) (path : List NameId)
+    → found_below trie (from_node before outside) path ≡ found_below trie (from_node (Some (unwrap_or before untouched)) outside) path
+found_below-untouched trie None outside [] = refl
+found_below-untouched trie (Some node) outside [] = refl
+found_below-untouched trie before outside (name ∷ path) = ap (λ next. found_below trie next path) (child_at-untouched trie before outside name)
+
+-- ---- a child put at a name
+
+module _ (old new : TrieValue) (node child : Node) (name : NameId) (id : NodeId) (children : PartId) where
+  -- a child was added, and the map has it for the name
+  pub record PutsChild : Type 0 where
+    pub sound : IsSound old
+    pub node_is : IsNodeOf old node
+    pub child_is : IsNodeOf old child
+    pub nodes : new.nodes ≡ old.nodes ++ child ∷ []
+    pub id_is : id.0 ≡ length old.nodes
+    pub parts : AreMore old.parts new.parts
+    pub places : new.places ≡ old.places
+    pub sets : SetsChild old.parts new.parts node.children name.0 id children
+
+  -- nothing but the child and parts were added
+  IsGrown-child : PutsChild → IsGrown old new
+  IsGrown-child puts = record {
+    nodes = record { more = child ∷ []; grown = puts.nodes };
+    parts = puts.parts;
+    places = subst (AreMore old.places) (sym puts.places) (AreMore-none old.places);
+  }
+
+  -- the child of the name is the one that was put
+  child_of-put : PutsChild → (other : NameId) → (name.0 == other.0) ≡ true → child_of new (record node { children = children }) other ≡ Some child
+  child_of-put puts other is =
+      let turned : (other.0 == name.0) ≡ true = eqb-turned other.0 name.0 ∙ is in
+      let found : child_in new.parts children other.0 ≡ Some id =
+      puts.sets other.0 ∙ ap (λ same. if same then Some id else child_in old.parts node.children other.0) turned in
+      ap (option_and_then (λ (each : NodeId). slice_get new.nodes each.0)) found
+      ∙ ap (slice_get new.nodes) puts.id_is ∙ ap (λ nodes. slice_get nodes (length old.nodes)) puts.nodes ∙ slice_get-last old.nodes child
+
+  -- other children stay
+  child_of-kept : PutsChild → (other : NameId) → (name.0 == other.0) ≡ false
+      → child_of new (record node { children = children }) other ≡ child_of new node other
+  child_of-kept puts other is =
+      let turned : (other.0 == name.0) ≡ false = eqb-turned other.0 name.0 ∙ is in
+      ap (option_and_then (λ (each : NodeId). slice_get new.nodes each.0))
+      (puts.sets other.0 ∙ ap (λ same. if same then Some id else child_in old.parts node.children other.0) turned
+      ∙ sym (child_in-grown old.parts new.parts puts.sound.ordered puts.parts node.children other.0 puts.node_is.0))
+
+  -- below the node the child was put at the name
+  pub PutsNode-child : PutsChild → PutsNode old new (Some node) (name ∷ []) child (record node { children = children })
+  PutsNode-child puts outside [] =
+      ap (λ (look : LookOfNumbers). found_here node.here (look []))
+      (inside-grown old new puts.sound (IsGrown-child puts) node.region outside puts.node_is.1)
+  PutsNode-child puts outside (c ∷ rest) =
+      let grown = IsGrown-child puts in
+      let within = inside-grown old new puts.sound grown node.region outside puts.node_is.1 in
+      let around : LookOfNumbers = λ more. inside old node.region outside (name ∷ more) in
+      elim (cases_Bool (name.0 == c.0)) [
+        | inl is ↦
+            let same : name ≡ c = IsSame-same_name.true_is name c is in
+            rw is
+            (ap (λ next. found_below new next rest)
+            (λ i. from_node (child_of-put puts c is i) (λ more. within i (sym same i ∷ more)))
+            ∙ found_below-grown old new puts.sound grown (from_node (Some child) around) rest puts.child_is)
+        | inr is ↦
+            rw is
+            (ap (λ next. found_below new (from_node next (λ more. inside new node.region outside (c ∷ more))) rest) (child_of-kept puts c is)
+            ∙ found_below-grown old new puts.sound grown (from_node (Some node) outside) (c ∷ rest) puts.node_is)
+      ]
+
+-- ---- a node put at a path
+
+-- the node that stands for a missing one is one of the trie
+IsNodeOf-untouched : (trie : TrieValue) (before : Option Node) → IfSome before (IsNodeOf trie) → IsNodeOf trie (unwrap_or before untouched)
+IsNodeOf-untouched trie None is = (omega arith, tt)
+IsNodeOf-untouched trie (Some node) is = is
+
+-- the same is found where something may have been put
+found-same : (o : Option (List NameId)) (kept kept' : Found NameId ValueId) (put put' : List NameId → Found NameId ValueId)
+    → kept ≡ kept' → ((rest : List NameId) → put rest ≡ put' rest)
+    → ◌≡◌ {A = Found NameId ValueId} (elim o [ None ↦ kept | Some rest ↦ put rest ]) (elim o [ None ↦ kept' | Some rest ↦ put' rest ])
+found-same None kept kept' put put' same_kept same_put = same_kept
+found-same (Some rest) kept kept' put put' same_kept same_put = same_put rest
+
+-- a node is put at a path below a name, and then what it became at the name
+pub PutsNode-path : (old mid new : TrieValue) (before : Option Node) (name : NameId) (path : List NameId) (put child after : Node)
+    → IsSound old → IsGrown old mid → IfSome before (IsNodeOf old)
+    → PutsNode old mid (child_of old (unwrap_or before untouched) name) path put child
+    → PutsNode mid new (Some (unwrap_or before untouched)) (name ∷ []) child after → PutsNode old new before (name ∷ path) put after
+PutsNode-path old mid new before name path put child after sound grown before_is first second outside [] =
+    let above = unwrap_or before untouched in
+    second outside [] ∙ found_below-grown old mid sound grown (from_node (Some above) outside) [] (IsNodeOf-untouched old before before_is)
+    ∙ sym (found_below-untouched old before outside [])
+PutsNode-path old mid new before name path put child after sound grown before_is first second outside (c ∷ rest) =
+    let above = unwrap_or before untouched in
+    let above_is = IsNodeOf-untouched old before before_is in
+    let around : LookOfNumbers = λ more. inside mid above.region outside (name ∷ more) in
+    elim (cases_Bool (name.0 == c.0)) [
+      | inl is ↦
+          let same : name ≡ c = IsSame-same_name.true_is name c is in
+          let at_name = rw is at (second outside (c ∷ rest)) in
+          let child_from = from_node (child_of old above name) around in
+          let from = from_node before outside in
+          let next : child_from ≡ child_at old from name =
+          ap (λ (look : LookOfNumbers). from_node (child_of old above name) (λ more. look (name ∷ more)))
+          (inside-grown old mid sound grown above.region outside above_is.1)
+          ∙ sym (child_at-untouched old before outside name) in
+          rw is
+          (at_name ∙ first around rest
+          ∙ found-same (below same_name path rest) (found_below old child_from rest) (found_below old from (c ∷ rest))
+          (λ more. found_below old (from_node (Some put) (at_path old child_from path).outside) more)
+          (λ more. found_below old (from_node (Some put) (at_path old from (name ∷ path)).outside) more)
+          (ap (λ start. found_below old start rest) next ∙ ap (λ each. found_below old (child_at old from each) rest) same)
+          (λ more. ap (λ (start : At). found_below old (from_node (Some put) (at_path old start path).outside) more) next))
+      | inr is ↦
+          let at_other = rw is at (second outside (c ∷ rest)) in
+          rw is
+          (at_other ∙ found_below-grown old mid sound grown (from_node (Some above) outside) (c ∷ rest) above_is
+          ∙ sym (found_below-untouched old before outside (c ∷ rest)))
+    ]

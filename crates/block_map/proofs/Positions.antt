@@ -1,0 +1,81 @@
+-- Positions of paths below a root.
+use Rattle.std.proofs.Common.{◌≡◌, ℕ, ◌+◌, ◌<◌, List, [], ◌∷◌, ◌++◌, None, Some, IfSome, drop, get_or, length, take, append_assoc, refl, sym, ap, subst, ◌∙◌, arith}
+use Rattle.std.specs.Prelude.{slice_get}
+use Rattle.std.proofs.Math.Seq.{drop-length}
+use Rattle.std.proofs.lemmas.List.{take_more}
+use Rattle.std.proofs.lemmas.List.Sums.{fold-append}
+use Rattle.svn_path.specs.declared.names.NameId.{NameId}
+use Rattle.block_map.specs.Look.{at}
+use Rattle.block_map.specs.Trie.{At, HasPlace, IsPlaceAround, IsAroundOf, IsNodeOf, IsPositionOf, TrieValue, around_inside, around_view, as_at, at_path, at_root, child_at, found_at, found_here, inside, position_view}
+use Rattle.block_map.specs.declared.node.Here.{Here}
+use Rattle.block_map.specs.declared.node.Node.{Node}
+use Rattle.block_map.specs.declared.node.Region.{Region}
+use Rattle.block_map.specs.declared.node.Region.TheVariants as region
+use Rattle.block_map.specs.declared.place.Place.{Place}
+use Rattle.block_map.specs.declared.place.PlaceId.{PlaceId}
+use Rattle.block_map.specs.declared.position.Around.{Around}
+use Rattle.block_map.specs.declared.position.Around.TheVariants as around
+use Rattle.block_map.specs.declared.position.Position.{Position}
+
+-- one component further down
+pub at_path-push : (trie : TrieValue) (from : At) (path : List NameId) (name : NameId) → at_path trie from (path ++ name ∷ []) ≡ child_at trie (at_path trie from path) name
+at_path-push trie from path name = fold-append (child_at trie) from path (name ∷ [])
+
+-- the position one component further down is that of a path with one component more
+pub IsPositionOf-step : (trie : TrieValue) (root : Node) (path : List NameId) (depth : ℕ) (d : NameId) (position next : Position) → depth < length path
+    → IsPositionOf trie root (take depth path) position → IfSome next.node (IsNodeOf trie) → IsAroundOf trie (take depth path ++ get_or path depth d ∷ []) next.around
+    → position_view trie (take depth path ++ get_or path depth d ∷ []) next ≡ child_at trie (position_view trie (take depth path) position) (get_or path depth d)
+    → IsPositionOf trie root (take (depth + 1) path) next
+IsPositionOf-step trie root path depth d position next within before node around is =
+    let name = get_or path depth d in
+    let front = take depth path in
+    let position_is : IsPositionOf trie root (front ++ name ∷ []) next = record {
+      node = node;
+      around = around;
+      is = is ∙ ap (λ from. child_at trie from name) before.is ∙ sym (at_path-push trie (at_root root) front name);
+    } in
+    subst (λ whole. IsPositionOf trie root whole next) (sym (take_more path depth d within)) position_is
+
+-- inside the region of a sound node there is a place of the trie
+pub IsAroundOf-inside : (trie : TrieValue) (node : Node) (path : List NameId) (outside : Around) → IsNodeOf trie node → IsAroundOf trie path outside
+    → IsAroundOf trie path (around_inside node.region outside (length path))
+IsAroundOf-inside trie node path outside sound is = by node.region sound.1
+  where
+    by : (region : Region) → HasPlace trie region → IsAroundOf trie path (around_inside region outside (length path))
+    by region.Above has = is
+    by region.Nothing has = tt
+    by (region.At id) has = (has, omega arith)
+
+-- what is found inside a region is what its place shows
+pub around_view-inside : (trie : TrieValue) (region : Region) (path : List NameId) (outside : Around)
+    → around_view trie path (around_inside region outside (length path)) ≡ inside trie region (around_view trie path outside)
+around_view-inside trie region.Above path outside = refl
+around_view-inside trie region.Nothing path outside = refl
+around_view-inside trie (region.At id) path outside = λ i rest. as_at (slice_get trie.places id.0) (drop-length path i ++ rest)
+
+-- what is found around a path is what the place further down shows
+pub IsPlaceAround-below : (trie : TrieValue) (path : List NameId) (id : PlaceId) (from : ℕ) (front place : Place) → slice_get trie.places id.0 ≡ Some front
+    → place ≡ record { path = front.path ++ drop from path; tick = front.tick } → IsPlaceAround trie path (around.At id from) (Some place)
+IsPlaceAround-below trie path id from front place found is = λ rest.
+    ap (λ shown. as_at (Some shown) rest) is
+    ∙ ap (λ whole. at whole front.tick) (append_assoc front.path (drop from path) rest)
+    ∙ ap (λ shown. as_at shown (drop from path ++ rest)) (sym found)
+
+-- what is found at a node that is there, by what it says of itself
+pub found_at-node : (trie : TrieValue) (path : List NameId) (position : Position) (node : Node) (says : Here) (around : Around) → position.node ≡ Some node → node.here ≡ says
+    → around ≡ around_inside node.region position.around (length path)
+    → found_at trie (position_view trie path position) ≡ found_here says (around_view trie path around [])
+found_at-node trie path position node says around there here is =
+    ap (λ found. found_at trie (record { node = found; outside = around_view trie path position.around })) there
+    ∙ ap (λ what. found_here what (inside trie node.region (around_view trie path position.around) [])) here
+    ∙ ap (λ look. found_here says (look [])) (sym (around_view-inside trie node.region path position.around))
+    ∙ ap (λ outside. found_here says (around_view trie path outside [])) (sym is)
+
+-- and where there is none
+pub found_at-none : (trie : TrieValue) (path : List NameId) (position : Position) → position.node ≡ None
+    → found_at trie (position_view trie path position) ≡ around_view trie path position.around []
+found_at-none trie path position none = ap (λ found. found_at trie (record { node = found; outside = around_view trie path position.around })) none
+
+-- the position of the root
+pub IsPositionOf-root : (trie : TrieValue) (root : Node) → IsNodeOf trie root → IsPositionOf trie root [] (record { node = Some root; around = around.Nothing })
+IsPositionOf-root trie root sound = record { node = sound; around = tt; is = refl }

@@ -1,0 +1,113 @@
+-- The nodes that records put show what the records leave at their paths and below them.
+use Rattle.std.proofs.Common.{◌≡◌, ℕ, zero, suc, Bool, List, [], ◌∷◌, ◌++◌, Option, None, Some, unwrap_or, refl, sym, ap, ◌∙◌, append-nil}
+use Rattle.std.proofs.lemmas.List.Sums.{fold-append}
+use Rattle.svn_path.specs.Path.{same_name}
+use Rattle.svn_path.specs.declared.names.NameId.{NameId}
+use Rattle.svn_dump.specs.History.{Setting, delete, change, add, copy, keep, put}
+use Rattle.svn_dump.specs.Tree.{mergeinfo_after}
+use Rattle.svn_dump.specs.declared.kind.Kind.{Kind}
+use Rattle.svn_dump.specs.declared.record.ValueId.{ValueId}
+use Rattle.block_map.specs.Block.{ShowsAction, ShowsPath, ShowsTick, end_of_block, look_in_block}
+use Rattle.block_map.specs.Look as found
+use Rattle.block_map.specs.Look.{Found, found_after, known, look, looks_of, settled, with_mergeinfo}
+use Rattle.block_map.specs.Node.{absent_node, here_with_mergeinfo, node_of_kind, node_settled, node_with_mergeinfo, untouched}
+use Rattle.block_map.specs.Trie.{At, IsNodeOf, LookOfNumbers, TrieValue, at_path, at_root, child_at, found_at, found_below, found_here}
+use Rattle.block_map.specs.declared.block.Block.{Block}
+use Rattle.block_map.specs.declared.node.Here.{Here}
+use Rattle.block_map.specs.declared.node.Here.TheVariants as here
+use Rattle.block_map.specs.declared.node.Node.{Node}
+use Rattle.block_map.proofs.BlockNodes.{found_below-childless}
+use Rattle.block_map.proofs.CopiedNodes.{child_at-untouched, found_at-untouched}
+
+-- ---- what a block knows
+
+known-absent : (lo : ℕ) → known {C = NameId} {M = ValueId} lo found.absent ≡ found.absent
+known-absent zero = refl
+known-absent (suc lo) = refl
+
+known-is : (lo : ℕ) (kind : Kind) (mi : Option ValueId) → known {C = NameId} lo (found.is kind mi) ≡ found.is kind mi
+known-is zero kind mi = refl
+known-is (suc lo) kind mi = refl
+
+-- other mergeinfo, put before or after
+pub known-with_mergeinfo : (lo : ℕ) (mi : Option ValueId) (each : Found NameId ValueId) → known lo (with_mergeinfo mi each) ≡ with_mergeinfo mi (known lo each)
+known-with_mergeinfo zero mi (found.at [] tick) = refl
+known-with_mergeinfo zero mi (found.at (c ∷ path) tick) = refl
+known-with_mergeinfo zero mi (found.at_with [] tick old) = refl
+known-with_mergeinfo zero mi (found.at_with (c ∷ path) tick old) = refl
+known-with_mergeinfo zero mi (found.is kind old) = refl
+known-with_mergeinfo zero mi found.absent = refl
+known-with_mergeinfo (suc lo) mi each = refl
+
+pub known-settled : (lo : ℕ) (setting : Setting ValueId) (each : Found NameId ValueId) → known lo (settled setting each) ≡ settled setting (known lo each)
+known-settled lo keep each = refl
+known-settled lo (put mi) each = known-with_mergeinfo lo mi each
+
+-- ---- nodes with other mergeinfo
+
+found_here-with_mergeinfo : (mi : Option ValueId) (says : Here) (each : Found NameId ValueId) → found_here (here_with_mergeinfo mi says) each ≡ with_mergeinfo mi (found_here says each)
+found_here-with_mergeinfo mi here.Unchanged each = refl
+found_here-with_mergeinfo mi (here.WithMergeinfo old) (found.at path tick) = refl
+found_here-with_mergeinfo mi (here.WithMergeinfo old) (found.at_with path tick older) = refl
+found_here-with_mergeinfo mi (here.WithMergeinfo old) (found.is kind older) = refl
+found_here-with_mergeinfo mi (here.WithMergeinfo old) found.absent = refl
+found_here-with_mergeinfo mi (here.Is kind old) each = refl
+found_here-with_mergeinfo mi here.Absent each = refl
+
+-- at the node itself
+pub found_at-settled : (trie : TrieValue) (setting : Setting ValueId) (node : Node) (outside : LookOfNumbers)
+    → found_at trie (record { node = Some (node_settled setting node); outside = outside }) ≡ settled setting (found_at trie (record { node = Some node; outside = outside }))
+found_at-settled trie keep node outside = refl
+found_at-settled trie (put mi) node outside = found_here-with_mergeinfo mi node.here _
+
+-- and below it
+pub child_at-settled : (trie : TrieValue) (setting : Setting ValueId) (node : Node) (outside : LookOfNumbers) (name : NameId)
+    → child_at trie (record { node = Some (node_settled setting node); outside = outside }) name ≡ child_at trie (record { node = Some node; outside = outside }) name
+child_at-settled trie keep node outside name = refl
+child_at-settled trie (put mi) node outside name = refl
+
+pub IsNodeOf-settled : (trie : TrieValue) (setting : Setting ValueId) (node : Node) → IsNodeOf trie node → IsNodeOf trie (node_settled setting node)
+IsNodeOf-settled trie keep node is = is
+IsNodeOf-settled trie (put mi) node is = is
+
+-- ---- the actions of records
+
+-- a path below a path
+pub found_below-append : (trie : TrieValue) (from : At) (path rest : List NameId) → found_below trie (at_path trie from path) rest ≡ found_below trie from (path ++ rest)
+found_below-append trie from path rest = ap (found_at trie) (sym (fold-append (child_at trie) from path rest))
+
+module _ (block : Block) (root : Node) (path : List NameId) where
+  pub ShowsAction-delete : ShowsAction block root path delete absent_node
+  ShowsAction-delete [] = sym (known-absent block.start)
+  ShowsAction-delete (name ∷ rest) =
+      found_below-childless block.trie absent_node.here absent_node.region (at_path block.trie (at_root root) path).outside name rest ∙ sym (known-absent block.start)
+
+  pub ShowsAction-add : (replace : Bool) (kind : Kind) (setting : Setting ValueId) → ShowsAction block root path (add replace kind setting) (node_of_kind kind (mergeinfo_after setting None))
+  ShowsAction-add replace kind setting [] = sym (known-is block.start kind (mergeinfo_after setting None))
+  ShowsAction-add replace kind setting (name ∷ rest) =
+      let node = node_of_kind kind (mergeinfo_after setting None) in
+      found_below-childless block.trie node.here node.region (at_path block.trie (at_root root) path).outside name rest ∙ sym (known-absent block.start)
+
+  pub ShowsAction-change : (mi : Option ValueId) → ShowsTick block (end_of_block block) root
+      → ShowsAction block root path (change (put mi)) (node_with_mergeinfo mi (unwrap_or (at_path block.trie (at_root root) path).node untouched))
+  ShowsAction-change mi shows [] =
+      let from = at_path block.trie (at_root root) path in
+      found_at-settled block.trie (put mi) (unwrap_or from.node untouched) from.outside
+      ∙ ap (with_mergeinfo mi) (found_at-untouched block.trie from.node from.outside ∙ shows path)
+      ∙ ap (λ whole. with_mergeinfo mi (look_in_block block (end_of_block block) whole)) (sym (append-nil path))
+      ∙ sym (known-with_mergeinfo block.start mi (look same_name block.start block.records.records (end_of_block block) (path ++ [])))
+  ShowsAction-change mi shows (name ∷ rest) =
+      let from = at_path block.trie (at_root root) path in
+      ap (λ next. found_below block.trie next rest) (child_at-settled block.trie (put mi) (unwrap_or from.node untouched) from.outside name ∙ child_at-untouched block.trie from.node from.outside name)
+      ∙ found_below-append block.trie (at_root root) path (name ∷ rest) ∙ shows (path ++ name ∷ rest)
+
+  pub ShowsAction-copy : (replace : Bool) (source : List NameId) (tick : ℕ) (setting : Setting ValueId) (node : Node) → ShowsPath block tick source node
+      → ShowsAction block root path (copy replace source tick setting) (node_settled setting node)
+  ShowsAction-copy replace source tick setting node shows [] =
+      let outside = (at_path block.trie (at_root root) path).outside in
+      found_at-settled block.trie setting node outside
+      ∙ ap (settled setting) (shows outside [] ∙ ap (look_in_block block tick) (append-nil source))
+      ∙ sym (known-settled block.start setting (look same_name block.start block.records.records tick source))
+  ShowsAction-copy replace source tick setting node shows (name ∷ rest) =
+      let outside = (at_path block.trie (at_root root) path).outside in
+      ap (λ next. found_below block.trie next rest) (child_at-settled block.trie setting node outside name) ∙ shows outside (name ∷ rest)

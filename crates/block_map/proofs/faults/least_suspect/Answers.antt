@@ -1,0 +1,89 @@
+use Rattle.std.proofs.Common.{◌≡◌, ◌⊎◌, inl, inr, ℕ, ◌+◌, ◌-◌, ◌<◌, ◌≤◌, List, Option, None, Some, length, get_or, unwrap_or, ap, subst, ◌∙◌, arith}
+use Rattle.std.specs.List.{AllZip}
+use Rattle.std.specs.Ordering.{nat_cmp}
+use Rattle.std.proofs.lemmas.List.Elements.{AllZip-get_or}
+use Rattle.std.proofs.lemmas.List.FromFn.{get_or-range_with_len, length-range_with_len}
+use Rattle.std.proofs.lemmas.Slice.Zip.{AllZip-long}
+use Rattle.rayon.specs.Lists.{IsLeast, range_start, range_end}
+use Rattle.rayon.specs.Numbers.{nat_range}
+use Rattle.rayon.proofs.ToStd.{nat_range-All, IsLeast-All}
+use Rattle.svn_dump.specs.Dump.{DumpValue, history_view}
+use Rattle.svn_dump.specs.State.{fault_after}
+use Rattle.svn_path.specs.Path.{same_name}
+use Rattle.block_map.specs.Ends.{ends_of}
+use Rattle.block_map.specs.Map.{IsMapOf}
+use Rattle.block_map.proofs.faults.least_suspect.Goals as goal
+
+-- the record in a place has no fault
+abbrev IsFine : DumpValue → ℕ → Type 0
+IsFine dump place = fault_after same_name (history_view dump) place ≡ None
+
+-- a record's number, or the largest number, which is answered only where the record has no fault
+abbrev IsAnswer : DumpValue → ℕ → ℕ → Type 0
+IsAnswer dump number answer = ((answer ≡ number) ⊎ (answer ≡ 4294967295)) × (number < answer → IsFine dump (number - 1))
+
+module _ (dump : DumpValue) (count : ℕ) (answers : List ℕ) (each : AllZip (IsAnswer dump) (nat_range 1 (count + 1)) answers) where
+  -- there is an answer for each number
+  answers_count : length answers ≡ count
+  answers_count = omega (arith, AllZip-long (IsAnswer dump) (nat_range 1 (count + 1)) answers each, length-range_with_len 1 (count + 1 - 1))
+
+  -- the answer at a place is that of the number one more
+  answer_at : (place d : ℕ) → place < count → IsAnswer dump (place + 1) (get_or answers place d)
+  answer_at place d within =
+      let long = length-range_with_len 1 (count + 1 - 1) in
+      let number : get_or (nat_range 1 (count + 1)) place 0 ≡ place + 1 =
+      omega (arith, get_or-range_with_len 1 (count + 1 - 1) place 0 (omega arith)) in
+      subst (λ number. IsAnswer dump number (get_or answers place d)) number
+      (AllZip-get_or (IsAnswer dump) (nat_range 1 (count + 1)) answers place 0 d each (omega (arith, long)))
+
+  -- the least answer, where it isn't the largest number, is the number of a record
+  least_within : (least : Option ℕ) → IsLeast nat_cmp answers least → unwrap_or least 4294967295 < 4294967295
+      → (1 ≤ unwrap_or least 4294967295) × (unwrap_or least 4294967295 ≤ count)
+  least_within None is small = absurd (omega arith)
+  least_within (Some m) is small =
+      let place = is.0.0 in
+      let within : place < count = omega (arith, is.0.1, answers_count) in
+      elim (answer_at place m within).0 [
+        | inl own ↦ (omega (arith, own, is.0.2), omega (arith, own, is.0.2))
+        | inr largest ↦ absurd (omega (arith, largest, is.0.2))
+      ]
+
+  -- the records before it are fine
+  fine_before : (least : Option ℕ) → IsLeast nat_cmp answers least
+      → (place : ℕ) → place < count → place + 1 < unwrap_or least 4294967295 → IsFine dump place
+  fine_before None is place within before = absurd (omega (arith, ap length is, answers_count))
+  fine_before (Some m) is place within before =
+      let above : m ≤ get_or answers place 0 = IsLeast-All answers (Some m) is place 0 (omega (arith, answers_count)) in
+      let here : place + 1 - 1 ≡ place = omega arith in
+      subst (IsFine dump) here ((answer_at place 0 within).1 (omega (arith, above)))
+
+pub min-requires-clause-ready : goal.min-requires-clause-ready
+min-requires-clause-ready g c κs within =
+    let ends = c.into_par_iter.ensures in
+    let count = length c.args.dump.now.records in
+    let dump = c.args.dump.now in
+    let map = c.args.map.now in
+    let numbers = c.args.ends.now in
+    let inside = nat_range-All (λ number. IsMapOf dump map × (numbers ≡ ends_of dump.counts) × (1 ≤ number) × (number ≤ count)) 1 (count + 1)
+    (λ number low high. (c.requires.map, c.requires.ends, low, omega arith)) in
+    rw (c.map.ensures.base, c.map.ensures.f, ends.0, ends.1, c.records.ensures.value) (λ k d lt. (inside k d lt, λ y p. tt))
+
+pub returns : goal.returns
+returns g c =
+    let dump = c.args.dump.now in
+    let count = length dump.records in
+    let ends = c.into_par_iter.ensures in
+    let done = c.min.ensures in
+    let end : length c.records.result.now + 1 ≡ count + 1 = ap (λ records. length records + 1) c.records.ensures.value in
+    let numbers : done.1.0 ≡ nat_range 1 (count + 1) =
+    done.1.1 ∙ ap (λ it. nat_range (range_start it) (range_end it)) c.map.ensures.base ∙ (λ i. nat_range (ends.0 i) ((ends.1 ∙ end) i)) in
+    let captured : c.map.result.f.1.now ≡ dump = ap (λ f. f.1.now) c.map.ensures.f in
+    let each : AllZip (IsAnswer dump) (nat_range 1 (count + 1)) done.0 =
+    subst (λ dump. AllZip (IsAnswer dump) (nat_range 1 (count + 1)) done.0) captured
+    (subst (λ numbers. AllZip (IsAnswer c.map.result.f.1.now) numbers done.0) numbers done.1.2) in
+    rw c.unwrap_or.ensures
+    (record {
+      within = least_within dump count done.0 each c.min.result done.2;
+      fine = fine_before dump count done.0 each c.min.result done.2;
+      kept = c.records.ensures.kept;
+    })

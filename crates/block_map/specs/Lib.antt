@@ -1,0 +1,11 @@
+pub mod Block
+pub mod Ends
+pub mod FaultFound
+pub mod FaultKind
+pub mod GhostRecords
+pub mod Look
+pub mod Map
+pub mod Node
+pub mod Parts
+pub mod Standing
+pub mod Trie

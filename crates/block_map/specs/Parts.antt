@@ -1,0 +1,74 @@
+-- Maps from names to nodes that share their parts. The bits of a name's number are read from the lowest one on: a branch
+-- tells two maps apart by a bit, and a leaf has one name, by the bits that are left of it.
+use Rattle.std.specs.Prelude.{◌≡◌, ℕ, zero, suc, ◌<◌, ◌≤◌, ◌%◌, ◌/◌, ◌==◌, ◌++◌, List, Option, Some, None, length, slice_get, if◌then◌else◌}
+use Rattle.block_map.specs.declared.part.NodeId.{NodeId}
+use Rattle.block_map.specs.declared.part.Part.{Part}
+use Rattle.block_map.specs.declared.part.Part.TheVariants.{Leaf, Branch}
+use Rattle.block_map.specs.declared.part.PartId.{PartId}
+
+-- the part at a place has the number after it; 0 is the number of the empty map
+abbrev pub part_at : List Part → ℕ → Option Part
+part_at parts zero = None
+part_at parts (suc place) = slice_get parts place
+
+-- the node of the name of which these bits are left, found in at most so many steps
+unfoldable pub found_within : List Part → ℕ → ℕ → ℕ → Option NodeId
+found_within parts zero number bits = None
+found_within parts (suc steps) number bits =
+    elim (part_at parts number) [
+      | None ↦ None
+      | Some (Leaf left node) ↦ if left == bits then Some node else None
+      | Some (Branch even odd) ↦ if bits % 2 == 0 then found_within parts steps even.0 (bits / 2) else found_within parts steps odd.0 (bits / 2)
+    ]
+
+-- a part stands after those that it is made of, so there are no more steps than the map's number
+abbrev pub child_in : List Part → PartId → ℕ → Option NodeId
+child_in parts id bits = found_within parts id.0 id.0 bits
+
+abbrev pub AreOrdered : List Part → Type 0
+AreOrdered parts = (place : ℕ) (even odd : PartId) → slice_get parts place ≡ Some (Branch even odd) → (even.0 ≤ place) × (odd.0 ≤ place)
+
+-- the part is made of parts that stand among these
+abbrev pub IsOrderedAfter : List Part → Part → Type 0
+IsOrderedAfter parts (Leaf bits node) = Unit {0}
+IsOrderedAfter parts (Branch even odd) = (even.0 ≤ length parts) × (odd.0 ≤ length parts)
+
+-- each node of a leaf is among the first so many
+abbrev pub HaveNodesBelow : ℕ → List Part → Type 0
+HaveNodesBelow count parts = (place bits : ℕ) (node : NodeId) → slice_get parts place ≡ Some (Leaf bits node) → node.0 < count
+
+-- some were added
+pub record AreMore {X : Type 0} (old new : List X) : Type 0 where
+  pub more : List X
+  pub grown : new ≡ old ++ more
+
+-- the map has the node for the name, and is otherwise the other map
+abbrev pub SetsChild : List Part → List Part → PartId → ℕ → NodeId → PartId → Type 0
+SetsChild old new before bits node after =
+    (other : ℕ) → child_in new after other ≡ (if other == bits then Some node else child_in old before other)
+
+-- ---- maps as functions of the bits of a name
+
+-- one name
+abbrev pub leaf_of : ℕ → NodeId → ℕ → Option NodeId
+leaf_of bits node name = if name == bits then Some node else None
+
+-- the same with one name set
+abbrev pub with_name : (ℕ → Option NodeId) → ℕ → NodeId → ℕ → Option NodeId
+with_name lookup bits node name = if name == bits then Some node else lookup name
+
+-- one map for the names that have the lowest bit of these bits, and another one for those that have not
+abbrev pub sides_of : ℕ → (ℕ → Option NodeId) → (ℕ → Option NodeId) → ℕ → Option NodeId
+sides_of bits same other name = if name % 2 == bits % 2 then same (name / 2) else other (name / 2)
+
+-- the map has one name alone
+abbrev pub HasOne : List Part → ℕ → NodeId → PartId → Type 0
+HasOne parts bits node map = (name : ℕ) → child_in parts map name ≡ leaf_of bits node name
+
+-- the map has two names alone
+abbrev pub HasTwo : List Part → ℕ → NodeId → ℕ → NodeId → PartId → Type 0
+HasTwo parts one one_node other other_node map = (name : ℕ) → child_in parts map name ≡ with_name (leaf_of other other_node) one one_node name
+
+-- the map is made of two others
+abbrev pub HasSides : List Part → List Part → ℕ → PartId → PartId → PartId → Type 0
+HasSides old new bits same other map = (name : ℕ) → child_in new map name ≡ sides_of bits (child_in old same) (child_in old other) name

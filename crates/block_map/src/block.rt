@@ -1,0 +1,280 @@
+//! The trees of a block of records.
+ghost use Rattle.std.specs.Prelude.{◌≡◌, ◌+◌, ◌^◌, ◌<◌, ◌≤◌, ◌++◌, ◌∷◌, [], length, option_map, IfOk, OnOk};
+ghost use Rattle.std.specs.Prelude.{None};
+ghost use Rattle.svn_dump.specs.Dump.{record_view, setting_view};
+ghost use Rattle.svn_dump.specs.Tree.{mergeinfo_after};
+ghost use Rattle.svn_dump.specs.Record.{most_components};
+ghost use Rattle.block_map.specs.Block.{IsBlock, IsNodeAfter, IsRootAfter, IsRootAt, SameBlock, ShowsPath, ShowsTick, action_in, end_of_block, look_in_block};
+ghost use Rattle.block_map.specs.Ends.{HasSourceBefore, record_at_tick};
+ghost use Rattle.block_map.specs.Map.{IsNearestOrNone, found_view};
+ghost use Rattle.block_map.specs.Standing.{entry_view, mergeinfo_of, standing_of};
+ghost use Rattle.block_map.specs.Trie.{IsNodeOf, IsSound};
+
+use crate::ends::Ends;
+use crate::entry::Entry;
+use crate::found::Found;
+use crate::ghost_records::GhostRecords;
+use crate::nearest::Nearest;
+use crate::node::Node;
+use crate::part::NodeId;
+use crate::place::Place;
+use crate::trie::Trie;
+use std::alloc::{AllocError, Global};
+use svn_dump::{Act, Kind, Mi, NodeRecord, ValueId};
+use svn_path::{NameId, Path};
+
+/// The roots of the trees after each of some records, which follow the first `start` of their history.
+#[derive(Drop)]
+pub(crate) struct Block {
+    pub(crate) start: u32,
+    pub(crate) roots: Vec<NodeId>,
+    pub(crate) trie: Trie,
+    pub(crate) records: GhostRecords,
+}
+
+impl Block {
+    /// A block of no records. It takes no memory.
+    pub(crate) fn new(alloc: Global, start: u32) -> Self
+        ensures block { IsBlock result }
+        ensures start { result.start ≡ start }
+        ensures records { result.records.records ≡ [] }
+        ensures nodes { result.trie.nodes ≡ [] }
+    {
+        Block {
+            start,
+            roots: Vec::new(alloc),
+            trie: Trie::new(alloc),
+            records: GhostRecords::new(),
+        }
+    }
+
+    /// Adds a record.
+    pub(crate) fn add(&mut self, each: &NodeRecord, ends: &Ends) -> Result<(), AllocError>
+        requires block { IsBlock self.old }
+        requires few { end_of_block self.old + 1 < 2 ^ 32 }
+        requires short { length each.now.path ≤ most_components }
+        requires source { HasSourceBefore ends.now (end_of_block self.old + 1) each.now.act }
+        ensures block { OnOk result (IsBlock self.new) }
+        ensures start { OnOk result (self.new.start ≡ self.old.start) }
+        ensures records { OnOk result (self.new.records.records ≡ self.old.records.records ++ record_at_tick ends.now (record_view each.now) ∷ []) }
+        ensures nodes { OnOk result (length self.new.trie.nodes ≤ length self.old.trie.nodes + most_components + 1) }
+    {
+        let id = self.next_root(each, ends)?;
+        self.roots.push(id)?;
+        self.records.push(each, ends);
+        Ok(())
+    }
+
+    /// The root of the tree after a record.
+    fn next_root(&mut self, each: &NodeRecord, ends: &Ends) -> Result<NodeId, AllocError>
+        requires block { IsBlock self.old }
+        requires source { HasSourceBefore ends.now (end_of_block self.old + 1) each.now.act }
+        ensures same { OnOk result (SameBlock self.old self.new) }
+        ensures shows { IfOk result (IsRootAfter self.new (record_at_tick ends.now (record_view each.now))) }
+        ensures nodes { OnOk result (length self.new.trie.nodes ≤ length self.old.trie.nodes + length each.now.path + 1) }
+        ensures sound { OnOk result (IsSound self.new.trie) }
+    {
+        let root = self.newest()?;
+        match self.node_after(root, each, ends)? {
+            Some(node) => {
+                let node = self.trie.put(Some(root), each.path.parts(), node)?;
+                self.trie.push(node)
+            }
+            None => self.same_root(root),
+        }
+    }
+
+    /// The root of the newest tree again.
+    fn same_root(&mut self, root: Node) -> Result<NodeId, AllocError>
+        requires block { IsBlock self.old }
+        requires sound { IsNodeOf self.old.trie root }
+        requires shows { ShowsTick self.old (end_of_block self.old) root }
+        ensures same { OnOk result (SameBlock self.old self.new) }
+        ensures shows { IfOk result (IsRootAt self.new (end_of_block self.new)) }
+        ensures nodes { OnOk result (length self.new.trie.nodes ≤ length self.old.trie.nodes + 1) }
+        ensures sound { OnOk result (IsSound self.new.trie) }
+    {
+        match self.roots.last() {
+            Some(id) => Ok(*id),
+            None => self.trie.push(root),
+        }
+    }
+
+    /// The root of the newest tree.
+    fn newest(&mut self) -> Result<Node, AllocError>
+        requires { IsBlock self.old }
+        ensures same { OnOk result (SameBlock self.old self.new) }
+        ensures nodes { OnOk result (self.new.trie.nodes ≡ self.old.trie.nodes) }
+        ensures sound { IfOk result (IsNodeOf self.new.trie) }
+        ensures shows { IfOk result (ShowsTick self.new (end_of_block self.new)) }
+    {
+        if self.roots.is_empty() {
+            return self.outside(&[], self.start);
+        }
+        Ok(self.root(self.start + self.roots.len() as u32))
+    }
+
+    /// The node of what stood at a path at a tick that is not after the first one of the block.
+    fn outside(&mut self, path: &[NameId], tick: u32) -> Result<Node, AllocError>
+        requires block { IsBlock self.old }
+        requires before { tick ≤ self.old.start }
+        ensures same { OnOk result (SameBlock self.old self.new) }
+        ensures nodes { OnOk result (self.new.trie.nodes ≡ self.old.trie.nodes) }
+        ensures sound { IfOk result (IsNodeOf self.new.trie) }
+        ensures shows { IfOk result (ShowsPath self.new tick path.now) }
+    {
+        if self.start == 0 {
+            return Ok(if path.is_empty() {
+                Node::is(Kind::Dir, None)
+            } else {
+                Node::absent()
+            });
+        }
+        let path = Path::of(*self.roots.allocator(), path)?;
+        let place = self.trie.push_place(Place { path, tick })?;
+        Ok(Node::at(place))
+    }
+
+    /// The node of what stood at a path at a tick.
+    fn node_at(&mut self, tick: u32, path: &[NameId]) -> Result<Node, AllocError>
+        requires block { IsBlock self.old }
+        requires within { tick ≤ end_of_block self.old }
+        ensures same { OnOk result (SameBlock self.old self.new) }
+        ensures nodes { OnOk result (self.new.trie.nodes ≡ self.old.trie.nodes) }
+        ensures sound { IfOk result (IsNodeOf self.new.trie) }
+        ensures shows { IfOk result (ShowsPath self.new tick path.now) }
+    {
+        if tick <= self.start {
+            return self.outside(path, tick);
+        }
+        let root = self.root(tick);
+        let position = self.trie.find(root, path);
+        self.trie.copied(position, path)
+    }
+
+    /// The root of the tree at a tick after the first one of the block.
+    pub(crate) fn root(&self, tick: u32) -> Node
+        requires block { IsBlock self.now }
+        requires after { self.now.start < tick }
+        requires within { tick ≤ end_of_block self.now }
+        ensures sound { IsNodeOf self.now.trie result }
+        ensures shows { ShowsTick self.now tick result }
+    {
+        self.trie.node(self.roots[(tick - self.start) as usize - 1])
+    }
+
+    /// The node that a record puts at its path, unless it leaves what is there.
+    fn node_after(
+        &mut self,
+        root: Node,
+        each: &NodeRecord,
+        ends: &Ends,
+    ) -> Result<Option<Node>, AllocError>
+        requires block { IsBlock self.old }
+        requires sound { IsNodeOf self.old.trie root }
+        requires shows { ShowsTick self.old (end_of_block self.old) root }
+        requires source { HasSourceBefore ends.now (end_of_block self.old + 1) each.now.act }
+        ensures same { OnOk result (SameBlock self.old self.new) }
+        ensures nodes { OnOk result (self.new.trie.nodes ≡ self.old.trie.nodes) }
+        ensures after { IfOk result (IsNodeAfter self.new root each.now.path (action_in ends.now each.now)) }
+    {
+        match &each.act {
+            Act::Delete => Ok(Some(Node::absent())),
+            Act::Add { kind, mi, .. } => Ok(Some(Node::is(*kind, given(*mi)))),
+            Act::Change { mi } => match mi {
+                Mi::Keep => Ok(None),
+                Mi::Put(mi) => {
+                    let position = self.trie.find(root, each.path.parts());
+                    Ok(Some(Node::or_untouched(position.node).with_mergeinfo(*mi)))
+                }
+            },
+            Act::Copy {
+                from,
+                from_rev,
+                mi,
+                ..
+            } => {
+                let node = self.node_at(ends.at(*from_rev), from.parts())?;
+                Ok(Some(node.settled(*mi)))
+            }
+        }
+    }
+
+    /// What the records say of a path at a tick.
+    pub(crate) fn look(&self, tick: u32, path: &Path) -> Result<Found, AllocError>
+        requires block { IsBlock self.now }
+        requires after { self.now.start ≤ tick }
+        requires within { tick ≤ end_of_block self.now }
+        ensures { IfOk result (λ found. found_view found ≡ look_in_block self.now tick path.now) }
+    {
+        if tick == self.start {
+            return self.found_at_start(path);
+        }
+        let root = self.root(tick);
+        let position = self.trie.find(root, path.parts());
+        self.trie.found(position, path.parts())
+    }
+
+    /// What is found before the first record.
+    fn found_at_start(&self, path: &Path) -> Result<Found, AllocError>
+        ensures { IfOk result (λ found. found_view found ≡ look_in_block self.now self.now.start path.now) }
+    {
+        if self.start > 0 {
+            return Ok(Found::At {
+                path: path.dup()?,
+                tick: self.start,
+            });
+        }
+        Ok(if path.is_empty() {
+            Found::Is {
+                kind: Kind::Dir,
+                mi: None,
+            }
+        } else {
+            Found::Absent
+        })
+    }
+
+    /// What stands at a path at a tick, in a block from the beginning of a history.
+    pub(crate) fn standing(&self, tick: u32, path: &[NameId]) -> Option<Entry>
+        requires block { IsBlock self.now }
+        requires whole { self.now.start ≡ 0 }
+        requires within { tick ≤ end_of_block self.now }
+        ensures { option_map entry_view result ≡ standing_of (look_in_block self.now tick path.now) }
+    {
+        if tick > 0 {
+            let root = self.root(tick);
+            return self.trie.entry(self.trie.find(root, path));
+        }
+        if path.is_empty() {
+            return Some(Entry {
+                kind: Kind::Dir,
+                mi: None,
+            });
+        }
+        None
+    }
+
+    /// The nearest mergeinfo of a path at a tick, in a block from the beginning of a history.
+    pub(crate) fn nearest(&self, tick: u32, path: &[NameId]) -> Option<Nearest>
+        requires block { IsBlock self.now }
+        requires whole { self.now.start ≡ 0 }
+        requires within { tick ≤ end_of_block self.now }
+        ensures { IsNearestOrNone (λ above. mergeinfo_of (look_in_block self.now tick above)) path.now result }
+    {
+        if tick == 0 {
+            return None;
+        }
+        self.trie.nearest(self.root(tick), path)
+    }
+}
+
+/// The mergeinfo of an addition.
+fn given(mi: Mi) -> Option<ValueId>
+    ensures { result ≡ mergeinfo_after (setting_view mi) None }
+{
+    match mi {
+        Mi::Keep => None,
+        Mi::Put(mi) => mi,
+    }
+}

@@ -1,0 +1,128 @@
+//! A map of the paths of a history.
+ghost use Rattle.std.specs.Prelude.{◌≡◌, ◌+◌, ◌^◌, ◌<◌, ◌≤◌, All, length, option_map, IfOk};
+ghost use Rattle.svn_dump.specs.Dump.{IsDump};
+ghost use Rattle.svn_dump.specs.Record.{most_components};
+ghost use Rattle.svn_path.specs.Path.{same_name};
+ghost use Rattle.block_map.specs.Ends.{HaveSources};
+ghost use Rattle.block_map.specs.Map.{IsEndIn, IsMapOf, IsNearestOrNone, found_view, hi_of, look_in, most_nodes, records_at_ticks, revision_in, state_in};
+ghost use Rattle.block_map.specs.Standing.{entry_view, mergeinfo_of, own_mergeinfo_at, standing_at, standing_of};
+
+use crate::block::Block;
+use crate::ends::Ends;
+use crate::entry::Entry;
+use crate::found::Found;
+use crate::nearest::Nearest;
+use std::alloc::{AllocError, Global};
+use std::marker::Model;
+use svn_dump::NodeRecord;
+use svn_path::{NameId, Path};
+
+/// What stands at each path after each of some records.
+#[derive(Drop)]
+pub struct Map {
+    block: Block,
+}
+
+impl Model for Map {
+    ghost use Rattle.std.specs.Prelude.{length};
+    ghost use Rattle.block_map.specs.Block.{IsBlock};
+    ghost use Rattle.block_map.specs.Map.{MapValue};
+
+    ghost Value = { MapValue };
+
+    ghost view = { λ m. record { lo = m.block.start; records = m.block.records.records; nodes = length m.block.trie.nodes } };
+
+    ghost invariant = { λ m. IsBlock m.block };
+}
+
+impl Map {
+    /// The map of these records, which follow the first `start` of their history.
+    pub fn build(
+        alloc: Global,
+        records: &[NodeRecord],
+        start: u32,
+        ends: &Ends,
+    ) -> Result<Self, AllocError>
+        requires few { start + length records.now < 2 ^ 32 }
+        requires short { All (λ each. length each.path ≤ most_components) records.now }
+        requires sources { HaveSources start ends.now records.now }
+        ensures lo { IfOk result (λ map. map.lo ≡ start) }
+        ensures records { IfOk result (λ map. map.records ≡ records_at_ticks ends.now records.now) }
+        ensures nodes { IfOk result (λ map. map.nodes ≤ most_nodes (length records.now)) }
+    {
+        let mut block = Block::new(alloc, start);
+        for record in records {
+            block.add(record, ends)?;
+        }
+        Ok(Map { block })
+    }
+
+    /// The tick before the first record.
+    pub fn lo(&self) -> u32
+        ensures { result ≡ self.now.lo }
+    {
+        self.block.start
+    }
+
+    /// The tick after the last record.
+    pub fn hi(&self) -> u32
+        ensures { result ≡ hi_of self.now }
+    {
+        self.block.start + self.block.roots.len() as u32
+    }
+
+    /// How many nodes the map keeps.
+    pub fn nodes(&self) -> u64
+        ensures { result ≡ self.now.nodes }
+    {
+        self.block.trie.len() as u64
+    }
+
+    /// What the records say of a path at a tick.
+    pub fn look(&self, tick: u32, path: &Path) -> Result<Found, AllocError>
+        requires after { self.now.lo ≤ tick }
+        requires within { tick ≤ hi_of self.now }
+        ensures { IfOk result (λ found. found_view found ≡ look_in self.now tick path.now) }
+    {
+        self.block.look(tick, path)
+    }
+
+    /// What stands at a path at a tick, in a map from the beginning of a history.
+    pub fn entry(&self, tick: u32, path: &Path) -> Result<Option<Entry>, AllocError>
+        requires whole { self.now.lo ≡ 0 }
+        requires within { tick ≤ hi_of self.now }
+        ensures found { IfOk result (λ entry. option_map entry_view entry ≡ standing_of (look_in self.now tick path.now)) }
+
+        // In a map of all records of a dump it is what the tree has after so many records, and at the end of a revision
+        // what the tree of that revision has.
+        ensures of_dump { (dump : _) → IsDump dump → IsMapOf dump self.now → IfOk result (λ entry.
+            option_map entry_view entry ≡ standing_at same_name (state_in dump tick) path.now) }
+        ensures of_revision { (dump : _) (rev : _) → IsMapOf dump self.now → IsEndIn dump rev tick → IfOk result (λ entry.
+            option_map entry_view entry ≡ standing_at same_name (revision_in dump rev) path.now) }
+    {
+        Ok(self.standing(tick, path.parts()))
+    }
+
+    /// The mergeinfo of a path at a tick, or of the nearest path above it that has some, in a map from the beginning of
+    /// a history.
+    pub fn nearest(&self, tick: u32, path: &Path) -> Result<Option<Nearest>, AllocError>
+        requires whole { self.now.lo ≡ 0 }
+        requires within { tick ≤ hi_of self.now }
+        ensures found { IfOk result (IsNearestOrNone (λ above. mergeinfo_of (look_in self.now tick above)) path.now) }
+
+        // In a map of all records of a dump, at the end of a revision, it is that of the tree of the revision.
+        ensures of_revision { (dump : _) (rev : _) → IsMapOf dump self.now → IsEndIn dump rev tick → IfOk result
+            (IsNearestOrNone (own_mergeinfo_at same_name (revision_in dump rev)) path.now) }
+    {
+        Ok(self.block.nearest(tick, path.parts()))
+    }
+
+    /// What stands at a path of these components at a tick.
+    pub(crate) fn standing(&self, tick: u32, path: &[NameId]) -> Option<Entry>
+        requires whole { self.now.lo ≡ 0 }
+        requires within { tick ≤ hi_of self.now }
+        ensures { option_map entry_view result ≡ standing_of (look_in self.now tick path.now) }
+    {
+        self.block.standing(tick, path)
+    }
+}

@@ -1,0 +1,30 @@
+//! Places before the records of a map.
+ghost use Rattle.std.specs.Prelude.{◌≡◌, ◌++◌, IfOk};
+
+use std::alloc::{AllocError, Global};
+use svn_path::{NameId, Path};
+
+/// The number of a place.
+#[derive(Clone, Copy, Debug, PartialEq, Eq)]
+pub(crate) struct PlaceId(pub(crate) u32);
+
+/// A path after so many records of the history.
+#[derive(Drop)]
+pub(crate) struct Place {
+    pub(crate) path: Path,
+    pub(crate) tick: u32,
+}
+
+impl Place {
+    /// The place at these components below it.
+    pub(crate) fn below(&self, alloc: Global, rest: &[NameId]) -> Result<Self, AllocError>
+        ensures { IfOk result (λ place. place ≡ record { path = self.now.path ++ rest.now; tick = self.now.tick }) }
+    {
+        let mut parts = Vec::from_slice(alloc, self.path.parts())?;
+        parts.extend_from_slice(rest)?;
+        Ok(Place {
+            path: Path::of(alloc, parts.as_slice())?,
+            tick: self.tick,
+        })
+    }
+}
