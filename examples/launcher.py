@@ -6,14 +6,14 @@ import subprocess
 
 from tree import ROOT, command, copied_tree, path_without, place_program
 
-CRATES = ("svn_path", "svn_dump", "par_scan", "path_index", "range_list", "merge_info", "query_answer", "query_pool",
-          "svnhist")
+CRATES = ("svn_path", "svn_dump", "par_scan", "block_map", "path_index", "range_list", "merge_info", "query_answer",
+          "query_pool", "svnhist")
 PROVED = "".join(r"svnhist: proving %s, crate %d of %d: \d+ s\n" % (crate, number, len(CRATES))
                  for number, crate in enumerate(CRATES, 1))
-ON_TERMINAL = r"(\rsvnhist: proving \w+, crate \d of %d, \d+ s +)+\r\n" % len(CRATES)
+ON_TERMINAL = r"(\rsvnhist: proving \w+, crate \d+ of %d, \d+ s +)+\r\n" % len(CRATES)
 CALLS = "".join("%s lib\n" % crate for crate in CRATES[:-1]) + "svnhist run\n"
 NO_TOOLCHAIN = r"svnhist: the Rattle toolchain is needed to build: .*\n"
-FAILED = r"svnhist: proving svn_path, crate 1 of 9: \d+ s\nsvnhist: proving svn_dump, crate 2 of 9: \d+ s\n" \
+FAILED = r"svnhist: proving svn_path, crate 1 of 10: \d+ s\nsvnhist: proving svn_dump, crate 2 of 10: \d+ s\n" \
     r"fn read: not proved\nsvnhist: the program was not built; the whole log is .*\n"
 UNBUILT = r"(.*\n)+svnhist: the program was not built; .*\n"
 USAGE = r"svnhist: usage: svnhist DUMP QUERIES BLOCK WORKERS\n"

@@ -16,7 +16,7 @@ use crate::entry::Entry;
 use crate::fault::{Fault, FaultKind};
 use crate::map::Map;
 use rayon::prelude::*;
-use std::alloc::{AllocError, Global};
+use std::alloc::AllocError;
 use std::thread::Threads;
 use svn_dump::{Act, Dump, Kind, NodeRecord};
 use svn_path::NameId;
@@ -24,7 +24,6 @@ use svn_path::NameId;
 /// The first faulty record of a dump, and its first fault. The records are checked in parallel.
 pub fn check<R: Threads + Sync>(
     rt: &R,
-    alloc: Global,
     map: &Map,
     dump: &Dump,
     ends: &Ends,

@@ -30,7 +30,7 @@ use Rattle.query_answer.specs.declared.answers.Answer.TheVariants as kept
 use Rattle.query_answer.specs.declared.merged_revision.MergedRevision.{MergedRevision}
 use Rattle.query_answer.specs.declared.pair.Pair.{Pair}
 use Rattle.query_answer.specs.declared.query.Peg.{Peg as KeptPeg}
-use Rattle.query_answer.specs.TreeOfNumbers.{TreeOfNumbers}
+use Rattle.block_map.specs.Map.{MapValue}
 use Rattle.query_answer.specs.declared.status.Status.{Status}
 use Rattle.query_answer.specs.declared.status.Status.TheVariants as status
 use Rattle.query_answer.proofs.InBytes.{IsWhole-index_of, hits-in_bytes, location-in_bytes, location-of_names, segments-in_bytes, segments-of_names}
@@ -38,9 +38,6 @@ use Rattle.query_answer.proofs.InBytes.{IsWhole-index_of, hits-in_bytes, locatio
 -- ---- by what was found of the peg
 
 module _ (trees : TreesOfBytes) (path : List ℕ) (peg : ℕ) (answer : Peg → Answer) where
-  pub answer_about-dot : HasDot path → answer_about trees (peg_at path peg) answer ≡ refused_answer status.BadQuery
-  answer_about-dot dot = rw dot refl
-
   pub answer_about-late : (HasDot path → ⊥) → length trees ≤ peg → answer_about trees (peg_at path peg) answer ≡ refused_answer status.NoSuchRevision
   answer_about-late fine late = rw (false_from_ne_true _ fine, le-leb _ _ late) refl
 
@@ -223,22 +220,16 @@ path_at-in_bytes names [] n = refl
 path_at-in_bytes names (segment ∷ kept) zero = refl
 path_at-in_bytes names (segment ∷ kept) (suc n) = path_at-in_bytes names kept n
 
--- the path at a place is of the table, if each is
-pub IsPlaceOf-path_at : (names : List (List ℕ)) (kept : List KeptSegment) (n : ℕ) → All (HasPathOf names) kept → IsPlaceOf names (option_and_then (λ segment. segment.path) (slice_get kept n))
-IsPlaceOf-path_at names [] n all = tt
-IsPlaceOf-path_at names (segment ∷ kept) zero all = All-head (HasPathOf names) segment kept all
-IsPlaceOf-path_at names (segment ∷ kept) (suc n) all = IsPlaceOf-path_at names kept n (All-tail (HasPathOf names) segment kept all)
-
 -- ---- by the kept repository
 
 -- an index of a dump's records
 pub index_is : (index : IndexValue) (dump : DumpValue) → index.records ≡ dump.records → index.first ≡ 0 → index ≡ index_of dump
 index_is index dump records first = ap₂ (λ all n. let one : IndexValue = record { records = all; first = n } in one) records first
 
-pub IsRepo-view : (dump value : DumpValue) (index : IndexValue) (trees : List TreeOfNumbers) → dump ≡ value → IsRepo dump index trees → IsRepo value index trees
-IsRepo-view dump value index trees same is = subst (λ each. IsRepo each index trees) same is
+pub IsRepo-view : (dump value : DumpValue) (index : IndexValue) (kept : MapValue) (ends : List ℕ) → dump ≡ value → IsRepo dump index kept ends → IsRepo value index kept ends
+IsRepo-view dump value index kept ends same is = subst (λ each. IsRepo each index kept ends) same is
 
-module _ (dump : DumpValue) (index : IndexValue) (trees : List TreeOfNumbers) (is : IsRepo dump index trees) where
+module _ (dump : DumpValue) (index : IndexValue) (kept : MapValue) (ends : List ℕ) (is : IsRepo dump index kept ends) where
   pub IsWhole-IsRepo : IsWhole index
   IsWhole-IsRepo = subst IsWhole (sym is.index_is) (IsWhole-index_of dump is.dump_is)
 

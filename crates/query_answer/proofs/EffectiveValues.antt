@@ -3,8 +3,7 @@ use Rattle.std.proofs.Common.{◌≡◌, ◌≢◌, ℕ, ◌<◌, ◌==◌, fals
 use Rattle.std.specs.Prelude.{option_map}
 use Rattle.std.proofs.lemmas.Bool.{false_from_ne_true}
 use Rattle.std.proofs.lemmas.List.{length-map}
-use Rattle.svn_dump.specs.Dump.{DumpValue, IsDump, history_view, text_of}
-use Rattle.svn_dump.specs.Tree.{tree_of, trees_of}
+use Rattle.svn_dump.specs.Dump.{DumpValue, IsDump, text_of}
 use Rattle.svn_dump.specs.declared.record.ValueId.{ValueId}
 use Rattle.svn_path.specs.Components.{path_text}
 use Rattle.svn_path.specs.Names.{name_of}
@@ -13,12 +12,12 @@ use Rattle.svn_path.specs.declared.names.NameId.{NameId}
 use Rattle.merge_info.specs.CanonicalValue.{inherited_value, value_of}
 use Rattle.merge_info.specs.Line.{Line}
 use Rattle.query_answer.specs.Effective.{effective_by, nearest, value_for}
-use Rattle.query_answer.specs.Repo.{effective_by_number, effective_in}
-use Rattle.query_answer.specs.TreeOfNumbers.{SameTrees, TreeOfNumbers, nearest_view}
-use Rattle.query_answer.specs.declared.nearest.Nearest.{Nearest}
+use Rattle.query_answer.specs.Repo.{effective_by_number, effective_in, nearest_view}
+use Rattle.block_map.specs.Map.{revision_in}
+use Rattle.block_map.specs.declared.nearest.Nearest.{Nearest}
 use Rattle.query_answer.proofs.InBytes.{nearest-in_bytes}
 use Rattle.query_answer.proofs.NearestMergeinfo.{own-nearest_from}
-use Rattle.query_answer.proofs.TreeValues.{mergeinfo-within_same}
+use Rattle.query_answer.proofs.TreeValues.{mergeinfo-within}
 
 module _ (names : List (List ℕ)) (path : List NameId) (depth : ℕ) where
   value_for-inherited : (value : List Line) → depth ≢ length path → value_for (components_of names path) depth value ≡ inherited_value (path_text (drop depth (components_of names path))) value
@@ -32,24 +31,24 @@ module _ (names : List (List ℕ)) (path : List NameId) (depth : ℕ) where
   effective_by-inherited text value below other read is =
       ap Some (is ∙ sym (value_for-inherited value other)) ∙ ap (option_map (value_for (components_of names path) depth)) (sym read)
 
--- ---- by the kept trees
+-- ---- by the trees of the dump
 
-module _ (dump : DumpValue) (kept : IsDump dump) (trees : List TreeOfNumbers) (same : SameTrees trees (trees_of same_name (history_view dump))) (path : List NameId) (rev : ℕ) where
-  effective_in-kept : (found : Option (ValueId × ℕ)) → found ≡ nearest same_name (tree_of trees rev) path
+module _ (dump : DumpValue) (kept : IsDump dump) (path : List NameId) (rev : ℕ) where
+  effective_in-found : (found : Option (ValueId × ℕ)) → found ≡ nearest same_name (revision_in dump rev) path
       → effective_in dump path rev ≡ effective_by (components_of dump.names path) (option_map (λ each. (text_of dump.values each.0.0, each.1)) found)
-  effective_in-kept found is =
+  effective_in-found found is =
       ap (effective_by (components_of dump.names path))
-      (nearest-in_bytes dump kept trees same path rev ∙ ap (option_map (λ each. (text_of dump.values each.0.0, each.1))) (sym is))
+      (nearest-in_bytes dump kept path rev ∙ ap (option_map (λ each. (text_of dump.values each.0.0, each.1))) (sym is))
 
-  pub effective_in-none : None ≡ nearest same_name (tree_of trees rev) path → effective_in dump path rev ≡ Some []
-  effective_in-none is = effective_in-kept None is
+  pub effective_in-none : None ≡ nearest same_name (revision_in dump rev) path → effective_in dump path rev ≡ Some []
+  effective_in-none is = effective_in-found None is
 
-  module _ (found : Nearest) (is : Some (nearest_view found) ≡ nearest same_name (tree_of trees rev) path) where
+  module _ (found : Nearest) (is : Some (nearest_view found) ≡ nearest same_name (revision_in dump rev) path) where
     pub effective_in-some : effective_in dump path rev ≡ effective_by_number dump path found
-    effective_in-some = effective_in-kept (Some (nearest_view found)) is
+    effective_in-some = effective_in-found (Some (nearest_view found)) is
 
     -- the text is one of the dump
-    pub mergeinfo-found : found.mergeinfo.0 < length dump.values
+    pub mergeinfo-found : found.mi.0 < length dump.values
     mergeinfo-found =
-        mergeinfo-within_same dump kept trees same (take found.depth path) rev found.mergeinfo
-        (own-nearest_from same_name (tree_of trees rev) path found.mergeinfo found.depth (length path) (sym is))
+        mergeinfo-within dump kept (take found.depth path) rev found.mi
+        (own-nearest_from same_name (revision_in dump rev) path found.mi found.depth (length path) (sym is))

@@ -16,7 +16,7 @@ use Rattle.svn_path.proofs.Tables.{bytes_eq-name_of, bytes_eq-unknown}
 use Rattle.svn_dump.specs.Dump.{DumpValue, IsDump, history_view, history_in_bytes, record_view, text_of}
 use Rattle.svn_dump.specs.Fault.{first_fault}
 use Rattle.svn_dump.specs.Location.{location}
-use Rattle.svn_dump.specs.Tree.{is_there, tree_of, trees_of}
+use Rattle.svn_dump.specs.Tree.{Tree, is_there, tree_of, trees_of}
 use Rattle.svn_dump.specs.declared.record.ValueId.{ValueId}
 use Rattle.svn_dump.proofs.FirstRevisions.{is_there-take, location-take}
 use Rattle.svn_dump.proofs.Grouped.{length-records_by_revision}
@@ -27,8 +27,7 @@ use Rattle.svn_dump.proofs.Renaming.Locations.{location-rename}
 use Rattle.query_answer.specs.Answer.{IsPlaceOf}
 use Rattle.query_answer.specs.Effective.{nearest, nearest_from}
 use Rattle.query_answer.specs.Repo.{index_of, trees_in_bytes}
-use Rattle.query_answer.specs.TreeOfNumbers.{TreeOfNumbers, SameTrees}
-use Rattle.query_answer.proofs.NearestMergeinfo.{nearest_from-same, nearest_from-rename}
+use Rattle.query_answer.proofs.NearestMergeinfo.{nearest_from-rename}
 use Rattle.query_answer.proofs.TreePaths.{IsOf-location}
 
 -- what holds of each place, and of none, holds of the path of each segment
@@ -61,7 +60,7 @@ module _ (dump : DumpValue) (kept : IsDump dump) where
   pub alike : (a b : NameId) → bytes_eq (name a) (name b) ≡ same_name a b
   alike a b = bytes_eq-name_of kept.names a.0 b.0
 
-  abbrev pub trees_by_number : List TreeOfNumbers
+  abbrev pub trees_by_number : List (Tree NameId ValueId)
   trees_by_number = trees_of same_name (history_view dump)
 
   -- the trees by bytes are those by numbers, renamed
@@ -72,7 +71,7 @@ module _ (dump : DumpValue) (kept : IsDump dump) where
   pub first_fault-in_bytes : first_fault bytes_eq (history_in_bytes dump) ≡ first_fault same_name (history_view dump)
   first_fault-in_bytes = first_fault-rename name text same_name bytes_eq alike (history_view dump)
 
-  length-trees : length trees_by_number ≡ length dump.counts
+  pub length-trees : length trees_by_number ≡ length dump.counts
   length-trees = length-trees_of same_name (history_view dump) ∙ length-records_by_revision dump.counts (map record_view dump.records)
 
   pub length-trees_in_bytes : length (trees_in_bytes dump) ≡ length dump.counts
@@ -146,35 +145,31 @@ module _ (dump : DumpValue) (kept : IsDump dump) where
     segments-of_names path of =
         segments_up_to-All same_name (IsPlaceOf dump.names) tt (λ rev. location same_name (trees_to dump.records peg) path peg rev) (λ rev. location-of_names path rev of) peg
 
-  -- ---- by the kept trees
+  -- ---- the paths of its trees, and their mergeinfo
 
-  module _ (trees : List TreeOfNumbers) (same : SameTrees trees trees_by_number) where
-    pub length-kept : length trees ≡ length dump.counts
-    length-kept = same.length ∙ length-trees
+  pub there-in_bytes : (path : List NameId) (rev : ℕ)
+      → is_there bytes_eq (tree_of (trees_in_bytes dump) rev) (components_of dump.names path) ≡ is_there same_name (tree_of trees_by_number rev) path
+  there-in_bytes path rev =
+      ap (λ all. is_there bytes_eq (tree_of all rev) (map name path)) trees-renamed
+      ∙ ap (λ tree. is_there bytes_eq tree (map name path)) (tree_of-rename name text trees_by_number rev)
+      ∙ is_there-rename name text same_name bytes_eq alike (tree_of trees_by_number rev) path
 
-    pub there-in_bytes : (path : List NameId) (rev : ℕ) → is_there bytes_eq (tree_of (trees_in_bytes dump) rev) (components_of dump.names path) ≡ is_there same_name (tree_of trees rev) path
-    there-in_bytes path rev =
-        ap (λ all. is_there bytes_eq (tree_of all rev) (map name path)) trees-renamed
-        ∙ ap (λ tree. is_there bytes_eq tree (map name path)) (tree_of-rename name text trees_by_number rev)
-        ∙ is_there-rename name text same_name bytes_eq alike (tree_of trees_by_number rev) path
-        ∙ sym (ap is_some (same.each rev path))
+  pub unknown-in_bytes : (parts : List (List ℕ)) (rev : ℕ) → All IsComponent parts → HasUnknown dump.names parts → is_there bytes_eq (tree_of (trees_in_bytes dump) rev) parts ≡ false
+  unknown-in_bytes parts rev components other =
+      let (k, part, within, at, lacked) = other in
+      let component : IsComponent part = subst IsComponent at (All-get_or IsComponent parts k part within components) in
+      ap (λ all. is_there bytes_eq (tree_of all rev) parts) trees-renamed
+      ∙ ap is_some (tree_of_unnamed name text bytes_eq part (λ id. bytes_eq-unknown dump.names part component lacked id.0) trees_by_number parts rev (k, within, at))
 
-    pub unknown-in_bytes : (parts : List (List ℕ)) (rev : ℕ) → All IsComponent parts → HasUnknown dump.names parts → is_there bytes_eq (tree_of (trees_in_bytes dump) rev) parts ≡ false
-    unknown-in_bytes parts rev components other =
-        let (k, part, within, at, lacked) = other in
-        let component : IsComponent part = subst IsComponent at (All-get_or IsComponent parts k part within components) in
-        ap (λ all. is_there bytes_eq (tree_of all rev) parts) trees-renamed
-        ∙ ap is_some (tree_of_unnamed name text bytes_eq part (λ id. bytes_eq-unknown dump.names part component lacked id.0) trees_by_number parts rev (k, within, at))
+  -- a path that is there is there for the index
+  pub IsThere-there : (path : List NameId) (peg : ℕ) → peg < length dump.counts → is_there same_name (tree_of trees_by_number peg) path ≡ true → IsThere dump.records path peg
+  IsThere-there path peg within there = is_there-index peg within path ∙ there
 
-    pub IsThere-kept : (path : List NameId) (peg : ℕ) → peg < length dump.counts → is_there same_name (tree_of trees peg) path ≡ true → IsThere dump.records path peg
-    IsThere-kept path peg within there = is_there-index peg within path ∙ sym (ap is_some (same.each peg path)) ∙ there
-
-    -- the nearest mergeinfo of a path
-    pub nearest-in_bytes : (path : List NameId) (rev : ℕ) → nearest bytes_eq (tree_of (trees_in_bytes dump) rev) (components_of dump.names path)
-        ≡ option_map (λ found. (text found.0, found.1)) (nearest same_name (tree_of trees rev) path)
-    nearest-in_bytes path rev =
-        ap (λ all. nearest bytes_eq (tree_of all rev) (map name path)) trees-renamed
-        ∙ ap (λ tree. nearest bytes_eq tree (map name path)) (tree_of-rename name text trees_by_number rev)
-        ∙ ap (nearest_from bytes_eq (rename_tree name text (tree_of trees_by_number rev)) (map name path)) (length-map path name)
-        ∙ nearest_from-rename name text same_name bytes_eq alike (tree_of trees_by_number rev) path (length path)
-        ∙ ap (option_map (λ found. (text found.0, found.1))) (sym (nearest_from-same (tree_of trees rev) (tree_of trees_by_number rev) (same.each rev) path (length path)))
+  -- the nearest mergeinfo of a path
+  pub nearest-in_bytes : (path : List NameId) (rev : ℕ) → nearest bytes_eq (tree_of (trees_in_bytes dump) rev) (components_of dump.names path)
+      ≡ option_map (λ found. (text found.0, found.1)) (nearest same_name (tree_of trees_by_number rev) path)
+  nearest-in_bytes path rev =
+      ap (λ all. nearest bytes_eq (tree_of all rev) (map name path)) trees-renamed
+      ∙ ap (λ tree. nearest bytes_eq tree (map name path)) (tree_of-rename name text trees_by_number rev)
+      ∙ ap (nearest_from bytes_eq (rename_tree name text (tree_of trees_by_number rev)) (map name path)) (length-map path name)
+      ∙ nearest_from-rename name text same_name bytes_eq alike (tree_of trees_by_number rev) path (length path)

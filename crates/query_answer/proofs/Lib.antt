@@ -5,10 +5,9 @@ mod NearestMergeinfo
 mod OperativePlaces
 mod PathSegments
 pub mod Queries
+mod RevisionSums
+pub mod RevisionTicks
 mod SourceRevisions
 mod TreeEntries
 pub mod TreePaths
-pub mod TreeReads
-pub mod TreeSame
 mod TreeValues
-pub mod TreesBuilt

@@ -1,31 +1,22 @@
--- The nearest mergeinfo of a path: in trees that are the same, in a renamed tree, and step by step from the root.
-use Rattle.std.proofs.Common.{◌≡◌, ℕ, zero, suc, Bool, List, [], Option, None, Some, map, option_map, option_and_then, take, refl, ap, ◌∙◌, ◌<◌, ◌≤◌, ◌∷◌, ◌++◌, length, sym, arith, append-nil, append_assoc, ◌⊎◌, inl, inr}
-use Rattle.std.proofs.lemmas.List.{length-append, take_at, take-map}
+-- The nearest mergeinfo of a path: in a renamed tree, step by step from the root, and as a map finds it.
+use Rattle.std.proofs.Common.{◌≡◌, ℕ, zero, suc, ◌+◌, Bool, List, [], Option, None, Some, map, option_map, option_and_then, take, refl, ap, ◌∙◌, ◌≤◌, length, sym, arith, ◌⊎◌, inl, inr, subst, IfOk, Result}
+use Rattle.std.proofs.lemmas.List.{take-map}
 use Rattle.std.proofs.lemmas.Option.{same_Some}
+use Rattle.std.proofs.lemmas.Bool.{cases_lt}
+use Rattle.std.proofs.lemmas.Result.{IfOk-weaker}
+use Rattle.std.specs.declared.alloc.AllocError.{AllocError}
 use Rattle.svn_path.specs.Path.{same_name}
 use Rattle.svn_path.specs.declared.names.NameId.{NameId}
-use Rattle.svn_path.proofs.Belows.{parent_of-None, parent_of-Some}
-use Rattle.svn_path.specs.Below.{parent_of}
 use Rattle.svn_dump.specs.Tree.{Tree, Entry, entry_at}
+use Rattle.svn_dump.proofs.Trees.{entry_at-nil}
 use Rattle.svn_dump.proofs.Renaming.Paths.{KeepsSame}
 use Rattle.svn_dump.proofs.Renaming.Trees.{rename_entry, rename_tree, entry_at-rename}
 use Rattle.query_answer.specs.Effective.{nearest, own_mergeinfo, nearest_or, nearest_from}
-use Rattle.query_answer.specs.TreeOfNumbers.{TreeOfNumbers, SameTree}
-
--- ---- in a tree that has the same entries
-
-module _ (one other : TreeOfNumbers) (same : SameTree one other) where
-  -- a path has the same mergeinfo
-  pub own_mergeinfo-same : (path : List NameId) → own_mergeinfo same_name one path ≡ own_mergeinfo same_name other path
-  own_mergeinfo-same path = ap (option_and_then (λ entry. entry.mergeinfo)) (same path)
-
-  -- and the same nearest mergeinfo
-  pub nearest_from-same : (path : List NameId) (depth : ℕ)
-      → nearest_from same_name one path depth ≡ nearest_from same_name other path depth
-  unfolding nearest_from
-  nearest_from-same path zero = ap (λ own. nearest_or own 0 None) (own_mergeinfo-same (take 0 path))
-  nearest_from-same path (suc depth) =
-      λ i. nearest_or (own_mergeinfo-same (take (suc depth) path) i) (suc depth) (nearest_from-same path depth i)
+use Rattle.query_answer.specs.Repo.{nearest_view}
+use Rattle.svn_dump.specs.declared.record.ValueId.{ValueId}
+use Rattle.block_map.specs.Map.{HasNoneFrom, IsNearest, IsNearestOrNone}
+use Rattle.block_map.specs.Standing.{Standing, own_mergeinfo_at}
+use Rattle.block_map.specs.declared.nearest.Nearest.{Nearest}
 
 -- ---- in a renamed tree
 
@@ -94,54 +85,67 @@ module _ {C M : Type 0} (same : C → C → Bool) (tree : Tree C M) (path : List
   unfolding nearest_from
   nearest_from-some depth mergeinfo own = ap (λ own. nearest_or own (suc depth) (nearest_from same tree path depth)) own
 
--- ---- the walk
+-- ---- as a map finds it
 
--- nothing was found at the path and above it, down to a front of it
-pub record IsFront {C M : Type 0} (same : C → C → Bool) (tree : Tree C M) (path front : List C) : Type 0 where
-  pub back : List C
-  pub whole : path ≡ front ++ back
-  pub left : nearest same tree path ≡ nearest_from same tree path (length front)
+-- the mergeinfo of what stands at a path
+own_mergeinfo-standing : {C M : Type 0} (same : C → C → Bool) (tree : Tree C M) (path : List C)
+    → own_mergeinfo_at same tree path ≡ own_mergeinfo same tree path
+own_mergeinfo-standing {C} {M} same tree path = by (entry_at same tree path)
+  where
+    by : (o : Option (Entry C M))
+        → option_and_then (λ standing. standing.mergeinfo)
+        (option_map (λ entry. let one : Standing M = record { kind = entry.kind; mergeinfo = entry.mergeinfo } in one) o)
+        ≡ option_and_then (λ entry. entry.mergeinfo) o
+    by None = refl
+    by (Some entry) = refl
 
-module _ {C M : Type 0} (same : C → C → Bool) (tree : Tree C M) (path : List C) where
-  pub IsFront-path : IsFront same tree path path
-  IsFront-path = record { back = []; whole = sym (append-nil path); left = refl }
+module _ (tree : Tree NameId ValueId) (path : List NameId) where
+  -- where no path above has any there is none
+  nearest_from-none_above : (n : ℕ) → n ≤ length path → HasNoneFrom (own_mergeinfo same_name tree) path 0 → nearest_from same_name tree path n ≡ None
+  nearest_from-none_above zero few none = nearest_from-none_at_root same_name tree path (none 0 (omega arith) few)
+  nearest_from-none_above (suc n) few none =
+      nearest_from-none same_name tree path n (none (suc n) (omega arith) few) ∙ nearest_from-none_above n (omega (arith, few)) none
 
-  module _ (front : List C) (is : IsFront same tree path front) where
-    pub length-front : length front ≤ length path
-    length-front = omega (arith, ap length is.whole, length-append front is.back)
+  module _ (found : Nearest) (is : IsNearest (own_mergeinfo same_name tree) path found)
+      (none : HasNoneFrom (own_mergeinfo same_name tree) path (found.depth + 1)) where
+    -- where no path below what is found has any it is the nearest
+    nearest_from-found : (n : ℕ) → found.depth ≤ n → n ≤ length path → nearest_from same_name tree path n ≡ Some (nearest_view found)
+    nearest_from-found zero more few =
+        let here : found.depth ≡ 0 = omega (arith, more) in
+        nearest_from-some_at_root same_name tree path found.mi (ap (λ depth. own_mergeinfo same_name tree (take depth path)) (sym here) ∙ is.1)
+        ∙ ap (λ depth. Some (found.mi, depth)) (sym here)
+    nearest_from-found (suc n) more few = elim (cases_lt n found.depth) [
+      | inl under ↦
+          let here : found.depth ≡ suc n = omega (arith, more, under) in
+          nearest_from-some same_name tree path n found.mi (ap (λ depth. own_mergeinfo same_name tree (take depth path)) (sym here) ∙ is.1)
+          ∙ ap (λ depth. Some (found.mi, depth)) (sym here)
+      | inr above ↦
+          nearest_from-none same_name tree path n (none (suc n) (omega (arith, above)) few) ∙ nearest_from-found n above (omega (arith, few))
+    ]
 
-    take-front : take (length front) path ≡ front
-    take-front = ap (take (length front)) is.whole ∙ take_at front is.back (length front) refl
+  nearest-found : (found : Option Nearest) → IsNearestOrNone (own_mergeinfo same_name tree) path found
+      → option_map nearest_view found ≡ nearest same_name tree path
+  nearest-found None none = sym (nearest_from-none_above (length path) (omega arith) none)
+  nearest-found (Some found) (is, none) = sym (nearest_from-found found is none (length path) is.0 (omega arith))
 
-    -- the front has some
-    pub nearest-found : (mergeinfo : M) → own_mergeinfo same tree front ≡ Some mergeinfo → nearest same tree path ≡ Some (mergeinfo, length front)
-    nearest-found mergeinfo own = is.left ∙ at (length front) (ap (own_mergeinfo same tree) take-front ∙ own)
-      where
-        at : (depth : ℕ) → own_mergeinfo same tree (take depth path) ≡ Some mergeinfo → nearest_from same tree path depth ≡ Some (mergeinfo, depth)
-        at zero some = nearest_from-some_at_root same tree path mergeinfo some
-        at (suc depth) some = nearest_from-some same tree path depth mergeinfo some
+  -- what is found in the tree is the nearest
+  pub nearest-standing : (result : Result (Option Nearest) AllocError) → IfOk result (IsNearestOrNone (own_mergeinfo_at same_name tree) path)
+      → IfOk result (λ found. option_map nearest_view found ≡ nearest same_name tree path)
+  nearest-standing result is =
+      IfOk-weaker result (IsNearestOrNone (own_mergeinfo_at same_name tree) path) (λ found. option_map nearest_view found ≡ nearest same_name tree path)
+      (λ found one. nearest-found found (subst (λ own. IsNearestOrNone own path found) (λ i at. own_mergeinfo-standing same_name tree at i) one))
+      is
 
-    module _ (none : own_mergeinfo same tree front ≡ None) where
-      -- the root has none
-      pub nearest-none : parent_of front ≡ None → nearest same tree path ≡ None
-      nearest-none root =
-          let empty : front ≡ [] = (parent_of-None front).0 root in
-          is.left ∙ ap (λ each. nearest_from same tree path (length each)) empty
-          ∙ nearest_from-none_at_root same tree path (ap (own_mergeinfo same tree) (sym empty) ∙ none)
+-- in a tree without entries there is none
+pub nearest-no_entries : (path : List NameId) → nearest {M = ValueId} same_name [] path ≡ None
+nearest-no_entries path = from (length path)
+  where
+    own : (depth : ℕ) → own_mergeinfo {M = ValueId} same_name [] (take depth path) ≡ None
+    own depth = ap (option_and_then (λ entry. entry.mergeinfo)) (entry_at-nil {M = ValueId} same_name (take depth path))
 
-      -- the walk goes on above the front
-      pub IsFront-above : (above : List C) → parent_of front ≡ Some above → IsFront same tree path above × (length above < length front)
-      IsFront-above above parent =
-          let (last, at) = (parent_of-Some front above).0 parent in
-          let longer : length front ≡ suc (length above) = omega (arith, ap length at, length-append above (last ∷ [])) in (
-            record {
-              back = last ∷ is.back;
-              whole = is.whole ∙ ap (λ all. all ++ is.back) at ∙ append_assoc above (last ∷ []) is.back;
-              left = is.left ∙ ap (nearest_from same tree path) longer
-                  ∙ nearest_from-none same tree path (length above) (ap (λ depth. own_mergeinfo same tree (take depth path)) (sym longer) ∙ ap (own_mergeinfo same tree) take-front ∙ none);
-            },
-            omega (arith, longer),
-          )
+    from : (n : ℕ) → nearest_from {M = ValueId} same_name [] path n ≡ None
+    from zero = nearest_from-none_at_root same_name [] path (own 0)
+    from (suc n) = nearest_from-none same_name [] path n (own (suc n)) ∙ from n
 
 -- ---- what was found
 

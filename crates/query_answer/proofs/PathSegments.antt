@@ -19,11 +19,11 @@ use Rattle.svn_dump.proofs.Origins.{OriginsFall-trees_of}
 use Rattle.query_answer.specs.Answer.{IsPlaceOf}
 use Rattle.query_answer.specs.SourceHits.{TellsPlaces}
 use Rattle.query_answer.specs.Repo.{AreHitsIn, AreSegmentsIn, IsRepo}
-use Rattle.query_answer.specs.TreeOfNumbers.{TreeOfNumbers}
+use Rattle.block_map.specs.Map.{MapValue}
 use Rattle.query_answer.proofs.AnswerTexts.{All-kept, IsThere-IsRepo}
 use Rattle.query_answer.proofs.InBytes.{segments-of_names}
 
-module _ (dump : DumpValue) (index : IndexValue) (trees : List TreeOfNumbers) (repo : IsRepo dump index trees) (path : List NameId) (rev : ℕ)
+module _ (dump : DumpValue) (index : IndexValue) (kept : MapValue) (ends : List ℕ) (repo : IsRepo dump index kept ends) (path : List NameId) (rev : ℕ)
     (of : IsPathOf dump.names path) (within : rev < length dump.counts) where
   AreSegmentsIn-kept : (segments : List Segment) → AreSegmentsOf index path rev segments → AreMaximal index path rev segments → AreSegmentsIn dump path rev segments
   AreSegmentsIn-kept segments exact maximal =
@@ -39,11 +39,11 @@ module _ (dump : DumpValue) (index : IndexValue) (trees : List TreeOfNumbers) (r
   AreSegmentsIn-result (Ok segments) exact maximal = AreSegmentsIn-kept segments.items exact maximal
   AreSegmentsIn-result (Err e) exact maximal = tt
 
-pub AreHitsIn-kept : (dump : DumpValue) (index : IndexValue) (trees : List TreeOfNumbers) → IsRepo dump index trees → (segments : List Segment) (hits : List Hit) → AreHitsOf index segments hits → AreHitsIn dump segments hits
-AreHitsIn-kept dump index trees repo segments hits are = λ path rev there so.
+pub AreHitsIn-kept : (dump : DumpValue) (index : IndexValue) (kept : MapValue) (ends : List ℕ) → IsRepo dump index kept ends → (segments : List Segment) (hits : List Hit) → AreHitsOf index segments hits → AreHitsIn dump segments hits
+AreHitsIn-kept dump index kept ends repo segments hits are = λ path rev there so.
     let same : AreSegmentsOf index path rev segments = subst (λ each. AreSegmentsOf each path rev segments) (sym repo.index_is) so.exact in
     subst (λ each. hits ≡ operative_of same_name (history_to each.records rev) (trees_to each.records rev) (map segment_view segments)) repo.index_is
-    (are path rev (IsThere-IsRepo dump index trees repo path rev there) same)
+    (are path rev (IsThere-IsRepo dump index kept ends repo path rev there) same)
 
 -- the segments tell where the path was in each revision
 pub TellsPlaces-AreSegmentsIn : (dump : DumpValue) (path : List NameId) (rev : ℕ) (segments : List Segment) → AreSegmentsIn dump path rev segments → TellsPlaces (location_in dump.records path rev) segments

@@ -1,8 +1,9 @@
 -- What each record of a history keeps of an entry holds of each entry of its trees.
-use Rattle.std.proofs.Common.{◌≡◌, ℕ, Bool, true, false, if◌then◌else◌, List, [], ◌∷◌, Some, All, IfSome, fold, length, map, take, drop, refl, subst}
+use Rattle.std.proofs.Common.{◌≡◌, ℕ, Bool, true, false, if◌then◌else◌, List, [], ◌∷◌, Option, None, Some, All, IfSome, filter_map, fold, length, map, take, drop, refl, subst}
 use Rattle.std.proofs.lemmas.Bool.{cond_both}
 use Rattle.std.proofs.lemmas.List.Elements.{All-nil, All-cons, All-head, All-tail, All-append, All-push, All-map, All-weaker, All-filter, All-take, All-drop}
 use Rattle.std.proofs.lemmas.Option.{none-some, same_Some}
+use Rattle.std.specs.List.{cons_option}
 use Rattle.svn_dump.specs.Dump.{DumpValue, IsDump, IsRecordOf, records_by_revision, record_view, history_view}
 use Rattle.svn_dump.specs.History.{Setting, Action, delete, change, add, copy, Record, History}
 use Rattle.svn_dump.specs.Tree.{Tree, Entry, entry_at, tree_of, tree_without, tree_with_mergeinfo, entry_of_copy, tree_after_action, tree_after_record, first_tree, tree_from_revision, start_tree, end_tree, with_revision, trees_of}
@@ -13,7 +14,16 @@ use Rattle.svn_dump.proofs.Trees.{entry_from, new_entry, settled_entry}
 use Rattle.svn_path.specs.Below.{same_path}
 use Rattle.svn_path.specs.declared.names.NameId.{NameId}
 use Rattle.svn_path.proofs.Belows.{IsSame, same_path-is}
-use Rattle.query_answer.proofs.TreeReads.{All-filter_map}
+
+-- what holds of each thing that a list's elements give
+All-filter_map : {X Y : Type 0} (h : X → Option Y) (P : Y → Type 0) (xs : List X) → All (λ x. IfSome (h x) P) xs → All P (filter_map h xs)
+All-filter_map h P [] each = All-nil P
+All-filter_map {X} {Y} h P (x ∷ xs) each =
+    by (h x) (All-head (λ x. IfSome (h x) P) x xs each) (All-filter_map h P xs (All-tail (λ x. IfSome (h x) P) x xs each))
+  where
+    by : (o : Option Y) → IfSome o P → All P (filter_map h xs) → All P (cons_option o (filter_map h xs))
+    by None here more = more
+    by (Some y) here more = All-cons P y (filter_map h xs) here more
 
 -- an entry whose mergeinfo is settled keeps it
 abbrev pub SettingKeeps : {C M : Type 0} → (List C × Entry C M → Type 0) → Setting M → Type 0
@@ -108,7 +118,7 @@ module _ {C M : Type 0} (same : C → C → Bool) (E : List C × Entry C M → T
 -- ---- the history of a dump
 
 -- what holds of each item holds of each in its group
-pub All-records_by_revision : {X : Type 0} (P : X → Type 0) (counts : List ℕ) (items : List X)
+All-records_by_revision : {X : Type 0} (P : X → Type 0) (counts : List ℕ) (items : List X)
     → All P items → All (All P) (records_by_revision counts items)
 All-records_by_revision P [] items each = All-nil (All P)
 All-records_by_revision P (count ∷ counts) items each =

@@ -1,11 +1,11 @@
--- What holds of each component of a history's paths holds of each path of its trees, and of what its locations find.
-use Rattle.std.proofs.Common.{◌≡◌, ℕ, zero, suc, ◌<◌, ◌==◌, nat_lt, Bool, true, false, if◌then◌else◌, List, [], ◌∷◌, ◌++◌, Option, None, Some, All, IfSome, is_some, option_map, length, refl, sym, ap, subst, ◌∙◌, true≢false}
+-- What holds of each component of a history's paths holds of what its locations find.
+use Rattle.std.proofs.Common.{◌≡◌, ℕ, zero, suc, ◌<◌, ◌==◌, nat_lt, Bool, true, false, if◌then◌else◌, List, [], ◌∷◌, ◌++◌, Option, None, Some, All, IfSome, option_map, length, refl, subst}
 use Rattle.std.proofs.lemmas.List.Elements.{All-nil, All-cons, All-tail, All-append}
 use Rattle.std.proofs.lemmas.Option.{none-some, same_Some, option_and_then_some}
 use Rattle.svn_dump.specs.Dump.{DumpValue, IsDump, IsActOf, action_view, history_view}
 use Rattle.svn_dump.specs.History.{Action, delete, change, add, copy, Record, History}
 use Rattle.svn_dump.specs.Location.{origin_of, location_within, location}
-use Rattle.svn_dump.specs.Tree.{Entry, entry_at, is_there, tree_of, entry_of_copy, trees_of}
+use Rattle.svn_dump.specs.Tree.{Entry, entry_at, tree_of, entry_of_copy, trees_of}
 use Rattle.svn_dump.specs.declared.record.Act.{Act}
 use Rattle.svn_dump.specs.declared.record.Act.TheVariants as act
 use Rattle.svn_dump.proofs.Locations.{not_past}
@@ -14,10 +14,7 @@ use Rattle.svn_path.specs.Below.{below}
 use Rattle.svn_path.specs.Path.{same_name, IsPathOf}
 use Rattle.svn_path.specs.declared.names.NameId.{NameId}
 use Rattle.svn_path.proofs.Belows.{IsSame, IsSame-same_name}
-use Rattle.query_answer.specs.TreeOfNumbers.{TreeOfNumbers, SameTrees}
-pub use Rattle.query_answer.proofs.TreeEntries.{All-records_by_revision}
 use Rattle.query_answer.proofs.TreeEntries.{ActionKeeps, IsKept, entry_at-has, history_has}
-use Rattle.query_answer.proofs.TreeSame.{location-same}
 
 -- the components of the source have it
 abbrev pub SourceHas : {C M : Type 0} → (C → Type 0) → Action C M → Type 0
@@ -76,14 +73,6 @@ module _ {C M : Type 0} (same : C → C → Bool) (P : C → Type 0) where
     entry_has : (path : List C) (rev : ℕ) (entry : Entry C M) → entry_at same (tree_of (trees_of same history) rev) path ≡ Some entry → EntryHas (path, entry)
     entry_has path rev entry found = entry_at-has same EntryHas (RecordHas P) entries_keep is history each path rev entry found
 
-    -- a path of a tree
-    pub path_has : (path : List C) (rev : ℕ) → is_there same (tree_of (trees_of same history) rev) path ≡ true → All P path
-    path_has path rev there = by (entry_at same (tree_of (trees_of same history) rev) path) refl there
-      where
-        by : (o : Option (Entry C M)) → entry_at same (tree_of (trees_of same history) rev) path ≡ o → is_some o ≡ true → All P path
-        by None found there = absurd (true≢false (sym there))
-        by (Some entry) found there = (entry_has path rev entry found).0
-
     -- an origin
     pub origin_has : (path : List C) (rev : ℕ) (from : List C) (from_rev : ℕ) → origin_of same (trees_of same history) path rev ≡ Some (from, from_rev) → All P from
     origin_has path rev from from_rev came =
@@ -128,22 +117,7 @@ HistoryHas-names dump is =
     history_has dump is (RecordHas (IsNamed dump)) (λ each of. record { path = of.path; source = source_named dump each.rev each.act of.act })
 
 module _ (dump : DumpValue) (is : IsDump dump) where
-  -- a path that is there
-  pub IsOf-there : (path : List NameId) (rev : ℕ) → is_there same_name (tree_of (trees_of same_name (history_view dump)) rev) path ≡ true → IsPathOf dump.names path
-  IsOf-there path rev there = path_has same_name (IsNamed dump) IsSame-same_name (history_view dump) (HistoryHas-names dump is) path rev there
-
   -- what a location finds
   pub IsOf-location : (path : List NameId) (peg rev : ℕ) (found : List NameId) → IsPathOf dump.names path
       → location same_name (trees_of same_name (history_view dump)) path peg rev ≡ Some found → IsPathOf dump.names found
   IsOf-location path peg rev found of at = location_has same_name (IsNamed dump) IsSame-same_name (history_view dump) (HistoryHas-names dump is) path peg rev found of at
-
-  -- both in trees that show the same
-  module _ (trees : List TreeOfNumbers) (same : SameTrees trees (trees_of same_name (history_view dump))) where
-    -- a path that is there
-    pub IsOf-there_same : (path : List NameId) (rev : ℕ) → is_there same_name (tree_of trees rev) path ≡ true → IsPathOf dump.names path
-    IsOf-there_same path rev there = IsOf-there path rev (sym (ap is_some (same.each rev path)) ∙ there)
-
-    -- what a location finds
-    pub IsOf-location_same : (path : List NameId) (peg rev : ℕ) (found : List NameId) → IsPathOf dump.names path → location same_name trees path peg rev ≡ Some found → IsPathOf dump.names found
-    IsOf-location_same path peg rev found of at =
-        IsOf-location path peg rev found of (sym (location-same trees (trees_of same_name (history_view dump)) same path peg rev) ∙ at)

@@ -1,5 +1,5 @@
 -- What holds of each mergeinfo that a history's records put holds of each mergeinfo of its trees.
-use Rattle.std.proofs.Common.{◌≡◌, ℕ, ◌<◌, Bool, List, [], ◌++◌, Option, None, Some, All, IfSome, option_map, length, sym, subst, ◌∙◌}
+use Rattle.std.proofs.Common.{◌≡◌, ℕ, ◌<◌, Bool, List, [], ◌++◌, Option, None, Some, All, IfSome, option_map, length, subst}
 use Rattle.std.proofs.lemmas.List.Elements.{All-nil, All-cons}
 use Rattle.std.proofs.lemmas.Option.{option_and_then_some}
 use Rattle.svn_dump.specs.Dump.{DumpValue, IsDump, IsActOf, IsSettingOf, action_view, setting_view, history_view}
@@ -16,8 +16,6 @@ use Rattle.svn_path.specs.Path.{same_name}
 use Rattle.svn_path.specs.declared.names.NameId.{NameId}
 use Rattle.svn_path.proofs.Belows.{IsSame, IsSame-same_name}
 use Rattle.query_answer.specs.Effective.{own_mergeinfo}
-use Rattle.query_answer.specs.TreeOfNumbers.{TreeOfNumbers, SameTrees}
-use Rattle.query_answer.proofs.NearestMergeinfo.{own_mergeinfo-same}
 use Rattle.query_answer.proofs.TreeEntries.{ActionKeeps, IsKept, entry_at-has, history_has}
 
 -- the mergeinfo that is put has it, if there is some
@@ -104,12 +102,3 @@ pub mergeinfo-within : (dump : DumpValue) → IsDump dump → (path : List NameI
     → own_mergeinfo same_name (tree_of (trees_of same_name (history_view dump)) rev) path ≡ Some mergeinfo → mergeinfo.0 < length dump.values
 mergeinfo-within dump is path rev mergeinfo own =
     own_mergeinfo_has same_name (IsNumbered dump) IsSame-same_name (history_view dump) (HistoryPuts-values dump is) path rev mergeinfo own
-
--- and in trees that show the same
-pub mergeinfo-within_same : (dump : DumpValue) → IsDump dump → (trees : List TreeOfNumbers)
-    → SameTrees trees (trees_of same_name (history_view dump))
-    → (path : List NameId) (rev : ℕ) (mergeinfo : ValueId)
-    → own_mergeinfo same_name (tree_of trees rev) path ≡ Some mergeinfo → mergeinfo.0 < length dump.values
-mergeinfo-within_same dump is trees same path rev mergeinfo own =
-    mergeinfo-within dump is path rev mergeinfo
-    (sym (own_mergeinfo-same (tree_of trees rev) (tree_of (trees_of same_name (history_view dump)) rev) (same.each rev) path) ∙ own)

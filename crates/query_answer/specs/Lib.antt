@@ -1,9 +1,6 @@
 pub mod Answer
 pub mod Effective
-pub mod FaultKind
 pub mod Merged
 pub mod Query
 pub mod Repo
 pub mod SourceHits
-pub mod TreeOfNumbers
-pub mod TreesError

@@ -11,16 +11,18 @@ use Rattle.svn_dump.specs.Dump.{DumpValue, IsDump, history_in_bytes, history_vie
 use Rattle.svn_dump.specs.Fault.{first_fault}
 use Rattle.svn_dump.specs.Location.{location}
 use Rattle.svn_dump.specs.Tree.{tree_of, trees_of}
+use Rattle.svn_dump.specs.declared.record.ValueId.{ValueId}
+use Rattle.block_map.specs.Ends.{ends_of}
+use Rattle.block_map.specs.Map.{IsMapOf, MapValue}
+use Rattle.block_map.specs.declared.nearest.Nearest.{Nearest}
 use Rattle.query_answer.specs.Answer.{Answer, HasPathOf, TreesOfBytes, answer_about, answer_about_pair, answer_by_mergeinfo, answer_of, eligible_lines, locate_lines, log_lines, merged_lines, mergeinfo_lines, ok_answer, refused_answer, segments_lines}
 use Rattle.query_answer.specs.Effective.{effective_by, effective_value}
 use Rattle.query_answer.specs.Merged.{eligible_revisions, found_in, merged_revisions, value_has}
 use Rattle.query_answer.specs.Query.{Peg, Query, peg_view}
-use Rattle.query_answer.specs.TreeOfNumbers.{TreeOfNumbers, SameTrees}
 use Rattle.merge_info.specs.Line.{Line}
 use Rattle.query_answer.specs.declared.effective_mergeinfo.Effective.{Effective}
 use Rattle.query_answer.specs.declared.effective_mergeinfo.Effective.TheVariants.{Malformed, Value}
 use Rattle.query_answer.specs.declared.merged_revision.MergedRevision.{MergedRevision}
-use Rattle.query_answer.specs.declared.nearest.Nearest.{Nearest}
 use Rattle.query_answer.specs.declared.pair.Pair.{Pair}
 use Rattle.query_answer.specs.declared.query.Peg.{Peg as KeptPeg}
 use Rattle.query_answer.specs.declared.status.Status.{Status}
@@ -29,11 +31,12 @@ use Rattle.query_answer.specs.declared.status.Status.{Status}
 abbrev pub index_of : DumpValue → IndexValue
 index_of dump = record { records = dump.records; first = 0 }
 
--- the index and the trees are those of the dump, and its history is lawful
-pub record IsRepo (dump : DumpValue) (index : IndexValue) (trees : List TreeOfNumbers) : Type 0 where
+-- the index, the map and the ends of the revisions are those of the dump, and its history is lawful
+pub record IsRepo (dump : DumpValue) (index : IndexValue) (map : MapValue) (ends : List ℕ) : Type 0 where
   pub dump_is : IsDump dump
   pub index_is : index ≡ index_of dump
-  pub trees_are : SameTrees trees (trees_of same_name (history_view dump))
+  pub map_is : IsMapOf dump map
+  pub ends_are : ends ≡ ends_of dump.counts
   pub lawful : first_fault same_name (history_view dump) ≡ None
 
 -- ---- its answers
@@ -111,6 +114,10 @@ AreHitsIn dump segments hits =
 
 -- ---- effective mergeinfo
 
+-- the nearest mergeinfo that was found: the number of its text, and how many components its path has
+abbrev pub nearest_view : Nearest → ValueId × ℕ
+nearest_view found = (found.mi, found.depth)
+
 -- the value, or none if it is malformed
 abbrev pub effective_view : Effective → Option (List Line)
 effective_view (Value value) = Some value
@@ -123,7 +130,7 @@ effective_in dump path rev = effective_value (tree_of (trees_in_bytes dump) rev)
 -- the value that holds for a path, given the text that was found for it
 abbrev pub effective_by_number : DumpValue → List NameId → Nearest → Option (List Line)
 effective_by_number dump path found =
-    effective_by (components_of dump.names path) (Some (text_of dump.values found.mergeinfo.0, found.depth))
+    effective_by (components_of dump.names path) (Some (text_of dump.values found.mi.0, found.depth))
 
 -- ---- a source and a target
 

@@ -5,8 +5,8 @@ ghost use Rattle.svn_path.specs.Path.{IsPathOf, components_of};
 ghost use Rattle.query_answer.specs.Repo.{effective_by_number, effective_in, effective_view};
 
 use crate::effective_mergeinfo::Effective;
-use crate::nearest::Nearest;
 use crate::repo::Repo;
+use block_map::Nearest;
 use merge_info::{MergeError, MergeInfo};
 use std::alloc::{AllocError, Global};
 use svn_path::{Names, Path};
@@ -20,7 +20,7 @@ pub fn effective(alloc: Global, repo: &Repo, path: &Path, rev: u32) -> Result<Ef
     requires { IsPathOf repo.now.names path.now }
     ensures { IfOk result (λ value. effective_view value ≡ effective_in repo.now path.now rev) }
 {
-    match repo.trees.nearest(path, rev)? {
+    match repo.nearest(path, rev)? {
         None => Ok(Effective::Value(MergeInfo::empty(alloc))),
         Some(found) => value_for(alloc, repo, path, found),
     }
@@ -34,11 +34,11 @@ fn value_for(
     found: Nearest,
 ) -> Result<Effective, AllocError>
     requires names { IsPathOf repo.now.names path.now }
-    requires value { found.mergeinfo.0 < length repo.now.values }
+    requires value { found.mi.0 < length repo.now.values }
     requires depth { found.depth ≤ length path.now }
     ensures { IfOk result (λ value. effective_view value ≡ effective_by_number repo.now path.now found) }
 {
-    let value = match MergeInfo::parse(alloc, repo.dump.value(found.mergeinfo)) {
+    let value = match MergeInfo::parse(alloc, repo.dump.value(found.mi)) {
         Ok(value) => value,
         Err(MergeError::Malformed) => return Ok(Effective::Malformed),
         Err(MergeError::Memory) => return Err(AllocError),

@@ -1,25 +1,27 @@
 //! What queries are answered from.
-ghost use Rattle.std.specs.Prelude.{◌≡◌, ◌<◌, length, None, IfOk, IsTrue};
+ghost use Rattle.std.specs.Prelude.{◌≡◌, ◌≤◌, length, option_map, None, IfOk, IfSome};
 ghost use Rattle.svn_path.specs.Path.{same_name};
 ghost use Rattle.svn_dump.specs.Dump.{IsDump, history_view};
 ghost use Rattle.svn_dump.specs.Fault.{first_fault};
-ghost use Rattle.svn_dump.specs.Tree.{trees_of};
+ghost use Rattle.block_map.specs.Ends.{ends_of};
+ghost use Rattle.block_map.specs.Map.{IsMapOf, revision_in};
 
 use crate::query::Peg;
 use crate::status::Status;
-use crate::trees::Trees;
+use block_map::{Ends, Map, Nearest};
 use path_index::{Hit, Index, Segment};
 use std::alloc::{AllocError, Global};
 use std::marker::Model;
 use svn_dump::Dump;
 use svn_path::{Lookup, Names, Path, PathError};
 
-/// A dump of a lawful history, with the index of its records and the trees of its revisions, seen as the dump.
+/// A dump of a lawful history, with the index and the map of its records and the ends of its revisions, seen as the dump.
 #[derive(Drop)]
 pub struct Repo {
     pub(crate) dump: Dump,
     pub(crate) index: Index,
-    pub(crate) trees: Trees,
+    map: Map,
+    ends: Ends,
 }
 
 impl Model for Repo {
@@ -30,24 +32,30 @@ impl Model for Repo {
 
     ghost view = { λ r. r.dump };
 
-    ghost invariant = { λ r. IsRepo r.dump r.index r.trees };
+    ghost invariant = { λ r. IsRepo r.dump r.index r.map r.ends };
 }
 
 impl Repo {
-    ghost use Rattle.query_answer.specs.Repo.{AreHitsIn, AreSegmentsIn, IsPathFound, IsPegFound};
-    ghost use Rattle.query_answer.specs.TreeOfNumbers.{SameTrees};
+    ghost use Rattle.query_answer.specs.Effective.{nearest};
+    ghost use Rattle.query_answer.specs.Repo.{AreHitsIn, AreSegmentsIn, IsPathFound, IsPegFound, nearest_view};
 
-    /// The repository of a dump. The index and the trees are those of the dump.
-    pub fn new(dump: Dump, index: Index, trees: Trees) -> Self
+    /// The repository of a dump. The index, the map and the ends are those of the dump.
+    pub fn new(dump: Dump, index: Index, map: Map, ends: Ends) -> Self
         requires records { index.records ≡ dump.records }
         requires first { index.first ≡ 0 }
-        requires trees { SameTrees trees (trees_of same_name (history_view dump)) }
+        requires map { IsMapOf dump map }
+        requires ends { ends ≡ ends_of dump.counts }
         requires lawful { first_fault same_name (history_view dump) ≡ None }
         ensures { result ≡ dump }
     {
         // The contract of `names` gives the proof what is true of each dump.
         let _ = dump.names();
-        Repo { dump, index, trees }
+        Repo {
+            dump,
+            index,
+            map,
+            ends,
+        }
     }
 
     /// The names of the components of its paths.
@@ -71,20 +79,32 @@ impl Repo {
             Err(PathError::Dot) => return Ok(Err(Status::BadQuery)),
             Err(_) => return Err(AllocError),
         };
-        if peg.rev as usize >= self.trees.len() {
+        if peg.rev as usize >= self.dump.counts().len() {
             return Ok(Err(Status::NoSuchRevision));
         }
         match lookup {
-            Lookup::Known(path) => {
-                if self.trees.has(&path, peg.rev) {
-                    Ok(Ok(path))
-                } else {
-                    Ok(Err(Status::NoSuchPath))
-                }
-            }
+            Lookup::Known(path) => match self.map.entry(self.ends.at(peg.rev), &path)? {
+                Some(_) => Ok(Ok(path)),
+                None => Ok(Err(Status::NoSuchPath)),
+            },
             Lookup::Unknown => Ok(Err(Status::NoSuchPath)),
         }
     }
+
+    /// The mergeinfo of the path in the revision, or of the nearest path above it that has some. There is none past the
+    /// last revision.
+    pub(crate) fn nearest(&self, path: &Path, rev: u32) -> Result<Option<Nearest>, AllocError>
+        ensures found { IfOk result (λ found. option_map nearest_view found
+            ≡ nearest same_name (revision_in self.now rev) path.now) }
+        ensures depth { IfOk result (λ found. IfSome found (λ each. each.depth ≤ length path.now)) }
+        ensures kept { IsDump self.now }
+    {
+        if rev as usize >= self.dump.counts().len() {
+            return Ok(None);
+        }
+        self.map.nearest(self.ends.at(rev), path)
+    }
+
     /// The location segments of the path of a peg.
     pub(crate) fn segments(&self, peg: Peg<'_>, path: &Path) -> Result<Vec<Segment>, AllocError>
         requires { IsPathFound self.now peg path.now }

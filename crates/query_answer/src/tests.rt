@@ -1,11 +1,21 @@
 //! Queries and answers on two small dumps.
 
+ghost use Rattle.std.specs.Prelude.{◌≡◌, None, IfOk, OnOk};
+ghost use Rattle.svn_path.specs.Path.{same_name};
+ghost use Rattle.svn_dump.specs.Dump.{history_view};
+ghost use Rattle.svn_dump.specs.Fault.{first_fault};
+ghost use Rattle.block_map.specs.Ends.{ends_of};
+ghost use Rattle.block_map.specs.Map.{IsMapOf};
+
 use crate::inheritance::effective;
-use crate::{Effective, Query, Repo, Trees, answer};
+use crate::{Effective, Query, Repo, answer};
+use block_map::{Ends, Map, check};
+use par_scan::Sum;
 use path_index::Index;
-use std::alloc::Global;
+use std::alloc::{AllocError, Global};
 use std::test::Fail;
-use svn_dump::read;
+use std::thread::Threads;
+use svn_dump::{Dump, read};
 use svn_path::{Lookup, Path};
 
 // `trunk` is added in revision 1 and copied to `b` in revision 2.
@@ -160,11 +170,38 @@ V 0
 PROPS-END
 ";
 
-fn repo_of(alloc: Global, dump: &[u8]) -> Result<Repo, Fail> {
+/// The ends of the revisions of a dump.
+fn revision_ends(alloc: Global, dump: &Dump) -> Result<Ends, AllocError>
+    ensures { IfOk result (λ ends. ends ≡ ends_of dump.now.counts) }
+{
+    let mut sums = Vec::new(alloc);
+    let mut end: u64 = 0;
+    for count in dump.counts() {
+        end += u64::from(*count);
+        sums.push(Sum(end))?;
+    }
+    Ok(Ends::new(sums))
+}
+
+/// The map of a dump of a lawful history.
+fn map_of<R: Threads + Sync>(rt: &R, alloc: Global, dump: &Dump, ends: &Ends) -> Result<Map, Fail>
+    requires { ends.now ≡ ends_of dump.now.counts }
+    ensures map { IfOk result (λ map. IsMapOf dump.now map) }
+    ensures lawful { OnOk result (first_fault same_name (history_view dump.now) ≡ None) }
+{
+    let map = Map::build(alloc, dump.records(), 0, ends)?;
+    match check(rt, &map, dump, ends)? {
+        None => Ok(map),
+        Some(_) => Err("a faulty record")?,
+    }
+}
+
+fn repo_of<R: Threads + Sync>(rt: &R, alloc: Global, dump: &[u8]) -> Result<Repo, Fail> {
     let dump = read(alloc, dump)?;
-    let trees = Trees::build(alloc, &dump)?;
+    let ends = revision_ends(alloc, &dump)?;
+    let map = map_of(rt, alloc, &dump, &ends)?;
     let index = Index::build(alloc, dump.records(), 0)?;
-    Ok(Repo::new(dump, index, trees))
+    Ok(Repo::new(dump, index, map, ends))
 }
 
 /// The answers to these query lines, one after the other.
@@ -179,8 +216,13 @@ fn answers(alloc: Global, repo: &Repo, lines: &[&[u8]]) -> Result<Vec<u8>, Fail>
 }
 
 /// The same on a dump.
-fn report_of(alloc: Global, dump: &[u8], lines: &[&[u8]]) -> Result<Vec<u8>, Fail> {
-    let repo = repo_of(alloc, dump)?;
+fn report_of<R: Threads + Sync>(
+    rt: &R,
+    alloc: Global,
+    dump: &[u8],
+    lines: &[&[u8]],
+) -> Result<Vec<u8>, Fail> {
+    let repo = repo_of(rt, alloc, dump)?;
     answers(alloc, &repo, lines)
 }
 
@@ -206,7 +248,7 @@ fn each_verb_has_its_lines(rt: HostRuntime) -> Result<(), Fail> {
         b"segments\tb@2".as_slice(),
         b"log\tb@2".as_slice(),
     ];
-    let found = report_of(rt.alloc(), DUMP, lines.as_slice())?;
+    let found = report_of(&rt, rt.alloc(), DUMP, lines.as_slice())?;
     assert_eq!(rt;
         found.as_slice(),
         b"#1 ok\n/trunk\n#2 ok\n2-2 /b\n1-1 /trunk\n#3 ok\nr2 /b\nr1 /trunk\n".as_slice()
@@ -221,7 +263,7 @@ fn a_peg_needs_its_revision_and_its_path(rt: HostRuntime) -> Result<(), Fail> {
         b"log\tb@1".as_slice(),
         b"log\ta/../b@2".as_slice(),
     ];
-    let found = report_of(rt.alloc(), DUMP, lines.as_slice())?;
+    let found = report_of(&rt, rt.alloc(), DUMP, lines.as_slice())?;
     assert_eq!(rt;
         found.as_slice(),
         b"#1 no-such-revision\n#2 no-such-path\n#3 bad-query\n".as_slice()
@@ -230,8 +272,12 @@ fn a_peg_needs_its_revision_and_its_path(rt: HostRuntime) -> Result<(), Fail> {
 }
 
 /// How many names a repository has, and whether two are among them.
-fn names_of(alloc: Global, dump: &[u8]) -> Result<(usize, bool, bool), Fail> {
-    let repo = repo_of(alloc, dump)?;
+fn names_of<R: Threads + Sync>(
+    rt: &R,
+    alloc: Global,
+    dump: &[u8],
+) -> Result<(usize, bool, bool), Fail> {
+    let repo = repo_of(rt, alloc, dump)?;
     let names = repo.names();
     Ok((
         names.len(),
@@ -242,7 +288,7 @@ fn names_of(alloc: Global, dump: &[u8]) -> Result<(usize, bool, bool), Fail> {
 
 #[test]
 fn a_repository_has_the_names_of_its_paths(rt: HostRuntime) -> Result<(), Fail> {
-    assert_eq!(rt; names_of(rt.alloc(), DUMP)?, (2, true, true));
+    assert_eq!(rt; names_of(&rt, rt.alloc(), DUMP)?, (2, true, true));
     Ok(())
 }
 
@@ -253,7 +299,7 @@ fn mergeinfo_is_that_of_the_nearest_path(rt: HostRuntime) -> Result<(), Fail> {
         b"mergeinfo\ta/b@1".as_slice(),
         b"mergeinfo\ta/d@1".as_slice(),
     ];
-    let found = report_of(rt.alloc(), MERGEINFO, lines.as_slice())?;
+    let found = report_of(&rt, rt.alloc(), MERGEINFO, lines.as_slice())?;
     assert_eq!(rt;
         found.as_slice(),
         b"#1 ok\n/s:1*,2\n#2 ok\n/s/b:2\n#3 ok\n".as_slice()
@@ -264,7 +310,7 @@ fn mergeinfo_is_that_of_the_nearest_path(rt: HostRuntime) -> Result<(), Fail> {
 #[test]
 fn malformed_mergeinfo_has_its_status(rt: HostRuntime) -> Result<(), Fail> {
     let lines = [b"mergeinfo\tc@1".as_slice(), b"log\tc@1".as_slice()];
-    let found = report_of(rt.alloc(), MERGEINFO, lines.as_slice())?;
+    let found = report_of(&rt, rt.alloc(), MERGEINFO, lines.as_slice())?;
     assert_eq!(rt;
         found.as_slice(),
         b"#1 malformed-mergeinfo\n#2 ok\nr1 /c\n".as_slice()
@@ -294,21 +340,22 @@ fn effective_text(
 }
 
 /// The same on a dump.
-fn effective_of(
+fn effective_of<R: Threads + Sync>(
+    rt: &R,
     alloc: Global,
     dump: &[u8],
     path: &[u8],
     rev: u32,
 ) -> Result<Option<Vec<u8>>, Fail> {
-    let repo = repo_of(alloc, dump)?;
+    let repo = repo_of(rt, alloc, dump)?;
     effective_text(alloc, &repo, path, rev)
 }
 
 #[test]
 fn effective_mergeinfo_is_looked_up(rt: HostRuntime) -> Result<(), Fail> {
-    let found = effective_of(rt.alloc(), BRANCH, b"/branches/b", 9)?;
+    let found = effective_of(&rt, rt.alloc(), BRANCH, b"/branches/b", 9)?;
     assert!(rt; found.as_deref() == Some(b"/trunk/b:6\n".as_slice()));
-    let found = effective_of(rt.alloc(), MERGEINFO, b"/c", 1)?;
+    let found = effective_of(&rt, rt.alloc(), MERGEINFO, b"/c", 1)?;
     assert!(rt; found.is_none());
     Ok(())
 }
@@ -316,7 +363,7 @@ fn effective_mergeinfo_is_looked_up(rt: HostRuntime) -> Result<(), Fail> {
 #[test]
 fn an_answer_is_numbered_from_one(rt: HostRuntime) -> Result<(), Fail> {
     let lines = [b"segments\t/branches/b@8".as_slice()];
-    let found = report_of(rt.alloc(), BRANCH, lines.as_slice())?;
+    let found = report_of(&rt, rt.alloc(), BRANCH, lines.as_slice())?;
     assert_eq!(rt;
         found.as_slice(),
         b"#1 ok\n4-8 /branches/b\n3-3 -\n1-2 /trunk\n".as_slice()
@@ -330,7 +377,7 @@ fn merges_are_compared_by_location(rt: HostRuntime) -> Result<(), Fail> {
         b"merged\t/trunk@9\t/branches@9".as_slice(),
         b"eligible\t/trunk@8\t/branches/b@8".as_slice(),
     ];
-    let found = report_of(rt.alloc(), BRANCH, lines.as_slice())?;
+    let found = report_of(&rt, rt.alloc(), BRANCH, lines.as_slice())?;
     assert_eq!(rt;
         found.as_slice(),
         b"#1 ok\nr3*\nr6\n#2 ok\nr3\nr6\nr7\nr8\n".as_slice()

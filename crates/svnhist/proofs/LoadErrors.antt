@@ -1,12 +1,15 @@
 -- Why a dump has no repository.
-use Rattle.std.proofs.Common.{◌∙◌}
+use Rattle.std.proofs.Common.{◌≡◌, Some, sym, ◌∙◌}
+use Rattle.svn_path.specs.Path.{same_name}
 use Rattle.svn_dump.specs.Dump.{DumpValue, IsDump, history_view}
-use Rattle.query_answer.specs.TreesError.{IsFaultOf}
-use Rattle.query_answer.specs.declared.trees.TreesError.{TreesError}
-use Rattle.query_answer.specs.declared.trees.TreesError.TheVariants as trees
+use Rattle.svn_dump.specs.Fault.{first_fault}
+use Rattle.block_map.specs.FaultKind.{fault_view}
+use Rattle.block_map.specs.declared.fault.Fault.{Fault}
 use Rattle.query_answer.proofs.InBytes.{first_fault-in_bytes}
-use Rattle.svnhist.specs.LoadRepo.{IsLoadError, load_error_of_trees}
+use Rattle.svnhist.specs.LoadRepo.{IsLoadError}
+use Rattle.svnhist.specs.declared.load_repo.LoadError.TheVariants as error
 
-pub IsLoadError-trees : (dump : DumpValue) → IsDump dump → (refused : TreesError) → IsFaultOf (history_view dump) refused → IsLoadError dump (load_error_of_trees refused)
-IsLoadError-trees dump kept (trees.Fault fault) first = first_fault-in_bytes dump kept ∙ first
-IsLoadError-trees dump kept trees.Memory first = tt
+-- the first faulty record by numbers is that in bytes
+pub IsLoadError-fault : (dump : DumpValue) → IsDump dump → (fault : Fault)
+    → Some (fault_view fault) ≡ first_fault same_name (history_view dump) → IsLoadError dump (error.Fault fault)
+IsLoadError-fault dump kept fault first = first_fault-in_bytes dump kept ∙ sym first

@@ -1,20 +1,23 @@
 -- The sums of the counts of revisions, and the borders between blocks of records.
-use Rattle.std.proofs.Common.{◌≡◌, ℕ, zero, suc, ◌+◌, ◌-◌, ◌<◌, ◌≤◌, sum, List, [], ◌∷◌, length, map, get_or, take, refl, ap, ap₂, subst, ◌∙◌, arith}
+use Rattle.std.proofs.Common.{◌≡◌, ℕ, zero, suc, ◌+◌, ◌-◌, ◌^◌, ◌<◌, ◌≤◌, sum, List, [], ◌∷◌, length, map, get_or, take, refl, sym, ap, ap₂, subst, ◌∙◌, arith}
 use Rattle.std.specs.declared.alloc.AllocError.{AllocError}
 use Rattle.std.specs.Prelude.{Err, IfOk, Ok, Result, Vec, vec_len}
 use Rattle.std.specs.Global.{Global}
-use Rattle.std.specs.List.{All, sum_by}
-use Rattle.std.proofs.lemmas.List.{get_or-map, length-map, take-map, take-take, take_all}
-use Rattle.std.proofs.lemmas.List.Elements.{All-from_get_or}
+use Rattle.std.specs.List.{All, range_with_len, sum_by}
+use Rattle.std.proofs.lemmas.List.{ext_get_or, get_or-map, length-map, take-map, take-take, take_all}
+use Rattle.std.proofs.lemmas.List.Elements.{All-from_get_or, All-map}
 use Rattle.std.proofs.lemmas.List.Sums.{sum_by-cons, sum_by-take-le}
 use Rattle.svn_dump.specs.Dump.{DumpValue, IsDump, revisions_from}
 use Rattle.svn_dump.specs.declared.record.NodeRecord.{NodeRecord}
-use Rattle.query_answer.proofs.TreesBuilt.{sum-counts}
+use Rattle.query_answer.proofs.RevisionTicks.{sum-counts}
 use Rattle.par_scan.specs.Chain.{AreJoinedUpTo, IsChain, Meet}
 use Rattle.par_scan.specs.Sum.{add_sum, no_border, sum_weighs, sum_weight}
 use Rattle.par_scan.specs.declared.sum.Sum.{Sum}
+use Rattle.block_map.specs.Ends.{end_of, ends_of, ends_view}
+use Rattle.block_map.proofs.RevisionEnds.{ends_of-at, length-ends_of}
+use Rattle.block_map.proofs.RevisionStates.{end_of-within}
 use Rattle.svnhist.specs.Blocks.{AreBorders}
-use Rattle.svnhist.specs.RecordEnds.{AreRecordEnds, record_end, sum_at, sum_of}
+use Rattle.svnhist.specs.RecordEnds.{AreRecordEnds, sum_at, sum_of}
 
 -- sums stand between no borders
 Meet-sums : (sums : List Sum) → Meet no_border no_border sums
@@ -52,8 +55,28 @@ AreRecordEnds-scan counts sums (Ok joined) is len up_to =
     (subst (λ items. AreJoinedUpTo add_sum no_border no_border items joined.items) is up_to)
 AreRecordEnds-scan counts sums (Err e) is len up_to = tt
 
-record_end-le : (counts : List ℕ) (i j : ℕ) → i ≤ j → record_end counts i ≤ record_end counts j
-record_end-le counts i j h =
+module _ (counts : List ℕ) (sums : List Sum) (are : AreRecordEnds counts sums) where
+  -- the sums are the ends of the revisions
+  pub ends_view-sums : ends_view sums ≡ ends_of counts
+  ends_view-sums =
+      let len = length-map sums (λ (each : Sum). each.0) in
+      ext_get_or 0 (ends_view sums) (ends_of counts) (omega (arith, len, are.len, length-ends_of counts))
+      (λ rev below.
+      let within : rev < length counts = omega (arith, len, are.len, below) in
+      get_or-map (λ (each : Sum). each.0) sums rev (sum_of 0) 0 (omega (arith, within, are.len))
+      ∙ are.each rev within ∙ sym (ends_of-at counts rev within))
+
+-- which are small in a dump
+pub ends_view-small : (dump : DumpValue) → IsDump dump → (sums : List Sum) → AreRecordEnds dump.counts sums
+    → All (λ end. end < 2 ^ 32) (ends_view sums)
+ends_view-small dump is sums are =
+    subst (All (λ end. end < 2 ^ 32)) (sym (ends_view-sums dump.counts sums are))
+    (All-map (λ end. end < 2 ^ 32) (end_of dump.counts) (range_with_len 0 (length dump.counts))
+    (λ k d below. omega (arith, end_of-within dump (get_or (range_with_len 0 (length dump.counts)) k d) is, is.few_records)))
+
+-- they rise
+end_of-le : (counts : List ℕ) (i j : ℕ) → i ≤ j → end_of counts i ≤ end_of counts j
+end_of-le counts i j h =
     let short = sum_by-take-le (λ (x : ℕ). x) (take (j + 1) counts) (i + 1) in
     let same = ap sum (take-take (i + 1) (j + 1) counts (omega arith)) in
     omega (arith, short, same)
@@ -88,13 +111,13 @@ module _ (dump : DumpValue) (is : IsDump dump) (sums : List Sum) (are : AreRecor
   pub ends-below : All (λ rev. rev < length sums) ends
   ends-below = All-from_get_or (λ rev. rev < length sums) ends 0 end-below
 
-  sum_at-end : (i : ℕ) → i < length ends → get_or (map (sum_at sums) ends) i 0 ≡ record_end dump.counts (get_or ends i 0)
+  sum_at-end : (i : ℕ) → i < length ends → get_or (map (sum_at sums) ends) i 0 ≡ end_of dump.counts (get_or ends i 0)
   sum_at-end i inside =
       get_or-map (sum_at sums) ends i 0 0 inside ∙ are.each (get_or ends i 0) (omega (arith, end-below i inside, are.len))
 
   -- there are so many records up to each of them
-  pub map-sum_at : map (sum_at sums) ends ≡ map (record_end dump.counts) ends
-  map-sum_at = map-same (sum_at sums) (record_end dump.counts) ends
+  pub map-sum_at : map (sum_at sums) ends ≡ map (end_of dump.counts) ends
+  map-sum_at = map-same (sum_at sums) (end_of dump.counts) ends
       (λ k d below. are.each (get_or ends k d) (omega (arith, ends-below k d below, are.len)))
 
   -- up to revisions that rise from 0 to the last one the numbers of records rise from 0 to that of all records
@@ -107,14 +130,14 @@ module _ (dump : DumpValue) (is : IsDump dump) (sums : List Sum) (are : AreRecor
       let whole : length dump.counts ≤ length sums - 1 + 1 = omega (arith, are.len, some) in
       record {
         some = omega (arith, len, borders.some);
-        starts = sum_at-end 0 borders.some ∙ ap (record_end dump.counts) borders.starts ∙ first-count dump.records dump.counts above is.revisions;
+        starts = sum_at-end 0 borders.some ∙ ap (end_of dump.counts) borders.starts ∙ first-count dump.records dump.counts above is.revisions;
         rise = λ i j h below.
             let inside : j < length ends = omega (arith, len) in
-            let up = record_end-le dump.counts (get_or ends i 0) (get_or ends j 0) (borders.rise i j h inside) in
+            let up = end_of-le dump.counts (get_or ends i 0) (get_or ends j 0) (borders.rise i j h inside) in
             omega (arith, up, sum_at-end i (omega arith), sum_at-end j inside);
         ends = ap (λ i. get_or (map (sum_at sums) ends) i 0) last
             ∙ sum_at-end (length ends - 1) (omega (arith, borders.some))
-            ∙ ap (record_end dump.counts) borders.ends
+            ∙ ap (end_of dump.counts) borders.ends
             ∙ ap sum (take_all (length sums - 1 + 1) dump.counts whole)
             ∙ sum-counts dump is;
       }

@@ -2,9 +2,7 @@
 use Rattle.std.specs.Prelude.{◌≡◌, Some, bytes_eq, ⊤}
 use Rattle.svn_dump.specs.Dump.{DumpValue, history_in_bytes}
 use Rattle.svn_dump.specs.Fault.{first_fault}
-use Rattle.query_answer.specs.FaultKind.{kind_view}
-use Rattle.query_answer.specs.declared.trees.TreesError.{TreesError}
-use Rattle.query_answer.specs.declared.trees.TreesError.TheVariants as trees
+use Rattle.block_map.specs.FaultKind.{kind_view}
 use Rattle.svnhist.specs.declared.load_repo.LoadError.{LoadError}
 use Rattle.svnhist.specs.declared.load_repo.LoadError.TheVariants as error
 
@@ -13,8 +11,3 @@ abbrev pub IsLoadError : DumpValue → LoadError → Type 0
 IsLoadError dump (error.Fault fault) =
     first_fault bytes_eq (history_in_bytes dump) ≡ Some (fault.number, kind_view fault.kind)
 IsLoadError dump error.Memory = ⊤
-
--- how an error of the trees is reported
-abbrev pub load_error_of_trees : TreesError → LoadError
-load_error_of_trees (trees.Fault fault) = error.Fault fault
-load_error_of_trees trees.Memory = error.Memory

@@ -6,10 +6,10 @@ use Rattle.svn_dump.specs.Fault.{first_fault}
 use Rattle.svn_dump.specs.Record.{HistoryOfBytes}
 use Rattle.svn_dump.specs.declared.error.DumpError.{DumpError}
 use Rattle.svn_dump.specs.declared.error.DumpError.TheVariants as refusal
-use Rattle.query_answer.specs.FaultKind.{kind_view}
+use Rattle.block_map.specs.FaultKind.{kind_view}
 use Rattle.svnhist.specs.QueryLines.{query_lines}
 use Rattle.svnhist.specs.Report.{most_queries}
-use Rattle.query_answer.specs.declared.fault.Fault.{Fault}
+use Rattle.block_map.specs.declared.fault.Fault.{Fault}
 use Rattle.svnhist.specs.declared.load_repo.LoadError.{LoadError}
 use Rattle.svnhist.specs.declared.load_repo.LoadError.TheVariants as error
 use Rattle.svnhist.specs.declared.run_error.RunError.{RunError}

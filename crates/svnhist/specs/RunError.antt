@@ -2,8 +2,8 @@
 use Rattle.std.specs.Prelude.{ℕ, List, [], ◌∷◌, ◌++◌, codes, decimal, slice_index_or}
 use Rattle.svn_dump.specs.declared.error.DumpError.{DumpError}
 use Rattle.svn_dump.specs.declared.error.DumpError.TheVariants as refusal
-use Rattle.query_answer.specs.declared.fault.FaultKind.{FaultKind}
-use Rattle.query_answer.specs.declared.fault.FaultKind.TheVariants.{NoParent, Exists, Missing, NoSource}
+use Rattle.block_map.specs.declared.fault.FaultKind.{FaultKind}
+use Rattle.block_map.specs.declared.fault.FaultKind.TheVariants.{NoParent, Exists, Missing, NoSource}
 use Rattle.svnhist.specs.declared.run_error.RunError.{RunError}
 use Rattle.svnhist.specs.declared.run_error.RunError.TheVariants as run
 use Rattle.svnhist.specs.declared.run_error.Source.{Source}

@@ -12,26 +12,24 @@ use std::alloc::{AllocError, Global};
 use std::thread::Threads;
 use svn_dump::Dump;
 
-/// The index of all records of a dump. The blocks that `cuts` make of its revisions are indexed in parallel and joined.
-/// Each join copies, so neighbouring blocks are taken together until there is one for each worker.
+/// The index of all records of a dump. The blocks between these borders are indexed in parallel and joined.
 pub(crate) fn index_of<R: Threads + Sync>(
     rt: &R,
     alloc: Global,
     dump: &Dump,
-    cuts: &[u32],
+    borders: &[usize],
     workers: usize,
 ) -> Result<Index, AllocError>
-    requires cuts { All (λ length. 0 < length) cuts.now }
+    requires borders { AreBorders 0 (length dump.now.records) borders.now }
     requires some_worker { 0 < workers }
     requires few_workers { workers ≤ 64 }
     ensures records { IfOk result (λ index. index.records ≡ dump.now.records) }
     ensures first { IfOk result (λ index. index.first ≡ 0) }
 {
-    let borders = record_borders(rt, alloc, dump, cuts, workers)?;
     let blocks = Blocks {
         alloc,
         records: dump.records(),
-        borders: borders.as_slice(),
+        borders,
     };
     let indexes = make_all(rt, alloc, &blocks, borders.len() - 1, workers)?;
     match total(rt, alloc, indexes, workers)? {
@@ -40,27 +38,27 @@ pub(crate) fn index_of<R: Threads + Sync>(
     }
 }
 
-/// How many records precede each block, and how many there are.
-fn record_borders<R: Threads + Sync>(
-    rt: &R,
+/// How many records precede each block that `cuts` make of the revisions of a dump, and how many there are. Each join of
+/// indexes copies, so neighbouring blocks are taken together until there is one for each worker.
+pub(crate) fn record_borders(
     alloc: Global,
     dump: &Dump,
+    sums: &[Sum],
     cuts: &[u32],
     workers: usize,
 ) -> Result<Vec<usize>, AllocError>
+    requires sums { AreRecordEnds dump.now.counts sums.now }
     requires cuts { All (λ length. 0 < length) cuts.now }
     requires some_worker { 0 < workers }
-    requires few_workers { workers ≤ 64 }
     ensures exact { IfOk result (λ borders. AreRecordBorders cuts.now workers dump.now.counts borders.items) }
     ensures rise { IfOk result (λ borders. AreBorders 0 (length dump.now.records) borders.items) }
 {
-    let sums = record_ends(rt, alloc, dump, workers)?;
-    let ends = cut(alloc, cuts, sums.len() - 1, workers)?;
-    sums_at(alloc, sums.as_slice(), ends.as_slice())
+    let ends = cut(alloc, cuts, dump.counts().len() - 1, workers)?;
+    sums_at(alloc, sums, ends.as_slice())
 }
 
 /// For each revision how many records the revisions up to it have.
-fn record_ends<R: Threads + Sync>(
+pub(crate) fn record_ends<R: Threads + Sync>(
     rt: &R,
     alloc: Global,
     dump: &Dump,

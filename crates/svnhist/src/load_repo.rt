@@ -1,11 +1,15 @@
 //! The repository of a dump.
 ghost use Rattle.std.specs.Prelude.{◌≡◌, ◌<◌, ◌≤◌, All, IfErr, IfOk, None, OnOk, bytes_eq};
-ghost use Rattle.svn_dump.specs.Dump.{history_in_bytes};
+ghost use Rattle.svn_path.specs.Path.{same_name};
+ghost use Rattle.svn_dump.specs.Dump.{history_in_bytes, history_view};
 ghost use Rattle.svn_dump.specs.Fault.{first_fault};
+ghost use Rattle.block_map.specs.Ends.{ends_of};
+ghost use Rattle.block_map.specs.Map.{IsMapOf};
 ghost use Rattle.svnhist.specs.LoadRepo.{IsLoadError};
 
-use crate::block_index::index_of;
-use query_answer::{Fault, Repo, Trees, TreesError};
+use crate::block_index::{index_of, record_borders, record_ends};
+use block_map::{Ends, Fault, Map, check};
+use query_answer::Repo;
 use std::alloc::{AllocError, Global};
 use std::sync::Wait;
 use std::thread::Threads;
@@ -32,19 +36,6 @@ impl From<AllocError> for LoadError {
     }
 }
 
-impl From<TreesError> for LoadError {
-    ghost use Rattle.svnhist.specs.LoadRepo.{load_error_of_trees};
-
-    ghost from_gives = { λ e told. told ≡ load_error_of_trees e };
-
-    fn from(e: TreesError) -> LoadError {
-        match e {
-            TreesError::Fault(fault) => LoadError::Fault(fault),
-            TreesError::Memory => LoadError::Memory,
-        }
-    }
-}
-
 /// The repository of a dump, or its first faulty record.
 ///
 /// At most `workers` threads at a time make the indexes of blocks, which are then joined. Blocks take whole revisions
@@ -64,7 +55,29 @@ pub fn load_repo<R: Threads + Wait + Sync>(
     ensures lawful { OnOk result (first_fault bytes_eq (history_in_bytes dump) ≡ None) }
     ensures faulty { IfErr result (IsLoadError dump) }
 {
-    let trees = Trees::build(alloc, &dump)?;
-    let index = index_of(rt, alloc, &dump, cuts, workers)?;
-    Ok(Repo::new(dump, index, trees))
+    let sums = record_ends(rt, alloc, &dump, workers)?;
+    let borders = record_borders(alloc, &dump, sums.as_slice(), cuts, workers)?;
+    let ends = Ends::new(sums);
+    let map = lawful_map(rt, alloc, &dump, &ends)?;
+    let index = index_of(rt, alloc, &dump, borders.as_slice(), workers)?;
+    Ok(Repo::new(dump, index, map, ends))
+}
+
+/// The map of all records of a dump, or its first faulty record. The revisions of the dump end as these say.
+pub(crate) fn lawful_map<R: Threads + Sync>(
+    rt: &R,
+    alloc: Global,
+    dump: &Dump,
+    ends: &Ends,
+) -> Result<Map, LoadError>
+    requires { ends.now ≡ ends_of dump.now.counts }
+    ensures map { IfOk result (λ map. IsMapOf dump.now map) }
+    ensures lawful { OnOk result (first_fault same_name (history_view dump.now) ≡ None) }
+    ensures faulty { IfErr result (IsLoadError dump.now) }
+{
+    let map = Map::build(alloc, dump.records(), 0, ends)?;
+    match check(rt, &map, dump, ends)? {
+        Some(fault) => Err(LoadError::Fault(fault)),
+        None => Ok(map),
+    }
 }

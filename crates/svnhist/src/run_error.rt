@@ -3,7 +3,7 @@ ghost use Rattle.std.specs.Prelude.{◌≡◌, ◌++◌, IfOk, OnOk, OnErr};
 ghost use Rattle.svnhist.specs.RunError.{line_of, status_of, refused_text, refusal_name_of, fault_name_of, source_name_of, unread_text};
 
 use crate::load_repo::LoadError;
-use query_answer::{Fault, FaultKind};
+use block_map::{Fault, FaultKind};
 use range_list::push_number;
 use std::alloc::{AllocError, AllocFailed, Global};
 use svn_dump::DumpError;

@@ -8,5 +8,6 @@ mod gates;
 mod histories;
 mod inputs;
 mod joined;
+mod maps;
 mod reports;
 mod workers;

@@ -3,7 +3,7 @@
 use crate::run_error::{RunError, Source};
 use crate::tests::histories::FIRST;
 use crate::tests::reports::report_of;
-use query_answer::{Fault, FaultKind};
+use block_map::{Fault, FaultKind};
 use std::alloc::Global;
 use std::test::Fail;
 use svn_dump::DumpError;

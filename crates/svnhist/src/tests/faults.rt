@@ -6,7 +6,7 @@ use crate::run_error::RunError;
 use crate::tests::histories::{
     EXISTS, MISSING, NO_PARENT, NO_PARENT_OF_COPY, NO_SOURCE, REPLACED_BY_NOTHING, REPLACES_NOTHING,
 };
-use query_answer::{Fault, FaultKind};
+use block_map::{Fault, FaultKind};
 use query_pool::NoGate;
 use std::alloc::Global;
 use std::sync::Wait;

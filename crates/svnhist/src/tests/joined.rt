@@ -1,12 +1,15 @@
 //! Answers from an index that was joined of two parts.
 ghost use Rattle.std.specs.Prelude.{◌≡◌, ◌^◌, ◌<◌, ◌≤◌, length, IfOk};
 
+use crate::load_repo::lawful_map;
 use crate::tests::histories::MERGED;
+use crate::tests::maps::revision_ends;
 use par_scan::Acts;
 use path_index::Index;
-use query_answer::{Query, Repo, Trees, answer};
+use query_answer::{Query, Repo, answer};
 use std::alloc::{AllocError, Global};
 use std::test::Fail;
+use std::thread::Threads;
 use svn_dump::{NodeRecord, read};
 
 // A copy of an index, joined to its unit.
@@ -32,12 +35,18 @@ fn joined(alloc: Global, records: &[NodeRecord], count: usize) -> Result<Index, 
 }
 
 // The repository of a dump, whose index is joined of the records up to a revision and those after it.
-fn repo_in_parts(alloc: Global, dump: &[u8], rev: u32) -> Result<Repo, Fail> {
+fn repo_in_parts<R: Threads + Sync>(
+    rt: &R,
+    alloc: Global,
+    dump: &[u8],
+    rev: u32,
+) -> Result<Repo, Fail> {
     let dump = read(alloc, dump)?;
-    let trees = Trees::build(alloc, &dump)?;
+    let ends = revision_ends(rt, alloc, &dump)?;
+    let map = lawful_map(rt, alloc, &dump, &ends)?;
     let count = dump.records().partition_point(|each| each.rev <= rev);
     let index = joined(alloc, dump.records(), count)?;
-    Ok(Repo::new(dump, index, trees))
+    Ok(Repo::new(dump, index, map, ends))
 }
 
 // The answers to these query lines.
@@ -52,8 +61,13 @@ fn answers(alloc: Global, repo: &Repo, lines: &[&[u8]]) -> Result<Vec<u8>, Fail>
 }
 
 // The same on a dump in two parts.
-fn answers_in_parts(alloc: Global, rev: u32, lines: &[&[u8]]) -> Result<Vec<u8>, Fail> {
-    let repo = repo_in_parts(alloc, MERGED, rev)?;
+fn answers_in_parts<R: Threads + Sync>(
+    rt: &R,
+    alloc: Global,
+    rev: u32,
+    lines: &[&[u8]],
+) -> Result<Vec<u8>, Fail> {
+    let repo = repo_in_parts(rt, alloc, MERGED, rev)?;
     answers(alloc, &repo, lines)
 }
 
@@ -64,7 +78,7 @@ fn a_joined_index_answers_as_one(rt: HostRuntime) -> Result<(), Fail> {
         b"log\t/branches/b@8".as_slice(),
         b"locate\t/branches/b@8\t1".as_slice(),
     ];
-    let found = answers_in_parts(rt.alloc(), 5, lines.as_slice())?;
+    let found = answers_in_parts(&rt, rt.alloc(), 5, lines.as_slice())?;
     let segments = b"#1 ok\n4-8 /branches/b\n3-3 -\n1-2 /trunk\n".as_slice();
     let log = b"#2 ok\nr5 /branches/b\nr4 /branches/b\nr2 /trunk\nr1 /trunk\n#3 ok\n/trunk\n";
     assert!(rt; found.starts_with(segments) && found.ends_with(log));

@@ -4,7 +4,7 @@ use crate::load_repo::{LoadError, load_repo};
 use crate::report::report;
 use crate::tests::histories::{MERGED, NO_PARENT};
 use crate::tests::reports::report_of;
-use query_answer::{Fault, FaultKind};
+use block_map::{Fault, FaultKind};
 use query_pool::{Gate, NoGate};
 use std::alloc::{AllocError, Global};
 use std::sync::Wait;

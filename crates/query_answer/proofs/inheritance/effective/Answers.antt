@@ -1,32 +1,27 @@
 use Rattle.std.proofs.Common.{◌≡◌, None, Some, IfOk, option_map, sym, ap, subst, ◌∙◌}
-use Rattle.svn_dump.specs.Tree.{tree_of}
+use Rattle.block_map.specs.Map.{revision_in}
 use Rattle.svn_path.specs.Path.{same_name}
 use Rattle.query_answer.specs.Effective.{nearest}
-use Rattle.query_answer.specs.Repo.{effective_view}
-use Rattle.query_answer.specs.TreeOfNumbers.{nearest_view}
-use Rattle.query_answer.proofs.AnswerTexts.{IsRepo-view}
+use Rattle.query_answer.specs.Repo.{effective_view, nearest_view}
 use Rattle.query_answer.proofs.EffectiveValues.{effective_in-none, effective_in-some, mergeinfo-found}
 use Rattle.query_answer.proofs.inheritance.effective.Goals as goal
 
 pub value_for-requires-clause-value : goal.value_for-requires-clause-value
 value_for-requires-clause-value c =
-    let repo = IsRepo-view c.repo.inside.dump c.args.repo.now c.repo.inside.index c.repo.inside.trees c.repo.view_is c.repo.invariant in
-    let found : Some (nearest_view c.in-Some.found) ≡ nearest same_name (tree_of c.repo.inside.trees c.args.rev) c.args.path.now =
+    let found : Some (nearest_view c.in-Some.found) ≡ nearest same_name (revision_in c.args.repo.now c.args.rev) c.args.path.now =
     ap (option_map nearest_view) (sym c.in-Some.is) ∙ c.in_ok-nearest.ensures.found in
-    mergeinfo-found c.args.repo.now repo.dump_is c.repo.inside.trees repo.trees_are c.args.path.now c.args.rev c.in-Some.found found
+    mergeinfo-found c.args.repo.now c.in_ok-nearest.ensures.kept c.args.path.now c.args.rev c.in-Some.found found
 
 pub returns-in-None : goal.returns-in-None
 returns-in-None c =
-    let repo = IsRepo-view c.repo.inside.dump c.args.repo.now c.repo.inside.index c.repo.inside.trees c.repo.view_is c.repo.invariant in
-    let found : None ≡ nearest same_name (tree_of c.repo.inside.trees c.args.rev) c.args.path.now =
+    let found : None ≡ nearest same_name (revision_in c.args.repo.now c.args.rev) c.args.path.now =
     ap (option_map nearest_view) (sym c.in-None.is) ∙ c.in_ok-nearest.ensures.found in
-    ap Some c.empty.ensures ∙ sym (effective_in-none c.args.repo.now repo.dump_is c.repo.inside.trees repo.trees_are c.args.path.now c.args.rev found)
+    ap Some c.empty.ensures ∙ sym (effective_in-none c.args.repo.now c.in_ok-nearest.ensures.kept c.args.path.now c.args.rev found)
 
 pub returns-in-Some : goal.returns-in-Some
 returns-in-Some c =
-    let repo = IsRepo-view c.repo.inside.dump c.args.repo.now c.repo.inside.index c.repo.inside.trees c.repo.view_is c.repo.invariant in
-    let found : Some (nearest_view c.in-Some.found) ≡ nearest same_name (tree_of c.repo.inside.trees c.args.rev) c.args.path.now =
+    let found : Some (nearest_view c.in-Some.found) ≡ nearest same_name (revision_in c.args.repo.now c.args.rev) c.args.path.now =
     ap (option_map nearest_view) (sym c.in-Some.is) ∙ c.in_ok-nearest.ensures.found in
     subst (λ all. IfOk c.value_for.result (λ value. effective_view value ≡ all))
-    (sym (effective_in-some c.args.repo.now repo.dump_is c.repo.inside.trees repo.trees_are c.args.path.now c.args.rev c.in-Some.found found))
+    (sym (effective_in-some c.args.repo.now c.in_ok-nearest.ensures.kept c.args.path.now c.args.rev c.in-Some.found found))
     c.value_for.ensures

@@ -19,13 +19,13 @@ inherited-requires c =
 
 pub returns : goal.returns
 returns c =
-    let text : text_of c.args.repo.now.values c.args.found.mergeinfo.0 ≡ c.value.result.now =
-    ap (λ (dump : DumpValue). text_of dump.values c.args.found.mergeinfo.0) (sym c.repo.view_is)
-    ∙ get_or_from_slice_get c.repo.inside.dump.values c.args.found.mergeinfo.0 c.value.result.now [] c.value.ensures in
+    let text : text_of c.args.repo.now.values c.args.found.mi.0 ≡ c.value.result.now =
+    ap (λ (dump : DumpValue). text_of dump.values c.args.found.mi.0) (sym c.repo.view_is)
+    ∙ get_or_from_slice_get c.repo.inside.dump.values c.args.found.mi.0 c.value.result.now [] c.value.ensures in
     let rest : c.deref.result.now ≡ path_text (drop c.args.found.depth (components_of c.args.repo.now.names c.args.path.now)) =
     c.deref.ensures.value ∙ c.in_ok-rest.ensures
     ∙ ap (λ each. path_text (drop c.args.found.depth (components_of each c.args.path.now))) c.names.ensures.value in
     effective_by-inherited c.args.repo.now.names c.args.path.now c.args.found.depth
-    (text_of c.args.repo.now.values c.args.found.mergeinfo.0) c.in-Ok.value c.in_ok-inherited.field-0
+    (text_of c.args.repo.now.values c.args.found.mi.0) c.in-Ok.value c.in_ok-inherited.field-0
     (λ same. c.if-found-len.false (same ∙ sym c.len.ensures)) (ap value_of text ∙ c.in-Ok.ensures.exact)
     (c.in_ok-inherited.ensures.exact ∙ ap (λ each. inherited_value each c.in-Ok.value) rest)

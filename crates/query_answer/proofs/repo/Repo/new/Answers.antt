@@ -5,6 +5,7 @@ pub invariant_of-result : goal.invariant_of-result
 invariant_of-result c = record {
   dump_is = c.names.ensures.kept;
   index_is = index_is c.args.index c.args.dump c.requires.records c.requires.first;
-  trees_are = c.requires.trees;
+  map_is = c.requires.map;
+  ends_are = c.requires.ends;
   lawful = c.requires.lawful;
 }

@@ -6,12 +6,12 @@ use Rattle.query_answer.proofs.PathSegments.{AreHitsIn-kept}
 use Rattle.query_answer.proofs.repo.Repo.operative.Goals as goal
 
 pub operative-requires : goal.operative-requires
-operative-requires c = IsWhole-IsRepo c.self.inside.dump c.self.inside.index c.self.inside.trees c.self.invariant
+operative-requires c = IsWhole-IsRepo c.self.inside.dump c.self.inside.index c.self.inside.map c.self.inside.ends c.self.invariant
 
 pub returns : goal.returns
 returns c =
-    let repo = IsRepo-view c.self.inside.dump c.args.self.now c.self.inside.index c.self.inside.trees c.self.view_is c.self.invariant in
+    let repo = IsRepo-view c.self.inside.dump c.args.self.now c.self.inside.index c.self.inside.map c.self.inside.ends c.self.view_is c.self.invariant in
     let segments = c.args.segments.now in
     IfOk-weaker c.operative.result (λ hits. AreHitsOf c.self.inside.index segments hits.items) (λ hits. AreHitsIn c.args.self.now segments hits.items)
-    (λ hits are. AreHitsIn-kept c.args.self.now c.self.inside.index c.self.inside.trees repo segments hits.items are)
+    (λ hits are. AreHitsIn-kept c.args.self.now c.self.inside.index c.self.inside.map c.self.inside.ends repo segments hits.items are)
     c.operative.ensures

@@ -1,4 +1,4 @@
-use Rattle.std.proofs.Common.{◌≡◌, ◌++◌, [], append-nil, sym, ◌∙◌}
+use Rattle.std.proofs.Common.{◌++◌, [], append-nil, sym, ◌∙◌}
 use Rattle.std.proofs.lemmas.Result.{IfOk-weaker}
 use Rattle.path_index.specs.Index.{IndexValue}
 use Rattle.svnhist.proofs.tests.joined.copied.Goals as goal

@@ -1,4 +1,4 @@
-use Rattle.std.proofs.Common.{◌≡◌, ◌++◌, List, [], append-nil, ap₂, sym, ◌∙◌, take-append-drop}
+use Rattle.std.proofs.Common.{◌++◌, List, [], append-nil, ap₂, sym, ◌∙◌, take-append-drop}
 use Rattle.std.proofs.lemmas.Result.{IfOk-weaker}
 use Rattle.svn_dump.specs.declared.record.NodeRecord.{NodeRecord}
 use Rattle.path_index.specs.Index.{IndexValue}
