@@ -1,4 +1,4 @@
-"""How long queries take, on a history whose trees fit into memory, compared with the same queries to Subversion.
+"""How long queries take on a short history, compared with the same queries to Subversion.
 
 The program is run without queries, and with many of one verb; the difference is the time of the queries. Subversion is
 run once for each query, on a repository loaded from the same dump, and its time includes the start of the process.

@@ -1,9 +1,9 @@
 """How long questions about a long history take, and how the time grows with the history.
 
-Each revision of the history changes the same few files, so that the trees of all revisions fit into memory. The
-questions are about a file that was copied three times and has ten operative revisions, and about the root, which every
-revision changes. Subversion answers those about the file from a repository loaded from a shorter history of the same
-form: its Python bindings, and `svn log -q`, whose time includes its start.
+Each revision of the history changes the same few files. The questions are about a file that was copied three times and
+has ten operative revisions, and about the root, which every revision changes. Subversion answers those about the file
+from a repository loaded from a shorter history of the same form: its Python bindings, and `svn log -q`, whose time
+includes its start.
 """
 import os
 import shutil

@@ -1,0 +1,375 @@
+"""Answers the queries of the program in plain Python, for comparison.
+
+usage: plain_reader.py DUMP QUERIES
+
+Prints the same report for a dump that is lawful, which it does not check. The tree of a revision is a node for the root.
+A node is a pair: its children by name, or None for a file, and its mergeinfo, or None. It is never changed, so trees
+share what they have in common. The history of a path is found from the records that name it or a path above or below.
+"""
+import re
+import sys
+from bisect import bisect_left, bisect_right
+from collections import defaultdict
+from functools import lru_cache
+
+HEADER = re.compile(rb"([^:\n]+): ?(.*)\n")
+NEWLINES = re.compile(rb"\n*")
+PROPERTY = re.compile(rb"[KV] (\d+)\n")
+ELEMENT = re.compile(rb"(\d+)(?:-(\d+))?(\*?)")
+GREATEST_REVISION = 2147483647
+
+
+class Malformed(Exception):
+    """A value of svn:mergeinfo does not have its form."""
+
+
+def number_of(text):
+    """The value of decimal digits, or None if they are none or too large."""
+    digits = text.lstrip(b"0") or b"0"
+    return int(digits) if text.isdigit() and len(digits) <= 10 and int(digits) <= GREATEST_REVISION else None
+
+
+def parts_of(path):
+    return tuple(filter(None, path.split(b"/")))
+
+
+def has_dot(parts):
+    return b"." in parts or b".." in parts
+
+
+def printed(path):
+    return b"-" if path is None else b"/" + b"/".join(path)
+
+
+# Trees
+
+def nodes_to(tree, path):
+    """The nodes from the root to a path, as many as there are."""
+    nodes = [tree]
+    for name in path:
+        children, _ = tree
+        tree = children.get(name) if children is not None else None
+        if tree is None:
+            break
+        nodes.append(tree)
+    return nodes
+
+
+def node_at(tree, path):
+    nodes = nodes_to(tree, path)
+    return nodes[-1] if len(nodes) > len(path) else None
+
+
+def with_node(tree, path, node):
+    """The tree with a node at a path whose parent exists, or without the path if the node is None."""
+    above = nodes_to(tree, path[:-1])
+    for (children, mergeinfo), name in zip(reversed(above), reversed(path)):
+        children = dict(children)
+        if node is None:
+            del children[name]
+        else:
+            children[name] = node
+        node = children, mergeinfo
+    return node
+
+
+# Dumps
+
+def blocks_of(data):
+    """The headers and the property section of each block."""
+    at = NEWLINES.match(data, data.index(b"\n")).end()
+    while at < len(data):
+        end = data.index(b"\n\n", at)
+        headers = dict(HEADER.findall(data, at, end + 1))
+        start = end + 2
+        section = int(headers.get(b"Prop-content-length", 0))
+        length = headers.get(b"Content-length")
+        body = section + int(headers.get(b"Text-content-length", 0)) if length is None else int(length)
+        yield headers, data[start:start + section]
+        at = NEWLINES.match(data, start + body).end()
+
+
+def piece_of(section, at):
+    """A name or a value of a property, and the place after it."""
+    length = PROPERTY.match(section, at)
+    end = length.end() + int(length[1])
+    return section[length.end():end], end + 1
+
+
+def mergeinfo_in(section):
+    """The last value of svn:mergeinfo in a property section, or None."""
+    found = None
+    at = 0
+    while not section.startswith(b"PROPS-END", at):
+        name, at = piece_of(section, at)
+        value, at = piece_of(section, at)
+        if name == b"svn:mergeinfo":
+            found = value
+    return found
+
+
+class History:
+    """The trees of all revisions, and what happened to each path."""
+
+    def __init__(self, data):
+        self.trees = []
+        # How many records the revisions up to each one have.
+        self.ends = []
+        # By path, the revisions with a record of the path or of one below it.
+        self.touched = defaultdict(list)
+        # By path, the numbers of the records that added or copied it, and each with its revision and source.
+        self.made = defaultdict(list)
+        self.makers = {}
+        for headers, section in blocks_of(data):
+            if b"Revision-number" in headers:
+                self.trees.append(self.trees[-1] if self.trees else ({}, None))
+                self.ends.append(self.ends[-1] if self.ends else 0)
+            elif b"Node-path" in headers:
+                self.add(headers, section)
+
+    def add(self, headers, section):
+        """Applies a record."""
+        rev = len(self.trees) - 1
+        path = parts_of(headers[b"Node-path"])
+        self.ends[-1] += 1
+        self.touch(path, rev)
+        node = self.node_after(headers, path, rev)
+        if section and node is not None:
+            node = node[0], mergeinfo_in(section)
+        elif headers[b"Node-action"] == b"change":
+            return
+        self.trees[-1] = with_node(self.trees[-1], path, node)
+
+    def touch(self, path, rev):
+        for depth in range(len(path) + 1):
+            revisions = self.touched[path[:depth]]
+            if not revisions or revisions[-1] != rev:
+                revisions.append(rev)
+
+    def node_after(self, headers, path, rev):
+        """The node that a record leaves at its path, before its properties."""
+        action = headers[b"Node-action"]
+        if action == b"delete":
+            return None
+        if action == b"change":
+            return node_at(self.trees[-1], path)
+        source = None
+        node = (None if headers.get(b"Node-kind") == b"file" else {}), None
+        if b"Node-copyfrom-rev" in headers:
+            source = parts_of(headers[b"Node-copyfrom-path"]), int(headers[b"Node-copyfrom-rev"])
+            node = node_at(self.trees[source[1]], source[0])
+        self.made[path].append(self.ends[-1])
+        self.makers[self.ends[-1]] = rev, source
+        return node
+
+    def maker(self, path, rev):
+        """How long the path is that the last record names which made this one, its revision, and its source."""
+        end = self.ends[rev]
+        best = depth = 0
+        for length in range(len(path) + 1):
+            numbers = self.made.get(path[:length])
+            place = bisect_right(numbers, end) if numbers else 0
+            if place and numbers[place - 1] > best:
+                best, depth = numbers[place - 1], length
+        return depth, *self.makers.get(best, (0, None))
+
+    def spans(self, path, rev):
+        """The ranges of revisions, the newest first, in which a path stood where it was: the first and the last
+        revision, the place, and whether it came from another place or revision than itself in the one before."""
+        while path is not None:
+            depth, first, source = self.maker(path, rev)
+            origin, before = (None, None) if source is None else (source[0] + path[depth:], source[1])
+            yield first, rev, path, (origin, before) != (path, first - 1)
+            path, rev = origin, before
+
+    def operative(self, path, rev):
+        """The operative revisions of a path, the newest first, each with its place."""
+        for first, last, place, is_new in self.spans(path, rev):
+            revisions = self.touched.get(place, [])
+            found = revisions[bisect_left(revisions, first):bisect_right(revisions, last)]
+            if is_new and first > 0 and found[:1] != [first]:
+                found = [first] + found
+            yield from ((each, place) for each in reversed(found))
+
+
+# Mergeinfo
+
+def run_of(element):
+    """The first and the last revision of an element, and whether they are inheritable."""
+    form = ELEMENT.fullmatch(element)
+    first = number_of(form[1]) if form else None
+    last = number_of(form[2]) if form and form[2] else first
+    if not first or not last or (form[2] and first >= last):
+        raise Malformed
+    return first, last, not form[3]
+
+
+def check_kinds(runs):
+    """No revision is in one line both with and without `*`."""
+    lasts = {True: 0, False: 0}
+    for first, last, is_inheritable in sorted(runs):
+        if first <= lasts[not is_inheritable]:
+            raise Malformed
+        lasts[is_inheritable] = max(last, lasts[is_inheritable])
+
+
+def line_of(line):
+    path, colon, rest = line.rpartition(b":")
+    rest = rest.lstrip(b" \t")
+    parts = parts_of(path)
+    if not colon or has_dot(parts):
+        raise Malformed
+    runs = [run_of(element) for element in rest.split(b",")] if rest else []
+    check_kinds(runs)
+    return parts, runs
+
+
+def united(runs):
+    """The longest runs of one kind, in rising order. A revision of both kinds is inheritable."""
+    edges = sorted([(first, kind, 1) for first, _, kind in runs] + [(last + 1, kind, -1) for _, last, kind in runs])
+    open_runs = [0, 0]
+    found = []
+    before = 0
+    for at, kind, step in edges:
+        if any(open_runs) and before < at:
+            is_inheritable = open_runs[True] > 0
+            continues = found and found[-1][1] == before - 1 and found[-1][2] == is_inheritable
+            first = found.pop()[0] if continues else before
+            found.append((first, at - 1, is_inheritable))
+        open_runs[kind] += step
+        before = at
+    return found
+
+
+@lru_cache(1 << 14)
+def value_of(text):
+    """The runs of each source path of a text."""
+    text = text[:-1] if text.endswith(b"\n") else text
+    value = defaultdict(list)
+    for path, runs in map(line_of, text.split(b"\n") if text else ()):
+        value[path] += runs
+    return {path: united(runs) for path, runs in value.items() if runs}
+
+
+def effective(history, path, rev):
+    """The runs of each source path of the mergeinfo that a path has or inherits."""
+    nodes = nodes_to(history.trees[rev], path)
+    depth = next((depth for depth in range(len(path), -1, -1) if nodes[depth][1] is not None), None)
+    if depth is None:
+        return {}
+    value = value_of(nodes[depth][1])
+    if depth == len(path):
+        return value
+    inherited = {source + path[depth:]: [run for run in runs if run[2]] for source, runs in value.items()}
+    return {source: runs for source, runs in inherited.items() if runs}
+
+
+def kind_in(runs, rev):
+    """Whether a revision is inheritable, or None if it is in none of these runs."""
+    place = bisect_right(runs, (rev, GREATEST_REVISION, True)) - 1
+    return runs[place][2] if place >= 0 and rev <= runs[place][1] else None
+
+
+# Answers
+
+def place_in(spans, rev):
+    """The place in a revision, or None."""
+    return next((place for first, last, place, _ in spans if first <= rev <= last), None)
+
+
+def locate(history, peg, rev):
+    return [printed(place_in(history.spans(*peg), rev))]
+
+
+def segments(history, peg):
+    found = []
+    for first, last, place, _ in history.spans(*peg):
+        if found and found[-1][0] > last + 1:
+            found.append((last + 1, found[-1][0] - 1, None))
+        if found and found[-1][2] == place:
+            last = found.pop()[1]
+        found.append((first, last, place))
+    return [b"%d-%d %s" % (first, last, printed(place)) for first, last, place in found]
+
+
+def log(history, peg):
+    return [b"r%d %s" % (rev, printed(place)) for rev, place in history.operative(*peg)]
+
+
+def printed_run(run):
+    first, last, is_inheritable = run
+    return (b"%d" % first if first == last else b"%d-%d" % (first, last)) + (b"" if is_inheritable else b"*")
+
+
+def mergeinfo(history, peg):
+    value = {printed(source): runs for source, runs in effective(history, *peg).items()}
+    return [source + b":" + b",".join(map(printed_run, runs)) for source, runs in sorted(value.items())]
+
+
+def of_source(history, source, target):
+    """The operative revisions of the source in rising order, each with its place, and whether the target's mergeinfo
+    has it as an inheritable one, or None if it does not have it."""
+    value = effective(history, *target)
+    found = list(history.operative(*source))
+    return [(rev, place, kind_in(value.get(place, ()), rev)) for rev, place in reversed(found)]
+
+
+def merged(history, source, target):
+    return [b"r%d%s" % (rev, b"" if kind else b"*") for rev, _, kind in of_source(history, source, target)
+            if kind is not None]
+
+
+def eligible(history, source, target):
+    spans = list(history.spans(*target))
+    return [b"r%d" % rev for rev, place, kind in of_source(history, source, target)
+            if kind is None and place_in(spans, rev) != place]
+
+
+def peg_of(field):
+    """A path and its peg revision, or None."""
+    path, at, peg = field.rpartition(b"@")
+    parts, peg = parts_of(path), number_of(peg)
+    return None if not at or peg is None or has_dot(parts) else (parts, peg)
+
+
+VERBS = {b"locate": (locate, (peg_of, number_of)), b"segments": (segments, (peg_of,)), b"log": (log, (peg_of,)),
+         b"mergeinfo": (mergeinfo, (peg_of,)), b"merged": (merged, (peg_of, peg_of)),
+         b"eligible": (eligible, (peg_of, peg_of))}
+
+
+def fault_of(history, path, rev):
+    """The status of a peg that does not exist, or None."""
+    if rev >= len(history.trees):
+        return b"no-such-revision"
+    return b"no-such-path" if node_at(history.trees[rev], path) is None else None
+
+
+def answer_of(history, line):
+    """The status, and the result lines."""
+    verb, *fields = line.split(b"\t")
+    answer, forms = VERBS.get(verb, (None, ()))
+    values = [form(field) for form, field in zip(forms, fields)]
+    if answer is None or len(fields) != len(forms) or None in values:
+        return [b"bad-query"]
+    faults = (fault_of(history, *value) for value in values if isinstance(value, tuple))
+    fault = next(filter(None, faults), None)
+    if fault:
+        return [fault]
+    try:
+        return [b"ok"] + answer(history, *values)
+    except Malformed:
+        return [b"malformed-mergeinfo"]
+
+
+def main():
+    _, dump, queries = sys.argv
+    with open(dump, "rb") as file:
+        history = History(file.read())
+    with open(queries, "rb") as file:
+        lines = file.read().split(b"\n")
+    for number, line in enumerate(lines if lines[-1] else lines[:-1], 1):
+        sys.stdout.buffer.write(b"#%d %s\n" % (number, b"\n".join(answer_of(history, line))))
+
+
+if __name__ == "__main__":
+    main()
