@@ -18,8 +18,8 @@ use Rattle.svn_dump.proofs.Grouped.{flat_map-records_by_revision}
 use Rattle.svn_dump.proofs.Revisions.{tree_of-append, tree_of_push, length-with_revision, start_tree-nil}
 use Rattle.svn_dump.proofs.Trees.{entry_from, entry_left, settled_entry, settled_entry_at, entry_at-first_tree, entry_at-tree_after_action}
 use Rattle.block_map.specs.Ends.{action_at_tick, record_at_tick, end_of, ends_of}
-use Rattle.block_map.specs.Look.{Found, at, at_with, is, absent, Look, look, look_at, looks_of, with_look, look_after, found_after, settled, from_beginning, known}
-use Rattle.block_map.specs.Map.{IsMapOf, MapValue, look_in, records_at_ticks, state_in}
+use Rattle.block_map.specs.Look.{Found, at, at_with, is, absent, Look, look, look_at, looks_of, with_look, look_after, found_after, settled, from_beginning}
+use Rattle.block_map.specs.Map.{IsMapOfFirst, MapValue, hi_of, look_in, records_at_ticks, state_in}
 use Rattle.block_map.specs.Standing.{Standing, standing_at, standing_of}
 use Rattle.block_map.proofs.RevisionEnds.{ends_of-at}
 use Rattle.block_map.proofs.RevisionStates.{standing_of_entry, standing_at_next, standing_past, state_from-within, state_from-zero, tree_within_all, lengths-history_view, total-dump}
@@ -386,11 +386,11 @@ module _ (dump : DumpValue) (is_dump : IsDump dump) where
   pub record_count-history_view : record_count (history_view dump) ≡ length dump.records
   record_count-history_view = ap length all_records-history_view ∙ length-map dump.records record_view
 
--- what the map of a dump says of a path at a tick stands in the tree at that tick
-pub standing-look : (dump : DumpValue) → IsDump dump → (map : MapValue) → IsMapOf dump map → (tick : ℕ) (path : List NameId)
-    → tick ≤ length dump.records → standing_of (look_in map tick path) ≡ standing_at same_name (state_in dump tick) path
+-- what a map of a dump says of a path at a tick stands in the tree at that tick
+pub standing-look : (dump : DumpValue) → IsDump dump → (map : MapValue) → IsMapOfFirst dump map → (tick : ℕ) (path : List NameId)
+    → tick ≤ hi_of map → standing_of (look_in map tick path) ≡ standing_at same_name (state_in dump tick) path
 standing-look dump is_dump map of tick path within =
-    (λ i. standing_of (known (of.lo i) (look same_name (of.lo i) (of.records i) tick path)))
+    ap standing_of (of.looks tick path within)
     ∙ ap (λ records. standing_known (look same_name 0 records tick path)) (sym (records_at_ticks-history_view dump is_dump))
     ∙ standing_found same_name IsSame-same_name (history_view dump) (AreFromBelow-history_view dump is_dump) tick path
-    (omega (arith, record_count-history_view dump is_dump))
+    (omega (arith, within, of.within, record_count-history_view dump is_dump))

@@ -39,10 +39,20 @@ look_in map tick path = known map.lo (look same_name map.lo map.records tick pat
 abbrev pub standings_in : MapValue → Standings NameId ValueId
 standings_in map tick path = standing_of (look_in map tick path)
 
--- it is the map of all records of a dump
-pub record IsMapOf (dump : DumpValue) (map : MapValue) : Type 0 where
+-- what the records of a dump say of a path at a tick
+abbrev pub look_in_dump : DumpValue → ℕ → Look NameId ValueId
+look_in_dump dump tick path = known 0 (look same_name 0 (records_at_ticks (ends_of dump.counts) dump.records) tick path)
+
+-- it is a map of the first records of a dump: it shows what the records of the dump say, up to its last tick
+pub record IsMapOfFirst (dump : DumpValue) (map : MapValue) : Type 0 where
   pub lo : map.lo ≡ 0
-  pub records : map.records ≡ records_at_ticks (ends_of dump.counts) dump.records
+  pub within : hi_of map ≤ length dump.records
+  pub looks : (tick : ℕ) (path : List NameId) → tick ≤ hi_of map → look_in map tick path ≡ look_in_dump dump tick path
+
+-- it is a map of all records of a dump
+pub record IsMapOf (dump : DumpValue) (map : MapValue) : Type 0 where
+  pub first : IsMapOfFirst dump map
+  pub whole : hi_of map ≡ length dump.records
 
 -- what was found, as the definitions see it
 abbrev pub found_view : Found → look.Found NameId ValueId
@@ -71,7 +81,7 @@ abbrev pub IsNearestOrNone : (List NameId → Option ValueId) → List NameId �
 IsNearestOrNone own path None = HasNoneFrom own path 0
 IsNearestOrNone own path (Some nearest) = IsNearest own path nearest × HasNoneFrom own path (nearest.depth + 1)
 
--- ---- in a map of all records of a dump
+-- ---- in a map of records of a dump
 
 -- the tree after so many records
 abbrev pub state_in : DumpValue → ℕ → Tree NameId ValueId

@@ -4,7 +4,7 @@ ghost use Rattle.svn_dump.specs.Dump.{IsDump};
 ghost use Rattle.svn_dump.specs.Record.{most_components};
 ghost use Rattle.svn_path.specs.Path.{same_name};
 ghost use Rattle.block_map.specs.Ends.{HaveSources};
-ghost use Rattle.block_map.specs.Map.{IsEndIn, IsMapOf, IsNearestOrNone, found_view, hi_of, look_in, most_nodes, records_at_ticks, revision_in, state_in};
+ghost use Rattle.block_map.specs.Map.{IsEndIn, IsMapOfFirst, IsNearestOrNone, found_view, hi_of, look_in, most_nodes, records_at_ticks, revision_in, state_in};
 ghost use Rattle.block_map.specs.Standing.{entry_view, mergeinfo_of, own_mergeinfo_at, standing_at, standing_of};
 
 use crate::block::Block;
@@ -93,11 +93,11 @@ impl Map {
         requires within { tick ≤ hi_of self.now }
         ensures found { IfOk result (λ entry. option_map entry_view entry ≡ standing_of (look_in self.now tick path.now)) }
 
-        // In a map of all records of a dump it is what the tree has after so many records, and at the end of a revision
-        // what the tree of that revision has.
-        ensures of_dump { (dump : _) → IsDump dump → IsMapOf dump self.now → IfOk result (λ entry.
+        // In a map of the first records of a dump it is what the tree has after so many records, and at the end of a
+        // revision what the tree of that revision has.
+        ensures of_dump { (dump : _) → IsDump dump → IsMapOfFirst dump self.now → IfOk result (λ entry.
             option_map entry_view entry ≡ standing_at same_name (state_in dump tick) path.now) }
-        ensures of_revision { (dump : _) (rev : _) → IsMapOf dump self.now → IsEndIn dump rev tick → IfOk result (λ entry.
+        ensures of_revision { (dump : _) (rev : _) → IsMapOfFirst dump self.now → IsEndIn dump rev tick → IfOk result (λ entry.
             option_map entry_view entry ≡ standing_at same_name (revision_in dump rev) path.now) }
     {
         Ok(self.standing(tick, path.parts()))
@@ -110,8 +110,8 @@ impl Map {
         requires within { tick ≤ hi_of self.now }
         ensures found { IfOk result (IsNearestOrNone (λ above. mergeinfo_of (look_in self.now tick above)) path.now) }
 
-        // In a map of all records of a dump, at the end of a revision, it is that of the tree of the revision.
-        ensures of_revision { (dump : _) (rev : _) → IsMapOf dump self.now → IsEndIn dump rev tick → IfOk result
+        // In a map of the first records of a dump, at the end of a revision, it is that of the tree of the revision.
+        ensures of_revision { (dump : _) (rev : _) → IsMapOfFirst dump self.now → IsEndIn dump rev tick → IfOk result
             (IsNearestOrNone (own_mergeinfo_at same_name (revision_in dump rev)) path.now) }
     {
         Ok(self.block.nearest(tick, path.parts()))

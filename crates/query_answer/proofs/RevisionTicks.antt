@@ -3,13 +3,13 @@ use Rattle.std.proofs.Common.{◌≡◌, ℕ, ◌+◌, ◌<◌, ◌≤◌, sum, 
 use Rattle.std.proofs.lemmas.List.{length-map}
 use Rattle.std.proofs.lemmas.List.Sums.{sum_by-take-le}
 use Rattle.std.proofs.lemmas.Option.{none-some}
-use Rattle.svn_dump.specs.Dump.{DumpValue, IsDump, record_view}
+use Rattle.svn_dump.specs.Dump.{DumpValue, IsDump}
 use Rattle.svn_dump.specs.Tree.{Entry, Tree, entry_at, is_there}
 use Rattle.svn_dump.specs.declared.record.NodeRecord.{NodeRecord}
 use Rattle.svn_dump.specs.declared.record.ValueId.{ValueId}
 use Rattle.svn_dump.proofs.Grouped.{length-revisions_from, total-sum}
 use Rattle.path_index.specs.Index.{IndexValue}
-use Rattle.block_map.specs.Ends.{end_of, ends_of, record_at_tick}
+use Rattle.block_map.specs.Ends.{end_of}
 use Rattle.block_map.specs.Map.{IsEndIn, MapValue, hi_of}
 use Rattle.block_map.specs.Standing.{entry_view, standing_at}
 use Rattle.block_map.specs.declared.entry.Entry as kept
@@ -41,9 +41,7 @@ module _ (dump : DumpValue) (index : IndexValue) (kept : MapValue) (ends : List 
     pub end-within : (tick : ℕ) → tick ≡ get_or ends rev 0 → tick ≤ hi_of kept
     end-within tick at =
         let few = sum_by-take-le (λ (x : ℕ). x) dump.counts (rev + 1) in
-        let all = ap length repo.map_is.records
-        ∙ length-map dump.records (λ (each : NodeRecord). record_at_tick (ends_of dump.counts) (record_view each)) in
-        omega (arith, at, end-at, few, sum-counts dump repo.dump_is, all)
+        omega (arith, at, end-at, few, sum-counts dump repo.dump_is, repo.map_is.whole)
 
 -- what the map says of a path tells whether the path is there
 pub is_there-entry : (tree : Tree NameId ValueId) (path : List NameId) (found : Option kept.Entry)

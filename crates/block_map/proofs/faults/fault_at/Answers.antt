@@ -43,6 +43,6 @@ returns c =
     let at = record_at dump c.records.result.now place each (omega (arith, c.requires.some, c.requires.within)) c.records.ensures.value c.index-records-place.is in
     c.fault_of.ensures ∙ ap (λ ends. fault_found (standings_in map) place each.path (action_in ends each)) c.requires.ends
     ∙ fault_found-same (standings_in map) (λ tick path. standing_at same_name (state_in dump tick) path) place
-    (λ earlier path upto. standing-look dump kept map c.requires.map earlier path (omega (arith, upto, c.requires.some, c.requires.within)))
+    (λ earlier path upto. standing-look dump kept map c.requires.map.first earlier path (omega (arith, upto, c.requires.some, c.requires.within, c.requires.map.whole)))
     (ends_of dump.counts) each.path each.act (source_before dump kept place each at)
     ∙ sym (fault_after-found dump kept place each at)

@@ -45,7 +45,7 @@ returns-in-Some c =
     let end = IsEndIn-at dump c.self.inside.index c.self.inside.map c.self.inside.ends repo rev within c.at.result c.at.ensures in
     let there : is_there same_name (revision_in dump rev) c.in-Known.path ≡ true =
     is_there-entry (revision_in dump rev) c.in-Known.path c.in_ok-entry-in-Known.field-0
-    (c.in_ok-entry-in-Known.ensures.of_revision dump rev repo.map_is end)
+    (c.in_ok-entry-in-Known.ensures.of_revision dump rev repo.map_is.first end)
     ∙ ap is_some c.in-Some.is in
     record {
       kept = repo.dump_is;
@@ -73,7 +73,7 @@ returns-in-None c =
     let end = IsEndIn-at dump c.self.inside.index c.self.inside.map c.self.inside.ends repo rev within c.at.result c.at.ensures in
     let absent : is_there same_name (revision_in dump rev) c.in-Known.path ≡ false =
     is_there-entry (revision_in dump rev) c.in-Known.path c.in_ok-entry-in-Known.field-0
-    (c.in_ok-entry-in-Known.ensures.of_revision dump rev repo.map_is end)
+    (c.in_ok-entry-in-Known.ensures.of_revision dump rev repo.map_is.first end)
     ∙ ap is_some c.in-None.is in
     λ answer.
     answer_about-absent (trees_in_bytes dump) c.args.peg.path.now rev answer (λ dot. let told = c.in-Ok.ensures.dot.1 dot in cc)

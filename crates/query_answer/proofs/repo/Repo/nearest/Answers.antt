@@ -37,4 +37,4 @@ returns-clause-found c =
     let counts = c.counts.ensures.value ∙ ap (λ each. each.counts) c.self.view_is in
     let within : c.args.rev < length dump.counts = omega (arith, c.if-rev-counts.false, ap length counts) in
     let end = IsEndIn-at dump c.self.inside.index c.self.inside.map c.self.inside.ends repo c.args.rev within c.at.result c.at.ensures in
-    nearest-standing (revision_in dump c.args.rev) c.args.path.now c.nearest.result (c.nearest.ensures.of_revision dump c.args.rev repo.map_is end)
+    nearest-standing (revision_in dump c.args.rev) c.args.path.now c.nearest.result (c.nearest.ensures.of_revision dump c.args.rev repo.map_is.first end)
