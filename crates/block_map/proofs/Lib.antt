@@ -4,6 +4,7 @@ pub mod CopiedNodes
 pub mod FaultsFound
 pub mod FaultsSame
 pub mod FirstFaults
+pub mod FoundFrom
 pub mod GrownTries
 pub mod MapsBuilt
 pub mod MapsOfDumps

@@ -1,5 +1,5 @@
 -- The trees of a block of records.
-use Rattle.std.specs.Prelude.{◌≡◌, ℕ, ◌+◌, ◌^◌, ◌<◌, List, ◌++◌, Option, None, Some, length, slice_get}
+use Rattle.std.specs.Prelude.{◌≡◌, ℕ, ◌+◌, ◌^◌, ◌<◌, ◌≤◌, List, ◌++◌, Option, None, Some, length, slice_get}
 use Rattle.svn_path.specs.Path.{same_name}
 use Rattle.svn_path.specs.declared.names.NameId.{NameId}
 use Rattle.svn_dump.specs.Dump.{action_view}
@@ -7,6 +7,7 @@ use Rattle.svn_dump.specs.History.{Action, Record}
 use Rattle.svn_dump.specs.declared.record.NodeRecord.{NodeRecord}
 use Rattle.svn_dump.specs.declared.record.ValueId.{ValueId}
 use Rattle.block_map.specs.Ends.{action_at_tick}
+use Rattle.block_map.specs.Map.{most_nodes}
 use Rattle.block_map.specs.Look.{found_after, known, look, look_after, looks_of}
 use Rattle.block_map.specs.Trie.{IsGrown, IsNodeOf, IsSound, LookOfNumbers, at_path, at_root, found_below}
 use Rattle.block_map.specs.declared.block.Block.{Block}
@@ -37,6 +38,11 @@ pub record IsBlock (block : Block) : Type 0 where
   pub sound : IsSound block.trie
   pub roots : length block.roots.items ≡ length block.records.records
   pub each : (place : ℕ) (id : NodeId) → slice_get block.roots.items place ≡ Some id → IsRootAt block (block.start + place + 1) id
+
+-- and few nodes
+pub record IsMapBlock (block : Block) : Type 0 where
+  pub is : IsBlock block
+  pub few : length block.trie.nodes ≤ most_nodes (length block.records.records)
 
 -- the same records, with nodes, parts and places added
 pub record SameBlock (old new : Block) : Type 0 where

@@ -1,7 +1,7 @@
 -- What a block of records says of paths, where what stood before the block is not known (Subversion book, "Copying
 -- branches"). A tick is a number of records of the history: after so many of them, counted from its beginning. In the
 -- records here, the number of a copy's source is a tick in place of a revision.
-use Rattle.std.specs.Prelude.{ℕ, zero, suc, ◌+◌, ◌-◌, nat_le, Bool, List, [], ◌∷◌, ◌++◌, Option, Some, None, fold, length, slice_index_or, if◌then◌else◌}
+use Rattle.std.specs.Prelude.{ℕ, zero, suc, ◌+◌, ◌-◌, ◌<◌, ◌≤◌, nat_le, Bool, List, [], ◌∷◌, ◌++◌, Option, Some, None, fold, length, slice_index_or, if◌then◌else◌}
 use Rattle.svn_path.specs.Below.{below}
 use Rattle.svn_dump.specs.History.{Setting, keep, put, Action, delete, change, add, copy, Record}
 use Rattle.svn_dump.specs.Tree.{mergeinfo_after}
@@ -27,6 +27,13 @@ with_mergeinfo mergeinfo absent = absent
 abbrev pub settled : {C M : Type 0} → Setting M → Found C M → Found C M
 settled keep found = found
 settled (put mergeinfo) found = with_mergeinfo mergeinfo found
+
+-- what stood somewhere is found at a tick up to the first one, and is known from the beginning of a history
+abbrev pub IsFoundFrom : {C M : Type 0} → ℕ → Found C M → Type 0
+IsFoundFrom lo (at path tick) = (0 < lo) × (tick ≤ lo)
+IsFoundFrom lo (at_with path tick mergeinfo) = (0 < lo) × (tick ≤ lo)
+IsFoundFrom lo (is kind mergeinfo) = Unit {0}
+IsFoundFrom lo absent = Unit {0}
 
 -- what is found at each path
 abbrev pub Look : Type 0 → Type 0 → Type 0

@@ -65,6 +65,7 @@ found_view found.Absent = absent
 abbrev pub most_nodes : ℕ → ℕ
 most_nodes records = 1026 * records
 
+-- the number of a mergeinfo text, and how many components its path has
 abbrev pub nearest_view : Nearest → ValueId × ℕ
 nearest_view nearest = (nearest.mi, nearest.depth)
 

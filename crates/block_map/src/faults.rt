@@ -119,7 +119,7 @@ pub fn fault_at(
 
 /// The first fault of a record that so many others precede.
 fn fault_of(map: &Map, ends: &Ends, tick: u32, each: &NodeRecord) -> Option<FaultKind>
-    requires whole { map.now.lo ≡ 0 }
+    requires begins { map.now.lo ≡ 0 }
     requires within { tick ≤ hi_of map.now }
     requires source { HasSourceBefore ends.now (tick + 1) each.now.act }
     ensures { option_map kind_view result ≡ fault_found (standings_in map.now) tick each.now.path (action_in ends.now each.now) }
@@ -142,7 +142,7 @@ fn fault_of(map: &Map, ends: &Ends, tick: u32, each: &NodeRecord) -> Option<Faul
 
 /// `Missing`, if the path is not there.
 fn fault_if_missing(map: &Map, tick: u32, path: &[NameId]) -> Option<FaultKind>
-    requires whole { map.now.lo ≡ 0 }
+    requires begins { map.now.lo ≡ 0 }
     requires within { tick ≤ hi_of map.now }
     ensures { option_map kind_view result ≡ missing_found (standings_in map.now) tick path.now }
 {
@@ -154,7 +154,7 @@ fn fault_if_missing(map: &Map, tick: u32, path: &[NameId]) -> Option<FaultKind>
 
 /// The first fault of an addition or a copy by its path.
 fn fault_of_target(map: &Map, tick: u32, replace: bool, path: &[NameId]) -> Option<FaultKind>
-    requires whole { map.now.lo ≡ 0 }
+    requires begins { map.now.lo ≡ 0 }
     requires within { tick ≤ hi_of map.now }
     ensures { option_map kind_view result ≡ target_found (standings_in map.now) tick replace path.now }
 {
@@ -173,7 +173,7 @@ fn fault_of_target(map: &Map, tick: u32, replace: bool, path: &[NameId]) -> Opti
 
 /// Whether the parent of a path is there and is a directory.
 fn has_parent(map: &Map, tick: u32, path: &[NameId]) -> bool
-    requires whole { map.now.lo ≡ 0 }
+    requires begins { map.now.lo ≡ 0 }
     requires within { tick ≤ hi_of map.now }
     ensures { result ≡ has_parent_standing (standings_in map.now) tick path.now }
 {
@@ -195,7 +195,7 @@ fn is_dir(standing: Option<Entry>) -> bool
 
 /// `NoSource`, if the source of a copy is not there.
 fn fault_of_source(map: &Map, tick: u32, from: &[NameId]) -> Option<FaultKind>
-    requires whole { map.now.lo ≡ 0 }
+    requires begins { map.now.lo ≡ 0 }
     requires within { tick ≤ hi_of map.now }
     ensures { option_map kind_view result ≡ source_found (standings_in map.now) from.now tick }
 {

@@ -1,9 +1,11 @@
 //! A map of the paths of a history.
-ghost use Rattle.std.specs.Prelude.{◌≡◌, ◌+◌, ◌^◌, ◌<◌, ◌≤◌, All, length, option_map, IfOk};
-ghost use Rattle.svn_dump.specs.Dump.{IsDump};
+ghost use Rattle.std.specs.Prelude.{◌≡◌, ◌+◌, ◌^◌, ◌<◌, ◌≤◌, ◌++◌, All, List, length, option_map, IfOk};
+ghost use Rattle.svn_dump.specs.Dump.{DumpValue, IsDump};
 ghost use Rattle.svn_dump.specs.Record.{most_components};
+ghost use Rattle.svn_dump.specs.declared.record.NodeRecord.{NodeRecord};
 ghost use Rattle.svn_path.specs.Path.{same_name};
-ghost use Rattle.block_map.specs.Ends.{HaveSources};
+ghost use Rattle.block_map.specs.Ends.{HaveSources, ends_of};
+ghost use Rattle.block_map.specs.Look.{IsFoundFrom};
 ghost use Rattle.block_map.specs.Map.{IsEndIn, IsMapOfFirst, IsNearestOrNone, found_view, hi_of, look_in, most_nodes, records_at_ticks, revision_in, state_in};
 ghost use Rattle.block_map.specs.Standing.{entry_view, mergeinfo_of, own_mergeinfo_at, standing_at, standing_of};
 
@@ -25,14 +27,14 @@ pub struct Map {
 
 impl Model for Map {
     ghost use Rattle.std.specs.Prelude.{length};
-    ghost use Rattle.block_map.specs.Block.{IsBlock};
+    ghost use Rattle.block_map.specs.Block.{IsMapBlock};
     ghost use Rattle.block_map.specs.Map.{MapValue};
 
     ghost Value = { MapValue };
 
     ghost view = { λ m. record { lo = m.block.start; records = m.block.records.records; nodes = length m.block.trie.nodes } };
 
-    ghost invariant = { λ m. IsBlock m.block };
+    ghost invariant = { λ m. IsMapBlock m.block };
 }
 
 impl Map {
@@ -49,6 +51,10 @@ impl Map {
         ensures lo { IfOk result (λ map. map.lo ≡ start) }
         ensures records { IfOk result (λ map. map.records ≡ records_at_ticks ends.now records.now) }
         ensures nodes { IfOk result (λ map. map.nodes ≤ most_nodes (length records.now)) }
+
+        // Of the first records of a dump it is a map that shows what the records of the dump say.
+        ensures of_first { (dump : DumpValue) (more : List NodeRecord) → start ≡ 0 → ends.now ≡ ends_of dump.counts
+            → dump.records ≡ records.now ++ more → IfOk result (IsMapOfFirst dump) }
     {
         let mut block = Block::new(alloc, start);
         for record in records {
@@ -73,7 +79,8 @@ impl Map {
 
     /// How many nodes the map keeps.
     pub fn nodes(&self) -> u64
-        ensures { result ≡ self.now.nodes }
+        ensures exact { result ≡ self.now.nodes }
+        ensures few { result ≤ most_nodes (length self.now.records) }
     {
         self.block.trie.len() as u64
     }
@@ -82,14 +89,15 @@ impl Map {
     pub fn look(&self, tick: u32, path: &Path) -> Result<Found, AllocError>
         requires after { self.now.lo ≤ tick }
         requires within { tick ≤ hi_of self.now }
-        ensures { IfOk result (λ found. found_view found ≡ look_in self.now tick path.now) }
+        ensures exact { IfOk result (λ found. found_view found ≡ look_in self.now tick path.now) }
+        ensures earlier { IfOk result (λ found. IsFoundFrom self.now.lo (found_view found)) }
     {
         self.block.look(tick, path)
     }
 
     /// What stands at a path at a tick, in a map from the beginning of a history.
     pub fn entry(&self, tick: u32, path: &Path) -> Result<Option<Entry>, AllocError>
-        requires whole { self.now.lo ≡ 0 }
+        requires begins { self.now.lo ≡ 0 }
         requires within { tick ≤ hi_of self.now }
         ensures found { IfOk result (λ entry. option_map entry_view entry ≡ standing_of (look_in self.now tick path.now)) }
 
@@ -106,7 +114,7 @@ impl Map {
     /// The mergeinfo of a path at a tick, or of the nearest path above it that has some, in a map from the beginning of
     /// a history.
     pub fn nearest(&self, tick: u32, path: &Path) -> Result<Option<Nearest>, AllocError>
-        requires whole { self.now.lo ≡ 0 }
+        requires begins { self.now.lo ≡ 0 }
         requires within { tick ≤ hi_of self.now }
         ensures found { IfOk result (IsNearestOrNone (λ above. mergeinfo_of (look_in self.now tick above)) path.now) }
 
@@ -119,7 +127,7 @@ impl Map {
 
     /// What stands at a path of these components at a tick.
     pub(crate) fn standing(&self, tick: u32, path: &[NameId]) -> Option<Entry>
-        requires whole { self.now.lo ≡ 0 }
+        requires begins { self.now.lo ≡ 0 }
         requires within { tick ≤ hi_of self.now }
         ensures { option_map entry_view result ≡ standing_of (look_in self.now tick path.now) }
     {

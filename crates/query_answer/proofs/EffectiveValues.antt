@@ -12,7 +12,8 @@ use Rattle.svn_path.specs.declared.names.NameId.{NameId}
 use Rattle.merge_info.specs.CanonicalValue.{inherited_value, value_of}
 use Rattle.merge_info.specs.Line.{Line}
 use Rattle.query_answer.specs.Effective.{effective_by, nearest, value_for}
-use Rattle.query_answer.specs.Repo.{effective_by_number, effective_in, nearest_view}
+use Rattle.query_answer.specs.Repo.{effective_by_number, effective_in}
+use Rattle.block_map.specs.Map.{nearest_view}
 use Rattle.block_map.specs.Map.{revision_in}
 use Rattle.block_map.specs.declared.nearest.Nearest.{Nearest}
 use Rattle.query_answer.proofs.InBytes.{nearest-in_bytes}

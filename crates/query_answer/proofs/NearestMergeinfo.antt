@@ -12,9 +12,8 @@ use Rattle.svn_dump.proofs.Trees.{entry_at-nil}
 use Rattle.svn_dump.proofs.Renaming.Paths.{KeepsSame}
 use Rattle.svn_dump.proofs.Renaming.Trees.{rename_entry, rename_tree, entry_at-rename}
 use Rattle.query_answer.specs.Effective.{nearest, own_mergeinfo, nearest_or, nearest_from}
-use Rattle.query_answer.specs.Repo.{nearest_view}
 use Rattle.svn_dump.specs.declared.record.ValueId.{ValueId}
-use Rattle.block_map.specs.Map.{HasNoneFrom, IsNearest, IsNearestOrNone}
+use Rattle.block_map.specs.Map.{HasNoneFrom, IsNearest, IsNearestOrNone, nearest_view}
 use Rattle.block_map.specs.Standing.{Standing, own_mergeinfo_at}
 use Rattle.block_map.specs.declared.nearest.Nearest.{Nearest}
 

@@ -11,7 +11,6 @@ use Rattle.svn_dump.specs.Dump.{DumpValue, IsDump, history_in_bytes, history_vie
 use Rattle.svn_dump.specs.Fault.{first_fault}
 use Rattle.svn_dump.specs.Location.{location}
 use Rattle.svn_dump.specs.Tree.{tree_of, trees_of}
-use Rattle.svn_dump.specs.declared.record.ValueId.{ValueId}
 use Rattle.block_map.specs.Ends.{ends_of}
 use Rattle.block_map.specs.Map.{IsMapOf, MapValue}
 use Rattle.block_map.specs.declared.nearest.Nearest.{Nearest}
@@ -113,10 +112,6 @@ AreHitsIn dump segments hits =
     → hits ≡ operative_of same_name (history_to dump.records rev) (trees_to dump.records rev) (map segment_view segments)
 
 -- ---- effective mergeinfo
-
--- the nearest mergeinfo that was found: the number of its text, and how many components its path has
-abbrev pub nearest_view : Nearest → ValueId × ℕ
-nearest_view found = (found.mi, found.depth)
 
 -- the value, or none if it is malformed
 abbrev pub effective_view : Effective → Option (List Line)

@@ -14,8 +14,8 @@ use range_list::push_number;
 use std::alloc::AllocError;
 use svn_path::Path;
 
-/// The answer to a query, with paths by the names of a repository. Contracts see its status and its result lines; an answer
-/// without lines may be given by more than one variant.
+/// The answer to a query, with paths by the names of a repository. Contracts see its status and its result lines, which more
+/// than one variant may have.
 #[derive(Drop)]
 pub enum Answer {
     /// There are no result lines, for this reason.

@@ -15,7 +15,7 @@ use svn_path::{Names, Path};
 pub(crate) const USUAL_PATH_LENGTH: usize = 64;
 
 /// The mergeinfo that holds for a path in a revision. The path is by the names of the repository. If it is not in the tree of
-/// the revision, this is what it would inherit.
+/// the revision, this is what it would inherit; above the youngest revision that is nothing.
 pub fn effective(alloc: Global, repo: &Repo, path: &Path, rev: u32) -> Result<Effective, AllocError>
     requires { IsPathOf repo.now.names path.now }
     ensures { IfOk result (λ value. effective_view value ≡ effective_in repo.now path.now rev) }

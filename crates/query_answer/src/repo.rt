@@ -4,7 +4,7 @@ ghost use Rattle.svn_path.specs.Path.{same_name};
 ghost use Rattle.svn_dump.specs.Dump.{IsDump, history_view};
 ghost use Rattle.svn_dump.specs.Fault.{first_fault};
 ghost use Rattle.block_map.specs.Ends.{ends_of};
-ghost use Rattle.block_map.specs.Map.{IsMapOf, revision_in};
+ghost use Rattle.block_map.specs.Map.{IsMapOf, nearest_view, revision_in};
 
 use crate::query::Peg;
 use crate::status::Status;
@@ -37,7 +37,7 @@ impl Model for Repo {
 
 impl Repo {
     ghost use Rattle.query_answer.specs.Effective.{nearest};
-    ghost use Rattle.query_answer.specs.Repo.{AreHitsIn, AreSegmentsIn, IsPathFound, IsPegFound, nearest_view};
+    ghost use Rattle.query_answer.specs.Repo.{AreHitsIn, AreSegmentsIn, IsPathFound, IsPegFound};
 
     /// The repository of a dump. The index, the map and the ends are those of the dump.
     pub fn new(dump: Dump, index: Index, map: Map, ends: Ends) -> Self

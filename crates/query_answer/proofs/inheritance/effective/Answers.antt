@@ -2,7 +2,8 @@ use Rattle.std.proofs.Common.{◌≡◌, None, Some, IfOk, option_map, sym, ap, 
 use Rattle.block_map.specs.Map.{revision_in}
 use Rattle.svn_path.specs.Path.{same_name}
 use Rattle.query_answer.specs.Effective.{nearest}
-use Rattle.query_answer.specs.Repo.{effective_view, nearest_view}
+use Rattle.query_answer.specs.Repo.{effective_view}
+use Rattle.block_map.specs.Map.{nearest_view}
 use Rattle.query_answer.proofs.EffectiveValues.{effective_in-none, effective_in-some, mergeinfo-found}
 use Rattle.query_answer.proofs.inheritance.effective.Goals as goal
 

@@ -1,0 +1,90 @@
+-- At which ticks a look finds what stood somewhere.
+use Rattle.std.proofs.Common.{ℕ, zero, suc, ◌+◌, ◌-◌, ◌≤◌, Bool, List, [], ◌∷◌, ◌++◌, Option, None, Some, All, fold, get_or, length, inl, inr, arith}
+use Rattle.std.proofs.lemmas.Bool.{cases_lt, le-leb, lt-leb}
+use Rattle.std.proofs.lemmas.List.Elements.{All-head, All-nil, All-push, All-tail}
+use Rattle.svn_path.specs.Below.{below}
+use Rattle.svn_dump.specs.History.{Setting, keep, put, Action, delete, change, add, copy, Record}
+use Rattle.block_map.specs.Look.{Found, at, at_with, is, absent, IsFoundFrom, Look, found_after, known, look, look_after, look_at, looks_of, settled, with_look}
+
+-- what stood somewhere is found at a tick that is no later
+abbrev IsUpTo : {C M : Type 0} → ℕ → Found C M → Type 0
+IsUpTo lo (at path tick) = tick ≤ lo
+IsUpTo lo (at_with path tick mergeinfo) = tick ≤ lo
+IsUpTo lo (is kind mergeinfo) = Unit {0}
+IsUpTo lo absent = Unit {0}
+
+-- and so at each path
+abbrev AreUpTo : {C M : Type 0} → ℕ → Look C M → Type 0
+AreUpTo lo found = (path : _) → IsUpTo lo (found path)
+
+module _ {C M : Type 0} (lo : ℕ) where
+  -- each look of a list, or nothing past its end
+  up_to-get : (looks : List (Look C M)) (place : ℕ) → All (AreUpTo lo) looks → AreUpTo lo (get_or looks place (λ other. absent))
+  up_to-get [] place all path = tt
+  up_to-get (each ∷ looks) zero all path = All-head (AreUpTo lo) each looks all path
+  up_to-get (each ∷ looks) (suc place) all path = up_to-get looks place (All-tail (AreUpTo lo) each looks all) path
+
+  up_to-look_at : (looks : List (Look C M)) (tick : ℕ) (path : List C) → All (AreUpTo lo) looks → IsUpTo lo (look_at lo looks tick path)
+  up_to-look_at looks tick path all = elim (cases_lt lo tick) [
+    | inl past ↦ rw (lt-leb tick lo past) (up_to-get looks (tick - lo - 1) all path)
+    | inr before ↦ rw (le-leb tick lo before) before
+  ]
+
+  up_to-settled : (setting : Setting M) (found : Found C M) → IsUpTo lo found → IsUpTo lo (settled setting found)
+  up_to-settled keep found up_to = up_to
+  up_to-settled (put mergeinfo) (at path tick) up_to = up_to
+  up_to-settled (put mergeinfo) (at_with path tick old) up_to = up_to
+  up_to-settled (put mergeinfo) (is kind old) up_to = tt
+  up_to-settled (put mergeinfo) absent up_to = tt
+
+  up_to-found_after : (looks : List (Look C M)) (action : Action C M) (old : Found C M) (rest : List C) → All (AreUpTo lo) looks → IsUpTo lo old
+      → IsUpTo lo (found_after lo looks action old rest)
+  up_to-found_after looks delete old rest all up_to = tt
+  up_to-found_after looks (change setting) old [] all up_to = up_to-settled setting old up_to
+  up_to-found_after looks (change setting) old (c ∷ rest) all up_to = up_to
+  up_to-found_after looks (add replace kind setting) old [] all up_to = tt
+  up_to-found_after looks (add replace kind setting) old (c ∷ rest) all up_to = tt
+  up_to-found_after looks (copy replace from tick setting) old [] all up_to =
+      up_to-settled setting (look_at lo looks tick from) (up_to-look_at looks tick from all)
+  up_to-found_after looks (copy replace from tick setting) old (c ∷ rest) all up_to = up_to-look_at looks tick (from ++ c ∷ rest) all
+
+  module _ (same : C → C → Bool) where
+    up_to-look_after : (looks : List (Look C M)) (each : Record C M) → All (AreUpTo lo) looks → AreUpTo lo (look_after same lo looks each)
+    up_to-look_after looks each all path = by (below same each.path path)
+      where
+        old : Found C M
+        old = look_at lo looks (lo + length looks) path
+
+        before : IsUpTo lo old
+        before = up_to-look_at looks (lo + length looks) path all
+
+        by : (left : Option (List C)) → IsUpTo lo (elim left [ None ↦ old | Some rest ↦ found_after lo looks each.action old rest ])
+        by None = before
+        by (Some rest) = up_to-found_after looks each.action old rest all before
+
+    up_to-fold : (looks : List (Look C M)) (records : List (Record C M)) → All (AreUpTo lo) looks → All (AreUpTo lo) (fold (with_look same lo) looks records)
+    up_to-fold looks [] all = all
+    up_to-fold looks (each ∷ records) all =
+        up_to-fold (with_look same lo looks each) records
+        (All-push (AreUpTo lo) looks (look_after same lo looks each) all (up_to-look_after looks each all))
+
+    up_to-look : (records : List (Record C M)) (tick : ℕ) (path : List C) → IsUpTo lo (look same lo records tick path)
+    unfolding looks_of
+    up_to-look records tick path = up_to-look_at (looks_of same lo records) tick path (up_to-fold [] records (All-nil (AreUpTo lo)))
+
+-- from the beginning of a history everything is known
+from_known : {C M : Type 0} (lo : ℕ) (found : Found C M) → IsUpTo lo found → IsFoundFrom lo (known lo found)
+from_known zero (at [] tick) up_to = tt
+from_known zero (at (c ∷ path) tick) up_to = tt
+from_known zero (at_with [] tick mergeinfo) up_to = tt
+from_known zero (at_with (c ∷ path) tick mergeinfo) up_to = tt
+from_known zero (is kind mergeinfo) up_to = tt
+from_known zero absent up_to = tt
+from_known (suc lo) (at path tick) up_to = (omega arith, up_to)
+from_known (suc lo) (at_with path tick mergeinfo) up_to = (omega arith, up_to)
+from_known (suc lo) (is kind mergeinfo) up_to = tt
+from_known (suc lo) absent up_to = tt
+
+pub IsFoundFrom-look : {C M : Type 0} (same : C → C → Bool) (lo : ℕ) (records : List (Record C M)) (tick : ℕ) (path : List C)
+    → IsFoundFrom lo (known lo (look same lo records tick path))
+IsFoundFrom-look same lo records tick path = from_known lo (look same lo records tick path) (up_to-look lo same records tick path)
