@@ -230,6 +230,44 @@ fn copies_of_the_root(alloc: Global, last: u32) -> Result<Vec<u8>, Fail> {
     Ok(dump)
 }
 
+// The end of a revision of a dump.
+fn end_of<R: Threads + Sync>(rt: &R, alloc: Global, dump: &[u8], rev: u32) -> Result<u32, Fail> {
+    let dump = read(alloc, dump)?;
+    let ends = revision_ends(rt, alloc, &dump)?;
+    if dump.counts().len() <= rev as usize {
+        return Err("no such revision")?;
+    }
+    Ok(ends.at(rev))
+}
+
+// The ticks before and after the records of a part.
+fn ticks_of<R: Threads + Sync>(
+    rt: &R,
+    alloc: Global,
+    dump: &[u8],
+    part: Part,
+) -> Result<(u32, u32), Fail> {
+    let dump = read(alloc, dump)?;
+    let map = map_of(rt, alloc, &dump, part)?;
+    Ok((map.lo(), map.hi()))
+}
+
+#[test]
+fn ends_count_the_records_up_to_a_revision(rt: HostRuntime) -> Result<(), Fail> {
+    assert_eq!(rt; end_of(&rt, rt.alloc(), NESTED, 0)?, 0);
+    assert_eq!(rt; end_of(&rt, rt.alloc(), NESTED, 1)?, 4);
+    assert_eq!(rt; end_of(&rt, rt.alloc(), NESTED, 2)?, 5);
+    assert_eq!(rt; end_of(&rt, rt.alloc(), NESTED, 3)?, 7);
+    Ok(())
+}
+
+#[test]
+fn a_part_has_the_ticks_of_its_records(rt: HostRuntime) -> Result<(), Fail> {
+    assert!(rt; ticks_of(&rt, rt.alloc(), NESTED, BEFORE_COPIES)? == (0, 5));
+    assert!(rt; ticks_of(&rt, rt.alloc(), NESTED, COPIES)? == (5, 7));
+    Ok(())
+}
+
 #[test]
 fn a_part_names_where_its_paths_were_before_it(rt: HostRuntime) -> Result<(), Fail> {
     assert!(rt; copies_find(&rt, rt.alloc(), b"/n/q/s", b"/p/q/s", 5)?);

@@ -1,6 +1,3 @@
-use Rattle.std.proofs.Common.{◌∙◌}
-use Rattle.block_map.specs.Map.{records_at_ticks}
-use Rattle.block_map.proofs.MapsOfDumps.{IsMapOf-built}
 use Rattle.block_map.proofs.Sources.{HaveSources-dump}
 use Rattle.svnhist.proofs.tests.maps.whole_map.Goals as goal
 
