@@ -28,7 +28,8 @@ abbrev pub settled : {C M : Type 0} → Setting M → Found C M → Found C M
 settled keep found = found
 settled (put mergeinfo) found = with_mergeinfo mergeinfo found
 
--- what stood somewhere is found at a tick up to the first one, and is known from the beginning of a history
+-- A look that follows a tick finds what stood somewhere at that tick or before it. From the beginning of a history it
+-- finds no such thing: there, what stands at each path is known.
 abbrev pub IsFoundFrom : {C M : Type 0} → ℕ → Found C M → Type 0
 IsFoundFrom lo (at path tick) = (0 < lo) × (tick ≤ lo)
 IsFoundFrom lo (at_with path tick mergeinfo) = (0 < lo) × (tick ≤ lo)

@@ -301,9 +301,12 @@ fn a_record_keeps_few_nodes(rt: HostRuntime) -> Result<(), Fail> {
 
 #[test]
 fn copies_of_the_root_share_their_nodes(rt: HostRuntime) -> Result<(), Fail> {
-    let dump = copies_of_the_root(rt.alloc(), 40)?;
-    let whole = Part { start: 0, end: 40 };
-    assert!(rt; nodes_of(&rt, rt.alloc(), dump.as_slice(), whole)? <= 81);
+    let dump = copies_of_the_root(rt.alloc(), 1000)?;
+    let whole = Part {
+        start: 0,
+        end: 1000,
+    };
+    assert!(rt; nodes_of(&rt, rt.alloc(), dump.as_slice(), whole)? <= 2001);
     Ok(())
 }
 
