@@ -1,5 +1,5 @@
 //! Answers from an index that was joined of two parts.
-ghost use Rattle.std.specs.Prelude.{◌≡◌, ◌^◌, ◌<◌, ◌≤◌, length, IfOk};
+ghost use Rattle.std.specs.Prelude.{◌+◌, ◌++◌, ◌≡◌, ◌^◌, ◌<◌, ◌≤◌, length, IfOk};
 
 use crate::load_repo::lawful_map;
 use crate::tests::histories::MERGED;
@@ -12,13 +12,41 @@ use std::test::Fail;
 use std::thread::Threads;
 use svn_dump::{NodeRecord, read};
 
+// The unit before an index, joined to it.
+fn after_unit(index: &Index) -> Result<Index, AllocError>
+    ensures records { IfOk result (λ joined. joined.records ≡ index.now.records) }
+    ensures first { IfOk result (λ joined. joined.first ≡ index.now.first) }
+{
+    index.unit()?.join(index)
+}
+
 // A copy of an index, joined to its unit.
 fn copied(index: &Index) -> Result<Index, AllocError>
     ensures records { IfOk result (λ copied. copied.records ≡ index.now.records) }
     ensures first { IfOk result (λ copied. copied.first ≡ index.now.first) }
 {
     let copied = index.dup()?;
-    index.unit()?.join(&copied)
+    after_unit(&copied)
+}
+
+// A copy of the index of these records.
+fn copied_index(alloc: Global, records: &[NodeRecord], first: u32) -> Result<Index, AllocError>
+    requires { first + length records.now < 2 ^ 32 }
+    ensures records { IfOk result (λ index. index.records ≡ records.now) }
+    ensures first { IfOk result (λ index. index.first ≡ first) }
+{
+    let index = Index::build(alloc, records, first)?;
+    copied(&index)
+}
+
+// The index of the first records of a history, joined to that of those after them.
+fn joined_index(alloc: Global, records: &[NodeRecord], later: &Index) -> Result<Index, AllocError>
+    requires few { length records.now + length later.now.records < 2 ^ 32 }
+    requires fits { later.now.first ≡ length records.now }
+    ensures records { IfOk result (λ index. index.records ≡ records.now ++ later.now.records) }
+    ensures first { IfOk result (λ index. index.first ≡ 0) }
+{
+    Index::build(alloc, records, 0)?.join(later)
 }
 
 // An index of some records, joined of that of the first ones and a copy of that of the others.
@@ -29,9 +57,8 @@ fn joined(alloc: Global, records: &[NodeRecord], count: usize) -> Result<Index, 
     ensures first { IfOk result (λ index. index.first ≡ 0) }
 {
     let (front, back) = records.split_at(count);
-    let later = Index::build(alloc, back, count as u32)?;
-    let copied = copied(&later)?;
-    Index::build(alloc, front, 0)?.join(&copied)
+    let later = copied_index(alloc, back, count as u32)?;
+    joined_index(alloc, front, &later)
 }
 
 // The repository of a dump, whose index is joined of the records up to a revision and those after it.
