@@ -217,7 +217,7 @@ fn nearest_of<R: Threads + Sync>(
 }
 
 // A dump of so many revisions, each of which copies the root of the one before it.
-fn copies_of_the_root(alloc: Global, last: u32) -> Result<Vec<u8>, Fail> {
+pub(crate) fn copies_of_the_root(alloc: Global, last: u32) -> Result<Vec<u8>, Fail> {
     let start = b"SVN-fs-dump-format-version: 2\n\nRevision-number: 0\n\n";
     let mut dump = Vec::from_slice(alloc, start)?;
     for before in 0..last {
@@ -228,6 +228,16 @@ fn copies_of_the_root(alloc: Global, last: u32) -> Result<Vec<u8>, Fail> {
         dump.extend_from_slice(text.as_bytes())?;
     }
     Ok(dump)
+}
+
+// How many nodes the map of so many copies of the root keeps.
+fn nodes_of_copies<R: Threads + Sync>(rt: &R, alloc: Global, count: u32) -> Result<u64, Fail> {
+    let dump = copies_of_the_root(alloc, count)?;
+    let whole = Part {
+        start: 0,
+        end: count as usize,
+    };
+    nodes_of(rt, alloc, dump.as_slice(), whole)
 }
 
 // The end of a revision of a dump.
@@ -301,12 +311,8 @@ fn a_record_keeps_few_nodes(rt: HostRuntime) -> Result<(), Fail> {
 
 #[test]
 fn copies_of_the_root_share_their_nodes(rt: HostRuntime) -> Result<(), Fail> {
-    let dump = copies_of_the_root(rt.alloc(), 1000)?;
-    let whole = Part {
-        start: 0,
-        end: 1000,
-    };
-    assert!(rt; nodes_of(&rt, rt.alloc(), dump.as_slice(), whole)? <= 2001);
+    assert!(rt; nodes_of_copies(&rt, rt.alloc(), 40)? <= 81);
+    assert!(rt; nodes_of_copies(&rt, rt.alloc(), 1000)? <= 2001);
     Ok(())
 }
 

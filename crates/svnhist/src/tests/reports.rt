@@ -6,6 +6,7 @@ use crate::tests::histories::{
     AT_SIGN, COPIED_MERGEINFO, DUMPED, DUMPED_AS_ONE, EMPTY, FIRST, GONE, MERGED, MERGEINFO_TEXTS,
     MOVES, NESTED, REPLACED, SPARSE,
 };
+use crate::tests::maps::copies_of_the_root;
 use query_pool::NoGate;
 use std::alloc::Global;
 use std::sync::Wait;
@@ -38,6 +39,19 @@ fn reports<R: Threads + Wait + Sync>(
         }
     }
     Ok(true)
+}
+
+// The question where the path through so many copies of the root was in a revision.
+fn query_about_copies(alloc: Global, count: u32, rev: u32) -> Result<Vec<u8>, Fail> {
+    let mut query = Vec::from_slice(alloc, b"locate\t")?;
+    for before in 0..count {
+        let copy = count - before;
+        let name = format!(in alloc; "/x{copy}")?;
+        query.extend_from_slice(name.as_bytes())?;
+    }
+    let revs = format!(in alloc; "@{count}\t{rev}\n")?;
+    query.extend_from_slice(revs.as_bytes())?;
+    Ok(query)
 }
 
 #[test]
@@ -296,6 +310,25 @@ fn each_verb_refuses_wrong_pegs(rt: HostRuntime) -> Result<(), Fail> {
     let wanted =
         b"#1 bad-query\n#2 bad-query\n#3 bad-query\n#4 bad-query\n#5 bad-query\n#6 bad-query\n#7 no-such-revision\n#8 no-such-path\n#9 bad-query\n#10 bad-query\n";
     assert!(rt; reports(&rt, rt.alloc(), MERGED, queries, wanted)?);
+    Ok(())
+}
+
+// Whether the path through forty copies of the root was there in a revision.
+fn is_path_through_copies<R: Threads + Wait + Sync>(
+    rt: &R,
+    alloc: Global,
+    rev: u32,
+    wanted: &[u8],
+) -> Result<bool, Fail> {
+    let dump = copies_of_the_root(alloc, 40)?;
+    let query = query_about_copies(alloc, 40, rev)?;
+    Ok(reports(rt, alloc, dump.as_slice(), query.as_slice(), wanted)?)
+}
+
+#[test]
+fn copies_in_copies_are_located_at_their_sources(rt: HostRuntime) -> Result<(), Fail> {
+    assert!(rt; is_path_through_copies(&rt, rt.alloc(), 0, b"#1 ok\n/\n")?);
+    assert!(rt; is_path_through_copies(&rt, rt.alloc(), 1, b"#1 ok\n/x1\n")?);
     Ok(())
 }
 
