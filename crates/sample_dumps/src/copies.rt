@@ -1,0 +1,161 @@
+//! Dumps whose records copy, move and replace paths.
+
+/// `A` is deleted and replaced by a copy of `T` in the revision that adds `A/b`.
+pub const MOVES: &[u8] = b"SVN-fs-dump-format-version: 2
+
+Revision-number: 0
+
+Revision-number: 1
+
+Node-path: T
+Node-kind: dir
+Node-action: add
+
+Node-path: A
+Node-kind: dir
+Node-action: add
+
+Node-path: T/b
+Node-kind: file
+Node-action: add
+
+Revision-number: 2
+
+Node-path: A/b
+Node-kind: file
+Node-action: add
+
+Node-path: A
+Node-action: delete
+
+Node-path: A
+Node-action: add
+Node-copyfrom-rev: 1
+Node-copyfrom-path: T
+
+";
+
+/// Records 6 and 7 copy `p` of two revisions, between which `p/q/s` was copied into it.
+pub const NESTED: &[u8] = b"SVN-fs-dump-format-version: 2
+
+Revision-number: 0
+
+Revision-number: 1
+
+Node-path: p
+Node-kind: dir
+Node-action: add
+
+Node-path: p/q
+Node-kind: dir
+Node-action: add
+
+Node-path: z
+Node-kind: dir
+Node-action: add
+
+Node-path: z/s
+Node-kind: file
+Node-action: add
+
+Revision-number: 2
+
+Node-path: p/q/s
+Node-action: add
+Node-copyfrom-rev: 1
+Node-copyfrom-path: z/s
+
+Revision-number: 3
+
+Node-path: n
+Node-action: add
+Node-copyfrom-rev: 2
+Node-copyfrom-path: p
+
+Node-path: m
+Node-action: add
+Node-copyfrom-rev: 1
+Node-copyfrom-path: p
+
+";
+
+/// `a` is deleted, and its copy `b` is of the revision before that.
+pub const GONE: &[u8] = b"SVN-fs-dump-format-version: 2
+
+Revision-number: 0
+
+Revision-number: 1
+
+Node-path: a
+Node-kind: dir
+Node-action: add
+
+Node-path: a/x
+Node-kind: file
+Node-action: add
+
+Revision-number: 2
+
+Node-path: a
+Node-action: delete
+
+Revision-number: 3
+
+Node-path: b
+Node-action: add
+Node-copyfrom-rev: 1
+Node-copyfrom-path: a
+
+";
+
+/// `a` is replaced by a copy of itself.
+pub const REPLACED: &[u8] = b"SVN-fs-dump-format-version: 2
+
+Revision-number: 0
+
+Revision-number: 1
+
+Node-path: a
+Node-kind: dir
+Node-action: add
+
+Node-path: a/x
+Node-kind: file
+Node-action: add
+
+Revision-number: 2
+
+Node-path: a
+Node-action: replace
+Node-copyfrom-rev: 1
+Node-copyfrom-path: a
+
+";
+
+/// Some revisions have no records.
+pub const SPARSE: &[u8] = b"SVN-fs-dump-format-version: 2
+
+Revision-number: 0
+
+Revision-number: 1
+
+Revision-number: 2
+
+Node-path: a
+Node-kind: dir
+Node-action: add
+
+Revision-number: 3
+
+Revision-number: 4
+
+Revision-number: 5
+
+Node-path: b
+Node-action: add
+Node-copyfrom-rev: 4
+Node-copyfrom-path: a
+
+Revision-number: 6
+
+";

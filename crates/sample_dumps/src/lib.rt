@@ -1,0 +1,16 @@
+//! The dumps on which tests ask questions.
+#![tactic(auto)]
+
+mod copies;
+mod faulty;
+mod first;
+mod mergeinfo;
+mod svnadmin;
+
+pub use copies::{GONE, MOVES, NESTED, REPLACED, SPARSE};
+pub use faulty::{
+    EXISTS, MISSING, NO_PARENT, NO_PARENT_OF_COPY, NO_SOURCE, REPLACED_BY_NOTHING, REPLACES_NOTHING,
+};
+pub use first::{AT_SIGN, EMPTY, FIRST};
+pub use mergeinfo::{COPIED_MERGEINFO, MERGED, MERGEINFO_TEXTS, TWO_TEXTS};
+pub use svnadmin::{DELETE_AND_COPY, DUMPED, REPLACE, joined};
