@@ -6,10 +6,10 @@ use Rattle.std.specs.List.{list_all}
 use Rattle.std.proofs.lemmas.Bool.{and_parts, both_ways, cond-false, le-leb, ne_eqb}
 use Rattle.std.proofs.lemmas.Fmt.{decimal_nonempty, digits_decimal, digits_value-decimal}
 use Rattle.std.proofs.lemmas.Str.Parse.{IsNumeralModel, numerals_by_fold}
-use Rattle.svn_path.specs.Components.{is_not_empty}
-use Rattle.svn_dump.specs.Cut.{Lacks}
-use Rattle.svn_dump.specs.Number.{is_digit, number_of, value_of_digits}
-use Rattle.range_list.specs.Rangelist.{greatest_revision}
+use Rattle.svn_text.specs.Bytes.{is_not_empty}
+use Rattle.svn_text.specs.Cut.{Lacks}
+use Rattle.svn_text.specs.Number.{is_digit, number_of, value_of_digits}
+use Rattle.svn_text.specs.Number.{greatest_revision}
 use Rattle.merge_info.specs.Element.{revision_of}
 use Rattle.merge_info.proofs.JoinedBytes.{Lacks-cons, Lacks-nil}
 

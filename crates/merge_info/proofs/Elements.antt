@@ -4,9 +4,9 @@ use Rattle.std.specs.Prelude.{option_map}
 use Rattle.std.specs.List.{position_or_len, prefix_len, slice_split}
 use Rattle.std.proofs.lemmas.Bool.{cases_lt, cond-false, cond-true, eqb-true, false≢true, le-ltb, lt-ltb}
 use Rattle.std.proofs.lemmas.List.Sums.{prefix_len-le-length}
-use Rattle.svn_path.specs.Components.{is_not_empty}
-use Rattle.svn_dump.specs.Cut.{IsCutAt, Lacks}
-use Rattle.svn_dump.proofs.Lines.{list_any-Lacks}
+use Rattle.svn_text.specs.Bytes.{is_not_empty}
+use Rattle.svn_text.specs.Cut.{IsCutAt, Lacks}
+use Rattle.svn_text.proofs.Lines.{list_any-Lacks}
 use Rattle.range_list.specs.declared.run.Run.{Run}
 use Rattle.merge_info.specs.Element.{element_of, revision_of, run_of}
 use Rattle.merge_info.specs.Line.{all_of, elements_of, is_blank, is_comma}

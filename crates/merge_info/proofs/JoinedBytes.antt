@@ -9,7 +9,7 @@ use Rattle.std.proofs.lemmas.List.Folds.{list_any_at}
 use Rattle.std.proofs.lemmas.List.Splits.{slice_split_at, slice_split_none}
 use Rattle.std.proofs.lemmas.List.Sums.{position_or_len_is}
 use Rattle.std.proofs.Math.Seq.{drop-append-add}
-use Rattle.svn_dump.specs.Cut.{Lacks}
+use Rattle.svn_text.specs.Cut.{Lacks}
 use Rattle.merge_info.specs.Line.{all_of}
 
 -- ---- bytes that lack one

@@ -3,9 +3,9 @@ use Rattle.std.proofs.Common.{◌≡◌, ℕ, true, false, List, Some, None, ref
 use Rattle.std.specs.Prelude.{option_and_then}
 use Rattle.std.proofs.lemmas.Bool.{false_from_ne_true}
 use Rattle.range_list.specs.declared.run.Run.{Run}
-use Rattle.svn_dump.specs.Cut.{IsCutAtLast, Lacks}
-use Rattle.svn_dump.proofs.Cuts.{list_any-cut, before_last-cut, after_last-cut}
-use Rattle.svn_dump.proofs.Lines.{list_any-Lacks}
+use Rattle.svn_text.specs.Cut.{IsCutAtLast, Lacks}
+use Rattle.svn_text.proofs.Cuts.{list_any-cut, before_last-cut, after_last-cut}
+use Rattle.svn_text.proofs.Lines.{list_any-Lacks}
 use Rattle.svn_path.proofs.Components.{components-parts_of}
 use Rattle.merge_info.proofs.PrintedPaths.{IsPrintedPath-path_text}
 use Rattle.svn_path.specs.Components.{HasDot, parts_of, path_text}

@@ -6,7 +6,8 @@ use Rattle.std.proofs.lemmas.List.Elements.{All-nil, All-cons, All-head, All-tai
 use Rattle.std.proofs.lemmas.Slice.Eq.{bytes_eq-Decides}
 use Rattle.std.specs.Io.BufRead.{strip_last}
 use Rattle.std.specs.List.{after_last, before_last, list_any, onto_first, slice_split}
-use Rattle.svn_path.specs.Components.{is_dot, is_not_empty, is_slash, parts_of, parts_text, path_text}
+use Rattle.svn_path.specs.Components.{is_dot, is_slash, parts_of, parts_text, path_text}
+use Rattle.svn_text.specs.Bytes.{is_not_empty}
 use Rattle.range_list.proofs.Same.{covers-within, is_in-append}
 use Rattle.range_list.specs.Rangelist.{IsCanonical, is_in}
 use Rattle.range_list.specs.declared.run.Run.{Run}

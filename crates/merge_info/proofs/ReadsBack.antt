@@ -9,9 +9,9 @@ use Rattle.std.proofs.lemmas.List.{append-nil, append_assoc, get_or_at, length-a
 use Rattle.std.proofs.lemmas.List.Elements.{All-map}
 use Rattle.std.proofs.lemmas.List.Folds.{list_any_none}
 use Rattle.svn_path.specs.Components.{is_dot, parts_of}
-use Rattle.svn_dump.specs.Block.{line_text}
-use Rattle.svn_dump.specs.Cut.{Lacks}
-use Rattle.svn_dump.proofs.Cuts.{after_last-whole, before_last-whole}
+use Rattle.svn_text.specs.Line.{line_text}
+use Rattle.svn_text.specs.Cut.{Lacks}
+use Rattle.svn_text.proofs.Cuts.{after_last-whole, before_last-whole}
 use Rattle.range_list.specs.Rangelist.{IsCanonical}
 use Rattle.range_list.specs.Text.{rangelist_text}
 use Rattle.range_list.specs.declared.run.Run.{Run}

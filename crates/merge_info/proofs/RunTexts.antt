@@ -8,10 +8,11 @@ use Rattle.std.proofs.lemmas.Fmt.{decimal_nonempty}
 use Rattle.std.proofs.lemmas.List.{append-nil, append_assoc, length-append}
 use Rattle.std.proofs.lemmas.List.Elements.{All-head, All-map}
 use Rattle.std.proofs.lemmas.List.Folds.{list_any_none}
-use Rattle.svn_path.specs.Components.{is_not_empty}
-use Rattle.svn_dump.specs.Cut.{Lacks}
-use Rattle.svn_dump.specs.Number.{is_digit}
-use Rattle.range_list.specs.Rangelist.{IsRun, greatest_revision}
+use Rattle.svn_text.specs.Bytes.{is_not_empty}
+use Rattle.svn_text.specs.Cut.{Lacks}
+use Rattle.svn_text.specs.Number.{is_digit}
+use Rattle.range_list.specs.Rangelist.{IsRun}
+use Rattle.svn_text.specs.Number.{greatest_revision}
 use Rattle.range_list.specs.Text.{range_text, rangelist_text, run_text}
 use Rattle.range_list.specs.declared.run.Run.{Run}
 use Rattle.merge_info.specs.Element.{element_of, is_dash, is_star, revision_of, run_between, run_of}

@@ -3,7 +3,8 @@ use Rattle.std.proofs.Common.{◌≡◌, ℕ, ◌+◌, ◌<◌, ◌==◌, Bool, 
 use Rattle.std.proofs.lemmas.Bool.{ne_eqb, not_from_false}
 use Rattle.std.proofs.lemmas.List.{append-nil, append_assoc, take_more}
 use Rattle.std.proofs.lemmas.List.Concat.{flat_map-append}
-use Rattle.svn_path.specs.Components.{is_not_empty, parts_text, path_text}
+use Rattle.svn_text.specs.Bytes.{is_not_empty}
+use Rattle.svn_path.specs.Components.{parts_text, path_text}
 
 -- the test of a length
 pub is_not_empty-tested : (bytes : List ℕ) (test : Bool) → test ≡ not (length bytes == 0) → test ≡ is_not_empty bytes

@@ -2,9 +2,9 @@
 -- follows (Subversion's design notes on merge tracking, "The mergeinfo property").
 use Rattle.std.specs.Prelude.{ℕ, ◌==◌, nat_lt, Bool, true, false, List, Option, Some, None, option_and_then, option_map, if◌then◌else◌}
 use Rattle.std.specs.List.{list_any, before_first, after_first}
-use Rattle.svn_path.specs.Components.{is_not_empty}
-use Rattle.svn_dump.specs.Number.{number_up_to}
-use Rattle.range_list.specs.Rangelist.{greatest_revision}
+use Rattle.svn_text.specs.Bytes.{is_not_empty}
+use Rattle.svn_text.specs.Number.{number_up_to}
+use Rattle.svn_text.specs.Number.{greatest_revision}
 use Rattle.range_list.specs.declared.run.Run.{Run}
 
 abbrev pub is_dash : ℕ → Bool

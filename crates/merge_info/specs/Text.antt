@@ -1,7 +1,7 @@
 -- The text of a value: a line for each path, in the order of the paths (Subversion's design notes on merge tracking,
 -- "The mergeinfo property").
 use Rattle.std.specs.Prelude.{ℕ, List, ◌++◌, codes, flat_map}
-use Rattle.svn_dump.specs.Block.{line_text}
+use Rattle.svn_text.specs.Line.{line_text}
 use Rattle.range_list.specs.Text.{rangelist_text}
 use Rattle.merge_info.specs.Line.{Line}
 

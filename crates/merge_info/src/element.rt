@@ -4,7 +4,7 @@ ghost use Rattle.range_list.specs.Rangelist.{IsRun};
 ghost use Rattle.merge_info.specs.Element.{element_of, revision_of, run_of};
 
 use range_list::Run;
-use svn_dump::{GREATEST_REVISION, number_up_to, split_at_byte};
+use svn_text::{GREATEST_REVISION, number_up_to, split_at_byte};
 
 /// A revision or a range, and perhaps `*` after it.
 pub(crate) fn element(bytes: &[u8]) -> Option<Run>

@@ -1,6 +1,6 @@
 //! The entries of a value.
 ghost use Rattle.std.specs.Prelude.{◌≡◌, ◌++◌, IfOk, OnOk};
-ghost use Rattle.svn_dump.specs.Block.{line_text};
+ghost use Rattle.svn_text.specs.Line.{line_text};
 ghost use Rattle.merge_info.specs.Inherited.{inherited_line};
 ghost use Rattle.merge_info.specs.Line.{IsPrintedPath, line_view};
 ghost use Rattle.merge_info.specs.Text.{printed_line};

@@ -8,7 +8,7 @@ use crate::rangelist::{rangelist, without_blanks};
 use crate::source_path::printed_path;
 use range_list::Run;
 use std::alloc::Global;
-use svn_dump::split_at_last;
+use svn_text::split_at_last;
 use svn_path::has_dot;
 
 /// A path as it is printed, and revisions that were merged from it, in any order.

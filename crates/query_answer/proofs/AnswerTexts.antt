@@ -17,7 +17,7 @@ use Rattle.svn_path.specs.Path.{same_name, components_of}
 use Rattle.svn_path.specs.declared.names.NameId.{NameId}
 use Rattle.merge_info.specs.Line.{Line}
 use Rattle.merge_info.specs.Text.{printed_line, value_text}
-use Rattle.svn_dump.specs.Block.{line_text}
+use Rattle.svn_text.specs.Line.{line_text}
 use Rattle.svn_dump.specs.Dump.{DumpValue, history_in_bytes}
 use Rattle.svn_dump.specs.Location.{location}
 use Rattle.svn_dump.specs.Record.{HistoryOfBytes}

@@ -3,11 +3,11 @@ use Rattle.std.proofs.Common.{◌≡◌, ℕ, ◌==◌, Bool, List, [], ◌∷�
 use Rattle.std.proofs.lemmas.Bool.{cases_Bool, false_from_ne_true}
 use Rattle.std.specs.List.{slice_split}
 use Rattle.svn_path.specs.Components.{HasDot}
-use Rattle.svn_dump.specs.Number.{number_up_to, greatest_revision}
-use Rattle.svn_dump.proofs.Lines.{list_any-Lacks}
-use Rattle.svn_dump.specs.Cut.{IsCutAtLast, Lacks}
+use Rattle.svn_text.specs.Number.{number_up_to, greatest_revision}
+use Rattle.svn_text.proofs.Lines.{list_any-Lacks}
+use Rattle.svn_text.specs.Cut.{IsCutAtLast, Lacks}
 use Rattle.query_answer.specs.Query.{bad, peg_field, query_of, query_of_fields, query_of_pair, query_of_peg, read_peg, third_field}
-use Rattle.svn_dump.proofs.Cuts.{CutsFirst, slice_split-cut, slice_split-uncut, list_any-cut, before_last-cut, after_last-cut}
+use Rattle.svn_text.proofs.Cuts.{CutsFirst, slice_split-cut, slice_split-uncut, list_any-cut, before_last-cut, after_last-cut}
 
 -- the parts of bytes are never none
 pub slice_split-some : (p : ℕ → Bool) (bytes : List ℕ) → (first : List ℕ) × (more : List (List ℕ)) × (slice_split p bytes ≡ first ∷ more)

@@ -12,7 +12,7 @@ use Rattle.svn_path.specs.Path.{IsPathOf, components_of}
 use Rattle.svn_path.specs.declared.names.NameId.{NameId}
 use Rattle.merge_info.specs.Line.{Line}
 use Rattle.merge_info.specs.Text.{printed_line}
-use Rattle.svn_dump.specs.Block.{line_text}
+use Rattle.svn_text.specs.Line.{line_text}
 use Rattle.svn_dump.specs.Location.{location}
 use Rattle.svn_dump.specs.Record.{HistoryOfBytes}
 use Rattle.svn_dump.specs.Tree.{Tree, tree_of, is_there}

@@ -3,7 +3,7 @@
 use Rattle.std.specs.Prelude.{◌≡◌, ℕ, ◌==◌, Bool, List, [], ◌∷◌, Option, Some, None, codes, bytes_eq, option_map, option_and_then, slice_index_or, if◌then◌else◌}
 use Rattle.std.specs.List.{list_any, before_last, after_last, slice_split}
 use Rattle.svn_path.specs.Components.{parts_of, is_dot}
-use Rattle.svn_dump.specs.Number.{number_up_to, greatest_revision}
+use Rattle.svn_text.specs.Number.{number_up_to, greatest_revision}
 use Rattle.query_answer.specs.declared.query.Peg.{Peg as KeptPeg}
 use Rattle.query_answer.specs.declared.query.Query.{Query as KeptQuery}
 use Rattle.query_answer.specs.declared.query.Query.TheVariants.{Bad, Eligible, Locate, Log, Merged, Mergeinfo, Segments}

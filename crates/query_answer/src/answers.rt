@@ -5,12 +5,10 @@ ghost use Rattle.query_answer.specs.Answer.{HasPathsOf, answer_head, answer_in_b
 use crate::merged_revision::MergedRevision;
 use crate::repo::Repo;
 use crate::status::Status;
-use crate::verbs::{
-    write_eligible, write_location, write_log, write_merged, write_mergeinfo, write_segments,
-};
+use crate::verbs::{write_eligible, write_location, write_log, write_merged, write_mergeinfo, write_segments};
 use merge_info::MergeInfo;
 use path_index::{Hit, Segment};
-use range_list::push_number;
+use svn_text::push_number;
 use std::alloc::AllocError;
 use svn_path::Path;
 

@@ -4,7 +4,8 @@ use Rattle.std.specs.Cmp.{booleans_Decides}
 use Rattle.std.proofs.lemmas.Bool.{and_parts, and_from, and_right, cases_Bool, cases_lt, both_ways, le-leb, or_from, or_parts}
 use Rattle.std.proofs.lemmas.List.Elements.{All-head, All-tail}
 use Rattle.range_list.specs.Canonical.{canonical_runs, continues, put_before, run_of_one, runs_from}
-use Rattle.range_list.specs.Rangelist.{covers, greatest_revision, is_in, is_inheritable, sort_of, HasSame, IsCanonical, IsRun}
+use Rattle.range_list.specs.Rangelist.{covers, is_in, is_inheritable, sort_of, HasSame, IsCanonical, IsRun}
+use Rattle.svn_text.specs.Number.{greatest_revision}
 use Rattle.range_list.specs.declared.run.Run.{Run}
 use Rattle.range_list.proofs.Canonical.{BeginsFrom, BeginsFrom-tail, IsApartFromFirst, IsCanonical-apart, IsCanonical-cons, IsCanonical-head, IsCanonical-tail, IsOut, IsOut-below}
 use Rattle.range_list.proofs.Places.{sort_of-first, sort_of-out, sort_of-skip}

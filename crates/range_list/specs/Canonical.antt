@@ -1,7 +1,8 @@
 -- The canonical list of runs, number by number (Subversion book, "Mergeinfo and Previews").
 use Rattle.std.specs.Prelude.{ℕ, suc, zero, ◌==◌, Bool, ◌&&◌, List, [], ◌∷◌, Option, Some, None, if◌then◌else◌}
 use Rattle.std.specs.Bool.{beq}
-use Rattle.range_list.specs.Rangelist.{greatest_revision, sort_of}
+use Rattle.svn_text.specs.Number.{greatest_revision}
+use Rattle.range_list.specs.Rangelist.{sort_of}
 use Rattle.range_list.specs.declared.run.Run.{Run}
 
 abbrev pub run_of_one : ℕ → Bool → Run

@@ -2,11 +2,8 @@
 -- previews"): finite sets of revision numbers, each of which is inheritable or not.
 use Rattle.std.specs.Prelude.{◌≡◌, ◌≢◌, ℕ, ◌+◌, ◌<◌, ◌≤◌, nat_le, Bool, ◌&&◌, List, [], ◌∷◌, ◌++◌, Option, Some, None, if◌then◌else◌}
 use Rattle.std.specs.List.{list_any}
+use Rattle.svn_text.specs.Number.{greatest_revision}
 use Rattle.range_list.specs.declared.run.Run.{Run}
-
--- the greatest revision number
-abbrev pub greatest_revision : ℕ
-greatest_revision = 2147483647
 
 abbrev pub covers : Run → ℕ → Bool
 covers run n = nat_le run.lo n && nat_le n run.hi

@@ -1,6 +1,7 @@
 -- The state of a sweep over runs in the order of their first numbers.
 use Rattle.std.specs.Prelude.{ℕ, ◌<◌, ◌≤◌, true, false, List, [], ◌∷◌, ◌++◌, All}
-use Rattle.range_list.specs.Rangelist.{IsCanonical, greatest_revision}
+use Rattle.range_list.specs.Rangelist.{IsCanonical}
+use Rattle.svn_text.specs.Number.{greatest_revision}
 use Rattle.range_list.specs.declared.run.Run.{Run}
 use Rattle.range_list.specs.declared.sweep.Sweep.{Sweep}
 

@@ -8,7 +8,6 @@ mod text;
 
 pub use ranges::Ranges;
 pub use run::Run;
-pub use text::push_number;
 
 #[cfg(test)]
 mod tests;

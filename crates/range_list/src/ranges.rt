@@ -1,6 +1,7 @@
 //! A set of revision numbers, each inheritable or not.
 ghost use Rattle.std.specs.Prelude.{◌≡◌, ◌≤◌, ◌<◌, ◌↔◌, List, [], ◌∷◌, ◌++◌, All, IfOk, OnOk, OnErr, IsTrue};
-ghost use Rattle.range_list.specs.Rangelist.{sort_of, greatest_revision, IsRun, IsCanonical, HasSame, IsInheritablePart, IsOnlyCanonical, AddsRun};
+ghost use Rattle.range_list.specs.Rangelist.{sort_of, IsRun, IsCanonical, HasSame, IsInheritablePart, IsOnlyCanonical, AddsRun};
+ghost use Rattle.svn_text.specs.Number.{greatest_revision};
 ghost use Rattle.range_list.specs.Canonical.{canonical_runs};
 ghost use Rattle.range_list.specs.Text.{rangelist_text};
 

@@ -1,13 +1,14 @@
 //! A sweep over runs in the order of their first numbers, which joins them.
 ghost use Rattle.std.specs.Prelude.{◌≡◌, ℕ, ◌+◌, ◌<◌, ◌≤◌, List, [], ◌∷◌, ◌++◌, IfOk, OnOk};
-ghost use Rattle.range_list.specs.Rangelist.{IsRun, IsCanonical, HasSame, greatest_revision};
+ghost use Rattle.range_list.specs.Rangelist.{IsRun, IsCanonical, HasSame};
+ghost use Rattle.svn_text.specs.Number.{greatest_revision};
 ghost use Rattle.range_list.specs.Sweep.{EndsBelow, IsSweep, runs_of};
 
 use crate::run::Run;
 use std::alloc::{AllocError, Global};
 
 /// The greatest revision number.
-const GREATEST_REVISION: u32 = 2_147_483_647;
+const GREATEST_REVISION: u32 = svn_text::GREATEST_REVISION as u32;
 
 /// How far a sweep has come.
 #[derive(Drop)]

@@ -13,7 +13,7 @@ use Rattle.svn_dump.specs.Draft.{Extends, action_in_bytes, record_in_bytes, dump
 use Rattle.svn_dump.specs.Dump.{DumpValue, IsDump, IsRecordOf, history_in_bytes}
 use Rattle.svn_dump.specs.DumpText.{IsSmall, all_records, names_of, values_of, most_numbered, parts_of_record, texts_of_action}
 use Rattle.svn_dump.specs.Node.{Node, node_block, revision_block}
-use Rattle.svn_dump.specs.Number.{number_of, number_up_to}
+use Rattle.svn_text.specs.Number.{number_of, number_up_to}
 use Rattle.svn_dump.specs.Record.{HistoryOfBytes, RecordOfBytes, record_of, with_numbered, with_record, with_sort}
 use Rattle.svn_dump.specs.Refusal.{first_holding, grows_large, is_large, node_refusals, refusals_by, sort_refusals}
 use Rattle.svn_dump.specs.NumberedRecord.{IsFirstReason, IsNumberedRecord, is_record_large}

@@ -8,7 +8,7 @@ use Rattle.std.proofs.Math.Seq.{drop-append_seam, take-append_seam}
 use Rattle.std.proofs.lemmas.List.{get_or-append_right, get_or_append_left}
 use Rattle.std.proofs.lemmas.List.Folds.{list_any-append}
 use Rattle.std.proofs.lemmas.List.Sums.{position_or_len_is}
-use Rattle.svn_dump.specs.Block.{is_newline}
+use Rattle.svn_text.specs.Line.{is_newline}
 use Rattle.svn_dump.specs.DumpText.{first_line}
 use Rattle.svn_dump.specs.FirstRefusal.{line_refusals, magic}
 use Rattle.svn_dump.specs.Refusal.{first_holding}

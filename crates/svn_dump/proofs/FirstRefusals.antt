@@ -10,8 +10,9 @@ use Rattle.std.proofs.lemmas.List.Folds.{fold_stays, list_any_none}
 use Rattle.std.proofs.lemmas.List.Sums.{fails_before_first, passes_at_first, split_at_first}
 use Rattle.std.proofs.lemmas.Option.{none-some, same_Some}
 use Rattle.std.proofs.lemmas.Slice.Eq.{bytes_eq-Decides, slice_eq-Decides}
-use Rattle.svn_path.specs.Components.{is_not_empty}
-use Rattle.svn_dump.specs.Block.{AreBlocks, Block, IsBlock, IsHeader, block_text, is_newline, line_text}
+use Rattle.svn_text.specs.Bytes.{is_not_empty}
+use Rattle.svn_dump.specs.Block.{AreBlocks, Block, IsBlock, IsHeader, block_text}
+use Rattle.svn_text.specs.Line.{is_newline, line_text}
 use Rattle.svn_dump.specs.DumpText.{IsDumpText, IsSmall, first_line}
 use Rattle.svn_dump.specs.FirstRefusal.{PlacedRefusal, after_block, begins_with_newline, block_at, block_refusal, end_refusal, first_refusal, front_refusals, line_refusals, magic, refusal_from, refusal_or, without_empty_lines}
 use Rattle.svn_dump.specs.Record.{HistoryOfBytes, history_of, sort_of, with_block}

@@ -9,8 +9,9 @@ use Rattle.std.proofs.lemmas.List.Elements.{All-cons, All-head, All-nil, All-tai
 use Rattle.std.proofs.lemmas.List.Folds.{list_any_at, list_any_none}
 use Rattle.std.proofs.lemmas.List.Splits.{join_with_byte-slice_split, length-slice_split, slice_split_at, slice_split_none}
 use Rattle.std.proofs.lemmas.Option.{none-some}
-use Rattle.svn_path.specs.Components.{is_not_empty}
-use Rattle.svn_dump.specs.Block.{Block, IsBlock, IsHeader, block_text, body_length, is_named, is_newline, line_text, listed_names}
+use Rattle.svn_text.specs.Bytes.{is_not_empty}
+use Rattle.svn_dump.specs.Block.{Block, IsBlock, IsHeader, block_text, body_length, is_named, listed_names}
+use Rattle.svn_text.specs.Line.{is_newline, line_text}
 use Rattle.svn_dump.specs.FirstRefusal.{after_block, after_lines, begins_with_newline, block_at, body_length_at, front_refusals, has_twice, header_lines, is_cut, is_no_header, lines_before_empty, without_empty_lines}
 use Rattle.svn_dump.specs.Refusal.{first_holding, reason}
 use Rattle.svn_dump.specs.declared.refusal.Refusal.{Refusal}

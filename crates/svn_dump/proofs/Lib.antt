@@ -12,14 +12,12 @@ mod Refusals
 mod Sorts
 mod TextTables
 pub mod Belows
-pub mod Cuts
 pub mod Entries
 pub mod Faults
 pub mod FirstRevisions
 pub mod Grouped
 pub mod Growing
 pub mod Histories
-pub mod Lines
 pub mod Locations
 pub mod Origins
 pub mod Renaming

@@ -5,7 +5,8 @@ use Rattle.std.specs.List.{list_all, list_any, slice_split, onto_first}
 use Rattle.std.proofs.lemmas.Bool.{cases_Bool, cond-true, cond-false, le-ltb, ltb-true, ne_eqb, not-false, or_parts, or_right}
 use Rattle.std.proofs.Math.Bool.{or-true}
 use Rattle.std.proofs.lemmas.Grind.{fold-append}
-use Rattle.svn_path.specs.Components.{is_not_empty, is_slash, parts_of}
+use Rattle.svn_text.specs.Bytes.{is_not_empty}
+use Rattle.svn_path.specs.Components.{is_slash, parts_of}
 use Rattle.svn_path.specs.Names.{most_names, with_name, with_names}
 use Rattle.svn_path.specs.Path.{components_of}
 use Rattle.svn_path.specs.declared.names.NameId.{NameId}

@@ -7,8 +7,8 @@ use Rattle.std.proofs.lemmas.Bool.{cases_Bool, cases_lt, and_from, and_left, and
 use Rattle.std.proofs.lemmas.List.{drop_more, length-take-le, take-append-drop}
 use Rattle.std.proofs.lemmas.List.Folds.{list_any-append}
 use Rattle.std.proofs.lemmas.Option.{none-some, some_pair_parts}
-use Rattle.svn_dump.specs.Block.{is_newline}
-use Rattle.svn_dump.specs.Number.{is_digit, number_of, number_up_to}
+use Rattle.svn_text.specs.Line.{is_newline}
+use Rattle.svn_text.specs.Number.{is_digit, number_of, number_up_to}
 use Rattle.svn_dump.specs.Property.{text_of_length, piece_of}
 
 -- what a test lets through

@@ -6,8 +6,9 @@ use Rattle.std.specs.Option.{option_or}
 use Rattle.std.proofs.lemmas.Bool.{cond-true}
 use Rattle.std.proofs.lemmas.Grind.{fold-append}
 use Rattle.std.proofs.lemmas.List.{nil_from_length}
-use Rattle.svn_path.specs.Components.{is_not_empty}
-use Rattle.svn_dump.specs.Block.{AreBlocks, Block, block_text, is_newline}
+use Rattle.svn_text.specs.Bytes.{is_not_empty}
+use Rattle.svn_dump.specs.Block.{AreBlocks, Block, block_text}
+use Rattle.svn_text.specs.Line.{is_newline}
 use Rattle.svn_dump.specs.Draft.{dump_of, IsWhole}
 use Rattle.svn_dump.specs.Dump.{DumpValue, IsDump, history_in_bytes}
 use Rattle.svn_dump.specs.DumpError.{IsRefusal}

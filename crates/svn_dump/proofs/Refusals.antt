@@ -11,7 +11,7 @@ use Rattle.svn_path.specs.Names.{with_names}
 use Rattle.svn_dump.specs.DumpText.{IsSmall, all_records, most_numbered, names_of, parts_of_record, texts_of_action, values_of}
 use Rattle.svn_dump.specs.History.{Setting}
 use Rattle.svn_dump.specs.Node.{BlockSort, Node, NodeAction, node_block, other_block, revision_block, uuid_block}
-use Rattle.svn_dump.specs.Number.{number_of}
+use Rattle.svn_text.specs.Number.{number_of}
 use Rattle.svn_dump.specs.Record.{HistoryOfBytes, RecordOfBytes, has_dot, is_allowed, is_late, is_long, is_root_action, paths_read, record_by, record_of, with_numbered, with_record, with_sort}
 use Rattle.svn_dump.specs.Refusal.{Reason, action_refusals, first_holding, grows_large, is_large, reason, later_refusals, node_refusals, refusals_by, revision_refusals, size_refusals, sort_refusals}
 use Rattle.svn_dump.specs.NumberedRecord.{IsFirstReason, is_record_large}

@@ -1,13 +1,11 @@
 -- The blocks of a dump (Subversion's dump format notes, version 2): header lines, an empty line, and a body.
 use Rattle.std.specs.Prelude.{◌≡◌, ℕ, ◌+◌, ◌≤◌, ◌==◌, nat_lt, Bool, List, [], ◌∷◌, ◌++◌, Option, Some, None, All, length, replicate, flat_map, count_by, codes, bytes_eq, IsTrue, IsFalse, option_and_then, if◌then◌else◌}
 use Rattle.std.specs.List.{list_any, before_first, after_first}
-use Rattle.svn_path.specs.Components.{is_not_empty}
-use Rattle.svn_dump.specs.Number.{number_up_to, greatest_length}
+use Rattle.svn_text.specs.Bytes.{is_not_empty}
+use Rattle.svn_text.specs.Line.{is_newline, line_text}
+use Rattle.svn_text.specs.Number.{number_up_to, greatest_length}
 
 -- ---- header lines
-
-abbrev pub is_newline : ℕ → Bool
-is_newline byte = byte == 10
 
 abbrev pub is_colon : ℕ → Bool
 is_colon byte = byte == 58
@@ -74,9 +72,6 @@ body_length lines =
 pub record Block : Type 0 where
   pub lines : List (List ℕ)
   pub body : List ℕ
-
-abbrev pub line_text : List ℕ → List ℕ
-line_text line = line ++ 10 ∷ []
 
 abbrev pub block_text : Block → List ℕ
 block_text block = flat_map line_text block.lines ++ 10 ∷ block.body

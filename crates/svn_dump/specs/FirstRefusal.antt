@@ -1,8 +1,9 @@
 -- The first reason against bytes as a dump: of the first block against which there is one, the first in their order.
 use Rattle.std.specs.Prelude.{◌≡◌, ℕ, zero, suc, ◌-◌, ◌==◌, nat_eq, nat_lt, Bool, false, not, ◌&&◌, ◌||◌, List, [], ◌∷◌, ◌++◌, Option, Some, None, is_none, bytes_eq, codes, count_by, drop, flat_map, length, option_and_then, take, unwrap_or, if◌then◌else◌}
 use Rattle.std.specs.List.{after_first, before_first, list_any, slice_split, starts_with}
-use Rattle.svn_path.specs.Components.{is_not_empty}
-use Rattle.svn_dump.specs.Block.{Block, body_length, header_name, is_colon, is_named, is_newline, line_text, listed_names}
+use Rattle.svn_text.specs.Bytes.{is_not_empty}
+use Rattle.svn_dump.specs.Block.{Block, body_length, header_name, is_colon, is_named, listed_names}
+use Rattle.svn_text.specs.Line.{is_newline, line_text}
 use Rattle.svn_dump.specs.Record.{HistoryOfBytes, sort_of, with_block}
 use Rattle.svn_dump.specs.Refusal.{Reason, first_holding, reason, sort_refusals}
 use Rattle.svn_dump.specs.declared.refusal.Refusal.{Refusal}

@@ -2,7 +2,8 @@
 use Rattle.std.specs.Prelude.{◌≡◌, ℕ, List, ◌∷◌, ◌++◌, MatchOption, Option, Some, All, IsFalse, flat_map, length, take}
 use Rattle.std.specs.Borrow.{Bor}
 use Rattle.std.specs.List.{list_any}
-use Rattle.svn_dump.specs.Block.{Block, IsBlock, IsHeader, block_text, is_newline, line_text, properties_length}
+use Rattle.svn_dump.specs.Block.{Block, IsBlock, IsHeader, block_text, properties_length}
+use Rattle.svn_text.specs.Line.{is_newline, line_text}
 use Rattle.svn_dump.specs.Draft.{IsWhole}
 use Rattle.svn_dump.specs.Dump.{DumpValue, history_in_bytes}
 use Rattle.svn_dump.specs.Field.{fields_of}

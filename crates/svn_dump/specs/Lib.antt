@@ -1,5 +1,4 @@
 pub mod Block
-pub mod Cut
 pub mod Draft
 pub mod Dump
 pub mod DumpError
@@ -14,7 +13,6 @@ pub mod History
 pub mod Line
 pub mod Location
 pub mod Node
-pub mod Number
 pub mod NumberedRecord
 pub mod Property
 pub mod ReadError

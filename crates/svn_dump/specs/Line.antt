@@ -1,7 +1,8 @@
 -- The first line of bytes, and a header's name and value.
 use Rattle.std.specs.Prelude.{◌≡◌, ℕ, List, ◌∷◌, ◌++◌, IsFalse}
 use Rattle.std.specs.List.{list_any}
-use Rattle.svn_dump.specs.Block.{IsHeader, header_name, header_value, is_newline}
+use Rattle.svn_dump.specs.Block.{IsHeader, header_name, header_value}
+use Rattle.svn_text.specs.Line.{is_newline}
 
 -- no line of the bytes is complete
 abbrev pub HasNoLine : List ℕ → Type 0

@@ -1,7 +1,7 @@
 -- What the headers of a node block say (Subversion's dump format notes, version 2, node records).
 use Rattle.std.specs.Prelude.{ℕ, Bool, true, false, List, Option, Some, None, bytes_eq, codes, option_and_then, option_map, if◌then◌else◌}
 use Rattle.svn_dump.specs.History.{Setting}
-use Rattle.svn_dump.specs.Number.{greatest_revision, number_up_to}
+use Rattle.svn_text.specs.Number.{greatest_revision, number_up_to}
 use Rattle.svn_dump.specs.declared.kind.Kind.{Kind}
 use Rattle.svn_dump.specs.declared.kind.Kind.TheVariants.{File, Dir}
 

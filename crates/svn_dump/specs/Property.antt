@@ -2,9 +2,9 @@
 -- value with their lengths before them, and an end.
 use Rattle.std.specs.Prelude.{◌≡◌, ◌≢◌, ◌↔◌, ℕ, zero, suc, ◌+◌, ◌==◌, nat_eq, nat_lt, ◌&&◌, List, [], ◌∷◌, ◌++◌, Option, Some, None, codes, bytes_eq, drop, fold, length, option_map, option_and_then, slice_index, take, if◌then◌else◌}
 use Rattle.std.specs.List.{after_first, before_first, list_any, starts_with}
-use Rattle.svn_dump.specs.Block.{is_newline}
+use Rattle.svn_text.specs.Line.{is_newline}
 use Rattle.svn_dump.specs.History.{Setting, keep, put}
-use Rattle.svn_dump.specs.Number.{number_of}
+use Rattle.svn_text.specs.Number.{number_of}
 
 pub record Property : Type 0 where
   pub name : List ℕ

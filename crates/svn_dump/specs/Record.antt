@@ -5,7 +5,7 @@ use Rattle.svn_path.specs.Components.{parts_of, is_dot}
 use Rattle.svn_dump.specs.Block.{Block, field, properties_length}
 use Rattle.svn_dump.specs.History.{Setting, Action, delete, change, add, copy, Record, History}
 use Rattle.svn_dump.specs.Node.{BlockSort, Node, NodeAction, action_named, node_add, node_change, node_copy, node_delete, is_change, node_block, other_block, revision_block, sort_by_fields, uuid_block}
-use Rattle.svn_dump.specs.Number.{number_of}
+use Rattle.svn_text.specs.Number.{number_of}
 use Rattle.svn_dump.specs.Property.{setting_of}
 
 -- components and mergeinfo texts as bytes

@@ -3,7 +3,7 @@ ghost use Rattle.std.specs.Prelude.{◌≡◌, ℕ, ◌∷◌, ◌++◌, IsFalse
 ghost use Rattle.svn_dump.specs.FirstRefusal.{IsEmptyLines, begins_with_newline, front_refusals, without_empty_lines};
 ghost use Rattle.svn_dump.specs.FrontBlock.{BeginsWithBlock, BeginsWithHeaders};
 ghost use Rattle.svn_dump.specs.Refusal.{first_holding};
-ghost use Rattle.svn_path.specs.Components.{is_not_empty};
+ghost use Rattle.svn_text.specs.Bytes.{is_not_empty};
 
 use crate::headers::Headers;
 use crate::length::lengths_of;

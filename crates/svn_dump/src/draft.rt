@@ -13,7 +13,6 @@ use crate::dump::Dump;
 use crate::error::DumpError;
 use crate::field::Field;
 use crate::node::record_of;
-use crate::number::number_up_to;
 use crate::read_error::ReadError;
 use crate::record::NodeRecord;
 use crate::refusal::Refusal;
@@ -21,6 +20,7 @@ use crate::texts::Texts;
 use std::alloc::Global;
 use std::marker::Model;
 use svn_path::Names;
+use svn_text::number_up_to;
 
 /// How many names, records, revisions and texts a dump has at most.
 const MOST_NUMBERED: usize = 4_294_967_294;

@@ -1,13 +1,13 @@
 //! The lengths of a block's body and of its parts.
 ghost use Rattle.std.specs.Prelude.{◌≡◌, ◌+◌, ◌≤◌, Some, IfSome, option_copied, option_map};
 ghost use Rattle.svn_dump.specs.Block.{length_or_zero, whole_length};
-ghost use Rattle.svn_dump.specs.Number.{greatest_length};
+ghost use Rattle.svn_text.specs.Number.{greatest_length};
 ghost use Rattle.svn_dump.specs.HeaderValues.{body_length_from_headers, value_of};
 ghost use Rattle.svn_dump.specs.declared.field.Field.TheVariants.{PropertiesLength};
 
 use crate::field::Field;
 use crate::headers::Headers;
-use crate::number::number_up_to;
+use svn_text::number_up_to;
 
 /// The greatest length of a part of a block.
 pub(crate) const GREATEST_LENGTH: u64 = 9_223_372_036_854_775_807;

@@ -2,7 +2,6 @@
 #![tactic(auto)]
 
 mod block;
-mod cut;
 mod draft;
 mod dump;
 mod error;
@@ -14,7 +13,6 @@ mod line;
 mod mergeinfo;
 mod node;
 mod node_action;
-mod number;
 mod origin;
 mod read_error;
 mod reader;
@@ -23,11 +21,9 @@ mod refusal;
 mod section;
 mod texts;
 
-pub use cut::{split_at_byte, split_at_last};
 pub use dump::Dump;
 pub use error::DumpError;
 pub use kind::Kind;
-pub use number::{GREATEST_REVISION, number_up_to};
 pub use origin::Origin;
 pub use reader::read;
 pub use record::{Act, Mi, NodeRecord, ValueId};

@@ -2,9 +2,10 @@
 ghost use Rattle.std.specs.Prelude.{◌≡◌, IsFalse, MatchOption};
 ghost use Rattle.std.specs.List.{list_any};
 ghost use Rattle.svn_dump.specs.Line.{HasNoLine, IsFirstLine, IsHeaderOf};
-ghost use Rattle.svn_dump.specs.Block.{is_newline, without_space, IsHeader};
+ghost use Rattle.svn_text.specs.Line.{is_newline};
+ghost use Rattle.svn_dump.specs.Block.{without_space, IsHeader};
 
-use crate::cut::split_at_byte;
+use svn_text::split_at_byte;
 
 /// The first line, without its newline, and what follows it.
 pub(crate) fn split_line(bytes: &[u8]) -> Option<(&[u8], &[u8])>

@@ -7,7 +7,7 @@ ghost use Rattle.svn_dump.specs.HeaderValues.{addition_from_headers, node_action
 use crate::field::Field;
 use crate::headers::Headers;
 use crate::kind::Kind;
-use crate::number::{GREATEST_REVISION, number_up_to};
+use svn_text::{GREATEST_REVISION, number_up_to};
 
 /// What a node block does, by its headers alone. The path of a copy's source is lent by the dump.
 #[derive(Clone, Copy)]

@@ -1,6 +1,6 @@
 //! Reading a dump.
 ghost use Rattle.std.specs.Prelude.{◌≡◌, ◌++◌, ◌↔◌, None, IsFalse, IsTrue, IfErr, IfOk, IsErrOf, OnOk, Some};
-ghost use Rattle.svn_path.specs.Components.{is_not_empty};
+ghost use Rattle.svn_text.specs.Bytes.{is_not_empty};
 ghost use Rattle.svn_dump.specs.Draft.{IsWhole};
 ghost use Rattle.svn_dump.specs.Dump.{history_in_bytes};
 ghost use Rattle.svn_dump.specs.DumpText.{IsDumpText, first_line, names_of, values_of};

@@ -3,7 +3,7 @@ ghost use Rattle.std.specs.Prelude.{◌≡◌, ◌≢◌, ◌∷◌, MatchOption
 ghost use Rattle.svn_dump.specs.Property.{BeginsOtherwise, text_of_length, last_value, mergeinfo_name, piece_of, section_of};
 
 use crate::line::split_line;
-use crate::number::number_up_to;
+use svn_text::number_up_to;
 
 /// `count` bytes, and what follows the newline after them.
 fn split_counted(bytes: &[u8], count: u64) -> Option<(&[u8], &[u8])>

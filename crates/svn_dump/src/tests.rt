@@ -1,7 +1,6 @@
 //! Small dumps, read and refused. In a table of blocks each line is a sample and each `|` a newline.
 
 mod accepted;
-mod cuts;
 mod dumps;
 mod long;
 mod records;

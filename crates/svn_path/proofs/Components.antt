@@ -7,7 +7,8 @@ use Rattle.std.proofs.lemmas.List.Folds.{list_any_at}
 use Rattle.std.proofs.lemmas.List.Splits.{slice_split_none, slice_split_at}
 use Rattle.std.specs.List.{slice_split, onto_first, list_any}
 use Rattle.memchr.specs.Find.{IsFirstByte, is_byte}
-use Rattle.svn_path.specs.Components.{is_slash, is_not_empty, is_dot, parts_of, parts_text, path_text, IsComponent}
+use Rattle.svn_path.specs.Components.{is_slash, is_dot, parts_of, parts_text, path_text, IsComponent}
+use Rattle.svn_text.specs.Bytes.{is_not_empty}
 
 -- slashes at the front change nothing
 pub parts_of-start : (bytes : List ℕ) (start : ℕ) → ((k : ℕ) → k < start → is_slash (get_or bytes k 0) ≡ true) → parts_of bytes ≡ parts_of (drop start bytes)

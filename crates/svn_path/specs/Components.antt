@@ -2,13 +2,10 @@
 -- `..` stand in no repository (Subversion book, "Repository URLs and paths").
 use Rattle.std.specs.Prelude.{ℕ, ◌==◌, Bool, true, false, ◌||◌, List, [], ◌∷◌, filter, IsTrue, IsFalse, bytes_eq, codes, flat_map}
 use Rattle.std.specs.List.{slice_split, list_any}
+use Rattle.svn_text.specs.Bytes.{is_not_empty}
 
 abbrev pub is_slash : ℕ → Bool
 is_slash byte = byte == 47
-
-abbrev pub is_not_empty : List ℕ → Bool
-is_not_empty [] = false
-is_not_empty (byte ∷ bytes) = true
 
 -- what stands between the slashes, empty parts dropped
 abbrev pub parts_of : List ℕ → List (List ℕ)

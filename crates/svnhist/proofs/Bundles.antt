@@ -9,14 +9,14 @@ use Rattle.std.proofs.lemmas.Grind.{flat_map-append}
 use Rattle.std.proofs.lemmas.List.Folds.{list_any_none}
 use Rattle.std.proofs.lemmas.List.Splits.{slice_split_at, slice_split_none}
 use Rattle.std.specs.List.{list_all, list_any, slice_split}
-use Rattle.svn_dump.specs.Block.{is_newline, line_text}
-use Rattle.svn_dump.specs.Number.{is_digit, number_up_to, greatest_revision}
-use Rattle.svn_path.specs.Components.{is_not_empty}
+use Rattle.svn_text.specs.Line.{is_newline, line_text}
+use Rattle.svn_text.specs.Number.{is_digit, number_up_to, greatest_revision}
+use Rattle.svn_text.specs.Bytes.{is_not_empty}
 use Rattle.svnhist.specs.Bundle.{AreLines, BundleValue, IsBundle, most_workers}
-use Rattle.svnhist.specs.Report.{most_queries}
-use Rattle.svn_dump.specs.Cut.{Lacks}
-use Rattle.svn_dump.proofs.Lines.{Lacks-list_any}
-use Rattle.svn_dump.proofs.Cuts.{CutsFirst}
+use Rattle.svn_report.specs.Report.{most_queries}
+use Rattle.svn_text.specs.Cut.{Lacks}
+use Rattle.svn_text.proofs.Lines.{Lacks-list_any}
+use Rattle.svn_text.proofs.Cuts.{CutsFirst}
 use Rattle.query_answer.proofs.Queries.{slice_split-some}
 
 -- bytes that lack one are not cut at it

@@ -1,9 +1,2 @@
-mod AnswerTexts
-mod BlockEnds
-mod BlockIndexes
 mod Bundles
-mod LoadErrors
-mod QueryLines
-mod RecordEnds
-mod Reports
 mod Statuses

@@ -1,15 +1,15 @@
 -- What the status of a run says of its input, and which line is printed with it.
 use Rattle.std.proofs.Common.{◌≡◌, ℕ, List, [], inl, inr, refl, sym, subst, ◌∙◌, arith}
 use Rattle.svn_dump.specs.declared.error.DumpError.TheVariants as refusal
-use Rattle.svnhist.specs.Device.{PullState, PushState}
-use Rattle.svnhist.specs.Load.{IsLoadError, IsReadError}
+use Rattle.devices.specs.Device.{PullState, PushState}
+use Rattle.svn_report.specs.Load.{IsLoadError, IsReadError}
 use Rattle.svnhist.specs.ExitStatus.{IsFilesError, IsInputError, IsErrorLine, IsRefusedFilesRun, IsRefusedRun, PrintsLine}
-use Rattle.svnhist.specs.RunError.{line_of, status_of}
-use Rattle.svnhist.specs.ReportError.{IsRunError}
-use Rattle.svnhist.specs.declared.run_error.RunError.{RunError}
-use Rattle.svnhist.specs.declared.run_error.RunError.TheVariants as run
-use Rattle.svnhist.specs.declared.run_error.Source.{Source}
-use Rattle.svnhist.specs.declared.run_error.Source.TheVariants as source
+use Rattle.svn_report.specs.RunError.{line_of, status_of}
+use Rattle.svn_report.specs.ReportError.{IsRunError}
+use Rattle.svn_report.specs.declared.run_error.RunError.{RunError}
+use Rattle.svn_report.specs.declared.run_error.RunError.TheVariants as run
+use Rattle.devices.specs.declared.source.Source.{Source}
+use Rattle.devices.specs.declared.source.Source.TheVariants as source
 
 -- an input that was not read is not refused
 not_refused : (error : RunError) → IsLoadError source.Input error → status_of error ≡ 1 → ⊥

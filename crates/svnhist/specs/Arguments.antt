@@ -1,7 +1,7 @@
 -- The arguments of a run on two files: the paths of the dump and of the query lines, the length of a block and the number
 -- of workers.
 use Rattle.std.specs.Prelude.{◌≡◌, ℕ, ◌<◌, List, [], ◌∷◌, Some}
-use Rattle.svn_dump.specs.Number.{number_up_to, greatest_revision}
+use Rattle.svn_text.specs.Number.{number_up_to, greatest_revision}
 use Rattle.svnhist.specs.Bundle.{most_workers}
 use Rattle.svnhist.specs.declared.arguments.Arguments.{Arguments}
 

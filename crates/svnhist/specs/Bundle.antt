@@ -3,9 +3,9 @@
 -- the dump.
 use Rattle.std.specs.Prelude.{◌≡◌, ℕ, ◌<◌, List, ◌∷◌, ◌++◌, Some, All, length, flat_map, IsFalse}
 use Rattle.std.specs.List.{list_any}
-use Rattle.svn_dump.specs.Block.{is_newline, line_text}
-use Rattle.svn_dump.specs.Number.{number_up_to, greatest_revision}
-use Rattle.svnhist.specs.Report.{most_queries}
+use Rattle.svn_text.specs.Line.{is_newline, line_text}
+use Rattle.svn_text.specs.Number.{number_up_to, greatest_revision}
+use Rattle.svn_report.specs.Report.{most_queries}
 use Rattle.svnhist.specs.declared.bundle.Bundle.{Bundle}
 
 abbrev pub most_workers : ℕ

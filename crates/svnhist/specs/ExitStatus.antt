@@ -3,14 +3,15 @@ use Rattle.std.specs.Prelude.{◌≡◌, ◌⊎◌, ℕ, ◌+◌, ◌<◌, IsFal
 use Rattle.std.specs.Io.KnownBytes.{Appends, Consumes, IsAtEnd}
 use Rattle.std.specs.declared.alloc.Global.{Global}
 use Rattle.svnhist.specs.Bundle.{BundleValue, IsBundle}
-use Rattle.svnhist.specs.Device.{PullState, PushState}
-use Rattle.svnhist.specs.Load.{IsLoadError, IsUnread}
-use Rattle.svnhist.specs.Report.{IsReport}
-use Rattle.svnhist.specs.ReportError.{IsRunError}
-use Rattle.svnhist.specs.RunError.{line_of, status_of, unsent_line, usage_line}
-use Rattle.svnhist.specs.declared.run_error.RunError.{RunError}
-use Rattle.svnhist.specs.declared.run_error.RunError.TheVariants.{Read, Memory}
-use Rattle.svnhist.specs.declared.run_error.Source.TheVariants.{Dump as DumpFile, Queries, Input}
+use Rattle.devices.specs.Device.{PullState, PushState}
+use Rattle.svn_report.specs.Load.{IsLoadError, IsUnread}
+use Rattle.svn_report.specs.Report.{IsReport}
+use Rattle.svn_report.specs.ReportError.{IsRunError}
+use Rattle.svn_report.specs.RunError.{line_of, status_of}
+use Rattle.svnhist.specs.ProgramLines.{unsent_line, usage_line}
+use Rattle.svn_report.specs.declared.run_error.RunError.{RunError}
+use Rattle.svn_report.specs.declared.run_error.RunError.TheVariants.{Read, Memory}
+use Rattle.devices.specs.declared.source.Source.TheVariants.{Dump as DumpFile, Queries, Input}
 
 -- ---- what was read
 

@@ -1,15 +1,4 @@
-pub mod Answering
 pub mod Arguments
-pub mod Blocks
 pub mod Bundle
-pub mod Calls
-pub mod Cutting
-pub mod Device
 pub mod ExitStatus
-pub mod Load
-pub mod LoadRepo
-pub mod QueryLines
-pub mod RecordEnds
-pub mod Report
-pub mod ReportError
-pub mod RunError
+pub mod ProgramLines

@@ -2,7 +2,7 @@
 ghost use Rattle.std.specs.Prelude.{map, string_bytes, IfNone, IfSome};
 ghost use Rattle.svnhist.specs.Arguments.{ArgumentsValue, IsArguments, arguments_view};
 
-use svn_dump::{GREATEST_REVISION, number_up_to};
+use svn_text::{GREATEST_REVISION, number_up_to};
 
 /// What a run is asked to do, lent by its arguments.
 #[derive(Clone, Copy, Debug)]

@@ -1,10 +1,10 @@
 //! Taking a bundle apart.
 ghost use Rattle.std.specs.Prelude.{◌≡◌, ◌<◌, ◌≤◌, ℕ, List, ◌++◌, IfNone, IfSome};
-ghost use Rattle.svn_dump.specs.Number.{greatest_length};
+ghost use Rattle.svn_text.specs.Number.{greatest_length};
 ghost use Rattle.svnhist.specs.Bundle.{AreLines, BundleValue, HasNoNumberBefore, IsBundle, IsNumberBefore, bundle_view};
 
 use crate::bundle::Bundle;
-use svn_dump::{GREATEST_REVISION, number_up_to, split_at_byte};
+use svn_text::{GREATEST_REVISION, number_up_to, split_at_byte};
 
 /// The number before the first such byte, and what follows that byte.
 fn number_before(bytes: &[u8], end: u8, most: u64) -> Option<(u64, &[u8])>

@@ -1,27 +1,14 @@
 //! Answers questions about the history of a Subversion repository, given its dump.
 #![tactic(auto)]
 
-mod answering;
 mod arguments;
-mod block_index;
-mod blocks;
 mod bundle;
 mod bundle_reader;
-mod calls;
-mod cutting;
-mod device;
-mod load;
-mod load_repo;
+mod file;
 mod program;
-mod query_lines;
-mod report;
-mod run_error;
-mod send;
-#[cfg(test)]
-mod tests;
 
 use arguments::read_arguments;
-use device::Device;
+use devices::Device;
 use std::env::{self, Env};
 use std::io::{self, ErrorKind};
 use std::process::ExitCode;

@@ -1,24 +1,23 @@
 //! The program: a bundle or two files in, their report out.
 ghost use Rattle.std.specs.Prelude.{◌≡◌, ◌≢◌, ℕ, ◌<◌, ◌≤◌, ◌⊎◌, List, IfErr, IfOk, IsFalse, IsTrue};
 ghost use Rattle.std.specs.Io.KnownBytes.{Appends};
-ghost use Rattle.svnhist.specs.Load.{IsReadError, IsUnread};
+ghost use Rattle.svn_report.specs.Load.{IsReadError, IsUnread};
 ghost use Rattle.svnhist.specs.ExitStatus.{IsBundleAnswer, IsBundleError, IsCutAfter, IsFailedFilesRun, IsFailedRun, IsFailureLine, IsFilesError, IsFilesRun, IsInputAnswer, IsInputError, IsErrorLine, IsRefusedFilesRun, IsRefusedRun, IsRun, IsUsageRun, PrintsLine};
-ghost use Rattle.svnhist.specs.Report.{IsReport};
-ghost use Rattle.svnhist.specs.ReportError.{IsRunError};
-ghost use Rattle.svnhist.specs.RunError.{line_of, unsent_line, usage_line};
+ghost use Rattle.svn_report.specs.Report.{IsReport};
+ghost use Rattle.svn_report.specs.ReportError.{IsRunError};
+ghost use Rattle.svn_report.specs.RunError.{line_of};
+ghost use Rattle.svnhist.specs.ProgramLines.{unsent_line, usage_line};
 
 use crate::arguments::Arguments;
 use crate::bundle_reader::bundle;
-use crate::device::{Pull, Push};
-use crate::load::{load, load_file};
-use crate::report::report;
-use crate::run_error::{RunError, Source};
-use crate::send::send;
+use crate::file::load_file;
+use devices::{Pull, Push, Source, send};
 use query_pool::NoGate;
 use std::alloc::{AllocError, Global};
 use std::rt::Files;
 use std::sync::Wait;
 use std::thread::Threads;
+use svn_report::{RunError, load, report};
 
 const USAGE: &[u8] = b"svnhist: usage: svnhist DUMP QUERIES BLOCK WORKERS\n";
 

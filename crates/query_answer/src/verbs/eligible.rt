@@ -11,7 +11,8 @@ use crate::pair::Pair;
 use crate::query::Peg;
 use crate::repo::Repo;
 use path_index::{Hit, Segment};
-use range_list::{Ranges, push_number};
+use range_list::Ranges;
+use svn_text::push_number;
 use std::alloc::{AllocError, Global};
 
 /// The revisions of a source that are still to be merged into a target.

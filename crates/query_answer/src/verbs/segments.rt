@@ -8,7 +8,7 @@ use crate::answers::Answer;
 use crate::query::Peg;
 use crate::repo::Repo;
 use path_index::Segment;
-use range_list::push_number;
+use svn_text::push_number;
 use std::alloc::{AllocError, Global};
 use svn_path::Names;
 

@@ -3,7 +3,8 @@ use Rattle.std.proofs.lemmas.Bool.{eqb-false, eqb-true}
 use Rattle.std.proofs.lemmas.Iterator.Consumers.{YieldsList-at, YieldsList-end, YieldsList-from_filter, YieldsList-turn}
 use Rattle.std.proofs.lemmas.Iterator.Splits.{YieldsList-from_slice_split}
 use Rattle.std.proofs.lemmas.List.{length_push, take_all}
-use Rattle.svn_path.specs.Components.{is_not_empty, is_slash, parts_of, parts_text}
+use Rattle.svn_text.specs.Bytes.{is_not_empty}
+use Rattle.svn_path.specs.Components.{is_slash, parts_of, parts_text}
 use Rattle.merge_info.proofs.SourcePaths.{is_not_empty-tested, parts_text-more, path_text-none, path_text-some}
 use Rattle.merge_info.proofs.source_path.printed_path.Goals as goal
 use Rattle.merge_info.proofs.source_path.printed_path.Goals.{then-is_empty+in_ok-push-2, else-is_empty}

@@ -1,4 +1,4 @@
-use Rattle.svn_dump.proofs.Cuts.{CutsFirst-IsCutAt}
+use Rattle.svn_text.proofs.Cuts.{CutsFirst-IsCutAt}
 use Rattle.svnhist.proofs.Bundles.{no_number-uncut, no_number-cut}
 use Rattle.svnhist.proofs.bundle_reader.number_before.Goals as goal
 

@@ -1,5 +1,5 @@
 use Rattle.std.proofs.Common.{refl, []}
-use Rattle.svn_dump.proofs.Cuts.{CutsFirst-IsCutAt}
+use Rattle.svn_text.proofs.Cuts.{CutsFirst-IsCutAt}
 use Rattle.svnhist.proofs.Bundles.{too_few_lines, AreLines-none, AreLines_push, moved_line}
 use Rattle.svnhist.proofs.bundle_reader.split_lines.Goals as goal
 

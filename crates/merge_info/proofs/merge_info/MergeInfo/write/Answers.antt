@@ -1,6 +1,6 @@
 use Rattle.std.proofs.Common.{◌≡◌, ℕ, ◌+◌, ◌<◌, List, ◌∷◌, [], ◌++◌, length, get_or, map, take, sym, ap, subst, ◌∙◌, arith}
 use Rattle.std.proofs.lemmas.List.{flat_map_more, get_or-map, length-map, take_more}
-use Rattle.svn_dump.specs.Block.{line_text}
+use Rattle.svn_text.specs.Line.{line_text}
 use Rattle.merge_info.specs.Text.{printed_line, value_text}
 use Rattle.merge_info.specs.Value.{IsMergeInfo, entry_view}
 use Rattle.merge_info.specs.Line.{Line}

@@ -1,5 +1,5 @@
 use Rattle.std.proofs.Common.{sym, subst, ◌∙◌}
-use Rattle.svn_dump.proofs.Cuts.{CutsFirst-IsCutAt}
+use Rattle.svn_text.proofs.Cuts.{CutsFirst-IsCutAt}
 use Rattle.query_answer.specs.Query.{HasPegOf, HasTargetOf, third_field}
 use Rattle.query_answer.proofs.Queries.{peg_field-two, peg_field-three, query_of-uncut, query_of-two, query_of-three, query_of-four, third_field-three}
 use Rattle.query_answer.proofs.query.Query.read.Goals as goal

@@ -1,6 +1,6 @@
 use Rattle.std.proofs.Common.{◌≡◌, ◌++◌, map, take}
 use Rattle.std.specs.Prelude.{flat_map}
-use Rattle.svn_dump.specs.Block.{line_text}
+use Rattle.svn_text.specs.Line.{line_text}
 use Rattle.query_answer.specs.Answer.{hit_line, segments_in_bytes}
 use Rattle.query_answer.proofs.verbs.log.write_log.Given as goal
 

@@ -1,6 +1,6 @@
 use Rattle.std.proofs.Common.{◌≡◌, ◌++◌, map, take}
 use Rattle.std.specs.Prelude.{flat_map}
-use Rattle.svn_dump.specs.Block.{line_text}
+use Rattle.svn_text.specs.Line.{line_text}
 use Rattle.query_answer.specs.Answer.{segment_line, segments_in_bytes}
 use Rattle.query_answer.proofs.verbs.segments.write_segments.Given as goal
 

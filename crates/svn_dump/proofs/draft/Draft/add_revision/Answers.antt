@@ -1,6 +1,6 @@
 use Rattle.std.proofs.Common.{◌≡◌, length, sym, ap, ◌∙◌, arith, rules}
 use Rattle.std.specs.Prelude.{Some}
-use Rattle.svn_dump.specs.Number.{number_up_to}
+use Rattle.svn_text.specs.Number.{number_up_to}
 use Rattle.svn_dump.specs.Record.{with_sort}
 use Rattle.svn_dump.proofs.Drafts.{not_same, IsDraft-with_revision, with_numbered-told, IsWhole-with_revision, refused-number, refused-revision}
 use Rattle.svn_dump.proofs.draft.Draft.add_revision.Goals as goal

@@ -1,0 +1,55 @@
+-- What contracts see of a device.
+use Rattle.std.specs.Prelude.{ℕ, ◌==◌, Bool, List, Option, Result, Ok, Err, if◌then◌else◌}
+use Rattle.devices.specs.declared.device.Device.{Device}
+
+-- the bytes that are left, where the device reports them, how many calls were made and how many of them gave no bytes,
+-- which is the end of the input, and whether one failed
+pub record PullState : Type 0 where
+  pub left : Option (List ℕ)
+  pub calls : ℕ
+  pub ends : ℕ
+  pub has_failed : Bool
+
+-- the bytes that went out, where the device reports them, how many calls were made and how many of them failed, whether
+-- one failed, and whether it was flushed after the last bytes that it took; a new device was not
+pub record PushState : Type 0 where
+  pub gone : Option (List ℕ)
+  pub calls : ℕ
+  pub failures : ℕ
+  pub has_failed : Bool
+  pub is_flushed : Bool
+
+-- one for a call that gave no bytes
+abbrev pub end_count : {E : Type 0} → Result ℕ E → ℕ
+end_count (Ok count) = if count == 0 then 1 else 0
+end_count (Err failed) = 0
+
+-- one for a call that failed
+abbrev pub failure_count : {A E : Type 0} → Result A E → ℕ
+failure_count (Ok done) = 0
+failure_count (Err failed) = 1
+
+abbrev pub device_inner : {D : Type 0} → Device D → D
+device_inner d = d.inner
+
+abbrev pub device_calls : {D : Type 0} → Device D → ℕ
+device_calls d = d.calls
+
+abbrev pub device_ends : {D : Type 0} → Device D → ℕ
+device_ends d = d.ends
+
+abbrev pub device_failures : {D : Type 0} → Device D → ℕ
+device_failures d = d.failures
+
+abbrev pub device_has_failed : {D : Type 0} → Device D → Bool
+device_has_failed d = d.failed
+
+abbrev pub device_is_flushed : {D : Type 0} → Device D → Bool
+device_is_flushed d = d.flushed
+
+-- the state of a reader or a writer of std, by the bytes that it reports
+abbrev pub pull_state : {D : Type 0} → (D → Option (List ℕ)) → Device D → PullState
+pull_state remaining d = record { left = remaining d.inner; calls = d.calls; ends = d.ends; has_failed = d.failed }
+
+abbrev pub push_state : {D : Type 0} → (D → Option (List ℕ)) → Device D → PushState
+push_state contents d = record { gone = contents d.inner; calls = d.calls; failures = d.failures; has_failed = d.failed; is_flushed = d.flushed }

@@ -1,0 +1,12 @@
+use Rattle.std.proofs.Common.{◌≡◌, ◌+◌, ◌≤◌, length}
+use Rattle.svn_report.specs.QueryLines.{query_lines}
+use Rattle.svn_report.proofs.query_lines.count_lines.Given as goal
+
+abbrev pub invariant-lines : goal.invariant-lines
+invariant-lines l = record {
+  counted : l.count + length (query_lines l.rest) ≡ length (query_lines l.queries);
+  within : l.count + length l.rest ≤ length l.queries;
+}
+
+abbrev pub decreases-lines : goal.decreases-lines
+decreases-lines l = length l.rest

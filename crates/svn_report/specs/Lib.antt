@@ -1,0 +1,10 @@
+pub mod Answering
+pub mod Blocks
+pub mod Cutting
+pub mod Load
+pub mod LoadRepo
+pub mod QueryLines
+pub mod RecordEnds
+pub mod Report
+pub mod ReportError
+pub mod RunError

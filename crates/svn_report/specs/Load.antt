@@ -1,0 +1,34 @@
+-- How a run reports that an input could not be read.
+use Rattle.std.specs.Prelude.{◌≡◌, ◌⊎◌, ℕ, ◌+◌, IsTrue}
+use Rattle.devices.specs.Device.{PullState}
+use Rattle.svn_report.specs.declared.run_error.RunError.{RunError}
+use Rattle.svn_report.specs.declared.run_error.RunError.TheVariants.{TooMany, Dump, Fault as Faulty, Read, Memory}
+use Rattle.devices.specs.declared.source.Source.{Source}
+
+-- how many reads one call makes at most
+abbrev pub most_reads : ℕ
+most_reads = 4294967296
+
+-- an input was not read to its end: no call reached it, and one failed or so many were made
+pub record IsUnread (old new : PullState) : Type 0 where
+  pub no_end : new.ends ≡ old.ends
+  pub why : IsTrue new.has_failed ⊎ (new.calls ≡ old.calls + most_reads)
+
+-- a device that has failed had failed before
+abbrev pub FailsNoMore : PullState → PullState → Type 0
+FailsNoMore old new = IsTrue new.has_failed → IsTrue old.has_failed
+
+abbrev pub IsReadError : RunError → Type 0
+IsReadError TooMany = ⊥
+IsReadError (Dump refused) = ⊥
+IsReadError (Faulty fault) = ⊥
+IsReadError (Read source) = Unit {0}
+IsReadError Memory = ⊥
+
+-- the source could not be read, or memory ran out
+abbrev pub IsLoadError : Source → RunError → Type 0
+IsLoadError source TooMany = ⊥
+IsLoadError source (Dump refused) = ⊥
+IsLoadError source (Faulty fault) = ⊥
+IsLoadError source (Read unread) = unread ≡ source
+IsLoadError source Memory = Unit {0}

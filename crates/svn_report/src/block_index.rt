@@ -1,0 +1,95 @@
+//! The index of a dump, joined of the indexes of blocks.
+ghost use Rattle.std.specs.Prelude.{◌≡◌, ◌<◌, ◌≤◌, All, IfOk, length, map};
+ghost use Rattle.svn_dump.specs.Dump.{IsDump};
+ghost use Rattle.svn_report.specs.Blocks.{AreBorders};
+ghost use Rattle.svn_report.specs.RecordEnds.{AreRecordBorders, AreRecordEnds, sum_at, sum_of};
+
+use crate::blocks::Blocks;
+use crate::cutting::cut;
+use par_scan::{Sum, make_all, scan, total};
+use path_index::Index;
+use std::alloc::{AllocError, Global};
+use std::thread::Threads;
+use svn_dump::Dump;
+
+/// The index of all records of a dump. The blocks between these borders are indexed in parallel and joined.
+pub(crate) fn index_of<R: Threads + Sync>(
+    rt: &R,
+    alloc: Global,
+    dump: &Dump,
+    borders: &[usize],
+    workers: usize,
+) -> Result<Index, AllocError>
+    requires borders { AreBorders 0 (length dump.now.records) borders.now }
+    requires some_worker { 0 < workers }
+    requires few_workers { workers ≤ 64 }
+    ensures records { IfOk result (λ index. index.records ≡ dump.now.records) }
+    ensures first { IfOk result (λ index. index.first ≡ 0) }
+{
+    let blocks = Blocks {
+        alloc,
+        records: dump.records(),
+        borders,
+    };
+    let indexes = make_all(rt, alloc, &blocks, borders.len() - 1, workers)?;
+    match total(rt, alloc, indexes, workers)? {
+        Some(index) => Ok(index),
+        None => Index::build(alloc, &[], 0),
+    }
+}
+
+/// How many records precede each block that `cuts` make of the revisions of a dump, and how many there are. Each join of
+/// indexes copies, so neighbouring blocks are taken together until there is one for each worker.
+pub(crate) fn record_borders(
+    alloc: Global,
+    dump: &Dump,
+    sums: &[Sum],
+    cuts: &[u32],
+    workers: usize,
+) -> Result<Vec<usize>, AllocError>
+    requires sums { AreRecordEnds dump.now.counts sums.now }
+    requires cuts { All (λ length. 0 < length) cuts.now }
+    requires some_worker { 0 < workers }
+    ensures exact { IfOk result (λ borders. AreRecordBorders cuts.now workers dump.now.counts borders.items) }
+    ensures rise { IfOk result (λ borders. AreBorders 0 (length dump.now.records) borders.items) }
+{
+    let ends = cut(alloc, cuts, dump.counts().len() - 1, workers)?;
+    sums_at(alloc, sums, ends.as_slice())
+}
+
+/// For each revision how many records the revisions up to it have.
+pub(crate) fn record_ends<R: Threads + Sync>(
+    rt: &R,
+    alloc: Global,
+    dump: &Dump,
+    workers: usize,
+) -> Result<Vec<Sum>, AllocError>
+    requires some_worker { 0 < workers }
+    requires few_workers { workers ≤ 64 }
+    ensures exact { IfOk result (λ sums. AreRecordEnds dump.now.counts sums.items) }
+    ensures kept { IsDump dump.now }
+{
+    let sums = sums_of(alloc, dump.counts())?;
+    scan(rt, alloc, sums, workers)
+}
+
+/// The counts as sums.
+fn sums_of(alloc: Global, counts: &[u32]) -> Result<Vec<Sum>, AllocError>
+    ensures { IfOk result (λ sums. sums.items ≡ map sum_of counts.now) }
+{
+    counts
+        .iter()
+        .map(|count| Sum(u64::from(*count)))
+        .collect(alloc)
+}
+
+/// The sums at these revisions.
+fn sums_at(alloc: Global, sums: &[Sum], revisions: &[usize]) -> Result<Vec<usize>, AllocError>
+    requires { All (λ rev. rev < length sums.now) revisions.now }
+    ensures { IfOk result (λ found. found.items ≡ map (sum_at sums.now) revisions.now) }
+{
+    revisions
+        .iter()
+        .map(|rev| sums[*rev].0 as usize)
+        .collect(alloc)
+}

@@ -1,0 +1,18 @@
+//! The report on a dump: the answers to a list of queries about its history, the same for each number of workers and each
+//! cutting of the history into blocks.
+#![tactic(auto)]
+
+mod answering;
+mod block_index;
+mod blocks;
+mod cutting;
+mod loading;
+mod query_lines;
+mod reporting;
+mod repository;
+mod run_error;
+
+pub use loading::load;
+pub use reporting::report;
+pub use repository::{LoadError, load_repo};
+pub use run_error::RunError;

@@ -1,0 +1,48 @@
+//! The report on a dump.
+ghost use Rattle.std.specs.Prelude.{◌<◌, ◌≤◌, ◌↔◌, All, length, IfErr, IfOk, IsErrOf};
+ghost use Rattle.svn_report.specs.QueryLines.{query_lines};
+ghost use Rattle.svn_report.specs.Report.{IsReport, most_queries};
+ghost use Rattle.svn_report.specs.ReportError.{IsRunError};
+
+use crate::answering::answer_lines;
+use crate::query_lines::count_lines;
+use crate::repository::load_repo;
+use crate::run_error::RunError;
+use query_pool::Gate;
+use std::alloc::Global;
+use std::sync::Wait;
+use std::thread::Threads;
+use svn_dump::read;
+
+/// How many queries one run answers at most.
+const MOST_QUERIES: usize = 1_000_000;
+
+/// The answers to the query lines, in their order.
+///
+/// Blocks take whole revisions from 1 on by the lengths `cuts` in turn; the last length is repeated, and no lengths
+/// mean one block. Neither the cutting nor the number of workers shows in the report.
+pub fn report<R: Threads + Wait + Sync, G: Gate>(
+    rt: &R,
+    alloc: Global,
+    dump: &[u8],
+    queries: &[u8],
+    cuts: &[u32],
+    workers: usize,
+    gate: &G,
+) -> Result<Vec<u8>, RunError>
+    requires cuts { All (λ blocks. 0 < blocks) cuts.now }
+    requires some_worker { 0 < workers }
+    requires few_workers { workers ≤ 64 }
+    ensures ok { IfOk result (λ report. IsReport dump.now queries.now report.items) }
+    ensures error { IfErr result (IsRunError dump.now queries.now) }
+
+    // This comes before all that is said of the dump.
+    ensures too_many { IsErrOf result RunError.TooMany ↔ (most_queries < length (query_lines queries.now)) }
+{
+    if count_lines(queries) > MOST_QUERIES {
+        return Err(RunError::TooMany);
+    }
+    let dump = read(alloc, dump)?;
+    let repo = load_repo(rt, alloc, dump, cuts, workers)?;
+    Ok(answer_lines(rt, alloc, &repo, queries, workers, gate)?)
+}

@@ -1,0 +1,83 @@
+//! The repository of a dump.
+ghost use Rattle.std.specs.Prelude.{◌≡◌, ◌<◌, ◌≤◌, All, IfErr, IfOk, None, OnOk, bytes_eq};
+ghost use Rattle.svn_path.specs.Path.{same_name};
+ghost use Rattle.svn_dump.specs.Dump.{history_in_bytes, history_view};
+ghost use Rattle.svn_dump.specs.Fault.{first_fault};
+ghost use Rattle.block_map.specs.Ends.{ends_of};
+ghost use Rattle.block_map.specs.Map.{IsMapOf};
+ghost use Rattle.svn_report.specs.LoadRepo.{IsLoadError};
+
+use crate::block_index::{index_of, record_borders, record_ends};
+use block_map::{Ends, Fault, Map, check};
+use query_answer::Repo;
+use std::alloc::{AllocError, Global};
+use std::sync::Wait;
+use std::thread::Threads;
+use svn_dump::Dump;
+use thiserror::Error;
+
+/// Why a dump has no repository.
+#[derive(Debug, Drop, Error)]
+pub enum LoadError {
+    #[error("dump refused: {0:?}")]
+    Fault(Fault),
+    #[error("out of memory")]
+    Memory,
+}
+
+impl From<AllocError> for LoadError {
+    ghost use Rattle.std.specs.Prelude.{◌≡◌};
+    ghost use Rattle.svn_report.specs.declared.repository.LoadError.TheVariants.{Memory};
+
+    ghost from_gives = { λ _ e. e ≡ Memory };
+
+    fn from(_e: AllocError) -> LoadError {
+        LoadError::Memory
+    }
+}
+
+/// The repository of a dump, or its first faulty record.
+///
+/// At most `workers` threads at a time make the indexes of blocks, which are then joined. Blocks take whole revisions
+/// from 1 on by the lengths `cuts` in turn; the last length is repeated, and no lengths mean one block. Neighbouring
+/// blocks are taken together so that there are at most as many as workers.
+pub fn load_repo<R: Threads + Wait + Sync>(
+    rt: &R,
+    alloc: Global,
+    dump: Dump,
+    cuts: &[u32],
+    workers: usize,
+) -> Result<Repo, LoadError>
+    requires cuts { All (λ blocks. 0 < blocks) cuts.now }
+    requires some_worker { 0 < workers }
+    requires few_workers { workers ≤ 64 }
+    ensures repo { IfOk result (λ repo. repo ≡ dump) }
+    ensures lawful { OnOk result (first_fault bytes_eq (history_in_bytes dump) ≡ None) }
+    ensures faulty { IfErr result (IsLoadError dump) }
+{
+    let sums = record_ends(rt, alloc, &dump, workers)?;
+    let borders = record_borders(alloc, &dump, sums.as_slice(), cuts, workers)?;
+    let ends = Ends::new(sums);
+    let map = lawful_map(rt, alloc, &dump, &ends)?;
+    let index = index_of(rt, alloc, &dump, borders.as_slice(), workers)?;
+    Ok(Repo::new(dump, index, map, ends))
+}
+
+/// The map of all records of a dump, or its first faulty record. The revisions of the dump end as these say.
+pub(crate) fn lawful_map<R: Threads + Sync>(
+    rt: &R,
+    alloc: Global,
+    dump: &Dump,
+    ends: &Ends,
+) -> Result<Map, LoadError>
+    requires { ends.now ≡ ends_of dump.now.counts }
+    ensures map { IfOk result (λ map. IsMapOf dump.now map) }
+    ensures lawful { OnOk result (first_fault same_name (history_view dump.now) ≡ None) }
+    ensures faulty { IfErr result (IsLoadError dump.now) }
+{
+    let map = Map::build(alloc, dump.records(), 0, ends)?;
+    match check(rt, &map, dump, ends)? {
+        Some(fault) => Err(LoadError::Fault(fault)),
+        None => Ok(map),
+    }
+}

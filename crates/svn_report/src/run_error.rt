@@ -1,0 +1,209 @@
+//! Why a run gave no report, and how the program reports that.
+ghost use Rattle.std.specs.Prelude.{◌≡◌, ◌++◌, IfOk, OnOk, OnErr};
+ghost use Rattle.svn_report.specs.RunError.{line_of, status_of, refused_text, refusal_name_of, fault_name_of, source_name_of, unread_text};
+
+use crate::repository::LoadError;
+use block_map::{Fault, FaultKind};
+use devices::Source;
+use std::alloc::{AllocError, AllocFailed, Global};
+use svn_dump::DumpError;
+use svn_text::push_number;
+use thiserror::Error;
+
+/// Why a run gave no report.
+#[derive(Debug, Drop, Error)]
+pub enum RunError {
+    #[error("more than 1000000 queries")]
+    TooMany,
+    #[error("dump refused: {0}")]
+    Dump(DumpError),
+    #[error("dump refused: {0:?}")]
+    Fault(Fault),
+    #[error("cannot read: {0:?}")]
+    Read(Source),
+    #[error("out of memory")]
+    Memory,
+}
+
+impl From<AllocError> for RunError {
+    ghost use Rattle.std.specs.Prelude.{◌≡◌};
+    ghost use Rattle.svn_report.specs.declared.run_error.RunError.TheVariants.{Memory};
+
+    ghost from_gives = { λ _ e. e ≡ Memory };
+
+    fn from(_e: AllocError) -> RunError {
+        RunError::Memory
+    }
+}
+
+impl<T: Drop> From<AllocFailed<T>> for RunError {
+    ghost use Rattle.std.specs.Prelude.{◌≡◌};
+    ghost use Rattle.svn_report.specs.declared.run_error.RunError.TheVariants.{Memory};
+
+    ghost from_gives = { λ _ e. e ≡ Memory };
+
+    fn from(_e: AllocFailed<T>) -> RunError {
+        RunError::Memory
+    }
+}
+
+impl From<DumpError> for RunError {
+    ghost use Rattle.svn_report.specs.ReportError.{run_error_of_dump};
+
+    ghost from_gives = { λ e reported. reported ≡ run_error_of_dump e };
+
+    fn from(e: DumpError) -> RunError {
+        match e {
+            DumpError::Refused { number, at } => RunError::Dump(DumpError::Refused { number, at }),
+            DumpError::Memory => RunError::Memory,
+        }
+    }
+}
+
+impl From<LoadError> for RunError {
+    ghost use Rattle.svn_report.specs.ReportError.{run_error_of_load};
+
+    ghost from_gives = { λ e reported. reported ≡ run_error_of_load e };
+
+    fn from(e: LoadError) -> RunError {
+        match e {
+            LoadError::Fault(fault) => RunError::Fault(fault),
+            LoadError::Memory => RunError::Memory,
+        }
+    }
+}
+
+impl RunError {
+    /// The status with which the program ends.
+    pub fn status(&self) -> u8
+        ensures { result ≡ status_of self.now }
+    {
+        match self {
+            RunError::TooMany | RunError::Dump(DumpError::Refused { .. }) | RunError::Fault(_) => 1,
+            RunError::Read(_) => 3,
+            RunError::Dump(DumpError::Memory) | RunError::Memory => 4,
+        }
+    }
+
+    /// Appends the line that the program prints on standard error.
+    pub fn write(&self, out: &mut Vec<u8>) -> Result<(), AllocError>
+        ensures ok { OnOk result (out.new.items ≡ out.old.items ++ line_of self.now) }
+        ensures err { OnErr result (out.new.items ≡ out.old.items) }
+    {
+        let line = self.line(*out.allocator())?;
+        out.extend_from_slice(line.as_slice())
+    }
+
+    /// The line that the program prints on standard error.
+    fn line(&self, alloc: Global) -> Result<Vec<u8>, AllocError>
+        ensures { IfOk result (λ line. line.items ≡ line_of self.now) }
+    {
+        match self {
+            RunError::TooMany => {
+                Vec::from_slice(alloc, b"svnhist: more than 1000000 queries\n".as_slice())
+            }
+            RunError::Dump(DumpError::Refused { number, at }) => {
+                refused_line(
+                    alloc,
+                    *number,
+                    refusal_name(*number),
+                    b"byte".as_slice(),
+                    *at,
+                )
+            }
+            RunError::Fault(fault) => {
+                let number = fault.kind as u8;
+                let place = u64::from(fault.number);
+                refused_line(
+                    alloc,
+                    number,
+                    fault_name(fault.kind),
+                    b"record".as_slice(),
+                    place,
+                )
+            }
+            RunError::Read(source) => unread_line(alloc, *source),
+            RunError::Dump(DumpError::Memory) | RunError::Memory => {
+                Vec::from_slice(alloc, b"svnhist: out of memory\n".as_slice())
+            }
+        }
+    }
+}
+
+/// The line of a dump that is refused at a byte or a record.
+fn refused_line(
+    alloc: Global,
+    number: u8,
+    name: &[u8],
+    what: &[u8],
+    place: u64,
+) -> Result<Vec<u8>, AllocError>
+    ensures { IfOk result (λ line. line.items ≡ refused_text number name.now what.now place) }
+{
+    let mut line = Vec::from_slice(alloc, b"svnhist: dump refused: ".as_slice())?;
+    push_number(&mut line, u64::from(number))?;
+    line.push(b' ')?;
+    line.extend_from_slice(name)?;
+    line.extend_from_slice(b" at ".as_slice())?;
+    line.extend_from_slice(what)?;
+    line.push(b' ')?;
+    push_number(&mut line, place)?;
+    line.push(b'\n')?;
+    Ok(line)
+}
+
+/// The line of a source that can't be read.
+fn unread_line(alloc: Global, source: Source) -> Result<Vec<u8>, AllocError>
+    ensures { IfOk result (λ line. line.items ≡ unread_text source) }
+{
+    let mut line = Vec::from_slice(alloc, b"svnhist: cannot read ".as_slice())?;
+    line.extend_from_slice(source_name(source))?;
+    line.push(b'\n')?;
+    Ok(line)
+}
+
+/// The name of a refusal of the reader.
+fn refusal_name(number: u8) -> &'static [u8]
+    ensures { result.now ≡ refusal_name_of number }
+{
+    match number {
+        1 => b"Magic",
+        2 => b"Version",
+        3 => b"Header",
+        4 => b"Length",
+        5 => b"Truncated",
+        6 => b"Props",
+        7 => b"BadRecord",
+        8 => b"Revision",
+        9 => b"BadPath",
+        10 => b"Delta",
+        11 => b"CopyRevision",
+        12 => b"RootAction",
+        13 => b"RevisionZero",
+        14 => b"TooLarge",
+        _ => b"Unknown",
+    }
+}
+
+/// The name of a fault of a record.
+fn fault_name(kind: FaultKind) -> &'static [u8]
+    ensures { result.now ≡ fault_name_of kind }
+{
+    match kind {
+        FaultKind::NoParent => b"NoParent",
+        FaultKind::Exists => b"Exists",
+        FaultKind::Missing => b"Missing",
+        FaultKind::NoSource => b"NoSource",
+    }
+}
+
+/// What a source is called.
+fn source_name(source: Source) -> &'static [u8]
+    ensures { result.now ≡ source_name_of source }
+{
+    match source {
+        Source::Dump => b"the dump",
+        Source::Queries => b"the queries",
+        Source::Input => b"standard input",
+    }
+}
