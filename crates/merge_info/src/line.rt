@@ -8,8 +8,8 @@ use crate::rangelist::{rangelist, without_blanks};
 use crate::source_path::printed_path;
 use range_list::Run;
 use std::alloc::Global;
-use svn_text::split_at_last;
 use svn_path::has_dot;
+use svn_text::split_at_last;
 
 /// A path as it is printed, and revisions that were merged from it, in any order.
 #[derive(Drop)]

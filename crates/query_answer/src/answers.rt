@@ -5,12 +5,14 @@ ghost use Rattle.query_answer.specs.Answer.{HasPathsOf, answer_head, answer_in_b
 use crate::merged_revision::MergedRevision;
 use crate::repo::Repo;
 use crate::status::Status;
-use crate::verbs::{write_eligible, write_location, write_log, write_merged, write_mergeinfo, write_segments};
+use crate::verbs::{
+    write_eligible, write_location, write_log, write_merged, write_mergeinfo, write_segments,
+};
 use merge_info::MergeInfo;
 use path_index::{Hit, Segment};
-use svn_text::push_number;
 use std::alloc::AllocError;
 use svn_path::Path;
+use svn_text::push_number;
 
 /// The answer to a query, with paths by the names of a repository. Contracts see its status and its result lines, which more
 /// than one variant may have.

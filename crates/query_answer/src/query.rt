@@ -2,8 +2,8 @@
 ghost use Rattle.std.specs.Prelude.{◌≡◌, option_map};
 ghost use Rattle.query_answer.specs.Query.{HasPegOf, HasTargetOf, locate_of, peg_field, query_of, query_of_pair, query_of_peg, query_or_bad, query_view, raw_peg, read_peg, third_field};
 
-use svn_text::{GREATEST_REVISION, number_up_to, split_at_byte, split_at_last};
 use svn_path::has_dot;
+use svn_text::{GREATEST_REVISION, number_up_to, split_at_byte, split_at_last};
 
 /// A path in a revision, borrowed from a query's field.
 #[derive(Clone, Copy, Debug)]

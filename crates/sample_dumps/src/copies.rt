@@ -1,5 +1,8 @@
 //! Dumps whose records copy, move and replace paths.
 
+use std::alloc::{AllocError, Global};
+use svn_text::push_number;
+
 /// `A` is deleted and replaced by a copy of `T` in the revision that adds `A/b`.
 pub const MOVES: &[u8] = b"SVN-fs-dump-format-version: 2
 
@@ -159,3 +162,25 @@ Node-copyfrom-path: a
 Revision-number: 6
 
 ";
+
+/// A dump of so many revisions, each of which copies the root of the one before it: revision 2 to `x2`, and so on.
+pub fn copies_of_the_root(alloc: Global, last: u32) -> Result<Vec<u8>, AllocError> {
+    let start = b"SVN-fs-dump-format-version: 2\n\nRevision-number: 0\n\n";
+    let mut dump = Vec::from_slice(alloc, start)?;
+    for before in 0..last {
+        push_copy(&mut dump, before)?;
+    }
+    Ok(dump)
+}
+
+/// Appends the revision that copies the root of this one.
+fn push_copy(dump: &mut Vec<u8>, before: u32) -> Result<(), AllocError> {
+    let rev = u64::from(before) + 1;
+    dump.extend_from_slice(b"Revision-number: ")?;
+    push_number(dump, rev)?;
+    dump.extend_from_slice(b"\n\nNode-path: x")?;
+    push_number(dump, rev)?;
+    dump.extend_from_slice(b"\nNode-action: add\nNode-copyfrom-rev: ")?;
+    push_number(dump, u64::from(before))?;
+    dump.extend_from_slice(b"\nNode-copyfrom-path: \n\n")
+}

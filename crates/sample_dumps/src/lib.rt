@@ -7,7 +7,7 @@ mod first;
 mod mergeinfo;
 mod svnadmin;
 
-pub use copies::{GONE, MOVES, NESTED, REPLACED, SPARSE};
+pub use copies::{GONE, MOVES, NESTED, REPLACED, SPARSE, copies_of_the_root};
 pub use faulty::{
     EXISTS, MISSING, NO_PARENT, NO_PARENT_OF_COPY, NO_SOURCE, REPLACED_BY_NOTHING, REPLACES_NOTHING,
 };

@@ -12,6 +12,7 @@ mod reporting;
 mod repository;
 mod run_error;
 
+pub use cutting::cut;
 pub use loading::load;
 pub use reporting::report;
 pub use repository::{LoadError, load_repo};

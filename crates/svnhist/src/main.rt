@@ -6,12 +6,17 @@ mod bundle;
 mod bundle_reader;
 mod file;
 mod program;
+#[cfg(test)]
+mod tests;
 
 use arguments::read_arguments;
-use devices::Device;
+pub use block_map::{Fault, FaultKind};
+pub use devices::{Device, Failed, Pull, Push, SendError, Source, send};
+pub use query_pool::{Gate, NoGate};
 use std::env::{self, Env};
 use std::io::{self, ErrorKind};
 use std::process::ExitCode;
+pub use svn_report::{LoadError, RunError, load, load_repo, report};
 
 fn main(rt: HostRuntime) -> ExitCode {
     let mut output = Device::new(rt.stdout());

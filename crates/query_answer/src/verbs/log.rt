@@ -8,9 +8,9 @@ use crate::answers::Answer;
 use crate::query::Peg;
 use crate::repo::Repo;
 use path_index::{Hit, Segment};
-use svn_text::push_number;
 use std::alloc::{AllocError, Global};
 use svn_path::Names;
+use svn_text::push_number;
 
 /// The operative revisions of a peg.
 pub(crate) fn answer_log(alloc: Global, repo: &Repo, peg: Peg<'_>) -> Result<Answer, AllocError>

@@ -12,8 +12,8 @@ use crate::query::Peg;
 use crate::repo::Repo;
 use path_index::Hit;
 use range_list::Ranges;
-use svn_text::push_number;
 use std::alloc::{AllocError, Global};
+use svn_text::push_number;
 
 /// The revisions of a source that were merged into a target.
 pub(crate) fn answer_merged(

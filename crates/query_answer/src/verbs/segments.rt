@@ -8,9 +8,9 @@ use crate::answers::Answer;
 use crate::query::Peg;
 use crate::repo::Repo;
 use path_index::Segment;
-use svn_text::push_number;
 use std::alloc::{AllocError, Global};
 use svn_path::Names;
+use svn_text::push_number;
 
 /// The location segments of a peg.
 pub(crate) fn answer_segments(

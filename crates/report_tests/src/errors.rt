@@ -1,0 +1,138 @@
+//! What is printed where there is no report.
+
+use crate::reports::report_of;
+use block_map::{Fault, FaultKind};
+use devices::Source;
+use sample_dumps::FIRST;
+use std::alloc::{AllocError, Global};
+use std::sync::Wait;
+use std::test::Fail;
+use std::thread::Threads;
+use svn_dump::DumpError;
+use svn_report::RunError;
+
+// The line of an error, after three bytes that stay.
+fn line_after_abc(alloc: Global, error: &RunError) -> Result<Vec<u8>, AllocError> {
+    let mut line = Vec::from_slice(alloc, b"abc".as_slice())?;
+    error.write(&mut line)?;
+    Ok(line)
+}
+
+// Whether an error has this status and this line.
+fn is_printed(
+    alloc: Global,
+    error: &RunError,
+    status: u8,
+    line: &[u8],
+) -> Result<bool, AllocError> {
+    let found = line_after_abc(alloc, error)?;
+    Ok(error.status() == status && found.strip_prefix(b"abc") == Some(line))
+}
+
+#[test]
+fn each_error_has_its_line_and_its_status(rt: HostRuntime) -> Result<(), Fail> {
+    for (error, status, line) in [
+        (
+            RunError::TooMany,
+            1,
+            b"svnhist: more than 1000000 queries\n".as_slice(),
+        ),
+        (
+            RunError::Read(Source::Dump),
+            3,
+            b"svnhist: cannot read the dump\n",
+        ),
+        (
+            RunError::Read(Source::Queries),
+            3,
+            b"svnhist: cannot read the queries\n",
+        ),
+        (
+            RunError::Read(Source::Input),
+            3,
+            b"svnhist: cannot read standard input\n",
+        ),
+        (
+            RunError::Dump(DumpError::Memory),
+            4,
+            b"svnhist: out of memory\n",
+        ),
+        (RunError::Memory, 4, b"svnhist: out of memory\n"),
+    ] {
+        assert!(rt; is_printed(rt.alloc(), &error, status, line)?);
+    }
+    Ok(())
+}
+
+#[test]
+fn each_fault_has_its_line(rt: HostRuntime) -> Result<(), Fail> {
+    for (kind, line) in [
+        (
+            FaultKind::NoParent,
+            b"svnhist: dump refused: 16 NoParent at record 2\n".as_slice(),
+        ),
+        (
+            FaultKind::Exists,
+            b"svnhist: dump refused: 17 Exists at record 2\n",
+        ),
+        (
+            FaultKind::Missing,
+            b"svnhist: dump refused: 18 Missing at record 2\n",
+        ),
+        (
+            FaultKind::NoSource,
+            b"svnhist: dump refused: 19 NoSource at record 2\n",
+        ),
+    ] {
+        let error = RunError::Fault(Fault { number: 2, kind });
+        assert!(rt; is_printed(rt.alloc(), &error, 1, line)?);
+    }
+    Ok(())
+}
+
+#[test]
+fn each_refusal_has_its_line(rt: HostRuntime) -> Result<(), Fail> {
+    for (number, line) in [
+        (1, b"svnhist: dump refused: 1 Magic at byte 51\n".as_slice()),
+        (8, b"svnhist: dump refused: 8 Revision at byte 51\n"),
+        (14, b"svnhist: dump refused: 14 TooLarge at byte 51\n"),
+        (15, b"svnhist: dump refused: 15 Unknown at byte 51\n"),
+        (0, b"svnhist: dump refused: 0 Unknown at byte 51\n"),
+    ] {
+        let error = RunError::Dump(DumpError::Refused { number, at: 51 });
+        assert!(rt; is_printed(rt.alloc(), &error, 1, line)?);
+    }
+    Ok(())
+}
+
+// Why there is no report on a dump and these queries.
+fn error_of<R: Threads + Wait + Sync>(
+    rt: &R,
+    alloc: Global,
+    dump: &[u8],
+    queries: &[u8],
+) -> Option<RunError> {
+    report_of(rt, alloc, dump, queries).err()
+}
+
+#[test]
+fn queries_are_counted_before_the_dump_is_read(rt: HostRuntime) -> Result<(), Fail> {
+    let queries = vec![in rt.alloc(); b'\n'; 1_000_001]?;
+    for dump in [FIRST, b"".as_slice()] {
+        let error = error_of(&rt, rt.alloc(), dump, queries.as_slice());
+        assert!(rt; matches!(error, Some(RunError::TooMany)));
+    }
+    Ok(())
+}
+
+#[test]
+fn other_bytes_are_not_a_dump(rt: HostRuntime) {
+    let skipping = b"SVN-fs-dump-format-version: 2\n\nRevision-number: 0\n\nRevision-number: 2\n\n";
+    for (dump, number, at) in [(b"x".as_slice(), 1, 0), (skipping, 8, 51)] {
+        let found = match error_of(&rt, rt.alloc(), dump, b"") {
+            Some(RunError::Dump(DumpError::Refused { number, at })) => Some((number, at)),
+            _ => None,
+        };
+        assert_eq!(rt; found, Some((number, at)));
+    }
+}
