@@ -33,7 +33,7 @@ impl Read for Pieces {
 }
 
 // A device over such a reader.
-fn pieces(most: usize, good_calls: usize, error: io::ErrorKind) -> Device<Pieces> {
+fn device(most: usize, good_calls: usize, error: io::ErrorKind) -> Device<Pieces> {
     Device::new(Pieces {
         bytes: MERGED,
         most,
@@ -44,7 +44,7 @@ fn pieces(most: usize, good_calls: usize, error: io::ErrorKind) -> Device<Pieces
 
 // Whether all bytes are loaded, so many a call.
 fn is_loaded_whole(alloc: Global, most: usize) -> Result<bool, RunError> {
-    let mut input = pieces(most, usize::MAX, io::ErrorKind::Other);
+    let mut input = device(most, usize::MAX, io::ErrorKind::Other);
     let bytes = load(alloc, &mut input, Source::Dump)?;
     Ok(bytes.as_slice() == MERGED)
 }
@@ -60,7 +60,7 @@ fn all_bytes_are_loaded(rt: HostRuntime) -> Result<(), Fail> {
 #[test]
 fn a_failed_read_is_reported(rt: HostRuntime) {
     for error in [io::ErrorKind::Other, io::ErrorKind::Interrupted] {
-        let mut failing = pieces(7, 1, error);
+        let mut failing = device(7, 1, error);
         let refused = load(rt.alloc(), &mut failing, Source::Dump);
         assert!(rt; matches!(refused, Err(RunError::Read(Source::Dump))));
         let mut slice = [0u8; 4];
