@@ -1,9 +1,10 @@
 """A copy of the source tree in a temporary folder, in which commands and the launcher can run."""
 import os
 import shutil
+import subprocess
 
 ROOT = os.path.dirname(os.path.dirname(os.path.abspath(__file__)))
-PARTS = ["svnhist", "crates.txt", "crates", "examples", "interop"]
+PARTS = ["svnhist", "crates.txt", "crates", "scripts", "examples", "interop"]
 LEFT_OUT = shutil.ignore_patterns("out", "proofs", "must-fail", "__pycache__")
 
 
@@ -23,10 +24,12 @@ def copied_tree(folder, program=None):
 
 
 def place_program(root, program):
-    out = os.path.join(root, "crates", "svnhist", "out")
-    os.makedirs(out, exist_ok=True)
-    # The time of the copy is now, so the launcher takes the program as current.
-    shutil.copy(program, os.path.join(out, "svnhist"))
+    """Puts the program where a build leaves it, with the list of the sources that it is made from."""
+    built = os.path.join("crates", "svnhist", "out", "svnhist")
+    os.makedirs(os.path.dirname(os.path.join(root, built)), exist_ok=True)
+    shutil.copy(program, os.path.join(root, built))
+    with open(os.path.join(root, "crates", "svnhist", "out", "made-from"), "wb") as file:
+        subprocess.run(["scripts/list-sources", built], cwd=root, stdout=file, check=True)
 
 
 def command(folder, name, lines):
