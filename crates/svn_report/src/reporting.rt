@@ -1,13 +1,15 @@
 //! The report on a dump.
-ghost use Rattle.std.specs.Prelude.{◌<◌, ◌≤◌, ◌↔◌, All, length, IfErr, IfOk, IsErrOf};
+ghost use Rattle.std.specs.Prelude.{◌≡◌, ◌<◌, ◌≤◌, ◌↔◌, All, length, IfErr, IfOk, IsErrOf};
+ghost use Rattle.svn_dump.specs.Dump.{history_in_bytes};
 ghost use Rattle.svn_report.specs.QueryLines.{query_lines};
-ghost use Rattle.svn_report.specs.Report.{IsReport, most_queries};
+ghost use Rattle.svn_report.specs.Report.{IsReport, answers, most_queries};
 ghost use Rattle.svn_report.specs.ReportError.{IsRunError};
 
 use crate::answering::answer_lines;
 use crate::query_lines::count_lines;
 use crate::repository::load_repo;
 use crate::run_error::RunError;
+use query_answer::Repo;
 use query_pool::Gate;
 use std::alloc::Global;
 use std::sync::Wait;
@@ -44,5 +46,23 @@ pub fn report<R: Threads + Wait + Sync, G: Gate>(
     }
     let dump = read(alloc, dump)?;
     let repo = load_repo(rt, alloc, dump, cuts, workers)?;
-    Ok(answer_lines(rt, alloc, &repo, queries, workers, gate)?)
+    answered(rt, alloc, &repo, queries, workers, gate)
+}
+
+/// The answers to the query lines from a repository.
+fn answered<R: Threads + Wait + Sync, G: Gate>(
+    rt: &R,
+    alloc: Global,
+    repo: &Repo,
+    queries: &[u8],
+    workers: usize,
+    gate: &G,
+) -> Result<Vec<u8>, RunError>
+    requires few_queries { length (query_lines queries.now) ≤ most_queries }
+    requires some_worker { 0 < workers }
+    requires few_workers { workers ≤ 64 }
+    ensures ok { IfOk result (λ report. report.items ≡ answers (history_in_bytes repo.now) queries.now) }
+    ensures error { IfErr result (λ e. e ≡ RunError.Memory) }
+{
+    Ok(answer_lines(rt, alloc, repo, queries, workers, gate)?)
 }

@@ -1,7 +1,7 @@
 //! The repository of a dump.
 ghost use Rattle.std.specs.Prelude.{◌≡◌, ◌<◌, ◌≤◌, All, IfErr, IfOk, None, OnOk, bytes_eq};
 ghost use Rattle.svn_path.specs.Path.{same_name};
-ghost use Rattle.svn_dump.specs.Dump.{history_in_bytes, history_view};
+ghost use Rattle.svn_dump.specs.Dump.{IsDump, history_in_bytes, history_view};
 ghost use Rattle.svn_dump.specs.Fault.{first_fault};
 ghost use Rattle.block_map.specs.Ends.{ends_of};
 ghost use Rattle.block_map.specs.Map.{IsMapOf};
@@ -64,7 +64,7 @@ pub fn load_repo<R: Threads + Wait + Sync>(
 }
 
 /// The map of all records of a dump, or its first faulty record. The revisions of the dump end as these say.
-pub(crate) fn lawful_map<R: Threads + Sync>(
+fn lawful_map<R: Threads + Sync>(
     rt: &R,
     alloc: Global,
     dump: &Dump,
@@ -76,8 +76,20 @@ pub(crate) fn lawful_map<R: Threads + Sync>(
     ensures faulty { IfErr result (IsLoadError dump.now) }
 {
     let map = Map::build(alloc, dump.records(), 0, ends)?;
-    match check(rt, &map, dump, ends)? {
+    judge(rt, &map, dump, ends)?;
+    Ok(map)
+}
+
+/// The first faulty record of a dump, if there is one, as an error.
+fn judge<R: Threads + Sync>(rt: &R, map: &Map, dump: &Dump, ends: &Ends) -> Result<(), LoadError>
+    requires dump { IsDump dump.now }
+    requires map { IsMapOf dump.now map.now }
+    requires ends { ends.now ≡ ends_of dump.now.counts }
+    ensures lawful { OnOk result (first_fault same_name (history_view dump.now) ≡ None) }
+    ensures faulty { IfErr result (IsLoadError dump.now) }
+{
+    match check(rt, map, dump, ends)? {
         Some(fault) => Err(LoadError::Fault(fault)),
-        None => Ok(map),
+        None => Ok(()),
     }
 }

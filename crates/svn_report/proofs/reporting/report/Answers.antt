@@ -1,5 +1,5 @@
 use Rattle.std.proofs.Common.{ap, ◌∙◌}
-use Rattle.std.proofs.lemmas.Result.{err_from_is_err_and}
+use Rattle.std.proofs.lemmas.Result.{IfOk-weaker, IfErr-weaker, err_from_is_err_and}
 use Rattle.svn_dump.specs.Dump.{history_in_bytes}
 use Rattle.svn_report.specs.Report.{answers}
 use Rattle.svn_report.proofs.Reports.{IsRunError-load, IsReport-answers}
@@ -12,10 +12,10 @@ returns-in_err-repo-clause-error g c =
 
 pub returns-clause-ok : goal.returns-clause-ok
 returns-clause-ok g c =
-    IsReport-answers c.args.dump.now c.args.queries.now c.in_ok-dump.dump c.in_ok-dump.ensures.ok c.in_ok-repo.ensures.lawful _
-    (c.in_ok-answer_lines.ensures ∙ ap (λ dump. answers (history_in_bytes dump) c.args.queries.now) c.in_ok-repo.ensures.repo)
+    IfOk-weaker c.answered.result _ _
+    (λ report is. IsReport-answers c.args.dump.now c.args.queries.now c.in_ok-dump.dump c.in_ok-dump.ensures.ok c.in_ok-repo.ensures.lawful _
+    (is ∙ ap (λ dump. answers (history_in_bytes dump) c.args.queries.now) c.in_ok-repo.ensures.repo))
+    c.answered.ensures.ok
 
-pub returns-in_err-answer_lines-clause-error : goal.returns-in_err-answer_lines-clause-error
-returns-in_err-answer_lines-clause-error g c =
-    let told = err_from_is_err_and c.from_residual-in_err-answer_lines.result c.from_residual-in_err-answer_lines.ensures.1 in
-    rw (told.1, told.2) tt
+pub returns-clause-error : goal.returns-clause-error
+returns-clause-error g c = IfErr-weaker c.answered.result _ _ (λ e is. rw is tt) c.answered.ensures.error
