@@ -1,9 +1,4 @@
-//! Small dumps, read and refused. In a table of blocks each line is a sample and each `|` a newline.
+//! Cut bytes and numbers.
 
-mod accepted;
 mod cuts;
-mod dumps;
 mod long;
-mod records;
-mod refused;
-mod refused_nodes;
