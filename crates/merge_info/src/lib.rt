@@ -14,6 +14,3 @@ mod united;
 
 pub use error::MergeError;
 pub use merge_info::MergeInfo;
-
-#[cfg(test)]
-mod tests;

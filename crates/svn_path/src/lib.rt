@@ -4,8 +4,6 @@
 mod names;
 mod parts;
 mod path;
-#[cfg(test)]
-mod tests;
 
 pub use names::{NameId, Names, NamesError};
 pub use parts::has_dot;

@@ -1,6 +1,7 @@
 //! Refusals of lines, of whole blocks, and of the end.
 
-use crate::tests::dumps::{ONE, START, ZERO, check_refusal, check_refusals, check_refusals_at};
+use crate::refusals::{check_refusal, check_refusals, check_refusals_at};
+use crate::samples::{ONE, START, ZERO};
 use std::test::Fail;
 
 const FIRST_LINES: &str = "

@@ -1,6 +1,7 @@
 //! Refusals of node blocks.
 
-use crate::tests::dumps::{ONE, ZERO, check_refusals};
+use crate::refusals::check_refusals;
+use crate::samples::{ONE, ZERO};
 use std::test::Fail;
 
 const SECTIONS: &str = "

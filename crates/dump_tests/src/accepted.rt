@@ -1,6 +1,7 @@
 //! What is read, and what is ignored.
 
-use crate::tests::dumps::{ONE, START, ZERO, check_blocks, check_dump};
+use crate::dump_text::{check_blocks, check_dump};
+use crate::samples::{ONE, START, ZERO};
 use std::test::Fail;
 
 #[test]

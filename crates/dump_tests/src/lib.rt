@@ -1,0 +1,21 @@
+//! The tests of the reader of dumps.
+#![tactic(auto)]
+
+#[cfg(test)]
+mod accepted;
+#[cfg(test)]
+mod dump_text;
+#[cfg(test)]
+mod long;
+#[cfg(test)]
+mod mergeinfo;
+#[cfg(test)]
+mod records;
+#[cfg(test)]
+mod refusals;
+#[cfg(test)]
+mod refused;
+#[cfg(test)]
+mod refused_nodes;
+#[cfg(test)]
+mod samples;

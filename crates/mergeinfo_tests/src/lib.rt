@@ -1,0 +1,7 @@
+//! The tests of rangelists and of the values of mergeinfo.
+#![tactic(auto)]
+
+#[cfg(test)]
+mod ranges;
+#[cfg(test)]
+mod values;

@@ -1,0 +1,7 @@
+//! The tests of names and paths.
+#![tactic(auto)]
+
+#[cfg(test)]
+mod names;
+#[cfg(test)]
+mod paths;
