@@ -1,7 +1,9 @@
-//! The tests of names and paths.
+//! The tests of bytes, numbers, names and paths.
 #![tactic(auto)]
 
 #[cfg(test)]
 mod names;
 #[cfg(test)]
 mod paths;
+#[cfg(test)]
+mod text;

@@ -8,6 +8,3 @@ mod text;
 
 pub use ranges::Ranges;
 pub use run::Run;
-
-#[cfg(test)]
-mod tests;

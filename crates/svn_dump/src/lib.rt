@@ -27,6 +27,3 @@ pub use kind::Kind;
 pub use origin::Origin;
 pub use reader::read;
 pub use record::{Act, Mi, NodeRecord, ValueId};
-
-#[cfg(test)]
-mod tests;
