@@ -7,12 +7,9 @@ use sample_dumps::{
     EXISTS, MISSING, NO_PARENT, NO_PARENT_OF_COPY, NO_SOURCE, REPLACED_BY_NOTHING, REPLACES_NOTHING,
 };
 use std::alloc::Global;
-use std::mem::forget;
 use std::sync::Wait;
-use std::test::Fail;
 use std::thread::Threads;
-use svn_dump::{Dump, read};
-use svn_report::{LoadError, RunError, load_repo, report};
+use svn_report::{RunError, report};
 
 fn fault_of<R: Threads + Wait + Sync>(
     rt: &R,
@@ -61,29 +58,4 @@ fn every_cutting_names_the_same_record(rt: HostRuntime) {
             assert_eq!(rt; fault_of(&rt, rt.alloc(), NO_PARENT, cuts, workers), wanted);
         }
     }
-}
-
-// The fault of the first faulty record of a dump.
-fn fault_of_repository<R: Threads + Wait + Sync>(
-    rt: &R,
-    alloc: Global,
-    dump: Dump,
-) -> Option<Fault> {
-    match load_repo(rt, alloc, dump, &[], 1) {
-        Err(LoadError::Fault(fault)) => Some(fault),
-        Err(LoadError::Memory) => None,
-        Ok(repo) => {
-            // To prove that it is released takes minutes.
-            forget(repo);
-            None
-        }
-    }
-}
-
-#[test]
-fn a_faulty_dump_has_no_repository(rt: HostRuntime) -> Result<(), Fail> {
-    let fault = fault_of_repository(&rt, rt.alloc(), read(rt.alloc(), NO_PARENT)?);
-    let kind = FaultKind::NoParent;
-    assert_eq!(rt; fault, Some(Fault { number: 2, kind }));
-    Ok(())
 }
