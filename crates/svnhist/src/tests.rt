@@ -7,7 +7,6 @@ mod faults;
 mod gates;
 mod histories;
 mod inputs;
-mod joined;
 mod maps;
 mod reports;
 mod workers;
