@@ -5,7 +5,6 @@ mod NearestMergeinfo
 mod OperativePlaces
 mod PathSegments
 pub mod Queries
-mod RevisionSums
 pub mod RevisionTicks
 mod SourceRevisions
 mod TreeEntries

@@ -9,8 +9,6 @@ mod pair;
 mod query;
 mod repo;
 mod status;
-#[cfg(test)]
-mod tests;
 mod verbs;
 
 pub use answers::Answer;

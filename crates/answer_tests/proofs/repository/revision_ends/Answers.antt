@@ -1,6 +1,6 @@
 use Rattle.std.proofs.Common.{◌+◌, ◌<◌, get_or, length, sym, ap, subst, arith}
-use Rattle.query_answer.proofs.RevisionSums.{AreEndsUpTo, AreEndsUpTo_next, next_end-below, ends-below}
-use Rattle.query_answer.proofs.tests.revision_ends.Goals as goal
+use Rattle.answer_tests.proofs.RevisionSums.{AreEndsUpTo, AreEndsUpTo_next, next_end-below, ends-below}
+use Rattle.answer_tests.proofs.repository.revision_ends.Goals as goal
 
 pub overflow_add-end : goal.overflow_add-end
 overflow_add-end c =

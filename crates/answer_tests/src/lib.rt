@@ -1,0 +1,15 @@
+//! The tests of queries and their answers.
+#![tactic(auto)]
+
+#[cfg(test)]
+mod answered;
+#[cfg(test)]
+mod effective;
+#[cfg(test)]
+mod in_parts;
+#[cfg(test)]
+mod queries;
+#[cfg(test)]
+mod repository;
+#[cfg(test)]
+mod samples;
