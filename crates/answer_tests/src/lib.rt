@@ -6,6 +6,8 @@ mod answered;
 #[cfg(test)]
 mod effective;
 #[cfg(test)]
+mod faulty;
+#[cfg(test)]
 mod in_parts;
 #[cfg(test)]
 mod queries;
