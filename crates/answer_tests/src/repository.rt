@@ -7,26 +7,13 @@ ghost use Rattle.block_map.specs.Ends.{ends_of};
 ghost use Rattle.block_map.specs.Map.{IsMapOf};
 
 use block_map::{Ends, Map, check};
-use par_scan::Sum;
 use path_index::Index;
 use query_answer::Repo;
-use std::alloc::{AllocError, Global};
+use sample_dumps::revision_ends;
+use std::alloc::Global;
 use std::test::Fail;
 use std::thread::Threads;
 use svn_dump::{Dump, read};
-
-/// The ends of the revisions of a dump.
-fn revision_ends(alloc: Global, dump: &Dump) -> Result<Ends, AllocError>
-    ensures { IfOk result (λ ends. ends ≡ ends_of dump.now.counts) }
-{
-    let mut sums = Vec::new(alloc);
-    let mut end: u64 = 0;
-    for count in dump.counts() {
-        end += u64::from(*count);
-        sums.push(Sum(end))?;
-    }
-    Ok(Ends::new(sums))
-}
 
 /// The map of a dump of a lawful history.
 fn map_of<R: Threads + Sync>(rt: &R, alloc: Global, dump: &Dump, ends: &Ends) -> Result<Map, Fail>

@@ -16,6 +16,3 @@ mod span;
 pub use hit::Hit;
 pub use index::Index;
 pub use segment::Segment;
-
-#[cfg(test)]
-mod tests;

@@ -1,4 +1,5 @@
 use Rattle.std.proofs.Common.{◌≡◌, refl, sym, subst, ◌∙◌, [], ◌∷◌, false, true, List}
+use Rattle.std.proofs.lemmas.Result.{IfOk-weaker}
 use Rattle.svn_path.specs.declared.names.NameId.{NameId}
 use Rattle.svn_dump.specs.declared.kind.Kind.{Kind}
 use Rattle.svn_dump.specs.declared.record.Act.{Act}
@@ -7,7 +8,7 @@ use Rattle.svn_dump.specs.declared.record.NodeRecord.{NodeRecord}
 use Rattle.svn_dump.specs.Tree.{tree_after_action, entry_at, start_tree, trees_of}
 use Rattle.path_index.specs.History.{history_to}
 use Rattle.path_index.specs.Index.{IsThere}
-use Rattle.path_index.proofs.tests.index_of_replacements.Goals as goal
+use Rattle.history_tests.proofs.indexes.index_of_replacements.Goals as goal
 
 abbrev the_records : (added deleted copied source replaced itself changed last : List NameId) → List NodeRecord
 the_records added deleted copied source replaced itself changed last =
@@ -42,18 +43,17 @@ replaced_is_there : IsThere (the_records a a b a b b b b) b 6
 unfolding entry_at trees_of history_to tree_after_action start_tree
 replaced_is_there = refl
 
--- src/tests.rt:79:1
 pub returns-clause-copied : goal.returns-clause-copied
 returns-clause-copied c =
     let is = same _ _ _ _ _ _ _ _ c.in_ok-a.ensures c.in_ok-b.ensures c.in_ok-dup.ensures c.in_ok-dup-2.ensures c.in_ok-dup-3.ensures c.in_ok-dup-4.ensures c.in_ok-dup-5.ensures c.in_ok-dup-6.ensures in
-    subst (λ records. IsThere records b 3) (sym (c.in_ok-build.ensures.records ∙ c.as_slice.ensures ∙ is)) copied_is_there
+    IfOk-weaker c.build.result _ _ (λ index at. subst (λ records. IsThere records b 3) (sym (at ∙ c.as_slice.ensures ∙ is)) copied_is_there) c.build.ensures.records
 
 pub returns-clause-changed : goal.returns-clause-changed
 returns-clause-changed c =
     let is = same _ _ _ _ _ _ _ _ c.in_ok-a.ensures c.in_ok-b.ensures c.in_ok-dup.ensures c.in_ok-dup-2.ensures c.in_ok-dup-3.ensures c.in_ok-dup-4.ensures c.in_ok-dup-5.ensures c.in_ok-dup-6.ensures in
-    subst (λ records. IsThere records b 5) (sym (c.in_ok-build.ensures.records ∙ c.as_slice.ensures ∙ is)) changed_is_there
+    IfOk-weaker c.build.result _ _ (λ index at. subst (λ records. IsThere records b 5) (sym (at ∙ c.as_slice.ensures ∙ is)) changed_is_there) c.build.ensures.records
 
 pub returns-clause-replaced : goal.returns-clause-replaced
 returns-clause-replaced c =
     let is = same _ _ _ _ _ _ _ _ c.in_ok-a.ensures c.in_ok-b.ensures c.in_ok-dup.ensures c.in_ok-dup-2.ensures c.in_ok-dup-3.ensures c.in_ok-dup-4.ensures c.in_ok-dup-5.ensures c.in_ok-dup-6.ensures in
-    subst (λ records. IsThere records b 6) (sym (c.in_ok-build.ensures.records ∙ c.as_slice.ensures ∙ is)) replaced_is_there
+    IfOk-weaker c.build.result _ _ (λ index at. subst (λ records. IsThere records b 6) (sym (at ∙ c.as_slice.ensures ∙ is)) replaced_is_there) c.build.ensures.records

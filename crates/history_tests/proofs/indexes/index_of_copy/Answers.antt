@@ -1,4 +1,5 @@
 use Rattle.std.proofs.Common.{◌≡◌, refl, sym, subst, ◌∙◌, [], ◌∷◌, false, List}
+use Rattle.std.proofs.lemmas.Result.{IfOk-weaker}
 use Rattle.svn_path.specs.declared.names.NameId.{NameId}
 use Rattle.svn_dump.specs.declared.kind.Kind.{Kind}
 use Rattle.svn_dump.specs.declared.record.Act.{Act}
@@ -7,7 +8,7 @@ use Rattle.svn_dump.specs.declared.record.NodeRecord.{NodeRecord}
 use Rattle.svn_dump.specs.Tree.{tree_after_action, entry_at, start_tree, trees_of}
 use Rattle.path_index.specs.History.{history_to}
 use Rattle.path_index.specs.Index.{IsThere}
-use Rattle.path_index.proofs.tests.index_of_copy.Goals as goal
+use Rattle.history_tests.proofs.indexes.index_of_copy.Goals as goal
 
 abbrev the_records : List NameId → List NameId → List NameId → List NodeRecord
 the_records added source top =
@@ -26,7 +27,9 @@ there added source top is-added is-source is-top =
     (subst (λ each. IsThere (the_records a each top) b 2) (sym is-source)
     (subst (λ each. IsThere (the_records a a each) b 2) (sym is-top) refl))
 
--- src/tests.rt:17:1
 pub returns-clause-there : goal.returns-clause-there
-returns-clause-there c = subst (λ records. IsThere records b 2) (sym (c.in_ok-build.ensures.records ∙ c.as_slice.ensures))
-    (there _ _ _ (c.in_ok-dup.ensures ∙ c.in_ok-a.ensures) c.in_ok-a.ensures c.in_ok-path_of.ensures)
+returns-clause-there c =
+    IfOk-weaker c.build.result _ _
+    (λ index is. subst (λ records. IsThere records b 2) (sym (is ∙ c.as_slice.ensures))
+    (there _ _ _ (c.in_ok-dup.ensures ∙ c.in_ok-a.ensures) c.in_ok-a.ensures c.in_ok-path_of.ensures))
+    c.build.ensures.records

@@ -1,0 +1,319 @@
+//! Indexes of two records, of neighbouring parts, and of six records.
+ghost use Rattle.std.specs.Prelude.{◌≡◌, ◌≤◌, [], ◌∷◌, IfOk};
+ghost use Rattle.path_index.specs.Index.{IsThere, IsWhole};
+
+use par_scan::Acts;
+use path_index::{Hit, Index, Segment};
+use std::alloc::{AllocError, Global};
+use std::test::Fail;
+use svn_dump::{Act, Kind, Mi, NodeRecord};
+use svn_path::{NameId, Path};
+
+const A: NameId = NameId(0);
+
+const B: NameId = NameId(1);
+
+fn path_of(alloc: Global, name: NameId) -> Result<Path, AllocError>
+    ensures { IfOk result (λ path. path ≡ name ∷ []) }
+{
+    Path::of(alloc, [name].as_slice())
+}
+
+// `a` is added in revision 1 and copied to `b` in revision 2.
+fn index_of_copy(alloc: Global) -> Result<Index, AllocError>
+    ensures whole { IfOk result IsWhole }
+    ensures there { IfOk result (λ index. IsThere index.records (record { 0 = 1 } ∷ []) 2) }
+{
+    let a = path_of(alloc, NameId(0))?;
+    let added = NodeRecord {
+        rev: 1,
+        path: a.dup()?,
+        act: Act::Add {
+            replace: false,
+            kind: Kind::Dir,
+            mi: Mi::Keep,
+        },
+    };
+    let copied = NodeRecord {
+        rev: 2,
+        path: path_of(alloc, NameId(1))?,
+        act: Act::Copy {
+            replace: false,
+            from: a,
+            from_rev: 1,
+            mi: Mi::Keep,
+        },
+    };
+    Index::build(alloc, [added, copied].as_slice(), 0)
+}
+
+// `b` in revisions 3, 5 and 6 of: `a` added; `a` deleted; `b` copied from `a` of revision 1; `b` replaced by a copy of
+// itself; `b` changed; `b` replaced by a new directory.
+fn index_of_replacements(alloc: Global) -> Result<Index, AllocError>
+    ensures whole { IfOk result IsWhole }
+    ensures copied { IfOk result (λ index. IsThere index.records (record { 0 = 1 } ∷ []) 3) }
+    ensures changed { IfOk result (λ index. IsThere index.records (record { 0 = 1 } ∷ []) 5) }
+    ensures replaced { IfOk result (λ index. IsThere index.records (record { 0 = 1 } ∷ []) 6) }
+{
+    let a = path_of(alloc, NameId(0))?;
+    let b = path_of(alloc, NameId(1))?;
+    let mi = Mi::Keep;
+    let records = [
+        NodeRecord {
+            rev: 1,
+            path: a.dup()?,
+            act: Act::Add {
+                replace: false,
+                kind: Kind::Dir,
+                mi,
+            },
+        },
+        NodeRecord {
+            rev: 2,
+            path: a.dup()?,
+            act: Act::Delete,
+        },
+        NodeRecord {
+            rev: 3,
+            path: b.dup()?,
+            act: Act::Copy {
+                replace: false,
+                from: a,
+                from_rev: 1,
+                mi,
+            },
+        },
+        NodeRecord {
+            rev: 4,
+            path: b.dup()?,
+            act: Act::Copy {
+                replace: true,
+                from: b.dup()?,
+                from_rev: 3,
+                mi,
+            },
+        },
+        NodeRecord {
+            rev: 5,
+            path: b.dup()?,
+            act: Act::Change { mi },
+        },
+        NodeRecord {
+            rev: 6,
+            path: b,
+            act: Act::Add {
+                replace: true,
+                kind: Kind::Dir,
+                mi,
+            },
+        },
+    ];
+    Index::build(alloc, records.as_slice(), 0)
+}
+
+// The only component of a path.
+fn name_of(path: Option<&Path>) -> Option<NameId> {
+    path.and_then(|path| path.parts().first().copied())
+}
+
+// Where `b` of a revision was in another one.
+fn located(index: &Index, alloc: Global, peg: u32, rev: u32) -> Result<Option<NameId>, AllocError>
+    requires whole { IsWhole index.now }
+    requires there { IsThere index.now.records (record { 0 = 1 } ∷ []) peg }
+{
+    let b = path_of(alloc, B)?;
+    let found = index.locate(&b, peg, rev);
+    drop(b);
+    let found = found?;
+    let name = name_of(found.as_ref());
+    drop(found);
+    Ok(name)
+}
+
+// The bounds of a segment, and the only component of its path.
+type Shape = (u32, u32, Option<NameId>);
+
+fn shapes(alloc: Global, segments: &[Segment]) -> Result<Vec<Shape>, AllocError> {
+    let mut shapes = Vec::new(alloc);
+    for segment in segments {
+        shapes.push((segment.lo, segment.hi, name_of(segment.path.as_ref())))?;
+    }
+    Ok(shapes)
+}
+
+// The segments of `b` of a revision.
+fn segments_of(index: &Index, alloc: Global, peg: u32) -> Result<Vec<Shape>, AllocError>
+    requires whole { IsWhole index.now }
+    requires there { IsThere index.now.records (record { 0 = 1 } ∷ []) peg }
+{
+    let b = path_of(alloc, B)?;
+    let segments = index.segments(&b, peg);
+    drop(b);
+    let segments = segments?;
+    let found = shapes(alloc, segments.as_slice());
+    drop(segments);
+    found
+}
+
+// The operative revisions of `b` of a revision.
+fn operative_in(index: &Index, alloc: Global, peg: u32) -> Result<Vec<Hit>, AllocError>
+    requires whole { IsWhole index.now }
+    requires there { IsThere index.now.records (record { 0 = 1 } ∷ []) peg }
+{
+    let b = path_of(alloc, B)?;
+    let segments = index.segments(&b, peg);
+    drop(b);
+    let segments = segments?;
+    let hits = index.operative(segments.as_slice());
+    drop(segments);
+    hits
+}
+
+#[test]
+fn copies_are_located_at_their_source(rt: HostRuntime) -> Result<(), Fail> {
+    let index = index_of_copy(rt.alloc())?;
+    let before = located(&index, rt.alloc(), 2, 1);
+    let first = located(&index, rt.alloc(), 2, 0);
+    drop(index);
+    assert_eq!(rt; (before?, first?), (Some(A), None));
+    Ok(())
+}
+
+#[test]
+fn segments_end_at_a_copy(rt: HostRuntime) -> Result<(), Fail> {
+    let index = index_of_copy(rt.alloc())?;
+    let found = segments_of(&index, rt.alloc(), 2);
+    drop(index);
+    assert_eq!(rt;
+        found?.as_slice(),
+        [(2, 2, Some(B)), (1, 1, Some(A))].as_slice()
+    );
+    Ok(())
+}
+
+#[test]
+fn operative_revisions_of_both_segments_are_found(rt: HostRuntime) -> Result<(), Fail> {
+    let index = index_of_copy(rt.alloc())?;
+    let found = operative_in(&index, rt.alloc(), 2);
+    drop(index);
+    let wanted = [Hit { rev: 2, segment: 0 }, Hit { rev: 1, segment: 1 }];
+    assert_eq!(rt; found?.as_slice(), wanted.as_slice());
+    Ok(())
+}
+
+#[test]
+fn a_gap_is_a_segment(rt: HostRuntime) -> Result<(), Fail> {
+    let index = index_of_replacements(rt.alloc())?;
+    let found = segments_of(&index, rt.alloc(), 3);
+    drop(index);
+    let wanted = [(3, 3, Some(B)), (2, 2, None), (1, 1, Some(A))];
+    assert_eq!(rt; found?.as_slice(), wanted.as_slice());
+    Ok(())
+}
+
+#[test]
+fn a_copy_of_itself_ends_no_segment(rt: HostRuntime) -> Result<(), Fail> {
+    let index = index_of_replacements(rt.alloc())?;
+    let found = segments_of(&index, rt.alloc(), 5);
+    drop(index);
+    let wanted = [(3, 5, Some(B)), (2, 2, None), (1, 1, Some(A))];
+    assert_eq!(rt; found?.as_slice(), wanted.as_slice());
+    Ok(())
+}
+
+#[test]
+fn a_replacement_begins_a_segment(rt: HostRuntime) -> Result<(), Fail> {
+    let index = index_of_replacements(rt.alloc())?;
+    let found = segments_of(&index, rt.alloc(), 6);
+    let before = located(&index, rt.alloc(), 6, 5);
+    drop(index);
+    assert_eq!(rt; found?.as_slice(), [(6, 6, Some(B))].as_slice());
+    assert_eq!(rt; before?, None);
+    Ok(())
+}
+
+#[test]
+fn a_log_covers_all_segments(rt: HostRuntime) -> Result<(), Fail> {
+    let index = index_of_replacements(rt.alloc())?;
+    let found = operative_in(&index, rt.alloc(), 5);
+    drop(index);
+    let wanted = [(5, 0), (4, 0), (3, 0), (1, 2)].map(|(rev, segment)| Hit { rev, segment });
+    assert_eq!(rt; found?.as_slice(), wanted.as_slice());
+    Ok(())
+}
+
+// An index of a record that adds `a`, which so many others precede.
+fn index_of_addition(alloc: Global, first: u32) -> Result<Index, AllocError>
+    requires { first ≤ 1 }
+{
+    let added = NodeRecord {
+        rev: 1,
+        path: path_of(alloc, A)?,
+        act: Act::Add {
+            replace: false,
+            kind: Kind::Dir,
+            mi: Mi::Keep,
+        },
+    };
+    Index::build(alloc, [added].as_slice(), first)
+}
+
+// How many records there are up to the end of an index, by which empty index fits behind it; 3 where none of the first
+// does.
+fn end_of(alloc: Global, index: &Index) -> Result<u32, AllocError> {
+    for end in 0..3u32 {
+        let next = Index::build(alloc, &[], end)?;
+        let fits = index.fits(&next);
+        drop(next);
+        if fits {
+            return Ok(end);
+        }
+    }
+    Ok(3)
+}
+
+// The same of an index that is dropped.
+fn end_of_dropped(alloc: Global, index: Index) -> Result<u32, AllocError> {
+    let end = end_of(alloc, &index);
+    drop(index);
+    end
+}
+
+// The same of an index and one that follows it, joined, if they fit.
+fn end_of_joined(alloc: Global, earlier: &Index, later: &Index) -> Result<Option<u32>, AllocError> {
+    if !earlier.fits(later) {
+        return Ok(None);
+    }
+    let joined = earlier.join(later)?;
+    Ok(Some(end_of_dropped(alloc, joined)?))
+}
+
+// The same of a copy of an index and of its unit.
+fn ends_of_copies(alloc: Global, index: &Index) -> Result<(u32, u32), AllocError> {
+    let copied = end_of_dropped(alloc, index.dup()?)?;
+    let unit = end_of_dropped(alloc, index.unit()?)?;
+    Ok((copied, unit))
+}
+
+// The same of an index of the second of two records, joined to this one, and the other way round.
+fn ends_of_neighbours(
+    alloc: Global,
+    earlier: &Index,
+) -> Result<(Option<u32>, Option<u32>), AllocError> {
+    let later = index_of_addition(alloc, 1)?;
+    let joined = end_of_joined(alloc, earlier, &later);
+    let reversed = end_of_joined(alloc, &later, earlier);
+    drop(later);
+    Ok((joined?, reversed?))
+}
+
+#[test]
+fn neighbours_are_joined(rt: HostRuntime) -> Result<(), Fail> {
+    let earlier = index_of_addition(rt.alloc(), 0)?;
+    let copies = ends_of_copies(rt.alloc(), &earlier);
+    let joined = ends_of_neighbours(rt.alloc(), &earlier);
+    drop(earlier);
+    assert_eq!(rt; copies?, (1, 0));
+    assert_eq!(rt; joined?, (Some(2), None));
+    Ok(())
+}

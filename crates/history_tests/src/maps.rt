@@ -1,0 +1,358 @@
+//! Maps of the records of small histories, and of parts of them.
+ghost use Rattle.std.specs.Prelude.{◌≡◌, IfOk};
+ghost use Rattle.block_map.specs.Ends.{ends_of};
+ghost use Rattle.block_map.specs.Map.{IsMapOf};
+
+use block_map::{Ends, Entry, Found, Map, Nearest, check, fault_at};
+use sample_dumps::{MERGED, NESTED, TWO_TEXTS, copies_of_the_root, revision_ends};
+use std::alloc::{AllocError, Global};
+use std::test::Fail;
+use std::thread::Threads;
+use svn_dump::{Dump, Kind, ValueId, read};
+use svn_path::{Lookup, Path};
+
+// The records of a dump from one place up to another.
+#[derive(Clone, Copy)]
+struct Part {
+    start: usize,
+    end: usize,
+}
+
+// The records 6 and 7 of `NESTED`, which copy `p` of two revisions, and those before them.
+const COPIES: Part = Part { start: 5, end: 7 };
+
+const BEFORE_COPIES: Part = Part { start: 0, end: 5 };
+
+// The map of these records.
+fn map_of_part(alloc: Global, dump: &Dump, ends: &Ends, part: Part) -> Result<Map, Fail>
+    requires { ends.now ≡ ends_of dump.now.counts }
+{
+    let records = dump.records();
+    if part.end < part.start || records.len() < part.end {
+        return Err("there are not so many records")?;
+    }
+    let records = &records[part.start..part.end];
+    Ok(Map::build(alloc, records, part.start as u32, ends)?)
+}
+
+// The map of all records.
+fn whole_map(alloc: Global, dump: &Dump, ends: &Ends) -> Result<Map, AllocError>
+    requires { ends.now ≡ ends_of dump.now.counts }
+    ensures { IfOk result (λ map. IsMapOf dump.now map) }
+{
+    Map::build(alloc, dump.records(), 0, ends)
+}
+
+fn map_of(alloc: Global, dump: &Dump, part: Part) -> Result<Map, Fail> {
+    let ends = revision_ends(alloc, dump)?;
+    let map = map_of_part(alloc, dump, &ends, part);
+    drop(ends);
+    map
+}
+
+fn path_of(alloc: Global, dump: &Dump, text: &[u8]) -> Result<Path, Fail> {
+    match Path::find(alloc, dump.names(), text)? {
+        Lookup::Known(path) => Ok(path),
+        Lookup::Unknown => Err("no such path")?,
+    }
+}
+
+// What a map says of a path after so many records of the history.
+fn look(alloc: Global, dump: &Dump, map: &Map, tick: u32, path: &[u8]) -> Result<Found, Fail> {
+    if tick < map.lo() || map.hi() < tick {
+        return Err("no tick of the map")?;
+    }
+    let path = path_of(alloc, dump, path)?;
+    let found = map.look(tick, &path);
+    drop(path);
+    Ok(found?)
+}
+
+// The same in the map of these records.
+fn look_in_part(
+    alloc: Global,
+    dump: &Dump,
+    part: Part,
+    tick: u32,
+    path: &[u8],
+) -> Result<Found, Fail> {
+    let map = map_of(alloc, dump, part)?;
+    let found = look(alloc, dump, &map, tick, path);
+    drop(map);
+    found
+}
+
+// Whether it is what stood at this path after so many records, with this mergeinfo if any is given.
+fn is_at(found: &Found, wanted: &Path, at: u32, mergeinfo: Option<ValueId>) -> bool {
+    match found {
+        Found::At { path, tick } => *tick == at && mergeinfo.is_none() && *path == *wanted,
+        Found::AtWith { path, tick, mi } => {
+            *tick == at && mergeinfo.is_some() && *mi == mergeinfo && *path == *wanted
+        }
+        _ => false,
+    }
+}
+
+// Whether a map says of a path that it has what stood at another one after so many records.
+fn finds(
+    found: &Found,
+    alloc: Global,
+    dump: &Dump,
+    from: &[u8],
+    at: u32,
+    mergeinfo: Option<ValueId>,
+) -> Result<bool, Fail> {
+    let wanted = path_of(alloc, dump, from)?;
+    let is_found = is_at(found, &wanted, at, mergeinfo);
+    drop(wanted);
+    Ok(is_found)
+}
+
+// The ticks before and after the records of a part, and how many nodes its map keeps.
+fn extent(alloc: Global, dump: &Dump, part: Part) -> Result<(u32, u32, u64), Fail> {
+    let map = map_of(alloc, dump, part)?;
+    let found = (map.lo(), map.hi(), map.nodes());
+    drop(map);
+    Ok(found)
+}
+
+// The end of a revision.
+fn end_of(alloc: Global, dump: &Dump, rev: u32) -> Result<Option<u32>, AllocError> {
+    if dump.counts().len() <= rev as usize {
+        return Ok(None);
+    }
+    let ends = revision_ends(alloc, dump)?;
+    let end = ends.at(rev);
+    drop(ends);
+    Ok(Some(end))
+}
+
+// Whether a map finds no faulty record, and no fault of the record of this number.
+fn is_lawful_in<R: Threads + Sync>(
+    rt: &R,
+    dump: &Dump,
+    ends: &Ends,
+    map: &Map,
+    number: u32,
+) -> Result<bool, Fail>
+    requires ends { ends.now ≡ ends_of dump.now.counts }
+    requires map { IsMapOf dump.now map.now }
+{
+    if number == 0 || dump.records().len() < number as usize {
+        return Err("there are not so many records")?;
+    }
+    let fault = fault_at(map, dump, ends, number)?;
+    Ok(fault.is_none() && check(rt, map, dump, ends)?.is_none())
+}
+
+// The same of the map of all records.
+fn is_lawful_with<R: Threads + Sync>(
+    rt: &R,
+    alloc: Global,
+    dump: &Dump,
+    ends: &Ends,
+    number: u32,
+) -> Result<bool, Fail>
+    requires { ends.now ≡ ends_of dump.now.counts }
+{
+    let map = whole_map(alloc, dump, ends)?;
+    let is_lawful = is_lawful_in(rt, dump, ends, &map, number);
+    drop(map);
+    is_lawful
+}
+
+// What stands at a path after so many records, and the nearest mergeinfo of it.
+fn standing_in(
+    alloc: Global,
+    dump: &Dump,
+    map: &Map,
+    tick: u32,
+    path: &[u8],
+) -> Result<(Option<Entry>, Option<Nearest>), Fail>
+    requires { IsMapOf dump.now map.now }
+{
+    if map.hi() < tick {
+        return Err("no tick of the map")?;
+    }
+    let path = path_of(alloc, dump, path)?;
+    let entry = map.entry(tick, &path);
+    let nearest = map.nearest(tick, &path);
+    drop(path);
+    Ok((entry?, nearest?))
+}
+
+// The same in the map of all records.
+fn standing_at(
+    alloc: Global,
+    dump: &Dump,
+    tick: u32,
+    path: &[u8],
+) -> Result<(Option<Entry>, Option<Nearest>), Fail> {
+    let ends = revision_ends(alloc, dump)?;
+    let map = whole_map(alloc, dump, &ends);
+    drop(ends);
+    let map = map?;
+    let found = standing_in(alloc, dump, &map, tick, path);
+    drop(map);
+    found
+}
+
+#[test]
+fn ends_count_the_records_up_to_a_revision(rt: HostRuntime) -> Result<(), Fail> {
+    let dump = read(rt.alloc(), NESTED)?;
+    for (rev, end) in [(0, 0), (1, 4), (2, 5), (3, 7)] {
+        assert!(rt; end_of(rt.alloc(), &dump, rev) == Ok(Some(end)), "{rev}");
+    }
+    drop(dump);
+    Ok(())
+}
+
+// The same of a part of `NESTED`.
+fn extent_of_nested(alloc: Global, part: Part) -> Result<(u32, u32, u64), Fail> {
+    let dump = read(alloc, NESTED)?;
+    let found = extent(alloc, &dump, part);
+    drop(dump);
+    found
+}
+
+#[test]
+fn a_part_has_the_ticks_of_its_records_and_few_nodes(rt: HostRuntime) -> Result<(), Fail> {
+    for (part, first, last, most) in [(BEFORE_COPIES, 0, 5, 15), (COPIES, 5, 7, 5)] {
+        let (lo, hi, nodes) = extent_of_nested(rt.alloc(), part)?;
+        assert!(rt; (lo, hi) == (first, last) && nodes <= most, "{first}");
+    }
+    Ok(())
+}
+
+// Whether the records 6 and 7 of `NESTED` leave at a path what stood at another one after so many records.
+fn copies_find(
+    alloc: Global,
+    dump: &Dump,
+    path: &[u8],
+    from: &[u8],
+    at: u32,
+) -> Result<bool, Fail> {
+    let found = look_in_part(alloc, dump, COPIES, 7, path)?;
+    let is_found = finds(&found, alloc, dump, from, at, None);
+    drop(found);
+    is_found
+}
+
+// Whether they do so at each path.
+fn copies_find_their_sources(alloc: Global, dump: &Dump) -> Result<bool, Fail> {
+    for (path, from, at) in [
+        (b"/n/q/s".as_slice(), b"/p/q/s".as_slice(), 5),
+        (b"/m/q/s", b"/p/q/s", 4),
+        (b"/z", b"/z", 5),
+    ] {
+        if !copies_find(alloc, dump, path, from, at)? {
+            return Ok(false);
+        }
+    }
+    Ok(true)
+}
+
+#[test]
+fn a_part_names_where_its_paths_were_before_it(rt: HostRuntime) -> Result<(), Fail> {
+    let dump = read(rt.alloc(), NESTED)?;
+    let found = copies_find_their_sources(rt.alloc(), &dump);
+    drop(dump);
+    assert!(rt; found?);
+    Ok(())
+}
+
+#[test]
+fn a_part_from_the_beginning_knows_its_paths(rt: HostRuntime) -> Result<(), Fail> {
+    let dump = read(rt.alloc(), NESTED)?;
+    let found = look_in_part(rt.alloc(), &dump, BEFORE_COPIES, 5, b"/p/q/s");
+    drop(dump);
+    let found = found?;
+    let is_file = matches!(
+        found,
+        Found::Is {
+            kind: Kind::File,
+            mi: None
+        }
+    );
+    drop(found);
+    assert!(rt; is_file);
+    Ok(())
+}
+
+// Whether the second record of `TWO_TEXTS` leaves at `a` what stood there, with the second text.
+fn change_finds_the_second_text(alloc: Global, dump: &Dump) -> Result<bool, Fail> {
+    let second = Part { start: 1, end: 2 };
+    let found = look_in_part(alloc, dump, second, 2, b"/a")?;
+    let is_found = finds(&found, alloc, dump, b"/a", 1, Some(ValueId(1)));
+    drop(found);
+    is_found
+}
+
+#[test]
+fn a_part_names_mergeinfo_that_it_changes(rt: HostRuntime) -> Result<(), Fail> {
+    let dump = read(rt.alloc(), TWO_TEXTS)?;
+    let found = change_finds_the_second_text(rt.alloc(), &dump);
+    drop(dump);
+    assert!(rt; found?);
+    Ok(())
+}
+
+// How many nodes the map of so many copies of the root keeps.
+fn nodes_of_copies(alloc: Global, count: u32) -> Result<u64, Fail> {
+    let text = copies_of_the_root(alloc, count)?;
+    let dump = read(alloc, text.as_slice());
+    drop(text);
+    let dump = dump?;
+    let end = count as usize;
+    let found = extent(alloc, &dump, Part { start: 0, end });
+    drop(dump);
+    let (_, _, nodes) = found?;
+    Ok(nodes)
+}
+
+#[test]
+fn copies_of_the_root_share_their_nodes(rt: HostRuntime) -> Result<(), Fail> {
+    for (count, most) in [(40, 81), (1000, 2001)] {
+        assert!(rt; nodes_of_copies(rt.alloc(), count)? <= most, "{count}");
+    }
+    Ok(())
+}
+
+// Whether a lawful history has no faulty record, and no fault of record 6.
+fn is_lawful<R: Threads + Sync>(rt: &R, alloc: Global, dump: &Dump) -> Result<bool, Fail> {
+    let ends = revision_ends(alloc, dump)?;
+    let is_lawful = is_lawful_with(rt, alloc, dump, &ends, 6);
+    drop(ends);
+    is_lawful
+}
+
+#[test]
+fn a_lawful_history_has_no_faulty_record(rt: HostRuntime) -> Result<(), Fail> {
+    let dump = read(rt.alloc(), NESTED)?;
+    let is_lawful = is_lawful(&rt, rt.alloc(), &dump);
+    drop(dump);
+    assert!(rt; is_lawful?);
+    Ok(())
+}
+
+// The same after record 8 of `MERGED`.
+fn standing_in_merged(
+    alloc: Global,
+    path: &[u8],
+) -> Result<(Option<Entry>, Option<Nearest>), Fail> {
+    let dump = read(alloc, MERGED)?;
+    let found = standing_at(alloc, &dump, 8, path);
+    drop(dump);
+    found
+}
+
+#[test]
+fn a_map_from_the_beginning_has_entries_and_their_mergeinfo(rt: HostRuntime) -> Result<(), Fail> {
+    let (entry, _) = standing_in_merged(rt.alloc(), b"/trunk")?;
+    let (_, nearest) = standing_in_merged(rt.alloc(), b"/trunk/f")?;
+    let mi = ValueId(0);
+    let kind = Kind::Dir;
+    assert_eq!(rt; entry, Some(Entry { kind, mi: Some(mi) }));
+    assert_eq!(rt; nearest, Some(Nearest { mi, depth: 1 }));
+    Ok(())
+}
