@@ -5,7 +5,6 @@ use crate::bundle_reader::bundle;
 use crate::file::load_file;
 use devices::Source;
 use std::alloc::{AllocError, Global};
-use std::path::Path;
 use std::rt::Files;
 use std::test::Fail;
 use std::{env, fs};
@@ -93,15 +92,15 @@ fn wrong_arguments_are_refused(rt: HostRuntime) -> Result<(), Fail> {
 const CONTENT: &[u8] = b"a line\nand another\n";
 
 // Whether a file is loaded whole.
-fn is_loaded<R: Files>(rt: &R, alloc: Global, path: &Path) -> Result<bool, RunError> {
-    let found = load_file(rt, alloc, path.as_str(), Source::Dump)?;
+fn is_loaded<R: Files>(rt: &R, alloc: Global, path: &str) -> Result<bool, RunError> {
+    let found = load_file(rt, alloc, path, Source::Dump)?;
     Ok(found.as_slice() == CONTENT)
 }
 
 // Whether a file can't be read, as the queries.
-fn is_unread<R: Files>(rt: &R, alloc: Global, path: &Path) -> bool {
+fn is_unread<R: Files>(rt: &R, alloc: Global, path: &str) -> bool {
     matches!(
-        load_file(rt, alloc, path.as_str(), Source::Queries),
+        load_file(rt, alloc, path, Source::Queries),
         Err(RunError::Read(Source::Queries))
     )
 }
@@ -111,8 +110,8 @@ fn a_file_is_loaded_whole(rt: HostRuntime) -> Result<(), Fail> {
     let mut path = env::temp_dir(&rt)?;
     path.push("svnhist-loads-a-file")?;
     fs::write(&rt, path.as_path(), CONTENT)?;
-    let is_whole = is_loaded(&rt, rt.alloc(), path.as_path());
+    let is_whole = is_loaded(&rt, rt.alloc(), path.as_path().as_str());
     fs::remove_file(&rt, path.as_path())?;
-    assert!(rt; is_whole? && is_unread(&rt, rt.alloc(), path.as_path()));
+    assert!(rt; is_whole? && is_unread(&rt, rt.alloc(), path.as_path().as_str()));
     Ok(())
 }
