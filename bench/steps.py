@@ -36,16 +36,14 @@ STEPS = """//! The steps of a run up to the index or the map of a dump.
 ghost use Rattle.std.specs.Prelude.{◌<◌, ◌≤◌};
 
 use crate::arguments::Arguments;
-use crate::block_index::{index_of, record_borders, record_ends};
-use crate::load::load_file;
-use crate::load_repo::{LoadError, lawful_map};
-use crate::run_error::{RunError, Source};
-use block_map::Ends;
-use std::alloc::{AllocError, Global};
+use crate::file::load_file;
+use devices::Source;
+use std::alloc::Global;
 use std::rt::Files;
 use std::sync::Wait;
 use std::thread::Threads;
-use svn_dump::{Dump, read};
+use svn_dump::read;
+use svn_report::{RunError, make_index, make_map};
 
 /// Runs the steps up to the one that the arguments name in place of the queries.
 pub(crate) fn run_steps<R: Files + Threads + Wait + Sync>(
@@ -69,9 +67,21 @@ pub(crate) fn run_steps<R: Files + Threads + Wait + Sync>(
     }
     Ok(())
 }
+"""
+
+# The functions of `svn_report` that these steps call.
+MAKERS = """//! The index and the map of a dump alone.
+ghost use Rattle.std.specs.Prelude.{◌<◌, ◌≤◌};
+
+use crate::block_index::{index_of, record_borders, record_ends};
+use crate::repository::{LoadError, lawful_map};
+use block_map::Ends;
+use std::alloc::{AllocError, Global};
+use std::thread::Threads;
+use svn_dump::Dump;
 
 /// Makes the index of a dump.
-fn make_index<R: Threads + Sync>(
+pub fn make_index<R: Threads + Sync>(
     rt: &R,
     alloc: Global,
     dump: &Dump,
@@ -90,7 +100,7 @@ fn make_index<R: Threads + Sync>(
 }
 
 /// Makes and checks the map of a dump.
-fn make_map<R: Threads + Sync>(
+pub fn make_map<R: Threads + Sync>(
     rt: &R,
     alloc: Global,
     dump: &Dump,
@@ -108,8 +118,8 @@ fn make_map<R: Threads + Sync>(
 
 # The proofs of what `make_map` calls, as in `load_repo`, which lends no dump.
 PROOFS = """use Rattle.std.proofs.Common.{◌∙◌}
-use Rattle.svnhist.proofs.RecordEnds.{ends_view-small, ends_view-sums}
-use Rattle.svnhist.proofs.steps.make_map.Goals as goal
+use Rattle.svn_report.proofs.RecordEnds.{ends_view-small, ends_view-sums}
+use Rattle.svn_report.proofs.makers.make_map.Goals as goal
 
 pub new-ends-requires : goal.new-ends-requires
 new-ends-requires g c =
@@ -124,21 +134,38 @@ lawful_map-requires-after_bounds g c κs within =
 def write_text(text, *names):
     path = os.path.join(*names)
     os.makedirs(os.path.dirname(path), exist_ok=True)
-    with open(path, "w") as file:
+    with open(path, "w", encoding="utf-8") as file:
         file.write(text)
+
+
+def change(path, old, new):
+    """Puts a text in place of another one, which stands once in the file."""
+    with open(path, encoding="utf-8") as file:
+        source = file.read()
+    if source.count(old) != 1:
+        raise Failed("%s has %r %d times" % (path, old, source.count(old)))
+    with open(path, "w", encoding="utf-8") as file:
+        file.write(source.replace(old, new))
 
 
 def write_main(path):
     """Makes the main module call the steps."""
-    with open(path) as file:
-        source = file.read()
-    before, _, after = source.partition("fn main(")
-    kept = after[after.index("/// The arguments after"):]
-    lines = [line for line in before.splitlines(True) if not line.startswith("use device::")]
-    head = "".join(lines).replace("mod send;\n", "mod send;\nmod steps;\n")
-    head = head.replace("use std::process::ExitCode;\n", "use std::process::ExitCode;\nuse steps::run_steps;\n")
-    with open(path, "w") as file:
-        file.write(head + MAIN.lstrip("\n") + kept)
+    change(path, "mod program;\n", "mod program;\nmod steps;\n")
+    change(path, "use std::process::ExitCode;\n", "use std::process::ExitCode;\nuse steps::run_steps;\n")
+    with open(path, encoding="utf-8") as file:
+        before, _, after = file.read().partition("fn main(")
+    with open(path, "w", encoding="utf-8") as file:
+        file.write(before + MAIN.lstrip("\n") + after[after.index("/// The arguments after"):])
+
+
+def write_report(crate):
+    """Lets the library of reports give away how it makes an index and a map."""
+    write_text(MAKERS, crate, "src", "makers.rt")
+    write_text(PROOFS, crate, "proofs", "makers", "make_map", "Answers.antt")
+    contents = os.path.join(crate, "src", "lib.rt")
+    change(contents, "mod loading;\n", "mod loading;\nmod makers;\n")
+    change(contents, "pub use loading::load;\n", "pub use loading::load;\npub use makers::{make_index, make_map};\n")
+    change(os.path.join(crate, "src", "repository.rt"), "\nfn lawful_map<", "\npub(crate) fn lawful_map<")
 
 
 def build(folder):
@@ -152,7 +179,7 @@ def build(folder):
     path = os.path.join(crate, "src", "main.rt")
     write_main(path)
     write_text(STEPS, crate, "src", "steps.rt")
-    write_text(PROOFS, crate, "proofs", "steps", "make_map", "Answers.antt")
+    write_report(os.path.join(copy, "crates", "svn_report"))
     done = subprocess.run(["rt", "run"], cwd=crate, stdin=subprocess.DEVNULL, stdout=subprocess.PIPE,
                           stderr=subprocess.STDOUT)
     if not os.access(program, os.X_OK) or os.path.getmtime(program) < os.path.getmtime(path):
