@@ -2,12 +2,13 @@
 use Rattle.std.specs.Prelude.{ℕ, ◌==◌, Bool, List, Option, Result, Ok, Err, if◌then◌else◌}
 use Rattle.devices.specs.declared.device.Device.{Device}
 
--- the bytes that are left, where the device reports them, how many calls were made and how many of them gave no bytes,
--- which is the end of the input, and whether one failed
+-- the bytes that are left, where the device reports them, how many calls were made, how many of them gave no bytes, which
+-- is the end of the input, how many failed, and whether one failed
 pub record PullState : Type 0 where
   pub left : Option (List ℕ)
   pub calls : ℕ
   pub ends : ℕ
+  pub failures : ℕ
   pub has_failed : Bool
 
 -- the bytes that went out, where the device reports them, how many calls were made and how many of them failed, whether
@@ -49,7 +50,7 @@ device_is_flushed d = d.flushed
 
 -- the state of a reader or a writer of std, by the bytes that it reports
 abbrev pub pull_state : {D : Type 0} → (D → Option (List ℕ)) → Device D → PullState
-pull_state remaining d = record { left = remaining d.inner; calls = d.calls; ends = d.ends; has_failed = d.failed }
+pull_state remaining d = record { left = remaining d.inner; calls = d.calls; ends = d.ends; failures = d.failures; has_failed = d.failed }
 
 abbrev pub push_state : {D : Type 0} → (D → Option (List ℕ)) → Device D → PushState
 push_state contents d = record { gone = contents d.inner; calls = d.calls; failures = d.failures; has_failed = d.failed; is_flushed = d.flushed }

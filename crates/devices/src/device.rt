@@ -21,6 +21,7 @@ pub trait Pull {
         ensures bytes { ReadConsumes (state self.old).left (state self.new).left result slice.new }
         ensures counted { (state self.new).calls ≡ (state self.old).calls + 1 }
         ensures ends { (state self.new).ends ≡ (state self.old).ends + end_count result }
+        ensures failures { (state self.new).failures ≡ (state self.old).failures + failure_count result }
         ensures failed { IsErr result ↔ IsTrue (state self.new).has_failed }
         ensures stays { IsTrue (state self.old).has_failed → IsTrue (state self.new).has_failed };
 }
@@ -88,6 +89,7 @@ impl<D: Read> Pull for Device<D> {
     fn pull(&mut self, slice: &mut [u8]) -> Result<usize, Failed> {
         self.calls.add();
         if self.failed {
+            self.failures.add();
             return Err(Failed);
         }
         match self.inner.read(slice) {
@@ -98,6 +100,7 @@ impl<D: Read> Pull for Device<D> {
             Ok(n) => Ok(n),
             Err(_) => {
                 self.failed = true;
+                self.failures.add();
                 Err(Failed)
             }
         }

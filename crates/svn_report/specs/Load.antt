@@ -14,10 +14,6 @@ pub record IsUnread (old new : PullState) : Type 0 where
   pub no_end : new.ends ≡ old.ends
   pub why : IsTrue new.has_failed ⊎ (new.calls ≡ old.calls + most_reads)
 
--- a device that has failed had failed before
-abbrev pub FailsNoMore : PullState → PullState → Type 0
-FailsNoMore old new = IsTrue new.has_failed → IsTrue old.has_failed
-
 abbrev pub IsReadError : RunError → Type 0
 IsReadError TooMany = ⊥
 IsReadError (Dump refused) = ⊥
@@ -26,9 +22,9 @@ IsReadError (Read source) = Unit {0}
 IsReadError Memory = ⊥
 
 -- the source could not be read, or memory ran out
-abbrev pub IsLoadError : Source → RunError → Type 0
-IsLoadError source TooMany = ⊥
-IsLoadError source (Dump refused) = ⊥
-IsLoadError source (Faulty fault) = ⊥
-IsLoadError source (Read unread) = unread ≡ source
-IsLoadError source Memory = Unit {0}
+abbrev pub IsReadOrMemory : Source → RunError → Type 0
+IsReadOrMemory source TooMany = ⊥
+IsReadOrMemory source (Dump refused) = ⊥
+IsReadOrMemory source (Faulty fault) = ⊥
+IsReadOrMemory source (Read unread) = unread ≡ source
+IsReadOrMemory source Memory = Unit {0}

@@ -1,7 +1,7 @@
 //! Reading all of an input.
 ghost use Rattle.std.specs.Prelude.{◌≡◌, ◌+◌, ◌≤◌, IfErr, IfOk, IsErrOf, OnOk, IsFalse};
 ghost use Rattle.std.specs.Io.KnownBytes.{Consumes, IsAtEnd};
-ghost use Rattle.svn_report.specs.Load.{most_reads, FailsNoMore, IsLoadError, IsReadError, IsUnread};
+ghost use Rattle.svn_report.specs.Load.{most_reads, IsReadOrMemory, IsReadError, IsUnread};
 
 use crate::run_error::RunError;
 use devices::{Pull, Source};
@@ -21,11 +21,14 @@ pub fn load<P: Pull>(alloc: Global, input: &mut P, source: Source) -> Result<Vec
     ensures end { OnOk result (IsAtEnd (P.state input.new).left) }
     ensures ends { OnOk result ((P.state input.new).ends ≡ (P.state input.old).ends + 1) }
     ensures sound { OnOk result (IsFalse (P.state input.new).has_failed) }
-    ensures error { IfErr result (IsLoadError source) }
+    ensures error { IfErr result (IsReadOrMemory source) }
 
     // `Read` comes only where no call reached the end, and the device failed or the reads are used up.
     ensures unread { IfErr result (λ e. IsReadError e → IsUnread (P.state input.old) (P.state input.new)) }
-    ensures memory { IsErrOf result RunError.Memory → FailsNoMore (P.state input.old) (P.state input.new) }
+    ensures memory { IsErrOf result RunError.Memory → (P.state input.new).failures ≡ (P.state input.old).failures }
+
+    // The device is not called again after a failure, since each call of a failed device fails.
+    ensures fails_once { (P.state input.new).failures ≤ (P.state input.old).failures + 1 }
     ensures reads { (P.state input.new).calls ≤ (P.state input.old).calls + most_reads }
 {
     let mut piece = Vec::with_capacity(alloc, PIECE)?;
