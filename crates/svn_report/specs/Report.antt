@@ -1,5 +1,5 @@
 -- The report on a dump: the answers to all queries, in their order.
-use Rattle.std.specs.Prelude.{◌≡◌, ℕ, ◌+◌, List, [], ◌∷◌, ◌++◌, None, bytes_eq}
+use Rattle.std.specs.Prelude.{◌≡◌, ℕ, ◌+◌, ◌≤◌, List, [], ◌∷◌, ◌++◌, None, bytes_eq, length}
 use Rattle.svn_dump.specs.DumpText.{IsDumpText}
 use Rattle.svn_dump.specs.Fault.{first_fault}
 use Rattle.svn_dump.specs.Record.{HistoryOfBytes}
@@ -11,6 +11,10 @@ use Rattle.svn_report.specs.QueryLines.{query_lines}
 abbrev pub most_queries : ℕ
 most_queries = 1000000
 
+-- there are no more lines than one run answers
+abbrev pub AreFew : List ℕ → Type 0
+AreFew queries = length (query_lines queries) ≤ most_queries
+
 -- the answers to these lines, given the number of the first
 unfoldable pub answers_from : ℕ → HistoryOfBytes → TreesOfBytes → List (List ℕ) → List ℕ
 answers_from number history trees [] = []
@@ -21,8 +25,9 @@ answers_from number history trees (line ∷ lines) =
 abbrev pub answers : HistoryOfBytes → List ℕ → List ℕ
 answers history queries = answers_from 1 history (trees_of bytes_eq history) (query_lines queries)
 
--- the bytes are a dump of a lawful history, and these are its answers
+-- there are few enough queries, the bytes are a dump of a lawful history, and these are its answers
 pub record IsReport (dump queries report : List ℕ) : Type 0 where
+  pub few : AreFew queries
   pub history : HistoryOfBytes
   pub read : IsDumpText dump history
   pub lawful : first_fault bytes_eq history ≡ None

@@ -8,7 +8,7 @@ use Rattle.svn_dump.specs.declared.error.DumpError.{DumpError}
 use Rattle.svn_dump.specs.declared.error.DumpError.TheVariants as refusal
 use Rattle.block_map.specs.FaultKind.{kind_view}
 use Rattle.svn_report.specs.QueryLines.{query_lines}
-use Rattle.svn_report.specs.Report.{most_queries}
+use Rattle.svn_report.specs.Report.{AreFew, most_queries}
 use Rattle.block_map.specs.declared.fault.Fault.{Fault}
 use Rattle.svn_report.specs.declared.repository.LoadError.{LoadError}
 use Rattle.svn_report.specs.declared.repository.LoadError.TheVariants as error
@@ -26,11 +26,11 @@ abbrev pub IsRefused : List ℕ → DumpError → Type 0
 IsRefused dump (refusal.Refused number at) = IsFirstAt dump number at
 IsRefused dump refusal.Memory = ⊥
 
--- an error that there is for this dump and these queries
+-- an error that there is for this dump and these queries; that they are too many comes first
 abbrev pub IsRunError : List ℕ → List ℕ → RunError → Type 0
 IsRunError dump queries run.TooMany = most_queries < length (query_lines queries)
-IsRunError dump queries (run.Dump refused) = IsRefused dump refused
-IsRunError dump queries (run.Fault fault) = IsFirstFault dump fault
+IsRunError dump queries (run.Dump refused) = AreFew queries × IsRefused dump refused
+IsRunError dump queries (run.Fault fault) = AreFew queries × IsFirstFault dump fault
 IsRunError dump queries (run.Read source) = ⊥
 IsRunError dump queries run.Memory = Unit {0}
 

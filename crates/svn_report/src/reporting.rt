@@ -4,6 +4,7 @@ ghost use Rattle.svn_dump.specs.Dump.{history_in_bytes};
 ghost use Rattle.svn_report.specs.QueryLines.{query_lines};
 ghost use Rattle.svn_report.specs.Report.{IsReport, answers, most_queries};
 ghost use Rattle.svn_report.specs.ReportError.{IsRunError};
+ghost use Rattle.query_pool.specs.Serving.{most_workers};
 
 use crate::answering::answer_lines;
 use crate::query_lines::count_lines;
@@ -34,7 +35,7 @@ pub fn report<R: Threads + Wait + Sync, G: Gate>(
 ) -> Result<Vec<u8>, RunError>
     requires cuts { All (λ blocks. 0 < blocks) cuts.now }
     requires some_worker { 0 < workers }
-    requires few_workers { workers ≤ 64 }
+    requires few_workers { workers ≤ most_workers }
     ensures ok { IfOk result (λ report. IsReport dump.now queries.now report.items) }
     ensures error { IfErr result (IsRunError dump.now queries.now) }
 
@@ -46,7 +47,9 @@ pub fn report<R: Threads + Wait + Sync, G: Gate>(
     }
     let dump = read(alloc, dump)?;
     let repo = load_repo(rt, alloc, dump, cuts, workers)?;
-    answered(rt, alloc, &repo, queries, workers, gate)
+    let answers = answered(rt, alloc, &repo, queries, workers, gate);
+    drop(repo);
+    answers
 }
 
 /// The answers to the query lines from a repository.
@@ -60,7 +63,7 @@ fn answered<R: Threads + Wait + Sync, G: Gate>(
 ) -> Result<Vec<u8>, RunError>
     requires few_queries { length (query_lines queries.now) ≤ most_queries }
     requires some_worker { 0 < workers }
-    requires few_workers { workers ≤ 64 }
+    requires few_workers { workers ≤ most_workers }
     ensures ok { IfOk result (λ report. report.items ≡ answers (history_in_bytes repo.now) queries.now) }
     ensures error { IfErr result (λ e. e ≡ RunError.Memory) }
 {
