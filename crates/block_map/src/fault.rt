@@ -1,6 +1,8 @@
 //! The faults of records in a history that is not lawful.
+ghost use Rattle.std.specs.Prelude.{◌≡◌};
+ghost use Rattle.block_map.specs.FaultKind.{fault_name_of, fault_number};
 
-/// The fault of a record in the tree before it, by the number that is printed.
+/// The fault of a record in the tree before it.
 #[derive(Clone, Copy, Debug, PartialEq, Eq)]
 pub enum FaultKind {
     /// The parent of its path isn't there or isn't a directory.
@@ -11,6 +13,27 @@ pub enum FaultKind {
     Missing = 18,
     /// The source of a copy isn't there.
     NoSource = 19,
+}
+
+impl FaultKind {
+    /// The number that is printed, above those of the refusals of the reader.
+    pub fn number(self) -> u8
+        ensures { result ≡ fault_number self }
+    {
+        self as u8
+    }
+
+    /// The name that is printed.
+    pub fn name(self) -> &'static [u8]
+        ensures { result.now ≡ fault_name_of self }
+    {
+        match self {
+            FaultKind::NoParent => b"NoParent",
+            FaultKind::Exists => b"Exists",
+            FaultKind::Missing => b"Missing",
+            FaultKind::NoSource => b"NoSource",
+        }
+    }
 }
 
 /// The first faulty record of a dump, numbered from 1, and the first of its faults.

@@ -1,6 +1,6 @@
 -- Why a whole block is refused, in the order in which the reasons are reported. The reasons against the form of a block
 -- come before them, in FirstRefusal.antt.
-use Rattle.std.specs.Prelude.{ℕ, pred, ◌==◌, nat_lt, Bool, true, false, not, ◌||◌, List, [], ◌∷◌, ◌++◌, Option, Some, None, is_none, length, if◌then◌else◌}
+use Rattle.std.specs.Prelude.{ℕ, pred, ◌==◌, nat_lt, Bool, true, false, not, ◌||◌, List, [], ◌∷◌, ◌++◌, Option, Some, None, codes, is_none, length, slice_index_or, if◌then◌else◌}
 use Rattle.std.specs.List.{list_any}
 use Rattle.svn_dump.specs.DumpText.{all_records, most_numbered, names_of, values_of}
 use Rattle.svn_dump.specs.Node.{BlockSort, Node, NodeAction, node_block, other_block, revision_block, uuid_block}
@@ -23,6 +23,16 @@ number_of_refusal CopyRevision = 11
 number_of_refusal RootAction = 12
 number_of_refusal RevisionZero = 13
 number_of_refusal TooLarge = 14
+
+-- the names by number, from 1 on
+abbrev pub refusal_names : List (List ℕ)
+refusal_names =
+    codes "Magic" ∷ codes "Version" ∷ codes "Header" ∷ codes "Length" ∷ codes "Truncated" ∷ codes "Props" ∷ codes "BadRecord"
+    ∷ codes "Revision" ∷ codes "BadPath" ∷ codes "Delta" ∷ codes "CopyRevision" ∷ codes "RootAction" ∷ codes "RevisionZero"
+    ∷ codes "TooLarge" ∷ []
+
+abbrev pub refusal_name_of : ℕ → List ℕ
+refusal_name_of number = slice_index_or (codes "Unknown" ∷ refusal_names) number (codes "Unknown")
 
 -- a reason, and whether it holds
 pub record Reason : Type 0 where

@@ -27,3 +27,4 @@ pub use kind::Kind;
 pub use origin::Origin;
 pub use reader::read;
 pub use record::{Act, Mi, NodeRecord, ValueId};
+pub use refusal::refusal_name;

@@ -1,35 +1,13 @@
 -- The line and the status by which the program reports why there is no report.
-use Rattle.std.specs.Prelude.{ℕ, List, [], ◌∷◌, ◌++◌, codes, decimal, slice_index_or}
+use Rattle.std.specs.Prelude.{ℕ, List, [], ◌∷◌, ◌++◌, codes, decimal}
 use Rattle.svn_dump.specs.declared.error.DumpError.{DumpError}
 use Rattle.svn_dump.specs.declared.error.DumpError.TheVariants as refusal
-use Rattle.block_map.specs.declared.fault.FaultKind.{FaultKind}
-use Rattle.block_map.specs.declared.fault.FaultKind.TheVariants.{NoParent, Exists, Missing, NoSource}
+use Rattle.svn_dump.specs.Refusal.{refusal_name_of}
+use Rattle.block_map.specs.FaultKind.{fault_name_of, fault_number}
 use Rattle.svn_report.specs.declared.run_error.RunError.{RunError}
 use Rattle.svn_report.specs.declared.run_error.RunError.TheVariants as run
 use Rattle.devices.specs.declared.source.Source.{Source}
 use Rattle.devices.specs.declared.source.Source.TheVariants as source
-
--- the names of the reader's refusals, from number 1 on
-abbrev pub refusal_names : List (List ℕ)
-refusal_names =
-    codes "Magic" ∷ codes "Version" ∷ codes "Header" ∷ codes "Length" ∷ codes "Truncated" ∷ codes "Props" ∷ codes "BadRecord"
-    ∷ codes "Revision" ∷ codes "BadPath" ∷ codes "Delta" ∷ codes "CopyRevision" ∷ codes "RootAction" ∷ codes "RevisionZero"
-    ∷ codes "TooLarge" ∷ []
-
-abbrev pub refusal_name_of : ℕ → List ℕ
-refusal_name_of number = slice_index_or (codes "Unknown" ∷ refusal_names) number (codes "Unknown")
-
-abbrev pub fault_number : FaultKind → ℕ
-fault_number NoParent = 16
-fault_number Exists = 17
-fault_number Missing = 18
-fault_number NoSource = 19
-
-abbrev pub fault_name_of : FaultKind → List ℕ
-fault_name_of NoParent = codes "NoParent"
-fault_name_of Exists = codes "Exists"
-fault_name_of Missing = codes "Missing"
-fault_name_of NoSource = codes "NoSource"
 
 abbrev pub source_name_of : Source → List ℕ
 source_name_of source.Dump = codes "the dump"

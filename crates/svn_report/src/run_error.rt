@@ -1,12 +1,12 @@
 //! Why a run gave no report, and how the program reports that.
 ghost use Rattle.std.specs.Prelude.{◌≡◌, ◌++◌, IfOk, OnOk, OnErr};
-ghost use Rattle.svn_report.specs.RunError.{line_of, status_of, refused_text, refusal_name_of, fault_name_of, source_name_of, unread_text};
+ghost use Rattle.svn_report.specs.RunError.{line_of, status_of, refused_text, source_name_of, unread_text};
 
 use crate::repository::LoadError;
-use block_map::{Fault, FaultKind};
+use block_map::Fault;
 use devices::Source;
 use std::alloc::{AllocError, AllocFailed, Global};
-use svn_dump::DumpError;
+use svn_dump::{DumpError, refusal_name};
 use svn_text::push_number;
 use thiserror::Error;
 
@@ -112,14 +112,12 @@ impl RunError {
                 )
             }
             RunError::Fault(fault) => {
-                let number = fault.kind as u8;
-                let place = u64::from(fault.number);
                 refused_line(
                     alloc,
-                    number,
-                    fault_name(fault.kind),
+                    fault.kind.number(),
+                    fault.kind.name(),
                     b"record".as_slice(),
-                    place,
+                    u64::from(fault.number),
                 )
             }
             RunError::Read(source) => unread_line(alloc, *source),
@@ -160,41 +158,6 @@ fn unread_line(alloc: Global, source: Source) -> Result<Vec<u8>, AllocError>
     line.extend_from_slice(source_name(source))?;
     line.push(b'\n')?;
     Ok(line)
-}
-
-/// The name of a refusal of the reader.
-fn refusal_name(number: u8) -> &'static [u8]
-    ensures { result.now ≡ refusal_name_of number }
-{
-    match number {
-        1 => b"Magic",
-        2 => b"Version",
-        3 => b"Header",
-        4 => b"Length",
-        5 => b"Truncated",
-        6 => b"Props",
-        7 => b"BadRecord",
-        8 => b"Revision",
-        9 => b"BadPath",
-        10 => b"Delta",
-        11 => b"CopyRevision",
-        12 => b"RootAction",
-        13 => b"RevisionZero",
-        14 => b"TooLarge",
-        _ => b"Unknown",
-    }
-}
-
-/// The name of a fault of a record.
-fn fault_name(kind: FaultKind) -> &'static [u8]
-    ensures { result.now ≡ fault_name_of kind }
-{
-    match kind {
-        FaultKind::NoParent => b"NoParent",
-        FaultKind::Exists => b"Exists",
-        FaultKind::Missing => b"Missing",
-        FaultKind::NoSource => b"NoSource",
-    }
 }
 
 /// What a source is called.
