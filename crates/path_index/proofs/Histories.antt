@@ -14,7 +14,7 @@ use Rattle.svn_dump.proofs.FirstRevisions.{is_there-take, location-take, origin_
 use Rattle.svn_dump.proofs.Grouped.{length-records_by_revision, map-records_by_revision}
 use Rattle.path_index.specs.History.{AreRising, records_of, history_to}
 use Rattle.path_index.specs.Operative.{names_below, came_from_itself, is_operative, operative_in, operative_from, operative_of, hit_at}
-use Rattle.path_index.specs.Segment.{Segment, same_place, with_place, segments_up_to, segments_of}
+use Rattle.path_index.specs.Segment.{Segment, same_location, with_location, segments_up_to, segments_of}
 use Rattle.path_index.proofs.Rising.{filter_all, filter_none}
 use Rattle.path_index.proofs.DownFrom.{filter_down-same}
 
@@ -198,18 +198,18 @@ module _ {C : Type 0} (same : C → C → Bool) where
       All-cons (λ segment. segment.hi ≤ rev) (record segment { hi = rev }) segments (omega arith) (All-tail (λ segment. segment.hi ≤ rev) segment segments up)
   by_test false rev place segment segments up = All-cons (λ segment. segment.hi ≤ rev) (record { lo = rev; hi = rev; path = place }) (segment ∷ segments) (omega arith) up
 
-  with_place-up : (rev : ℕ) (place : Option (List C)) (segments : List (Segment C)) → UpTo rev segments → UpTo rev (with_place same rev place segments)
-  unfolding with_place UpTo
-  with_place-up rev None [] up = up
-  with_place-up rev (Some path) [] up = All-cons (λ segment. segment.hi ≤ rev) (record { lo = rev; hi = rev; path = Some path }) [] (omega arith) up
-  with_place-up rev None (segment ∷ segments) up = by_test (same_place same None segment.path) rev None segment segments up
-  with_place-up rev (Some path) (segment ∷ segments) up = by_test (same_place same (Some path) segment.path) rev (Some path) segment segments up
+  with_location-up : (rev : ℕ) (place : Option (List C)) (segments : List (Segment C)) → UpTo rev segments → UpTo rev (with_location same rev place segments)
+  unfolding with_location UpTo
+  with_location-up rev None [] up = up
+  with_location-up rev (Some path) [] up = All-cons (λ segment. segment.hi ≤ rev) (record { lo = rev; hi = rev; path = Some path }) [] (omega arith) up
+  with_location-up rev None (segment ∷ segments) up = by_test (same_location same None segment.path) rev None segment segments up
+  with_location-up rev (Some path) (segment ∷ segments) up = by_test (same_location same (Some path) segment.path) rev (Some path) segment segments up
 
   segments_up_to-up : (place : ℕ → Option (List C)) (top : ℕ) → UpTo top (segments_up_to same place top)
   unfolding segments_up_to UpTo
-  segments_up_to-up place zero = with_place-up zero (place zero) [] (All-nil (λ segment. segment.hi ≤ 0))
+  segments_up_to-up place zero = with_location-up zero (place zero) [] (All-nil (λ segment. segment.hi ≤ 0))
   segments_up_to-up place (suc rev) =
-      with_place-up (suc rev) (place (suc rev)) (segments_up_to same place rev)
+      with_location-up (suc rev) (place (suc rev)) (segments_up_to same place rev)
       (All-weaker (λ segment. segment.hi ≤ rev) (λ segment. segment.hi ≤ suc rev) (λ (segment : Segment C) (up : segment.hi ≤ rev). omega arith) (segments_up_to same place rev) (segments_up_to-up place rev))
 
   -- so do the segments of a path

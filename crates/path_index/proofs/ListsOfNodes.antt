@@ -8,7 +8,7 @@ use Rattle.std.proofs.lemmas.List.{get_or-set_same, get_or-set_other, length-set
 use Rattle.std.proofs.lemmas.List.Edits.{length-insert, get_or-insert_at, get_or-insert_below, get_or-insert_above}
 use Rattle.std.proofs.lemmas.List.Elements.{Contains-append_left, Contains-push, Contains-push_cases}
 use Rattle.std.proofs.lemmas.Option.{same_Some, slice_get-get_or, slice_get_past}
-use Rattle.path_index.specs.Numbers.{items_of, numbers_of, AddsNumbers, AreAllRising, ArePair, HasNumber, HaveSameNumbers, IsMoved, IsPlaceOf, IsRising, IsShifted, IsWith}
+use Rattle.path_index.specs.Numbers.{items_of, numbers_of, AddsNumbers, AreAllRising, ArePair, HasNumber, HaveSameNumbers, IsMoved, IsLocationOf, IsRising, IsShifted, IsWith}
 
 -- ---- the numbers of one node
 
@@ -35,8 +35,8 @@ AreAllRising-same old new same rising node = subst IsRising (sym (same node)) (r
 
 -- ---- a number more
 
-pub IsPlaceOf-from_point : (number : ℕ) (numbers : List ℕ) (place : ℕ) → place ≤ length numbers → IsPartitionPoint (λ each. ltb each number ≡ true) (λ each. ltb each number ≡ false) numbers place → IsPlaceOf number numbers place
-IsPlaceOf-from_point number numbers place bound point = record {
+pub IsLocationOf-from_point : (number : ℕ) (numbers : List ℕ) (place : ℕ) → place ≤ length numbers → IsPartitionPoint (λ each. ltb each number ≡ true) (λ each. ltb each number ≡ false) numbers place → IsLocationOf number numbers place
+IsLocationOf-from_point number numbers place bound point = record {
   bound = bound;
   before = λ k d below. ltb-true (get_or numbers k d) number (point.0 k d (omega arith) below);
   after = λ k d from within. elim (cases_lt (get_or numbers k d) number) [
@@ -45,7 +45,7 @@ IsPlaceOf-from_point number numbers place bound point = record {
   ];
 }
 
-module _ (numbers : List ℕ) (number place : ℕ) (at : IsPlaceOf number numbers place) where
+module _ (numbers : List ℕ) (number place : ℕ) (at : IsLocationOf number numbers place) where
   abbrev after : List ℕ
   after = insert numbers place number
 

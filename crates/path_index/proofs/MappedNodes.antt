@@ -44,9 +44,9 @@ module _ (later children children' : List Child) (nodes : List ℕ) (count node 
     | inl none ↦ absurd (let root : n ≡ 0 = same_Some n 0 (sym found ∙ ap (node_of later) none) in omega arith)
     | inr (front, last, is) ↦
         let (above, front_at, below) = node_before later path front last n is found in
-        let (place, place_at, place_is) = place_from_child (position (same_child (record { parent = above; name = last })) later) n below in
+        let (place, segment_path, place_is) = place_from_child (position (same_child (record { parent = above; name = last })) later) n below in
         let here : place ≡ count = omega arith in
-        let (parent, name) = child_at later above last place child place_at in
+        let (parent, name) = child_at later above last place child segment_path in
         let same : get_or later place child ≡ child = ap (λ k. get_or later k child) here ∙ get_or_from_slice_get later count child child at in
         let parent_is : above ≡ child.parent = parent ∙ ap (λ (c : Child). c.parent) same in
         let name_is : last ≡ child.name = name ∙ ap (λ (c : Child). c.name) same in

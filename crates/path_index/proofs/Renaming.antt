@@ -1,14 +1,13 @@
--- The segments and the operative revisions in a renamed history.
-use Rattle.std.proofs.Common.{◌≡◌, ℕ, zero, suc, ◌+◌, ◌-◌, ◌==◌, nat_lt, Bool, true, false, not, ◌&&◌, ◌||◌, if◌then◌else◌, List, [], ◌∷◌, ◌++◌, Option, None, Some, option_map, map, refl, ap, ◌∙◌}
-use Rattle.std.proofs.lemmas.List.Elements.{filter_agree}
+-- The segments of a path in a renamed history, and which revisions are operative on it.
+use Rattle.std.proofs.Common.{◌≡◌, ℕ, zero, suc, ◌+◌, ◌==◌, nat_lt, Bool, true, false, not, ◌&&◌, ◌||◌, if◌then◌else◌, List, [], ◌∷◌, Option, None, Some, option_map, map, refl, ap, ◌∙◌}
 use Rattle.svn_dump.specs.History.{Record, History, rename_record, rename_history}
 use Rattle.svn_dump.specs.Location.{origin_of, location}
 use Rattle.svn_dump.specs.Tree.{Tree, is_there, tree_of}
 use Rattle.svn_dump.proofs.Renaming.Locations.{origin_of-rename, location-rename}
 use Rattle.svn_dump.proofs.Renaming.Paths.{KeepsSame, is_below-rename, same_path-rename}
 use Rattle.svn_dump.proofs.Renaming.Trees.{rename_tree, rename_origin, tree_of-rename, is_there-rename}
-use Rattle.path_index.specs.Operative.{names_below, came_from_itself, records_in, is_operative, down_from, operative_in, operative_from, operative_of, hit_at}
-use Rattle.path_index.specs.Segment.{Segment, rename_segment, same_place, with_place, segments_up_to, segments_of}
+use Rattle.path_index.specs.Operative.{names_below, came_from_itself, records_in, is_operative}
+use Rattle.path_index.specs.Segment.{Segment, rename_segment, same_location, with_location, segments_up_to, segments_of}
 
 -- the records of a revision are renamed
 pub records_in-rename : {C D M N : Type 0} (name : C → D) (text : M → N) (history : History C M) (rev : ℕ)
@@ -21,11 +20,11 @@ module _ {C D : Type 0} (name : C → D) (sameC : C → C → Bool) (sameD : D �
   -- ---- segments
 
   -- renamed places are the same exactly where the places are
-  pub same_place-rename : (a b : Option (List C)) → same_place sameD (option_map (map name) a) (option_map (map name) b) ≡ same_place sameC a b
-  same_place-rename None None = refl
-  same_place-rename None (Some q) = refl
-  same_place-rename (Some p) None = refl
-  same_place-rename (Some p) (Some q) = same_path-rename name sameC sameD alike p q
+  pub same_location-rename : (a b : Option (List C)) → same_location sameD (option_map (map name) a) (option_map (map name) b) ≡ same_location sameC a b
+  same_location-rename None None = refl
+  same_location-rename None (Some q) = refl
+  same_location-rename (Some p) None = refl
+  same_location-rename (Some p) (Some q) = same_path-rename name sameC sameD alike p q
 
   joined-rename : (b : Bool) (rev : ℕ) (place : Option (List C)) (segment : Segment C) (segments : List (Segment C))
       → (if b then record (rename_segment name segment) { hi = rev } ∷ map (rename_segment name) segments
@@ -35,29 +34,29 @@ module _ {C D : Type 0} (name : C → D) (sameC : C → C → Bool) (sameD : D �
   joined-rename false rev place segment segments = refl
 
   -- one more revision goes before or after renaming
-  pub with_place-rename : (rev : ℕ) (place : Option (List C)) (segments : List (Segment C))
-      → with_place sameD rev (option_map (map name) place) (map (rename_segment name) segments) ≡ map (rename_segment name) (with_place sameC rev place segments)
-  unfolding with_place
-  with_place-rename rev None [] = refl
-  with_place-rename rev (Some path) [] = refl
-  with_place-rename rev None (segment ∷ segments) =
+  pub with_location-rename : (rev : ℕ) (place : Option (List C)) (segments : List (Segment C))
+      → with_location sameD rev (option_map (map name) place) (map (rename_segment name) segments) ≡ map (rename_segment name) (with_location sameC rev place segments)
+  unfolding with_location
+  with_location-rename rev None [] = refl
+  with_location-rename rev (Some path) [] = refl
+  with_location-rename rev None (segment ∷ segments) =
       ap (λ b. if b then record (rename_segment name segment) { hi = rev } ∷ map (rename_segment name) segments
-      else record { lo = rev; hi = rev; path = None } ∷ rename_segment name segment ∷ map (rename_segment name) segments) (same_place-rename None segment.path)
-      ∙ joined-rename (same_place sameC None segment.path) rev None segment segments
-  with_place-rename rev (Some path) (segment ∷ segments) =
+      else record { lo = rev; hi = rev; path = None } ∷ rename_segment name segment ∷ map (rename_segment name) segments) (same_location-rename None segment.path)
+      ∙ joined-rename (same_location sameC None segment.path) rev None segment segments
+  with_location-rename rev (Some path) (segment ∷ segments) =
       ap (λ b. if b then record (rename_segment name segment) { hi = rev } ∷ map (rename_segment name) segments
-      else record { lo = rev; hi = rev; path = Some (map name path) } ∷ rename_segment name segment ∷ map (rename_segment name) segments) (same_place-rename (Some path) segment.path)
-      ∙ joined-rename (same_place sameC (Some path) segment.path) rev (Some path) segment segments
+      else record { lo = rev; hi = rev; path = Some (map name path) } ∷ rename_segment name segment ∷ map (rename_segment name) segments) (same_location-rename (Some path) segment.path)
+      ∙ joined-rename (same_location sameC (Some path) segment.path) rev (Some path) segment segments
 
   -- so do the revisions up to one
   pub segments_up_to-rename : (placeC : ℕ → Option (List C)) (placeD : ℕ → Option (List D)) → ((rev : ℕ) → placeD rev ≡ option_map (map name) (placeC rev))
       → (top : ℕ) → segments_up_to sameD placeD top ≡ map (rename_segment name) (segments_up_to sameC placeC top)
   unfolding segments_up_to
   segments_up_to-rename placeC placeD renamed zero =
-      ap (λ place. with_place sameD zero place []) (renamed zero) ∙ with_place-rename zero (placeC zero) []
+      ap (λ place. with_location sameD zero place []) (renamed zero) ∙ with_location-rename zero (placeC zero) []
   segments_up_to-rename placeC placeD renamed (suc rev) =
-      (λ i. with_place sameD (suc rev) (renamed (suc rev) i) (segments_up_to-rename placeC placeD renamed rev i))
-      ∙ with_place-rename (suc rev) (placeC (suc rev)) (segments_up_to sameC placeC rev)
+      (λ i. with_location sameD (suc rev) (renamed (suc rev) i) (segments_up_to-rename placeC placeD renamed rev i))
+      ∙ with_location-rename (suc rev) (placeC (suc rev)) (segments_up_to sameC placeC rev)
 
   -- ---- records and origins
 
@@ -99,31 +98,3 @@ module _ {C D M N : Type 0} (name : C → D) (text : M → N) (sameC : C → C �
         let came = ap (came_from_itself sameD (map name path) rev) (origin_of-rename name text sameC sameD alike trees path rev)
         ∙ came_from_itself-rename name sameC sameD alike path rev (origin_of sameC trees path rev) in
         λ i. nat_lt 0 rev && there i && (named i || not (came i))
-
-    operative_at-rename : (segment : Segment C) (path : Option (List C))
-        → operative_in sameD (rename_history name text history) (map (rename_tree name text) trees) (rename_segment name segment) (option_map (map name) path)
-        ≡ operative_in sameC history trees segment path
-    operative_at-rename segment None = refl
-    operative_at-rename segment (Some path) =
-        filter_agree (is_operative sameD (rename_history name text history) (map (rename_tree name text) trees) (map name path))
-        (is_operative sameC history trees path) (is_operative-rename path) (down_from (segment.hi + 1 - segment.lo) segment.hi)
-
-    -- the operative revisions of a renamed segment are the same
-    pub operative_in-rename : (segment : Segment C)
-        → operative_in sameD (rename_history name text history) (map (rename_tree name text) trees) (rename_segment name segment) (rename_segment name segment).path
-        ≡ operative_in sameC history trees segment segment.path
-    operative_in-rename segment = operative_at-rename segment segment.path
-
-    operative_from-rename : (place : ℕ) (segments : List (Segment C))
-        → operative_from sameD (rename_history name text history) (map (rename_tree name text) trees) place (map (rename_segment name) segments)
-        ≡ operative_from sameC history trees place segments
-    unfolding operative_from
-    operative_from-rename place [] = refl
-    operative_from-rename place (segment ∷ segments) =
-        λ i. map (hit_at place) (operative_in-rename segment i) ++ operative_from-rename (place + 1) segments i
-
-    -- and of renamed segments
-    pub operative_of-rename : (segments : List (Segment C))
-        → operative_of sameD (rename_history name text history) (map (rename_tree name text) trees) (map (rename_segment name) segments)
-        ≡ operative_of sameC history trees segments
-    operative_of-rename segments = operative_from-rename 0 segments

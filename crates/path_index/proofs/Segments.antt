@@ -7,8 +7,8 @@ use Rattle.svn_path.proofs.Belows.{IsSame, IsSame-same_name}
 use Rattle.svn_dump.specs.Location.{location}
 use Rattle.svn_dump.specs.declared.record.NodeRecord.{NodeRecord}
 use Rattle.path_index.specs.History.{trees_to}
-use Rattle.path_index.specs.Segment.{AreSegments, IsSegment, Segment, same_place, segments_of, with_place, segments_up_to}
-use Rattle.path_index.proofs.SegmentsUpTo.{place_from_same, same_place-itself}
+use Rattle.path_index.specs.Segment.{AreSegments, IsSegment, Segment, same_location, segments_of, with_location, segments_up_to}
+use Rattle.path_index.proofs.SegmentsUpTo.{place_from_same, same_location-itself}
 
 module _ {C : Type 0} (same : C → C → Bool) (is : IsSame same) where
   module _ (place : ℕ → Option (List C)) where
@@ -37,7 +37,7 @@ module _ {C : Type 0} (same : C → C → Bool) (is : IsSame same) where
 
     -- one more revision extends the newest segment or begins another
     by_test : (rev : ℕ) (o : Option (List C)) → place (suc rev) ≡ o → (segment : Segment C) (segments : List (Segment C)) → AreSegments place (rev + 1) (segment ∷ segments)
-        → (b : Bool) → same_place same o segment.path ≡ b
+        → (b : Bool) → same_location same o segment.path ≡ b
         → AreSegments place (suc rev + 1) (if b then record segment { hi = suc rev } ∷ segments else record { lo = suc rev; hi = suc rev; path = o } ∷ segment ∷ segments)
     by_test rev o at segment segments so true same_as =
         (refl, longer_segment segment rev so.1 (omega (arith, so.0)) (at ∙ place_from_same same is o segment.path same_as), so.2)
@@ -46,12 +46,12 @@ module _ {C : Type 0} (same : C → C → Bool) (is : IsSame same) where
         let here : k ≡ rev = omega arith in
         let ran : place rev ≡ segment.path = so.1.stays rev (omega (arith, so.1.ordered, so.0)) (omega (arith, so.0)) in
         let joined : o ≡ segment.path = sym stood ∙ ap place here ∙ ran in
-        true≢false (sym (ap (same_place same o) (sym joined) ∙ same_place-itself same is o) ∙ differs) in
+        true≢false (sym (ap (same_location same o) (sym joined) ∙ same_location-itself same is o) ∙ differs) in
         (refl, one_segment (suc rev) o at starts (λ none. omega arith), (omega (arith, so.0), so.1, so.2))
 
     by_place : (rev : ℕ) (o : Option (List C)) → place (suc rev) ≡ o → (segments : List (Segment C)) → AreSegments place (rev + 1) segments
-        → AreSegments place (suc rev + 1) (with_place same (suc rev) o segments)
-    unfolding with_place
+        → AreSegments place (suc rev + 1) (with_location same (suc rev) o segments)
+    unfolding with_location
     by_place rev None at [] before = λ k low. elim (cases_order k (suc rev)) [
       | inl last ↦ ap place last ∙ at
       | inr (inl under) ↦ before k (omega arith)
@@ -61,11 +61,11 @@ module _ {C : Type 0} (same : C → C → Bool) (is : IsSame same) where
         let starts : (k : ℕ) → suc rev ≡ suc k → place k ≢ Some path = λ k e stood.
         let nowhere : None ≡ Some path = sym (before k (omega arith)) ∙ stood in cc in
         (refl, one_segment (suc rev) (Some path) at starts (λ none. omega arith), (λ k low. before k (omega arith)))
-    by_place rev None at (segment ∷ segments) before = by_test rev None at segment segments before (same_place same None segment.path) refl
-    by_place rev (Some path) at (segment ∷ segments) before = by_test rev (Some path) at segment segments before (same_place same (Some path) segment.path) refl
+    by_place rev None at (segment ∷ segments) before = by_test rev None at segment segments before (same_location same None segment.path) refl
+    by_place rev (Some path) at (segment ∷ segments) before = by_test rev (Some path) at segment segments before (same_location same (Some path) segment.path) refl
 
-    first_segment : (o : Option (List C)) → place zero ≡ o → AreSegments place (zero + 1) (with_place same zero o [])
-    unfolding with_place
+    first_segment : (o : Option (List C)) → place zero ≡ o → AreSegments place (zero + 1) (with_location same zero o [])
+    unfolding with_location
     first_segment None at = λ k low. let here : k ≡ 0 = omega arith in ap place here ∙ at
     first_segment (Some path) at =
         (refl, one_segment zero (Some path) at (λ k e. absurd (omega arith)) (λ none. cc), (λ k low. absurd (omega arith)))

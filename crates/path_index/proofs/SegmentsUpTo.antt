@@ -2,7 +2,7 @@
 use Rattle.std.proofs.Common.{◌≡◌, ◌≢◌, ℕ, zero, suc, ◌<◌, ◌≤◌, Bool, true, false, if◌then◌else◌, List, [], ◌∷◌, Option, None, Some, refl, sym, ap, ◌∙◌, arith, true≢false, inl, inr}
 use Rattle.std.proofs.lemmas.Bool.{cases_lt, cond_both}
 use Rattle.svn_path.proofs.Belows.{IsSame, IsSame-same_path, same_path-is}
-use Rattle.path_index.specs.Segment.{Segment, same_place, with_place, segments_up_to}
+use Rattle.path_index.specs.Segment.{Segment, same_location, with_location, segments_up_to}
 
 abbrev segment_from : {C : Type 0} → ℕ → ℕ → Option (List C) → Segment C
 segment_from lo hi place = record { lo = lo; hi = hi; path = place }
@@ -10,20 +10,20 @@ segment_from lo hi place = record { lo = lo; hi = hi; path = place }
 module _ {C : Type 0} (same : C → C → Bool) (is : IsSame same) where
   -- ---- one more revision
 
-  pub place_from_same : (v w : Option (List C)) → same_place same v w ≡ true → v ≡ w
+  pub place_from_same : (v w : Option (List C)) → same_location same v w ≡ true → v ≡ w
   place_from_same None None e = refl
   place_from_same None (Some q) e = absurd (true≢false (sym e))
   place_from_same (Some p) None e = absurd (true≢false (sym e))
   place_from_same (Some p) (Some q) e = ap Some ((same_path-is is p q).0 e)
 
-  pub same_place-itself : (v : Option (List C)) → same_place same v v ≡ true
-  same_place-itself None = refl
-  same_place-itself (Some p) = (IsSame-same_path is).itself p
+  pub same_location-itself : (v : Option (List C)) → same_location same v v ≡ true
+  same_location-itself None = refl
+  same_location-itself (Some p) = (IsSame-same_path is).itself p
 
-  other_place : (v w : Option (List C)) → v ≢ w → same_place same v w ≡ false
-  other_place v w other = by (same_place same v w) refl
+  other_place : (v w : Option (List C)) → v ≢ w → same_location same v w ≡ false
+  other_place v w other = by (same_location same v w) refl
     where
-      by : (b : Bool) → same_place same v w ≡ b → b ≡ false
+      by : (b : Bool) → same_location same v w ≡ b → b ≡ false
       by true e = absurd (other (place_from_same v w e))
       by false e = refl
 
@@ -32,17 +32,17 @@ module _ {C : Type 0} (same : C → C → Bool) (is : IsSame same) where
   IsNewest v [] = v ≡ None
   IsNewest v (segment ∷ segments) = segment.path ≡ v
 
-  newest_in : (rev : ℕ) (v : Option (List C)) (segments : List (Segment C)) → IsNewest v (with_place same rev v segments)
-  unfolding with_place
+  newest_in : (rev : ℕ) (v : Option (List C)) (segments : List (Segment C)) → IsNewest v (with_location same rev v segments)
+  unfolding with_location
   newest_in rev None [] = refl
   newest_in rev (Some p) [] = refl
   newest_in rev v (segment ∷ segments) =
-      cond_both (same_place same v segment.path) (record segment { hi = rev } ∷ segments) (segment_from rev rev v ∷ segment ∷ segments) (IsNewest v)
+      cond_both (same_location same v segment.path) (record segment { hi = rev } ∷ segments) (segment_from rev rev v ∷ segment ∷ segments) (IsNewest v)
       (λ e. sym (place_from_same v segment.path e)) (λ e. refl)
 
   -- another place begins a segment
-  begun : (rev : ℕ) (v old : Option (List C)) (segments : List (Segment C)) → IsNewest old segments → v ≢ old → with_place same rev v segments ≡ segment_from rev rev v ∷ segments
-  unfolding with_place
+  begun : (rev : ℕ) (v old : Option (List C)) (segments : List (Segment C)) → IsNewest old segments → v ≢ old → with_location same rev v segments ≡ segment_from rev rev v ∷ segments
+  unfolding with_location
   begun rev None old [] newest other = absurd (other (sym newest))
   begun rev (Some p) old [] newest other = refl
   begun rev v old (segment ∷ segments) newest other =
@@ -50,10 +50,10 @@ module _ {C : Type 0} (same : C → C → Bool) (is : IsSame same) where
       (other_place v segment.path (λ e. other (e ∙ newest)))
 
   -- the same place continues it
-  gone_on : (lo hi rev : ℕ) (v : Option (List C)) (segments : List (Segment C)) → with_place same rev v (segment_from lo hi v ∷ segments) ≡ segment_from lo rev v ∷ segments
-  unfolding with_place
+  gone_on : (lo hi rev : ℕ) (v : Option (List C)) (segments : List (Segment C)) → with_location same rev v (segment_from lo hi v ∷ segments) ≡ segment_from lo rev v ∷ segments
+  unfolding with_location
   gone_on lo hi rev v segments =
-      ap (λ b. if b then segment_from lo rev v ∷ segments else segment_from rev rev v ∷ segment_from lo hi v ∷ segments) (same_place-itself v)
+      ap (λ b. if b then segment_from lo rev v ∷ segments else segment_from rev rev v ∷ segment_from lo hi v ∷ segments) (same_location-itself v)
 
   -- ---- some revisions
 
@@ -76,7 +76,7 @@ module _ {C : Type 0} (same : C → C → Bool) (is : IsSame same) where
           ap (segments_up_to same place) (sym here) ∙ first ∙ ap (λ n. segment_from lo n v ∷ segments) here
       | inr within ↦
           let before = goes_on lo hi v segments within (λ rev from to. all rev from (omega arith)) first in
-          (λ i. with_place same (suc hi) (all (suc hi) (omega arith) (omega arith) i) (before i))
+          (λ i. with_location same (suc hi) (all (suc hi) (omega arith) (omega arith) i) (before i))
           ∙ gone_on lo hi (suc hi) v segments
     ]
 
@@ -86,22 +86,22 @@ module _ {C : Type 0} (same : C → C → Bool) (is : IsSame same) where
     unfolding segments_up_to
     segments_up_to-next below hi v low all other =
         goes_on (suc below) hi v (segments_up_to same place below) low (λ rev from to. all rev (omega arith) to)
-        (ap (λ p. with_place same (suc below) p (segments_up_to same place below)) (all (suc below) (omega arith) low)
+        (ap (λ p. with_location same (suc below) p (segments_up_to same place below)) (all (suc below) (omega arith) low)
         ∙ begun (suc below) v (place below) (segments_up_to same place below) (newest_up_to below) other)
 
     -- no segment where the path stood nowhere
     segments_up_to-none : (rev : ℕ) → ((r : ℕ) → r ≤ rev → place r ≡ None) → segments_up_to same place rev ≡ []
-    unfolding segments_up_to with_place
-    segments_up_to-none zero none = ap (λ p. with_place same 0 p []) (none 0 (omega arith))
+    unfolding segments_up_to with_location
+    segments_up_to-none zero none = ap (λ p. with_location same 0 p []) (none 0 (omega arith))
     segments_up_to-none (suc rev) none =
-        λ i. with_place same (suc rev) (none (suc rev) (omega arith) i) (segments_up_to-none rev (λ r low. none r (omega arith)) i)
+        λ i. with_location same (suc rev) (none (suc rev) (omega arith) i) (segments_up_to-none rev (λ r low. none r (omega arith)) i)
 
     -- the oldest segment
     pub segments_up_to-first : (lo hi : ℕ) (path : List C) → lo ≤ hi → ((rev : ℕ) → lo ≤ rev → rev ≤ hi → place rev ≡ Some path) → ((rev : ℕ) → rev < lo → place rev ≡ None)
         → segments_up_to same place hi ≡ segment_from lo hi (Some path) ∷ []
-    unfolding segments_up_to with_place
+    unfolding segments_up_to with_location
     segments_up_to-first zero hi path low all none =
-        goes_on 0 hi (Some path) [] low (λ rev from to. all rev (omega arith) to) (ap (λ p. with_place same 0 p []) (all 0 (omega arith) low))
+        goes_on 0 hi (Some path) [] low (λ rev from to. all rev (omega arith) to) (ap (λ p. with_location same 0 p []) (all 0 (omega arith) low))
     segments_up_to-first (suc below) hi path low all none =
         goes_on (suc below) hi (Some path) [] low (λ rev from to. all rev (omega arith) to)
-        (λ i. with_place same (suc below) (all (suc below) (omega arith) low i) (segments_up_to-none below (λ r at. none r (omega arith)) i))
+        (λ i. with_location same (suc below) (all (suc below) (omega arith) low i) (segments_up_to-none below (λ r at. none r (omega arith)) i))

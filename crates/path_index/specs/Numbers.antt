@@ -71,7 +71,7 @@ pub record IsUpTo (last : ℕ) (numbers front : List ℕ) : Type 0 where
   pub whole : (number : ℕ) → Contains numbers number → number ≤ last → Contains front number
 
 -- the numbers before the place are below the number, and the others are not
-pub record IsPlaceOf (number : ℕ) (numbers : List ℕ) (place : ℕ) : Type 0 where
+pub record IsLocationOf (number : ℕ) (numbers : List ℕ) (place : ℕ) : Type 0 where
   pub bound : place ≤ length numbers
   pub before : (k d : ℕ) → k < place → slice_index_or numbers k d < number
   pub after : (k d : ℕ) → place ≤ k → k < length numbers → number ≤ slice_index_or numbers k d

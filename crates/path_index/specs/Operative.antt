@@ -40,17 +40,17 @@ operative_in same history trees segment None = []
 operative_in same history trees segment (Some path) =
     filter (is_operative same history trees path) (down_from (segment.hi + 1 - segment.lo) segment.hi)
 
--- an operative revision of the path of the segment at this place in their list
+-- an operative revision of the path of the segment of this index in their list
 abbrev pub hit_at : ℕ → ℕ → Hit
-hit_at place rev = record { rev = rev; segment = place }
+hit_at index rev = record { rev = rev; segment = index }
 
--- the operative revisions of segments, given the place of the first in their list
+-- the operative revisions of segments, given the index of the first in their list
 unfoldable pub operative_from : {C M : Type 0} → (C → C → Bool) → History C M → List (Tree C M) → ℕ → List (Segment C)
     → List Hit
-operative_from same history trees place [] = []
-operative_from same history trees place (segment ∷ segments) =
-    map (hit_at place) (operative_in same history trees segment segment.path)
-    ++ operative_from same history trees (place + 1) segments
+operative_from same history trees index [] = []
+operative_from same history trees index (segment ∷ segments) =
+    map (hit_at index) (operative_in same history trees segment segment.path)
+    ++ operative_from same history trees (index + 1) segments
 
 abbrev pub operative_of : {C M : Type 0} → (C → C → Bool) → History C M → List (Tree C M) → List (Segment C) → List Hit
 operative_of same history trees segments = operative_from same history trees 0 segments

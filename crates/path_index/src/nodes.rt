@@ -1,5 +1,5 @@
 //! The paths of records, each once, as a tree of components.
-ghost use Rattle.std.specs.Prelude.{◌≡◌, ◌≤◌, ◌++◌, List, [], Some, length, IfOk, OnOk};
+ghost use Rattle.std.specs.Prelude.{◌≡◌, ◌≤◌, List, [], Some, length, IfOk, OnOk};
 ghost use Rattle.path_index.specs.Nodes.{child_of, node_of, AreNodesOf, IsGrown};
 
 use indexmap::IndexSet;

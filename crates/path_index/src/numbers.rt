@@ -1,7 +1,7 @@
 //! Rising lists of numbers, one for each node.
 ghost use Rattle.std.specs.Prelude.{◌≡◌, ℕ, ◌+◌, ◌-◌, ◌^◌, ◌<◌, ◌++◌, [], All, filter, length, map, IfOk, OnOk};
 ghost use Rattle.path_index.specs.Numbers.{has_number, newer_of, numbers_of, AddsNumbers, ArePair, FitShifted};
-ghost use Rattle.path_index.specs.Numbers.{HasNumber, HaveSameNumbers, IsMoved, IsNewestBelow, IsPlaceOf, IsRising};
+ghost use Rattle.path_index.specs.Numbers.{HasNumber, HaveSameNumbers, IsMoved, IsNewestBelow, IsLocationOf, IsRising};
 ghost use Rattle.path_index.specs.Numbers.{IsShifted, IsUpTo, IsWith};
 ghost use Rattle.path_index.specs.Operative.{down_from, hit_at};
 
@@ -41,7 +41,7 @@ pub(crate) fn newer(one: Option<u32>, other: Option<u32>) -> Option<u32>
 /// The place of the first of these numbers that is not below a number.
 fn place_of(numbers: &[u32], number: u32) -> usize
     requires { IsRising numbers.now }
-    ensures { IsPlaceOf number numbers.now result }
+    ensures { IsLocationOf number numbers.now result }
 {
     match numbers.last() {
         Some(last) if *last < number => numbers.len(),

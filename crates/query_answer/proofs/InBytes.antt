@@ -4,10 +4,10 @@ use Rattle.std.proofs.lemmas.List.{length-map}
 use Rattle.std.proofs.lemmas.List.Elements.{All-cons, All-get_or, All-head, All-nil, All-tail}
 use Rattle.path_index.specs.History.{history_to, trees_to}
 use Rattle.path_index.specs.Operative.{operative_of}
-use Rattle.path_index.specs.Segment.{Segment, rename_segment, segments_up_to, same_place, segments_of, with_place}
+use Rattle.path_index.specs.Segment.{Segment, rename_segment, segments_up_to, same_location, segments_of, with_location}
 use Rattle.path_index.specs.Index.{IsThere, IsWhole}
 use Rattle.path_index.proofs.Histories.{AreRising-from_revisions, history_to-take, operative_of-take, segments_of-take, segments_of-up}
-use Rattle.path_index.proofs.Renaming.{operative_of-rename, segments_of-rename}
+use Rattle.path_index.proofs.Renaming.{segments_of-rename}
 use Rattle.svn_path.specs.Components.{IsComponent}
 use Rattle.svn_path.specs.Names.{name_of}
 use Rattle.svn_path.specs.Path.{same_name, components_of, HasUnknown, IsPathOf}
@@ -24,7 +24,7 @@ use Rattle.svn_dump.proofs.Revisions.{length-trees_of}
 use Rattle.svn_dump.proofs.Renaming.Trees.{rename_tree, trees_of-rename, tree_of-rename, is_there-rename, tree_of_unnamed}
 use Rattle.svn_dump.proofs.Renaming.Faults.{first_fault-rename}
 use Rattle.svn_dump.proofs.Renaming.Locations.{location-rename}
-use Rattle.query_answer.specs.Answer.{IsPlaceOf}
+use Rattle.query_answer.specs.Answer.{IsLocationOf}
 use Rattle.query_answer.specs.Effective.{nearest, nearest_from}
 use Rattle.query_answer.specs.Repo.{index_of, trees_in_bytes}
 use Rattle.query_answer.proofs.NearestMergeinfo.{nearest_from-rename}
@@ -38,17 +38,17 @@ module _ {C : Type 0} (same : C → C → Bool) (P : Option (List C) → Type 0)
       All-cons (λ one. P one.path) (record segment { hi = rev }) segments (All-head (λ one. P one.path) segment segments all) (All-tail (λ one. P one.path) segment segments all)
   by_test false rev place segment segments here all = All-cons (λ one. P one.path) (record { lo = rev; hi = rev; path = place }) (segment ∷ segments) here all
 
-  with_place-All : (rev : ℕ) (place : Option (List C)) (segments : List (Segment C)) → P place → All (λ one. P one.path) segments → All (λ one. P one.path) (with_place same rev place segments)
-  unfolding with_place
-  with_place-All rev None [] here all = all
-  with_place-All rev (Some path) [] here all = All-cons (λ one. P one.path) (record { lo = rev; hi = rev; path = Some path }) [] here all
-  with_place-All rev None (segment ∷ segments) here all = by_test (same_place same None segment.path) rev None segment segments here all
-  with_place-All rev (Some path) (segment ∷ segments) here all = by_test (same_place same (Some path) segment.path) rev (Some path) segment segments here all
+  with_location-All : (rev : ℕ) (place : Option (List C)) (segments : List (Segment C)) → P place → All (λ one. P one.path) segments → All (λ one. P one.path) (with_location same rev place segments)
+  unfolding with_location
+  with_location-All rev None [] here all = all
+  with_location-All rev (Some path) [] here all = All-cons (λ one. P one.path) (record { lo = rev; hi = rev; path = Some path }) [] here all
+  with_location-All rev None (segment ∷ segments) here all = by_test (same_location same None segment.path) rev None segment segments here all
+  with_location-All rev (Some path) (segment ∷ segments) here all = by_test (same_location same (Some path) segment.path) rev (Some path) segment segments here all
 
   segments_up_to-All : (place : ℕ → Option (List C)) → ((rev : ℕ) → P (place rev)) → (rev : ℕ) → All (λ one. P one.path) (segments_up_to same place rev)
   unfolding segments_up_to
-  segments_up_to-All place each zero = with_place-All 0 (place 0) [] (each 0) (All-nil (λ one. P one.path))
-  segments_up_to-All place each (suc rev) = with_place-All (suc rev) (place (suc rev)) (segments_up_to same place rev) (each (suc rev)) (segments_up_to-All place each rev)
+  segments_up_to-All place each zero = with_location-All 0 (place 0) [] (each 0) (All-nil (λ one. P one.path))
+  segments_up_to-All place each (suc rev) = with_location-All (suc rev) (place (suc rev)) (segments_up_to same place rev) (each (suc rev)) (segments_up_to-All place each rev)
 
 module _ (dump : DumpValue) (kept : IsDump dump) where
   abbrev pub name : NameId → List ℕ
@@ -125,25 +125,17 @@ module _ (dump : DumpValue) (kept : IsDump dump) where
         ≡ map (rename_segment name) (segments_of same_name (trees_to dump.records peg) path peg)
     segments-in_bytes path = segments-renamed path ∙ ap (map (rename_segment name)) (sym (segments-index path))
 
-    pub hits-in_bytes : (path : List NameId) → operative_of bytes_eq (history_in_bytes dump) (trees_in_bytes dump) (segments_of bytes_eq (trees_in_bytes dump) (components_of dump.names path) peg)
-        ≡ operative_of same_name (history_to dump.records peg) (trees_to dump.records peg) (segments_of same_name (trees_to dump.records peg) path peg)
-    hits-in_bytes path =
-        ap (operative_of bytes_eq (history_in_bytes dump) (trees_in_bytes dump)) (segments-renamed path)
-        ∙ ap (λ trees. operative_of bytes_eq (history_in_bytes dump) trees (map (rename_segment name) (segments_of same_name trees_by_number path peg))) trees-renamed
-        ∙ operative_of-rename name text same_name bytes_eq alike (history_view dump) trees_by_number (segments_of same_name trees_by_number path peg)
-        ∙ sym (hits-index path)
-
     -- and what is found is of the dump's names
-    pub location-of_names : (path : List NameId) (rev : ℕ) → IsPathOf dump.names path → IsPlaceOf dump.names (location same_name (trees_to dump.records peg) path peg rev)
+    pub location-of_names : (path : List NameId) (rev : ℕ) → IsPathOf dump.names path → IsLocationOf dump.names (location same_name (trees_to dump.records peg) path peg rev)
     location-of_names path rev of = by_place (location same_name (trees_to dump.records peg) path peg rev) refl
       where
-        by_place : (found : Option (List NameId)) → location same_name (trees_to dump.records peg) path peg rev ≡ found → IsPlaceOf dump.names found
+        by_place : (found : Option (List NameId)) → location same_name (trees_to dump.records peg) path peg rev ≡ found → IsLocationOf dump.names found
         by_place None at = tt
         by_place (Some place) at = IsOf-location dump kept path peg rev place of (sym (location-index path rev) ∙ at)
 
-    pub segments-of_names : (path : List NameId) → IsPathOf dump.names path → All (λ segment. IsPlaceOf dump.names segment.path) (segments_of same_name (trees_to dump.records peg) path peg)
+    pub segments-of_names : (path : List NameId) → IsPathOf dump.names path → All (λ segment. IsLocationOf dump.names segment.path) (segments_of same_name (trees_to dump.records peg) path peg)
     segments-of_names path of =
-        segments_up_to-All same_name (IsPlaceOf dump.names) tt (λ rev. location same_name (trees_to dump.records peg) path peg rev) (λ rev. location-of_names path rev of) peg
+        segments_up_to-All same_name (IsLocationOf dump.names) tt (λ rev. location same_name (trees_to dump.records peg) path peg rev) (λ rev. location-of_names path rev of) peg
 
   -- ---- the paths of its trees, and their mergeinfo
 

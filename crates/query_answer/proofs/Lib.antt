@@ -2,7 +2,7 @@ pub mod AnswerTexts
 mod EffectiveValues
 pub mod InBytes
 mod NearestMergeinfo
-mod OperativePlaces
+mod OperativeLocations
 mod PathSegments
 pub mod Queries
 pub mod RevisionTicks

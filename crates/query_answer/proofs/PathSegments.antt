@@ -16,8 +16,8 @@ use Rattle.svn_path.specs.declared.names.NameId.{NameId}
 use Rattle.svn_dump.specs.Dump.{DumpValue}
 use Rattle.svn_dump.proofs.Locations.{location_later}
 use Rattle.svn_dump.proofs.Origins.{OriginsFall-trees_of}
-use Rattle.query_answer.specs.Answer.{IsPlaceOf}
-use Rattle.query_answer.specs.SourceHits.{TellsPlaces}
+use Rattle.query_answer.specs.Answer.{IsLocationOf}
+use Rattle.query_answer.specs.SourceHits.{TellsLocations}
 use Rattle.query_answer.specs.Repo.{AreHitsIn, AreSegmentsIn, IsRepo}
 use Rattle.block_map.specs.Map.{MapValue}
 use Rattle.query_answer.proofs.AnswerTexts.{All-kept, IsThere-IsRepo}
@@ -29,7 +29,7 @@ module _ (dump : DumpValue) (index : IndexValue) (kept : MapValue) (ends : List 
   AreSegmentsIn-kept segments exact maximal =
       let same = subst (λ each. AreSegmentsOf each path rev segments) repo.index_is exact in
       record {
-        of_names = All-kept dump.names segments (subst (All (λ segment. IsPlaceOf dump.names segment.path)) (sym same) (segments-of_names dump repo.dump_is rev within path of));
+        of_names = All-kept dump.names segments (subst (All (λ segment. IsLocationOf dump.names segment.path)) (sym same) (segments-of_names dump repo.dump_is rev within path of));
         exact = same;
         maximal = subst (λ each. AreMaximal each path rev segments) repo.index_is maximal;
       }
@@ -46,8 +46,8 @@ AreHitsIn-kept dump index kept ends repo segments hits are = λ path rev there s
     (are path rev (IsThere-IsRepo dump index kept ends repo path rev there) same)
 
 -- the segments tell where the path was in each revision
-pub TellsPlaces-AreSegmentsIn : (dump : DumpValue) (path : List NameId) (rev : ℕ) (segments : List Segment) → AreSegmentsIn dump path rev segments → TellsPlaces (location_in dump.records path rev) segments
-TellsPlaces-AreSegmentsIn dump path rev segments so = record {
+pub TellsLocations-AreSegmentsIn : (dump : DumpValue) (path : List NameId) (rev : ℕ) (segments : List Segment) → AreSegmentsIn dump path rev segments → TellsLocations (location_in dump.records path rev) segments
+TellsLocations-AreSegmentsIn dump path rev segments so = record {
   bound = rev + 1;
   below = so.maximal;
   above = λ other up. location_later same_name (trees_to dump.records rev) (OriginsFall-trees_of same_name (history_to dump.records rev)) path rev other (omega (arith, up));

@@ -5,11 +5,11 @@ use Rattle.std.specs.Prelude.{filter_map, option_and_then}
 use Rattle.path_index.specs.History.{history_to, trees_to}
 use Rattle.path_index.specs.Index.{location_in, segment_view}
 use Rattle.path_index.specs.Operative.{operative_of}
-use Rattle.path_index.specs.Segment.{AreSegments, same_place, segments_of}
+use Rattle.path_index.specs.Segment.{AreSegments, same_location, segments_of}
 use Rattle.path_index.specs.declared.hit.Hit.{Hit}
 use Rattle.path_index.specs.declared.segment.Segment.{Segment as KeptSegment}
-use Rattle.path_index.proofs.Renaming.{same_place-rename}
-use Rattle.range_list.specs.Rangelist.{sort_of}
+use Rattle.path_index.proofs.Renaming.{same_location-rename}
+use Rattle.range_list.specs.Rangelist.{inheritability_of}
 use Rattle.range_list.specs.declared.run.Run.{Run}
 use Rattle.svn_path.specs.Components.{path_text}
 use Rattle.svn_path.specs.Path.{components_of, same_name}
@@ -20,18 +20,18 @@ use Rattle.merge_info.specs.Line.{Line}
 use Rattle.merge_info.specs.Value.{ranges_of, runs_at, some_runs}
 use Rattle.query_answer.specs.Merged.{eligible_at, found_in, merged_at, merged_revision, operative_location, value_has}
 use Rattle.query_answer.specs.SourceHits.{eligible_hit, hit_has, is_eligible_from, merged_hit, ranges_at, ranges_in}
-use Rattle.query_answer.specs.Repo.{eligible_by, found_by, merged_by, place_by, trees_in_bytes}
+use Rattle.query_answer.specs.Repo.{eligible_by, found_by, merged_by, location_by, trees_in_bytes}
 use Rattle.query_answer.proofs.InBytes.{alike, hits-index, location-in_bytes, location-index, name, segments-index, text, trees-renamed, trees_by_number}
-use Rattle.query_answer.proofs.OperativePlaces.{found-operative_of, found_in-rename, found_of_hit}
+use Rattle.query_answer.proofs.OperativeLocations.{found-operative_of, found_in-rename, found_of_hit}
 
 -- ---- by the ranges of the segments
 
 module _ (names : List (List ℕ)) (value : List Line) where
   -- the ranges of a path have a revision if the value has it
-  has-ranges_of : (place : List (List ℕ)) (rev : ℕ) → option_and_then (λ runs. sort_of runs rev) (ranges_of value (path_text place)) ≡ value_has value place rev
+  has-ranges_of : (place : List (List ℕ)) (rev : ℕ) → option_and_then (λ runs. inheritability_of runs rev) (ranges_of value (path_text place)) ≡ value_has value place rev
   has-ranges_of place rev = by_runs (runs_at value (path_text place))
     where
-      by_runs : (runs : List Run) → option_and_then (λ all. sort_of all rev) (some_runs runs) ≡ sort_of runs rev
+      by_runs : (runs : List Run) → option_and_then (λ all. inheritability_of all rev) (some_runs runs) ≡ inheritability_of runs rev
       by_runs [] = refl
       by_runs (run ∷ runs) = refl
 
@@ -42,14 +42,14 @@ module _ (names : List (List ℕ)) (value : List Line) where
   merged_in (segment ∷ all) zero rev = by_path segment.path
     where
       by_path : (path : Option (List NameId))
-          → option_map (merged_revision rev) (option_and_then (λ runs. sort_of runs rev) (option_and_then (λ each. ranges_of value (path_text (components_of names each))) path))
+          → option_map (merged_revision rev) (option_and_then (λ runs. inheritability_of runs rev) (option_and_then (λ each. ranges_of value (path_text (components_of names each))) path))
           ≡ option_and_then (λ place. merged_at (value_has value) (components_of names place) rev) path
       by_path None = refl
       by_path (Some place) = ap (option_map (merged_revision rev)) (has-ranges_of (components_of names place) rev)
   merged_in (segment ∷ all) (suc n) rev = merged_in all n rev
 
   module _ (target : ℕ → Option (List NameId)) (other : ℕ → Option (List (List ℕ)))
-      (alike_at : (place : List NameId) (rev : ℕ) → same_place bytes_eq (other rev) (Some (components_of names place)) ≡ same_place same_name (target rev) (Some place)) where
+      (alike_at : (place : List NameId) (rev : ℕ) → same_location bytes_eq (other rev) (Some (components_of names place)) ≡ same_location same_name (target rev) (Some place)) where
     eligible_in : (all : List KeptSegment) (n rev : ℕ)
         → eligible_hit (map (ranges_in names value) all) all target (record { rev = rev; segment = n })
         ≡ found_of_hit (λ place. eligible_at bytes_eq (value_has value) other (components_of names place)) (map segment_view all) (record { rev = rev; segment = n })
@@ -62,7 +62,7 @@ module _ (names : List (List ℕ)) (value : List Line) where
         by_path None at = refl
         by_path (Some place) at =
             let has : hit_has (map (ranges_in names value) (segment ∷ all)) (record { rev = rev; segment = 0 }) ≡ value_has value (components_of names place) rev =
-            ap (λ path. option_and_then (λ runs. sort_of runs rev) (option_and_then (ranges_at names value) path)) at ∙ has-ranges_of (components_of names place) rev in
+            ap (λ path. option_and_then (λ runs. inheritability_of runs rev) (option_and_then (ranges_at names value) path)) at ∙ has-ranges_of (components_of names place) rev in
             λ i. if is_none (has i) && not (sym (alike_at place rev) i) then Some rev else None
     eligible_in (segment ∷ all) (suc n) rev = eligible_in all n rev
 
@@ -96,16 +96,16 @@ module _ (dump : DumpValue) (kept : IsDump dump) (path : List NameId) (rev : ℕ
 
     -- the eligible revisions
     module _ (value : List Line) (target : List NameId) (target_rev : ℕ) (target_within : target_rev < length dump.counts) where
-      place_alike : (place : List NameId) (number : ℕ) → same_place bytes_eq (place_by dump target target_rev number) (Some (components_of dump.names place))
-          ≡ same_place same_name (location_in dump.records target target_rev number) (Some place)
-      place_alike place number =
-          ap (λ found. same_place bytes_eq found (Some (components_of dump.names place))) (location-in_bytes dump kept target_rev target_within target number)
-          ∙ same_place-rename (name dump kept) same_name bytes_eq (alike dump kept) (location_in dump.records target target_rev number) (Some place)
+      location_alike : (place : List NameId) (number : ℕ) → same_location bytes_eq (location_by dump target target_rev number) (Some (components_of dump.names place))
+          ≡ same_location same_name (location_in dump.records target target_rev number) (Some place)
+      location_alike place number =
+          ap (λ found. same_location bytes_eq found (Some (components_of dump.names place))) (location-in_bytes dump kept target_rev target_within target number)
+          ∙ same_location-rename (name dump kept) same_name bytes_eq (alike dump kept) (location_in dump.records target target_rev number) (Some place)
 
       pub eligible-eligible_by : reverse (filter_map (eligible_hit (map (ranges_in dump.names value) segments) segments (location_in dump.records target target_rev)) hits) ≡ eligible_by dump path rev target target_rev value
       eligible-eligible_by =
-          (λ i. reverse (filter_map (λ hit. eligible_in dump.names value (location_in dump.records target target_rev) (place_by dump target target_rev) place_alike segments hit.segment hit.rev i) hits))
-          ∙ found-found_by (eligible_at bytes_eq (value_has value) (place_by dump target target_rev))
+          (λ i. reverse (filter_map (λ hit. eligible_in dump.names value (location_in dump.records target target_rev) (location_by dump target target_rev) location_alike segments hit.segment hit.rev i) hits))
+          ∙ found-found_by (eligible_at bytes_eq (value_has value) (location_by dump target target_rev))
 
 -- ---- a value without paths
 

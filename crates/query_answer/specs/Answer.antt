@@ -1,8 +1,7 @@
 -- The answer to a query on a history in bytes: a status, and for `ok` the result lines.
-use Rattle.std.specs.Prelude.{◌≡◌, ℕ, ◌+◌, nat_le, List, [], ◌∷◌, ◌++◌, Option, Some, None, All, IfSome, codes, decimal, flat_map, length, map, option_and_then, option_map, slice_get, bytes_eq, if◌then◌else◌}
+use Rattle.std.specs.Prelude.{◌≡◌, ℕ, ◌+◌, nat_le, List, [], ◌∷◌, ◌++◌, Option, Some, None, All, IfSome, codes, decimal, flat_map, length, map, option_and_then, option_map, reverse, slice_get, bytes_eq, if◌then◌else◌}
 use Rattle.std.specs.Borrow.{Bor}
 use Rattle.path_index.specs.Index.{segment_view}
-use Rattle.path_index.specs.Operative.{operative_of}
 use Rattle.path_index.specs.Segment.{Segment, rename_segment, segments_of}
 use Rattle.path_index.specs.declared.hit.Hit.{Hit}
 use Rattle.path_index.specs.declared.segment.Segment.{Segment as KeptSegment}
@@ -17,7 +16,7 @@ use Rattle.svn_dump.specs.Location.{location}
 use Rattle.svn_dump.specs.Record.{HistoryOfBytes}
 use Rattle.svn_dump.specs.Tree.{Tree, tree_of, is_there}
 use Rattle.query_answer.specs.Effective.{effective_value}
-use Rattle.query_answer.specs.Merged.{eligible_revisions, merged_revisions, value_has}
+use Rattle.query_answer.specs.Merged.{eligible_revisions, found_in, merged_revisions, value_has}
 use Rattle.query_answer.specs.Query as query
 use Rattle.query_answer.specs.Query.{Peg, Query}
 use Rattle.query_answer.specs.declared.answers.Answer.{Answer as KeptAnswer}
@@ -55,27 +54,27 @@ peg_status trees peg =
     else (if is_there bytes_eq (tree_of trees peg.rev) peg.path then status.Ok else status.NoSuchPath)
 
 -- the refusal, if there is one; otherwise this answer
-abbrev pub answer_if_ok : Status → Answer → Answer
-answer_if_ok status.Ok answer = answer
-answer_if_ok status.BadQuery answer = refused_answer status.BadQuery
-answer_if_ok status.NoSuchRevision answer = refused_answer status.NoSuchRevision
-answer_if_ok status.NoSuchPath answer = refused_answer status.NoSuchPath
-answer_if_ok status.MalformedMergeinfo answer = refused_answer status.MalformedMergeinfo
+abbrev pub refuse_or : Status → Answer → Answer
+refuse_or status.Ok answer = answer
+refuse_or status.BadQuery answer = refused_answer status.BadQuery
+refuse_or status.NoSuchRevision answer = refused_answer status.NoSuchRevision
+refuse_or status.NoSuchPath answer = refused_answer status.NoSuchPath
+refuse_or status.MalformedMergeinfo answer = refused_answer status.MalformedMergeinfo
 
--- the refusal, if the peg is not there; otherwise this answer
-abbrev pub answer_at : TreesOfBytes → Peg → Answer → Answer
-answer_at trees peg answer = answer_if_ok (peg_status trees peg) answer
+-- `no-such-revision` or `no-such-path`, if the peg does not exist; otherwise this answer
+abbrev pub if_peg_exists : TreesOfBytes → Peg → Answer → Answer
+if_peg_exists trees peg answer = refuse_or (peg_status trees peg) answer
 
--- the same for a peg that may have a component `.` or `..`
-abbrev pub answer_about : TreesOfBytes → Option Peg → (Peg → Answer) → Answer
-answer_about trees None answer = refused_answer status.BadQuery
-answer_about trees (Some peg) answer = answer_at trees peg (answer peg)
+-- the answer about a peg, if there is one and it exists; none is a path with a component `.` or `..`
+abbrev pub with_peg : TreesOfBytes → Option Peg → (Peg → Answer) → Answer
+with_peg trees None answer = refused_answer status.BadQuery
+with_peg trees (Some peg) answer = if_peg_exists trees peg (answer peg)
 
 -- the same for two pegs; a refusal of the first comes before one of the second
-abbrev pub answer_about_pair : TreesOfBytes → Option Peg → Option Peg → (Peg → Peg → Answer) → Answer
-answer_about_pair trees None target answer = refused_answer status.BadQuery
-answer_about_pair trees (Some source) None answer = refused_answer status.BadQuery
-answer_about_pair trees (Some source) (Some target) answer = answer_at trees source (answer_at trees target (answer source target))
+abbrev pub with_pegs : TreesOfBytes → Option Peg → Option Peg → (Peg → Peg → Answer) → Answer
+with_pegs trees None target answer = refused_answer status.BadQuery
+with_pegs trees (Some source) None answer = refused_answer status.BadQuery
+with_pegs trees (Some source) (Some target) answer = if_peg_exists trees source (if_peg_exists trees target (answer source target))
 
 -- ---- result lines
 
@@ -87,10 +86,9 @@ location_line (Some path) = path_text path
 abbrev pub segment_line : Segment (List ℕ) → List ℕ
 segment_line segment = decimal segment.lo ++ codes "-" ++ decimal segment.hi ++ codes " " ++ location_line segment.path
 
--- an operative revision, and the path of its segment
-abbrev pub hit_line : List (Segment (List ℕ)) → Hit → List ℕ
-hit_line segments hit =
-    codes "r" ++ decimal hit.rev ++ codes " " ++ location_line (option_and_then (λ segment. segment.path) (slice_get segments hit.segment))
+-- an operative revision, and the location of the path in it
+abbrev pub log_line : List (List ℕ) → ℕ → List ℕ
+log_line here rev = codes "r" ++ decimal rev ++ codes " " ++ path_text here
 
 -- where the path was located in the revision; `-` in each one above the peg revision
 abbrev pub locate_lines : TreesOfBytes → ℕ → Peg → List (List ℕ)
@@ -99,18 +97,17 @@ locate_lines trees rev peg = location_line (location bytes_eq trees peg.path peg
 abbrev pub segments_lines : TreesOfBytes → Peg → List (List ℕ)
 segments_lines trees peg = map segment_line (segments_of bytes_eq trees peg.path peg.rev)
 
+-- the operative revisions, the newest first
 abbrev pub log_lines : HistoryOfBytes → TreesOfBytes → Peg → List (List ℕ)
-log_lines history trees peg =
-    let segments = segments_of bytes_eq trees peg.path peg.rev in
-    map (hit_line segments) (operative_of bytes_eq history trees segments)
+log_lines history trees peg = reverse (found_in bytes_eq history trees peg.path peg.rev (λ here rev. Some (log_line here rev)))
 
 -- the answer by the effective mergeinfo, unless its text is malformed
-abbrev pub answer_by_value : Option (List Line) → (List Line → Answer) → Answer
-answer_by_value None answer = refused_answer status.MalformedMergeinfo
-answer_by_value (Some value) answer = answer value
+abbrev pub with_value : Option (List Line) → (List Line → Answer) → Answer
+with_value None answer = refused_answer status.MalformedMergeinfo
+with_value (Some value) answer = answer value
 
-abbrev pub answer_by_mergeinfo : TreesOfBytes → Peg → (List Line → Answer) → Answer
-answer_by_mergeinfo trees peg answer = answer_by_value (effective_value (tree_of trees peg.rev) peg.path) answer
+abbrev pub with_effective_mergeinfo : TreesOfBytes → Peg → (List Line → Answer) → Answer
+with_effective_mergeinfo trees peg answer = with_value (effective_value (tree_of trees peg.rev) peg.path) answer
 
 abbrev pub mergeinfo_lines : List Line → List (List ℕ)
 mergeinfo_lines value = map printed_line value
@@ -135,22 +132,23 @@ eligible_lines history trees source target value =
 
 -- ---- the answer
 
--- the refusal, if the source or the target is not there or the mergeinfo of the target is malformed; otherwise this answer
-abbrev pub answer_to : TreesOfBytes → Peg → Peg → (List Line → Answer) → Answer
-answer_to trees source target answer = answer_at trees source (answer_at trees target (answer_by_mergeinfo trees target answer))
+-- first the source, then the target, and then the mergeinfo of the target; otherwise this answer
+abbrev pub if_both_exist : TreesOfBytes → Peg → Peg → (List Line → Answer) → Answer
+if_both_exist trees source target answer =
+    if_peg_exists trees source (if_peg_exists trees target (with_effective_mergeinfo trees target answer))
 
 -- the answer to a query on a history, given its trees
 unfoldable pub answer_of : HistoryOfBytes → TreesOfBytes → Query → Answer
 answer_of history trees query.bad = refused_answer status.BadQuery
-answer_of history trees (query.locate peg rev) = answer_at trees peg (ok_answer (locate_lines trees rev peg))
-answer_of history trees (query.segments peg) = answer_at trees peg (ok_answer (segments_lines trees peg))
-answer_of history trees (query.log peg) = answer_at trees peg (ok_answer (log_lines history trees peg))
+answer_of history trees (query.locate peg rev) = if_peg_exists trees peg (ok_answer (locate_lines trees rev peg))
+answer_of history trees (query.segments peg) = if_peg_exists trees peg (ok_answer (segments_lines trees peg))
+answer_of history trees (query.log peg) = if_peg_exists trees peg (ok_answer (log_lines history trees peg))
 answer_of history trees (query.mergeinfo peg) =
-    answer_at trees peg (answer_by_mergeinfo trees peg (λ value. ok_answer (mergeinfo_lines value)))
+    if_peg_exists trees peg (with_effective_mergeinfo trees peg (λ value. ok_answer (mergeinfo_lines value)))
 answer_of history trees (query.merged source target) =
-    answer_to trees source target (λ value. ok_answer (merged_lines history trees source value))
+    if_both_exist trees source target (λ value. ok_answer (merged_lines history trees source value))
 answer_of history trees (query.eligible source target) =
-    answer_to trees source target (λ value. ok_answer (eligible_lines history trees source target value))
+    if_both_exist trees source target (λ value. ok_answer (eligible_lines history trees source target value))
 
 -- `#`, the number of the query, and the status
 abbrev pub answer_head : ℕ → Status → List ℕ
@@ -163,11 +161,11 @@ answer_text number answer = answer_head number answer.status ++ flat_map line_te
 -- ---- what is kept of an answer, whose paths are numbers of a table of names
 
 -- the path, if there is one, is of the table
-abbrev pub IsPlaceOf : List (List ℕ) → Option (List NameId) → Type 0
-IsPlaceOf names place = IfSome place (IsPathOf names)
+abbrev pub IsLocationOf : List (List ℕ) → Option (List NameId) → Type 0
+IsLocationOf names path = IfSome path (IsPathOf names)
 
 abbrev pub HasPathOf : List (List ℕ) → KeptSegment → Type 0
-HasPathOf names segment = IsPlaceOf names segment.path
+HasPathOf names segment = IsLocationOf names segment.path
 
 abbrev pub segment_in_bytes : List (List ℕ) → KeptSegment → Segment (List ℕ)
 segment_in_bytes names segment = rename_segment (λ id. name_of names id.0) (segment_view segment)
@@ -175,9 +173,14 @@ segment_in_bytes names segment = rename_segment (λ id. name_of names id.0) (seg
 abbrev pub segments_in_bytes : List (List ℕ) → List KeptSegment → List (Segment (List ℕ))
 segments_in_bytes names segments = map (segment_in_bytes names) segments
 
+-- an operative revision, and the path of its segment
+abbrev pub hit_line : List (Segment (List ℕ)) → Hit → List ℕ
+hit_line segments hit =
+    codes "r" ++ decimal hit.rev ++ codes " " ++ location_line (option_and_then (λ segment. segment.path) (slice_get segments hit.segment))
+
 abbrev pub answer_in_bytes : List (List ℕ) → KeptAnswer → Answer
 answer_in_bytes names (kept.Refused status) = refused_answer status
-answer_in_bytes names (kept.Location place) = ok_answer (location_line (option_map (components_of names) place) ∷ [])
+answer_in_bytes names (kept.Location path) = ok_answer (location_line (option_map (components_of names) path) ∷ [])
 answer_in_bytes names (kept.Segments segments) = ok_answer (map segment_line (segments_in_bytes names segments.items))
 answer_in_bytes names (kept.Log segments hits) =
     ok_answer (map (hit_line (segments_in_bytes names segments.items)) hits.items)
@@ -186,15 +189,15 @@ answer_in_bytes names (kept.Merged revisions) = ok_answer (map merged_line revis
 answer_in_bytes names (kept.Eligible revisions) = ok_answer (map eligible_line revisions.items)
 
 -- the path of a reference
-abbrev pub lent_place : Option (Bor (List NameId)) → Option (List NameId)
-lent_place place = option_map (λ path. path.now) place
+abbrev pub lent_path : Option (Bor (List NameId)) → Option (List NameId)
+lent_path path = option_map (λ each. each.now) path
 
 -- what is written of a path, and the result lines of the verbs
-abbrev pub place_text : List (List ℕ) → Option (List NameId) → List ℕ
-place_text names place = location_line (option_map (components_of names) place)
+abbrev pub location_text : List (List ℕ) → Option (List NameId) → List ℕ
+location_text names path = location_line (option_map (components_of names) path)
 
 abbrev pub locate_text : List (List ℕ) → Option (List NameId) → List ℕ
-locate_text names place = line_text (place_text names place)
+locate_text names path = line_text (location_text names path)
 
 abbrev pub segment_text : List (List ℕ) → KeptSegment → List ℕ
 segment_text names segment = line_text (segment_line (segment_in_bytes names segment))
@@ -217,14 +220,14 @@ merged_text revisions = flat_map line_text (map merged_line revisions)
 abbrev pub eligible_text : List ℕ → List ℕ
 eligible_text revisions = flat_map line_text (map eligible_line revisions)
 
--- the whole text of the answer to the query of a place
+-- the whole text of the answer to the query of this place in the list
 abbrev pub text_at : List (List ℕ) → ℕ → KeptAnswer → List ℕ
 text_at names place answer = answer_text (place + 1) (answer_in_bytes names answer)
 
 -- each path of the answer is of the table
 abbrev pub HasPathsOf : List (List ℕ) → KeptAnswer → Type 0
 HasPathsOf names (kept.Refused status) = Unit {0}
-HasPathsOf names (kept.Location place) = IsPlaceOf names place
+HasPathsOf names (kept.Location path) = IsLocationOf names path
 HasPathsOf names (kept.Segments segments) = All (HasPathOf names) segments.items
 HasPathsOf names (kept.Log segments hits) = All (HasPathOf names) segments.items
 HasPathsOf names (kept.Mergeinfo value) = Unit {0}

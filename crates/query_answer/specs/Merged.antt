@@ -3,14 +3,14 @@
 use Rattle.std.specs.Prelude.{ℕ, ◌+◌, Bool, not, ◌&&◌, List, Option, None, Some, filter_map, is_none, option_and_then, option_map, if◌then◌else◌}
 use Rattle.std.specs.List.{range_with_len}
 use Rattle.svn_path.specs.Components.{path_text}
-use Rattle.range_list.specs.Rangelist.{sort_of}
+use Rattle.range_list.specs.Rangelist.{inheritability_of}
 use Rattle.merge_info.specs.Line.{Line}
 use Rattle.merge_info.specs.Value.{runs_at}
 use Rattle.svn_dump.specs.History.{History}
 use Rattle.svn_dump.specs.Location.{location}
 use Rattle.svn_dump.specs.Tree.{Tree}
 use Rattle.path_index.specs.Operative.{is_operative}
-use Rattle.path_index.specs.Segment.{same_place}
+use Rattle.path_index.specs.Segment.{same_location}
 use Rattle.query_answer.specs.declared.merged_revision.MergedRevision.{MergedRevision}
 
 -- the location of a path in a revision that is operative there
@@ -37,7 +37,7 @@ merged_at has here rev = option_map (merged_revision rev) (has here rev)
 -- the mergeinfo of the target lacks the revision for the location of the source, and the target had another location then,
 -- or none
 abbrev pub is_eligible : {C : Type 0} → (C → C → Bool) → RevisionsByPath C → (ℕ → Option (List C)) → List C → ℕ → Bool
-is_eligible same has target here rev = is_none (has here rev) && not (same_place same (target rev) (Some here))
+is_eligible same has target here rev = is_none (has here rev) && not (same_location same (target rev) (Some here))
 
 abbrev pub eligible_at : {C : Type 0} → (C → C → Bool) → RevisionsByPath C → (ℕ → Option (List C)) → List C → ℕ → Option ℕ
 eligible_at same has target here rev = if is_eligible same has target here rev then Some rev else None
@@ -54,4 +54,4 @@ eligible_revisions same history trees path peg_rev has target = found_in same hi
 
 -- whether a value has a revision for a path
 abbrev pub value_has : List Line → RevisionsByPath (List ℕ)
-value_has value path rev = sort_of (runs_at value (path_text path)) rev
+value_has value path rev = inheritability_of (runs_at value (path_text path)) rev

@@ -14,7 +14,7 @@ use Rattle.svn_dump.specs.Tree.{tree_of, trees_of}
 use Rattle.block_map.specs.Ends.{ends_of}
 use Rattle.block_map.specs.Map.{IsMapOf, MapValue}
 use Rattle.block_map.specs.declared.nearest.Nearest.{Nearest}
-use Rattle.query_answer.specs.Answer.{Answer, HasPathOf, TreesOfBytes, answer_about, answer_about_pair, answer_by_mergeinfo, answer_of, eligible_lines, locate_lines, log_lines, merged_lines, mergeinfo_lines, ok_answer, refused_answer, segments_lines}
+use Rattle.query_answer.specs.Answer.{Answer, HasPathOf, TreesOfBytes, with_peg, with_pegs, with_effective_mergeinfo, answer_of, eligible_lines, locate_lines, log_lines, merged_lines, mergeinfo_lines, ok_answer, refused_answer, segments_lines}
 use Rattle.query_answer.specs.Effective.{effective_by, effective_value}
 use Rattle.query_answer.specs.Merged.{eligible_revisions, found_in, merged_revisions, value_has}
 use Rattle.query_answer.specs.Query.{Peg, Query, peg_view}
@@ -22,7 +22,7 @@ use Rattle.merge_info.specs.Line.{Line}
 use Rattle.query_answer.specs.declared.effective_mergeinfo.Effective.{Effective}
 use Rattle.query_answer.specs.declared.effective_mergeinfo.Effective.TheVariants.{Malformed, Value}
 use Rattle.query_answer.specs.declared.merged_revision.MergedRevision.{MergedRevision}
-use Rattle.query_answer.specs.declared.pair.Pair.{Pair}
+use Rattle.query_answer.specs.declared.verbs.pair.Pair.{Pair}
 use Rattle.query_answer.specs.declared.query.Peg.{Peg as KeptPeg}
 use Rattle.query_answer.specs.declared.status.Status.{Status}
 
@@ -44,40 +44,40 @@ abbrev pub trees_in_bytes : DumpValue → TreesOfBytes
 trees_in_bytes dump = trees_of bytes_eq (history_in_bytes dump)
 
 -- the answer to a query on the history of the dump
-abbrev pub answer_by : DumpValue → Query → Answer
-answer_by dump query = answer_of (history_in_bytes dump) (trees_in_bytes dump) query
+abbrev pub answer_in : DumpValue → Query → Answer
+answer_in dump query = answer_of (history_in_bytes dump) (trees_in_bytes dump) query
 
 -- the refusal, if the peg is not there; otherwise the answer about its path and its revision
-abbrev pub answer_from : DumpValue → KeptPeg → (Peg → Answer) → Answer
-answer_from dump peg answer = answer_about (trees_in_bytes dump) (peg_view peg) answer
+abbrev pub with_peg_in : DumpValue → KeptPeg → (Peg → Answer) → Answer
+with_peg_in dump peg answer = with_peg (trees_in_bytes dump) (peg_view peg) answer
 
 abbrev pub locate_answer : DumpValue → KeptPeg → ℕ → Answer
-locate_answer dump peg rev = answer_from dump peg (λ found. ok_answer (locate_lines (trees_in_bytes dump) rev found))
+locate_answer dump peg rev = with_peg_in dump peg (λ found. ok_answer (locate_lines (trees_in_bytes dump) rev found))
 
 abbrev pub segments_answer : DumpValue → KeptPeg → Answer
-segments_answer dump peg = answer_from dump peg (λ found. ok_answer (segments_lines (trees_in_bytes dump) found))
+segments_answer dump peg = with_peg_in dump peg (λ found. ok_answer (segments_lines (trees_in_bytes dump) found))
 
 abbrev pub log_answer : DumpValue → KeptPeg → Answer
 log_answer dump peg =
-    answer_from dump peg (λ found. ok_answer (log_lines (history_in_bytes dump) (trees_in_bytes dump) found))
+    with_peg_in dump peg (λ found. ok_answer (log_lines (history_in_bytes dump) (trees_in_bytes dump) found))
 
 abbrev pub mergeinfo_answer : DumpValue → KeptPeg → Answer
 mergeinfo_answer dump peg =
-    answer_from dump peg (λ found. answer_by_mergeinfo (trees_in_bytes dump) found (λ value. ok_answer (mergeinfo_lines value)))
+    with_peg_in dump peg (λ found. with_effective_mergeinfo (trees_in_bytes dump) found (λ value. ok_answer (mergeinfo_lines value)))
 
 -- the same for a source, a target and the mergeinfo of the target
-abbrev pub answer_from_pair : DumpValue → KeptPeg → KeptPeg → (Peg → Peg → List Line → Answer) → Answer
-answer_from_pair dump source target answer =
-    answer_about_pair (trees_in_bytes dump) (peg_view source) (peg_view target)
-    (λ from to. answer_by_mergeinfo (trees_in_bytes dump) to (answer from to))
+abbrev pub with_pair_in : DumpValue → KeptPeg → KeptPeg → (Peg → Peg → List Line → Answer) → Answer
+with_pair_in dump source target answer =
+    with_pegs (trees_in_bytes dump) (peg_view source) (peg_view target)
+    (λ from to. with_effective_mergeinfo (trees_in_bytes dump) to (answer from to))
 
 abbrev pub merged_answer : DumpValue → KeptPeg → KeptPeg → Answer
 merged_answer dump source target =
-    answer_from_pair dump source target (λ from to value. ok_answer (merged_lines (history_in_bytes dump) (trees_in_bytes dump) from value))
+    with_pair_in dump source target (λ from to value. ok_answer (merged_lines (history_in_bytes dump) (trees_in_bytes dump) from value))
 
 abbrev pub eligible_answer : DumpValue → KeptPeg → KeptPeg → Answer
 eligible_answer dump source target =
-    answer_from_pair dump source target (λ from to value. ok_answer (eligible_lines (history_in_bytes dump) (trees_in_bytes dump) from to value))
+    with_pair_in dump source target (λ from to value. ok_answer (eligible_lines (history_in_bytes dump) (trees_in_bytes dump) from to value))
 
 -- ---- its paths
 
@@ -92,12 +92,12 @@ pub record IsPathFound (dump : DumpValue) (peg : KeptPeg) (path : List NameId) :
   pub within : peg.rev < length dump.counts
   pub there : IsThere dump.records path peg.rev
   pub answered : (answer : Peg → Answer) →
-      answer_from dump peg answer ≡ answer (peg_found dump peg path)
+      with_peg_in dump peg answer ≡ answer (peg_found dump peg path)
 
 -- the path of a peg; or there is none, and this is the status of each answer about the peg
 abbrev pub IsPegFound : DumpValue → KeptPeg → Result (List NameId) Status → Type 0
 IsPegFound dump peg (Ok path) = IsPathFound dump peg path
-IsPegFound dump peg (Err status) = (answer : Peg → Answer) → answer_from dump peg answer ≡ refused_answer status
+IsPegFound dump peg (Err status) = (answer : Peg → Answer) → with_peg_in dump peg answer ≡ refused_answer status
 
 -- these are the segments of a path of the dump in a revision
 pub record AreSegmentsIn (dump : DumpValue) (path : List NameId) (rev : ℕ) (segments : List KeptSegment) : Type 0 where
@@ -133,16 +133,16 @@ effective_by_number dump path found =
 pub record IsPair (dump : DumpValue) (source target : KeptPeg) (pair : Pair) : Type 0 where
   pub source_is : IsPathFound dump source pair.source
   pub target_is : IsPathFound dump target pair.target
-  pub answered : (answer : Peg → Peg → List Line → Answer) → answer_from_pair dump source target answer
+  pub answered : (answer : Peg → Peg → List Line → Answer) → with_pair_in dump source target answer
       ≡ answer (peg_found dump source pair.source) (peg_found dump target pair.target) pair.mergeinfo
 
 -- the pair of two pegs; or there is none, and this is the status of each answer about them
 abbrev pub IsPairFound : DumpValue → KeptPeg → KeptPeg → Result Pair Status → Type 0
 IsPairFound dump source target (Ok pair) = IsPair dump source target pair
 IsPairFound dump source target (Err status) =
-    (answer : Peg → Peg → List Line → Answer) → answer_from_pair dump source target answer ≡ refused_answer status
+    (answer : Peg → Peg → List Line → Answer) → with_pair_in dump source target answer ≡ refused_answer status
 
--- what is found at the places of a path of the dump in its operative revisions
+-- what is found at the locations of a path of the dump in its operative revisions
 abbrev pub found_by : {X : Type 0} → DumpValue → List NameId → ℕ → (List (List ℕ) → ℕ → Option X) → List X
 found_by dump path rev find = found_in bytes_eq (history_in_bytes dump) (trees_in_bytes dump) (components_of dump.names path) rev find
 
@@ -155,12 +155,12 @@ abbrev pub merged_in : DumpValue → KeptPeg → Pair → List MergedRevision
 merged_in dump source pair = merged_by dump pair.source source.rev pair.mergeinfo
 
 -- where a path of the dump was in another revision
-abbrev pub place_by : DumpValue → List NameId → ℕ → ℕ → Option (List (List ℕ))
-place_by dump path rev other = location bytes_eq (trees_in_bytes dump) (components_of dump.names path) rev other
+abbrev pub location_by : DumpValue → List NameId → ℕ → ℕ → Option (List (List ℕ))
+location_by dump path rev other = location bytes_eq (trees_in_bytes dump) (components_of dump.names path) rev other
 
 abbrev pub eligible_by : DumpValue → List NameId → ℕ → List NameId → ℕ → List Line → List ℕ
 eligible_by dump path rev target target_rev value =
-    eligible_revisions bytes_eq (history_in_bytes dump) (trees_in_bytes dump) (components_of dump.names path) rev (value_has value) (place_by dump target target_rev)
+    eligible_revisions bytes_eq (history_in_bytes dump) (trees_in_bytes dump) (components_of dump.names path) rev (value_has value) (location_by dump target target_rev)
 
 abbrev pub eligible_in : DumpValue → KeptPeg → KeptPeg → Pair → List ℕ
 eligible_in dump source target pair = eligible_by dump pair.source source.rev pair.target target.rev pair.mergeinfo

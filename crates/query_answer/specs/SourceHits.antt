@@ -4,7 +4,7 @@ use Rattle.std.specs.Borrow.{Bor}
 use Rattle.svn_path.specs.Components.{path_text}
 use Rattle.svn_path.specs.Path.{components_of, same_name}
 use Rattle.svn_path.specs.declared.names.NameId.{NameId}
-use Rattle.range_list.specs.Rangelist.{sort_of}
+use Rattle.range_list.specs.Rangelist.{inheritability_of}
 use Rattle.range_list.specs.declared.run.Run.{Run}
 use Rattle.merge_info.specs.Line.{Line}
 use Rattle.merge_info.specs.Value.{ranges_of}
@@ -15,9 +15,9 @@ use Rattle.path_index.specs.declared.segment.Segment.{Segment as KeptSegment}
 use Rattle.query_answer.specs.Merged.{is_eligible, merged_revision}
 use Rattle.query_answer.specs.declared.merged_revision.MergedRevision.{MergedRevision}
 
--- the path of the segment at a place of the list
-abbrev pub place_at : List KeptSegment → ℕ → Option (List NameId)
-place_at segments n = option_and_then (λ segment. segment.path) (slice_get segments n)
+-- the path of a segment of the list, if there is this segment and it is no gap
+abbrev pub segment_path : List KeptSegment → ℕ → Option (List NameId)
+segment_path segments n = option_and_then (λ segment. segment.path) (slice_get segments n)
 
 -- the revisions of a path that a value has, if it has any
 abbrev pub ranges_at : List (List ℕ) → List Line → List NameId → Option (List Run)
@@ -32,7 +32,7 @@ lent_ranges ranges = option_map (λ lent. lent.now) ranges
 
 -- whether the ranges of its segment have an operative revision, and if so whether it is inheritable
 abbrev pub hit_has : List (Option (List Run)) → Hit → Option Bool
-hit_has ranges hit = option_and_then (λ some. option_and_then (λ runs. sort_of runs hit.rev) some) (slice_get ranges hit.segment)
+hit_has ranges hit = option_and_then (λ some. option_and_then (λ runs. inheritability_of runs hit.rev) some) (slice_get ranges hit.segment)
 
 abbrev pub merged_hit : List (Option (List Run)) → Hit → Option MergedRevision
 merged_hit ranges hit = option_map (merged_revision hit.rev) (hit_has ranges hit)
@@ -44,10 +44,10 @@ merged_of_hits ranges hits = reverse (filter_map (merged_hit ranges) hits)
 -- the ranges of its segment lack it, and the target was not at the path of the segment
 abbrev pub is_eligible_from : List (Option (List Run)) → (ℕ → Option (List NameId)) → Hit → Option (List NameId) → Bool
 is_eligible_from ranges target hit None = false
-is_eligible_from ranges target hit (Some place) = is_eligible same_name (λ path rev. hit_has ranges hit) target place hit.rev
+is_eligible_from ranges target hit (Some here) = is_eligible same_name (λ path rev. hit_has ranges hit) target here hit.rev
 
 abbrev pub is_eligible_hit : List (Option (List Run)) → List KeptSegment → (ℕ → Option (List NameId)) → Hit → Bool
-is_eligible_hit ranges segments target hit = is_eligible_from ranges target hit (place_at segments hit.segment)
+is_eligible_hit ranges segments target hit = is_eligible_from ranges target hit (segment_path segments hit.segment)
 
 abbrev pub eligible_hit : List (Option (List Run)) → List KeptSegment → (ℕ → Option (List NameId)) → Hit → Option ℕ
 eligible_hit ranges segments target hit = if is_eligible_hit ranges segments target hit then Some hit.rev else None
@@ -57,7 +57,7 @@ abbrev pub eligible_of_hits : List (Option (List Run)) → List KeptSegment → 
 eligible_of_hits ranges segments target hits = reverse (filter_map (eligible_hit ranges segments target) hits)
 
 -- the segments tell where a path was in each revision: nowhere above them
-pub record TellsPlaces (place : ℕ → Option (List NameId)) (segments : List KeptSegment) : Type 0 where
+pub record TellsLocations (located : ℕ → Option (List NameId)) (segments : List KeptSegment) : Type 0 where
   pub bound : ℕ
-  pub below : AreSegments place bound (map segment_view segments)
-  pub above : (rev : ℕ) → bound ≤ rev → place rev ≡ None
+  pub below : AreSegments located bound (map segment_view segments)
+  pub above : (rev : ℕ) → bound ≤ rev → located rev ≡ None

@@ -4,18 +4,18 @@ ghost use Rattle.query_answer.specs.Answer.{HasPathsOf, answer_head, answer_in_b
 
 use crate::merged_revision::MergedRevision;
 use crate::repo::Repo;
-use crate::status::Status;
-use crate::verbs::{
+use crate::result_lines::{
     write_eligible, write_location, write_log, write_merged, write_mergeinfo, write_segments,
 };
+use crate::status::Status;
 use merge_info::MergeInfo;
 use path_index::{Hit, Segment};
 use std::alloc::AllocError;
 use svn_path::Path;
 use svn_text::push_number;
 
-/// The answer to a query, with paths by the names of a repository. Contracts see its status and its result lines, which more
-/// than one variant may have.
+/// The answer to a query, with paths by the names of a repository. Contracts see its status and its result lines, which
+/// more than one variant may have.
 #[derive(Drop)]
 pub enum Answer {
     /// There are no result lines, for this reason.
@@ -47,7 +47,7 @@ impl Answer {
         let names = repo.names();
         match self {
             Answer::Refused(_) => Ok(()),
-            Answer::Location(place) => write_location(names, place.as_ref(), out),
+            Answer::Location(path) => write_location(names, path.as_ref(), out),
             Answer::Segments(segments) => write_segments(names, segments.as_slice(), out),
             Answer::Log { segments, hits } => {
                 write_log(names, segments.as_slice(), hits.as_slice(), out)

@@ -14,8 +14,8 @@ use svn_path::{Names, Path};
 /// The bytes that are reserved for a printed path at first.
 pub(crate) const USUAL_PATH_LENGTH: usize = 64;
 
-/// The mergeinfo that holds for a path in a revision. The path is by the names of the repository. If it is not in the tree of
-/// the revision, this is what it would inherit; above the youngest revision that is nothing.
+/// The mergeinfo that holds for a path in a revision. The path is by the names of the repository. If it is not in the
+/// tree of the revision, this is what it would inherit; above the youngest revision that is nothing.
 pub fn effective(alloc: Global, repo: &Repo, path: &Path, rev: u32) -> Result<Effective, AllocError>
     requires { IsPathOf repo.now.names path.now }
     ensures { IfOk result (λ value. effective_view value ≡ effective_in repo.now path.now rev) }
@@ -38,7 +38,7 @@ fn value_for(
     requires depth { found.depth ≤ length path.now }
     ensures { IfOk result (λ value. effective_view value ≡ effective_by_number repo.now path.now found) }
 {
-    let value = match MergeInfo::parse(alloc, repo.dump.value(found.mi)) {
+    let value = match MergeInfo::parse(alloc, repo.mergeinfo_text(found.mi)) {
         Ok(value) => value,
         Err(MergeError::Malformed) => return Ok(Effective::Malformed),
         Err(MergeError::Memory) => return Err(AllocError),

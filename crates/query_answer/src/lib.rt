@@ -4,10 +4,11 @@
 mod answers;
 mod effective_mergeinfo;
 pub mod inheritance;
+mod locations;
 mod merged_revision;
-mod pair;
 mod query;
 mod repo;
+mod result_lines;
 mod status;
 mod verbs;
 

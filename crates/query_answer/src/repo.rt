@@ -1,10 +1,11 @@
 //! What queries are answered from.
-ghost use Rattle.std.specs.Prelude.{◌≡◌, ◌≤◌, length, option_map, None, IfOk, IfSome};
+ghost use Rattle.std.specs.Prelude.{◌≡◌, ◌<◌, ◌≤◌, length, option_map, slice_get, None, Some, IfOk, IfSome};
 ghost use Rattle.svn_path.specs.Path.{same_name};
 ghost use Rattle.svn_dump.specs.Dump.{IsDump, history_view};
 ghost use Rattle.svn_dump.specs.Fault.{first_fault};
 ghost use Rattle.block_map.specs.Ends.{ends_of};
 ghost use Rattle.block_map.specs.Map.{IsMapOf, nearest_view, revision_in};
+ghost use Rattle.path_index.specs.Index.{location_in};
 
 use crate::query::Peg;
 use crate::status::Status;
@@ -12,14 +13,15 @@ use block_map::{Ends, Map, Nearest};
 use path_index::{Hit, Index, Segment};
 use std::alloc::{AllocError, Global};
 use std::marker::Model;
-use svn_dump::Dump;
+use svn_dump::{Dump, ValueId};
 use svn_path::{Lookup, Names, Path, PathError};
 
-/// A dump of a lawful history, with the index and the map of its records and the ends of its revisions, seen as the dump.
+/// A dump of a lawful history, with the index and the map of its records and the ends of its revisions, seen as the
+/// dump.
 #[derive(Drop)]
 pub struct Repo {
-    pub(crate) dump: Dump,
-    pub(crate) index: Index,
+    dump: Dump,
+    index: Index,
     map: Map,
     ends: Ends,
 }
@@ -103,6 +105,27 @@ impl Repo {
             return Ok(None);
         }
         self.map.nearest(self.ends.at(rev), path)
+    }
+
+    /// A mergeinfo text of the dump.
+    pub(crate) fn mergeinfo_text(&self, id: ValueId) -> &[u8]
+        requires { id.0 < length self.now.values }
+        ensures { slice_get self.now.values id.0 ≡ Some result.now }
+    {
+        self.dump.value(id)
+    }
+
+    /// Where the path of a peg was located in a revision: nowhere in one above the peg revision.
+    pub(crate) fn locate(
+        &self,
+        peg: Peg<'_>,
+        path: &Path,
+        rev: u32,
+    ) -> Result<Option<Path>, AllocError>
+        requires { IsPathFound self.now peg path.now }
+        ensures { IfOk result (λ found. found ≡ location_in self.now.records path.now peg.entry.rev rev) }
+    {
+        self.index.locate(path, peg.rev, rev)
     }
 
     /// The location segments of the path of a peg.

@@ -1,15 +1,15 @@
-//! The verbs of queries, each in a file of its own: its answer, and its result lines.
+//! The verbs of queries, each in a file of its own.
 ghost use Rattle.std.specs.Prelude.{IfOk};
 ghost use Rattle.query_answer.specs.Answer.{IsAnswer};
 ghost use Rattle.query_answer.specs.Query.{query_view};
-ghost use Rattle.query_answer.specs.Repo.{answer_by};
+ghost use Rattle.query_answer.specs.Repo.{answer_in};
 
 mod eligible;
 mod locate;
 mod log;
 mod merged;
 mod mergeinfo;
-mod place;
+mod pair;
 mod segments;
 mod source;
 
@@ -17,17 +17,11 @@ use crate::answers::Answer;
 use crate::query::Query;
 use crate::repo::Repo;
 use crate::status::Status;
-pub(crate) use eligible::write_eligible;
-pub(crate) use locate::write_location;
-pub(crate) use log::write_log;
-pub(crate) use merged::write_merged;
-pub(crate) use mergeinfo::write_mergeinfo;
-pub(crate) use segments::write_segments;
 use std::alloc::{AllocError, Global};
 
 /// The answer to a query.
 pub fn answer(alloc: Global, repo: &Repo, query: Query<'_>) -> Result<Answer, AllocError>
-    ensures { IfOk result (IsAnswer repo.now.names (answer_by repo.now (query_view query.entry))) }
+    ensures { IfOk result (IsAnswer repo.now.names (answer_in repo.now (query_view query.entry))) }
 {
     match query {
         Query::Bad => Ok(Answer::Refused(Status::BadQuery)),

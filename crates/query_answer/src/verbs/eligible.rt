@@ -1,19 +1,18 @@
 //! `eligible`: the operative revisions of a source that are still to be merged into a target.
-ghost use Rattle.std.specs.Prelude.{◌≡◌, ◌++◌, IfOk, OnOk, map};
-ghost use Rattle.query_answer.specs.Answer.{IsAnswer, eligible_text};
-ghost use Rattle.query_answer.specs.SourceHits.{TellsPlaces, eligible_of_hits, is_eligible_hit, lent_ranges};
+ghost use Rattle.std.specs.Prelude.{◌≡◌, IfOk, map};
+ghost use Rattle.query_answer.specs.Answer.{IsAnswer};
+ghost use Rattle.query_answer.specs.SourceHits.{TellsLocations, eligible_of_hits, is_eligible_hit, lent_ranges};
 ghost use Rattle.query_answer.specs.Repo.{IsPathFound, eligible_answer, eligible_in};
 
-use super::place::{is_at, path_at, path_in};
+use super::pair::Pair;
 use super::source::{has_hit, ranges_by_segment};
 use crate::answers::Answer;
-use crate::pair::Pair;
+use crate::locations::{is_at, path_at, path_in};
 use crate::query::Peg;
 use crate::repo::Repo;
 use path_index::{Hit, Segment};
 use range_list::Ranges;
 use std::alloc::{AllocError, Global};
-use svn_text::push_number;
 
 /// The revisions of a source that are still to be merged into a target.
 pub(crate) fn answer_eligible(
@@ -64,8 +63,8 @@ fn eligible_hits(
     target: &[Segment],
     hits: &[Hit],
 ) -> Result<Vec<u32>, AllocError>
-    ensures { IfOk result (λ found. (place : _) → TellsPlaces place target.now
-        → found.items ≡ eligible_of_hits (map lent_ranges ranges.now) segments.now place hits.now) }
+    ensures { IfOk result (λ found. (located : _) → TellsLocations located target.now
+        → found.items ≡ eligible_of_hits (map lent_ranges ranges.now) segments.now located hits.now) }
 {
     let mut found = Vec::new(alloc);
     for hit in hits {
@@ -85,8 +84,8 @@ fn is_eligible(
     target: &[Segment],
     hit: Hit,
 ) -> bool
-    ensures { (place : _) → TellsPlaces place target.now
-        → result ≡ is_eligible_hit (map lent_ranges ranges.now) segments.now place hit }
+    ensures { (located : _) → TellsLocations located target.now
+        → result ≡ is_eligible_hit (map lent_ranges ranges.now) segments.now located hit }
 {
     match path_at(segments, hit.segment) {
         Some(source) => {
@@ -94,16 +93,4 @@ fn is_eligible(
         }
         None => false,
     }
-}
-
-/// Appends the result lines.
-pub(crate) fn write_eligible(revisions: &[u32], out: &mut Vec<u8>) -> Result<(), AllocError>
-    ensures { OnOk result (out.new.items ≡ out.old.items ++ eligible_text revisions.now) }
-{
-    for rev in revisions {
-        out.push(b'r')?;
-        push_number(out, u64::from(*rev))?;
-        out.push(b'\n')?;
-    }
-    Ok(())
 }

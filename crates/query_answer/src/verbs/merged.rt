@@ -1,19 +1,18 @@
 //! `merged`: the operative revisions of a source that the mergeinfo of a target has.
-ghost use Rattle.std.specs.Prelude.{◌≡◌, ◌++◌, IfOk, OnOk, map};
-ghost use Rattle.query_answer.specs.Answer.{IsAnswer, merged_text};
+ghost use Rattle.std.specs.Prelude.{◌≡◌, IfOk, map};
+ghost use Rattle.query_answer.specs.Answer.{IsAnswer};
 ghost use Rattle.query_answer.specs.SourceHits.{lent_ranges, merged_of_hits};
 ghost use Rattle.query_answer.specs.Repo.{IsPathFound, merged_answer, merged_in};
 
+use super::pair::Pair;
 use super::source::{has_hit, ranges_by_segment};
 use crate::answers::Answer;
 use crate::merged_revision::MergedRevision;
-use crate::pair::Pair;
 use crate::query::Peg;
 use crate::repo::Repo;
 use path_index::Hit;
 use range_list::Ranges;
 use std::alloc::{AllocError, Global};
-use svn_text::push_number;
 
 /// The revisions of a source that were merged into a target.
 pub(crate) fn answer_merged(
@@ -68,22 +67,4 @@ fn merged_hits(
     }
     found.reverse();
     Ok(found)
-}
-
-/// Appends the result lines.
-pub(crate) fn write_merged(
-    revisions: &[MergedRevision],
-    out: &mut Vec<u8>,
-) -> Result<(), AllocError>
-    ensures { OnOk result (out.new.items ≡ out.old.items ++ merged_text revisions.now) }
-{
-    for revision in revisions {
-        out.push(b'r')?;
-        push_number(out, u64::from(revision.rev))?;
-        if !revision.inheritable {
-            out.push(b'*')?;
-        }
-        out.push(b'\n')?;
-    }
-    Ok(())
 }

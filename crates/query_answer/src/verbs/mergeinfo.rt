@@ -1,6 +1,6 @@
 //! `mergeinfo`: the effective mergeinfo of a path.
-ghost use Rattle.std.specs.Prelude.{◌≡◌, ◌++◌, IfOk, OnOk};
-ghost use Rattle.query_answer.specs.Answer.{IsAnswer, mergeinfo_text};
+ghost use Rattle.std.specs.Prelude.{IfOk};
+ghost use Rattle.query_answer.specs.Answer.{IsAnswer};
 ghost use Rattle.query_answer.specs.Repo.{mergeinfo_answer};
 
 use crate::answers::Answer;
@@ -9,7 +9,6 @@ use crate::inheritance::effective;
 use crate::query::Peg;
 use crate::repo::Repo;
 use crate::status::Status;
-use merge_info::MergeInfo;
 use std::alloc::{AllocError, Global};
 
 /// The effective mergeinfo of a peg.
@@ -27,11 +26,4 @@ pub(crate) fn answer_mergeinfo(
             Effective::Malformed => Ok(Answer::Refused(Status::MalformedMergeinfo)),
         },
     }
-}
-
-/// Appends the result lines.
-pub(crate) fn write_mergeinfo(value: &MergeInfo, out: &mut Vec<u8>) -> Result<(), AllocError>
-    ensures { OnOk result (out.new.items ≡ out.old.items ++ mergeinfo_text value.now) }
-{
-    value.write(out)
 }

@@ -1,7 +1,7 @@
 use Rattle.std.proofs.Common.{rules, ◌≡◌, ltb, true, false}
 use Rattle.std.specs.List.Sorted.{IsPartitionPoint}
 use Rattle.std.proofs.lemmas.List.Sorted.{IsPartitionedBy-ltb, IsPartitionPoint-from_clause}
-use Rattle.path_index.proofs.ListsOfNodes.{IsPlaceOf-from_point}
+use Rattle.path_index.proofs.ListsOfNodes.{IsLocationOf-from_point}
 use Rattle.path_index.proofs.NumbersOfNodes.{IsNonDecreasing-rising}
 use Rattle.path_index.proofs.numbers.place_of.Goals as goal
 
@@ -13,4 +13,4 @@ returns-in_default c =
     let point : IsPartitionPoint (λ each. ltb each number ≡ true) (λ each. ltb each number ≡ false) all count =
     IsPartitionPoint-from_clause (λ each. ltb each number) all count c.partition_point.ensures.partitioned (IsPartitionedBy-ltb (λ x. x) all number (IsNonDecreasing-rising all c.requires))
     (λ a r f' k. search rules) in
-    IsPlaceOf-from_point number all count c.partition_point.ensures.bound point
+    IsLocationOf-from_point number all count c.partition_point.ensures.bound point

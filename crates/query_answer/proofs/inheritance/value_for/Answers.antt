@@ -1,7 +1,7 @@
 use Rattle.std.proofs.Common.{◌≡◌, [], drop, ap, sym, ◌∙◌}
 use Rattle.std.proofs.lemmas.List.Elements.{All-drop}
 use Rattle.std.proofs.lemmas.Option.{get_or_from_slice_get}
-use Rattle.svn_dump.specs.Dump.{DumpValue, text_of}
+use Rattle.svn_dump.specs.Dump.{text_of}
 use Rattle.svn_path.proofs.Tables.{components_of-components}
 use Rattle.svn_path.specs.Components.{IsComponent, path_text}
 use Rattle.svn_path.specs.Path.{components_of}
@@ -19,9 +19,8 @@ inherited-requires c =
 
 pub returns : goal.returns
 returns c =
-    let text : text_of c.args.repo.now.values c.args.found.mi.0 ≡ c.value.result.now =
-    ap (λ (dump : DumpValue). text_of dump.values c.args.found.mi.0) (sym c.repo.view_is)
-    ∙ get_or_from_slice_get c.repo.inside.dump.values c.args.found.mi.0 c.value.result.now [] c.value.ensures in
+    let text : text_of c.args.repo.now.values c.args.found.mi.0 ≡ c.mergeinfo_text.result.now =
+    get_or_from_slice_get c.args.repo.now.values c.args.found.mi.0 c.mergeinfo_text.result.now [] c.mergeinfo_text.ensures in
     let rest : c.deref.result.now ≡ path_text (drop c.args.found.depth (components_of c.args.repo.now.names c.args.path.now)) =
     c.deref.ensures.value ∙ c.in_ok-rest.ensures
     ∙ ap (λ each. path_text (drop c.args.found.depth (components_of each c.args.path.now))) c.names.ensures.value in

@@ -8,7 +8,7 @@ use Rattle.svn_path.proofs.Components.{components-parts_of}
 use Rattle.svn_dump.specs.Tree.{is_there, tree_of}
 use Rattle.block_map.specs.Map.{revision_in}
 use Rattle.query_answer.specs.Repo.{trees_in_bytes}
-use Rattle.query_answer.proofs.AnswerTexts.{IsRepo-view, answer_about-late, answer_about-absent, answer_about-present}
+use Rattle.query_answer.proofs.AnswerTexts.{IsRepo-view, with_peg-late, with_peg-absent, with_peg-present}
 use Rattle.query_answer.proofs.InBytes.{IsThere-there, length-trees_in_bytes, there-in_bytes, unknown-in_bytes}
 use Rattle.query_answer.proofs.RevisionTicks.{IsEndIn-at, end-within, is_there-entry, length-ends}
 use Rattle.query_answer.proofs.repo.Repo.find.Goals as goal
@@ -28,7 +28,7 @@ returns-then-peg-counts c =
     let dump = c.args.self.now in
     let repo = IsRepo-view c.self.inside.dump dump c.self.inside.index c.self.inside.map c.self.inside.ends c.self.view_is c.self.invariant in
     let counts = c.counts.ensures.value ∙ ap (λ each. each.counts) c.self.view_is in
-    λ answer. answer_about-late (trees_in_bytes dump) c.args.peg.path.now c.args.peg.rev answer
+    λ answer. with_peg-late (trees_in_bytes dump) c.args.peg.path.now c.args.peg.rev answer
     (λ dot. let told = c.in-Ok.ensures.dot.1 dot in cc)
     (omega (arith, c.if-peg-counts.true, ap length counts, length-trees_in_bytes dump repo.dump_is))
 
@@ -56,7 +56,7 @@ returns-in-Some c =
           let present : is_there bytes_eq (tree_of (trees_in_bytes dump) rev) (parts_of c.args.peg.path.now) ≡ true =
           rw (← known.1) (there-in_bytes dump repo.dump_is c.in-Known.path rev ∙ there) in
           rw known.1
-          (answer_about-present (trees_in_bytes dump) c.args.peg.path.now rev answer (λ dot. let told = c.in-Ok.ensures.dot.1 dot in cc)
+          (with_peg-present (trees_in_bytes dump) c.args.peg.path.now rev answer (λ dot. let told = c.in-Ok.ensures.dot.1 dot in cc)
           (omega (arith, length-trees_in_bytes dump repo.dump_is, within)) present);
     }
 
@@ -76,7 +76,7 @@ returns-in-None c =
     (c.in_ok-entry-in-Known.ensures.of_revision dump rev repo.map_is.first end)
     ∙ ap is_some c.in-None.is in
     λ answer.
-    answer_about-absent (trees_in_bytes dump) c.args.peg.path.now rev answer (λ dot. let told = c.in-Ok.ensures.dot.1 dot in cc)
+    with_peg-absent (trees_in_bytes dump) c.args.peg.path.now rev answer (λ dot. let told = c.in-Ok.ensures.dot.1 dot in cc)
     (omega (arith, length-trees_in_bytes dump repo.dump_is, within))
     (rw (← known.1) (there-in_bytes dump repo.dump_is c.in-Known.path rev ∙ absent))
 
@@ -91,7 +91,7 @@ returns-in-Unknown c =
     let unknown : HasUnknown dump.names (parts_of c.args.peg.path.now) =
     subst (λ all. HasUnknown all (parts_of c.args.peg.path.now)) names (rw c.in-Unknown.is at c.in-Ok.ensures.ok) in
     λ answer.
-    answer_about-absent (trees_in_bytes dump) c.args.peg.path.now rev answer (λ dot. let told = c.in-Ok.ensures.dot.1 dot in cc)
+    with_peg-absent (trees_in_bytes dump) c.args.peg.path.now rev answer (λ dot. let told = c.in-Ok.ensures.dot.1 dot in cc)
     (omega (arith, length-trees_in_bytes dump repo.dump_is, within))
     (unknown-in_bytes dump repo.dump_is _ rev
     (components-parts_of c.args.peg.path.now (false_from_ne_true _ (λ dot. let told = c.in-Ok.ensures.dot.1 dot in cc))) unknown)

@@ -2,7 +2,7 @@ use Rattle.std.proofs.Common.{ℕ, [], ◌++◌, Global, Some, None, Vec, append
 use Rattle.std.specs.List.{cons_option}
 use Rattle.path_index.specs.declared.hit.Hit.{Hit}
 use Rattle.query_answer.specs.SourceHits.{eligible_hit, lent_ranges}
-use Rattle.query_answer.proofs.OperativePlaces.{filter_map_more}
+use Rattle.query_answer.proofs.OperativeLocations.{filter_map_more}
 use Rattle.query_answer.proofs.verbs.eligible.eligible_hits.Goals as goal
 use Rattle.query_answer.proofs.verbs.eligible.eligible_hits.Goals.{then-is_eligible+in_ok-push, else-is_eligible}
 

@@ -1,17 +1,17 @@
 use Rattle.std.proofs.Common.{◌≡◌, Some, true, map, not, ◌&&◌, is_none, ap, sym, ◌∙◌}
-use Rattle.path_index.specs.Segment.{same_place}
+use Rattle.path_index.specs.Segment.{same_location}
 use Rattle.svn_path.specs.Path.{same_name}
-use Rattle.query_answer.specs.Answer.{lent_place}
-use Rattle.query_answer.specs.SourceHits.{is_eligible_from, lent_ranges, place_at}
+use Rattle.query_answer.specs.Answer.{lent_path}
+use Rattle.query_answer.specs.SourceHits.{is_eligible_from, lent_ranges, segment_path}
 use Rattle.query_answer.proofs.verbs.eligible.is_eligible.Goals as goal
 
 pub returns-then-is_none : goal.returns-then-is_none
 returns-then-is_none c = λ place tells.
     let hit = c.args.hit in
     let source = c.in-Some.source.now in
-    let elsewhere = not (same_place same_name (place hit.rev) (Some source)) in
-    let at : place_at c.args.segments.now hit.segment ≡ Some source = sym c.path_at.ensures ∙ ap lent_place c.in-Some.is in
+    let elsewhere = not (same_location same_name (place hit.rev) (Some source)) in
+    let at : segment_path c.args.segments.now hit.segment ≡ Some source = sym c.path_at.ensures ∙ ap lent_path c.in-Some.is in
     let none : is_none c.has_hit.result ≡ true = ap not (c.is_none.ensures ∙ ap not c.if-is_none.true) in
-    ap not (c.is_at.ensures ∙ ap (λ found. same_place same_name found (Some source)) (c.path_in.ensures place tells))
+    ap not (c.is_at.ensures ∙ ap (λ found. same_location same_name found (Some source)) (c.path_in.ensures place tells))
     ∙ sym (ap (is_eligible_from (map lent_ranges c.args.ranges.now) place hit) at
     ∙ ap (λ has. is_none has && elsewhere) (sym c.has_hit.ensures) ∙ ap (λ b. b && elsewhere) none)

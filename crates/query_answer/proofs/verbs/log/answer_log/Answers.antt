@@ -19,4 +19,4 @@ returns-in_ok-hits-in-Ok c =
     let hits = c.in_ok-hits-in-Ok.hits in
     let so = c.in_ok-segments-in-Ok.ensures in
     let hits_in : AreHitsIn c.args.repo.now segments.items hits.items = rw c.as_slice.ensures.value at c.in_ok-hits-in-Ok.ensures in
-    IsAnswer-Log c.args.repo.now c.args.peg c.in-Ok.path found segments so.exact hits (hits_in c.in-Ok.path c.args.peg.rev found.there so)
+    IsAnswer-Log c.args.repo.now c.args.peg c.in-Ok.path found segments so.exact so.maximal hits (hits_in c.in-Ok.path c.args.peg.rev found.there so)

@@ -5,7 +5,7 @@ use Rattle.path_index.specs.declared.hit.Hit.{Hit}
 use Rattle.query_answer.specs.Merged.{merged_revision}
 use Rattle.query_answer.specs.SourceHits.{lent_ranges, merged_hit}
 use Rattle.query_answer.specs.declared.merged_revision.MergedRevision.{MergedRevision}
-use Rattle.query_answer.proofs.OperativePlaces.{filter_map_more}
+use Rattle.query_answer.proofs.OperativeLocations.{filter_map_more}
 use Rattle.query_answer.proofs.verbs.merged.merged_hits.Goals as goal
 use Rattle.query_answer.proofs.verbs.merged.merged_hits.Goals.{in-Some+in_ok-push, in_default}
 

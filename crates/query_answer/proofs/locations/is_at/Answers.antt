@@ -1,11 +1,11 @@
 use Rattle.std.proofs.Common.{Some, ap, sym, ◌∙◌}
-use Rattle.path_index.specs.Segment.{same_place}
+use Rattle.path_index.specs.Segment.{same_location}
 use Rattle.svn_path.specs.Path.{same_name}
 use Rattle.svn_path.proofs.Orders.{pointwise-same_path}
-use Rattle.query_answer.specs.Answer.{lent_place}
-use Rattle.query_answer.proofs.verbs.place.is_at.Goals as goal
+use Rattle.query_answer.specs.Answer.{lent_path}
+use Rattle.query_answer.proofs.locations.is_at.Goals as goal
 
 pub returns-in-Some : goal.returns-in-Some
 returns-in-Some c =
     c.eq.ensures ∙ pointwise-same_path same_name c.in-Some.other.now c.args.path.now
-    ∙ ap (λ place. same_place same_name (lent_place place) (Some c.args.path.now)) (sym c.in-Some.is)
+    ∙ ap (λ place. same_location same_name (lent_path place) (Some c.args.path.now)) (sym c.in-Some.is)

@@ -4,8 +4,8 @@ use Rattle.std.proofs.lemmas.List.Sorted.{IsPartitionPoint-from_clause}
 use Rattle.std.specs.Option.{is_some}
 use Rattle.path_index.specs.declared.segment.Segment.{Segment}
 use Rattle.query_answer.proofs.PathSegments.{above-segments, begins_above, below-segments, path-segment}
-use Rattle.query_answer.proofs.verbs.place.path_in.Goals as goal
-use Rattle.query_answer.proofs.verbs.place.path_in.Goals.{in_default-via-in-Some+else-rev-segment, in_default-via-in_default}
+use Rattle.query_answer.proofs.locations.path_in.Goals as goal
+use Rattle.query_answer.proofs.locations.path_in.Goals.{in_default-via-in-Some+else-rev-segment, in_default-via-in_default}
 
 pub returns-in-Some : goal.returns-in-Some
 returns-in-Some c = λ place tells.

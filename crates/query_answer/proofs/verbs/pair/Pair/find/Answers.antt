@@ -1,19 +1,19 @@
 use Rattle.std.proofs.Common.{Ok, Err, Some, None, ap, sym, ◌∙◌}
 use Rattle.std.proofs.lemmas.Bool.{both_ways}
 use Rattle.query_answer.specs.Repo.{IsPegFound, effective_view}
-use Rattle.query_answer.proofs.AnswerTexts.{answer_from_pair-refused, answer_from_pair-source, answer_from_pair-value}
-use Rattle.query_answer.proofs.pair.Pair.find.Goals as goal
+use Rattle.query_answer.proofs.AnswerTexts.{with_pair_in-refused, with_pair_in-source, with_pair_in-value}
+use Rattle.query_answer.proofs.verbs.pair.Pair.find.Goals as goal
 
 pub returns-in-Err : goal.returns-in-Err
 returns-in-Err c =
     let found : IsPegFound c.args.repo.now c.args.source (Err c.in-Err.status) = rw c.in-Err.is at c.in_ok-path.ensures in
-    λ answer. answer_from_pair-source c.args.repo.now c.args.source c.args.target answer (λ dot. both_ways _ c.if-has_dot.false (c.has_dot.ensures.1 dot)) c.in-Err.status found
+    λ answer. with_pair_in-source c.args.repo.now c.args.source c.args.target answer (λ dot. both_ways _ c.if-has_dot.false (c.has_dot.ensures.1 dot)) c.in-Err.status found
 
 pub returns-in-Err-2 : goal.returns-in-Err-2
 returns-in-Err-2 c =
     let found : IsPegFound c.args.repo.now c.args.source (Ok c.in-Ok.path) = rw c.in-Ok.is at c.in_ok-path.ensures in
     let other : IsPegFound c.args.repo.now c.args.target (Err c.in-Err-2.status) = rw c.in-Err-2.is at c.in_ok-path-2.ensures in
-    λ answer. answer_from_pair-refused c.args.repo.now c.args.source c.args.target answer (λ dot. both_ways _ c.if-has_dot.false (c.has_dot.ensures.1 dot)) c.in-Ok.path found c.in-Err-2.status other
+    λ answer. with_pair_in-refused c.args.repo.now c.args.source c.args.target answer (λ dot. both_ways _ c.if-has_dot.false (c.has_dot.ensures.1 dot)) c.in-Ok.path found c.in-Err-2.status other
 
 pub returns-in-Value : goal.returns-in-Value
 returns-in-Value c =
@@ -22,7 +22,7 @@ returns-in-Value c =
     record {
       source_is = found;
       target_is = other;
-      answered = λ answer. answer_from_pair-value c.args.repo.now c.args.source c.args.target answer (λ dot. both_ways _ c.if-has_dot.false (c.has_dot.ensures.1 dot)) c.in-Ok.path found c.in-Ok-2.path other
+      answered = λ answer. with_pair_in-value c.args.repo.now c.args.source c.args.target answer (λ dot. both_ways _ c.if-has_dot.false (c.has_dot.ensures.1 dot)) c.in-Ok.path found c.in-Ok-2.path other
           (Some c.in-Value.mergeinfo) (sym (ap effective_view c.in-Value.is) ∙ c.in_ok-mergeinfo.ensures);
     }
 
@@ -30,5 +30,5 @@ pub returns-in-Malformed : goal.returns-in-Malformed
 returns-in-Malformed c =
     let found : IsPegFound c.args.repo.now c.args.source (Ok c.in-Ok.path) = rw c.in-Ok.is at c.in_ok-path.ensures in
     let other : IsPegFound c.args.repo.now c.args.target (Ok c.in-Ok-2.path) = rw c.in-Ok-2.is at c.in_ok-path-2.ensures in
-    λ answer. answer_from_pair-value c.args.repo.now c.args.source c.args.target answer (λ dot. both_ways _ c.if-has_dot.false (c.has_dot.ensures.1 dot)) c.in-Ok.path found c.in-Ok-2.path other
+    λ answer. with_pair_in-value c.args.repo.now c.args.source c.args.target answer (λ dot. both_ways _ c.if-has_dot.false (c.has_dot.ensures.1 dot)) c.in-Ok.path found c.in-Ok-2.path other
     None (sym (ap effective_view c.in-Malformed.is) ∙ c.in_ok-mergeinfo.ensures)

@@ -1,0 +1,141 @@
+//! The result lines of answers.
+ghost use Rattle.std.specs.Prelude.{◌≡◌, ◌++◌, All, OnOk};
+ghost use Rattle.query_answer.specs.Answer.{HasPathOf, IsLocationOf, eligible_text, hit_text, lent_path, locate_text, log_text, merged_text, mergeinfo_text, location_text, segment_text, segments_text};
+
+use crate::locations::path_at;
+use crate::merged_revision::MergedRevision;
+use merge_info::MergeInfo;
+use path_index::{Hit, Segment};
+use std::alloc::AllocError;
+use svn_path::{Names, Path};
+use svn_text::push_number;
+
+/// Appends the line of `locate`.
+pub(crate) fn write_location(
+    names: &Names,
+    path: Option<&Path>,
+    out: &mut Vec<u8>,
+) -> Result<(), AllocError>
+    requires { IsLocationOf names.now (lent_path path) }
+    ensures { OnOk result (out.new.items ≡ out.old.items ++ locate_text names.now (lent_path path.entry)) }
+{
+    write_path(names, path, out)?;
+    out.push(b'\n')?;
+    Ok(())
+}
+
+/// Appends the lines of `segments`.
+pub(crate) fn write_segments(
+    names: &Names,
+    segments: &[Segment],
+    out: &mut Vec<u8>,
+) -> Result<(), AllocError>
+    requires { All (HasPathOf names.now) segments.now }
+    ensures { OnOk result (out.new.items ≡ out.old.items ++ segments_text names.now segments.now) }
+{
+    for segment in segments {
+        write_segment(names, segment, out)?;
+    }
+    Ok(())
+}
+
+/// Appends the result line of a segment.
+fn write_segment(names: &Names, segment: &Segment, out: &mut Vec<u8>) -> Result<(), AllocError>
+    requires { HasPathOf names.now segment.now }
+    ensures { OnOk result (out.new.items ≡ out.old.items ++ segment_text names.now segment.now) }
+{
+    push_number(out, u64::from(segment.lo))?;
+    out.push(b'-')?;
+    push_number(out, u64::from(segment.hi))?;
+    out.push(b' ')?;
+    write_path(names, segment.path.as_ref(), out)?;
+    out.push(b'\n')?;
+    Ok(())
+}
+
+/// Appends the lines of `log`.
+pub(crate) fn write_log(
+    names: &Names,
+    segments: &[Segment],
+    hits: &[Hit],
+    out: &mut Vec<u8>,
+) -> Result<(), AllocError>
+    requires { All (HasPathOf names.now) segments.now }
+    ensures { OnOk result (out.new.items ≡ out.old.items ++ log_text names.now segments.now hits.now) }
+{
+    for hit in hits {
+        write_hit(names, segments, *hit, out)?;
+    }
+    Ok(())
+}
+
+/// Appends the result line of an operative revision.
+fn write_hit(
+    names: &Names,
+    segments: &[Segment],
+    hit: Hit,
+    out: &mut Vec<u8>,
+) -> Result<(), AllocError>
+    requires { All (HasPathOf names.now) segments.now }
+    ensures { OnOk result (out.new.items ≡ out.old.items ++ hit_text names.now segments.now hit) }
+{
+    out.push(b'r')?;
+    push_number(out, u64::from(hit.rev))?;
+    out.push(b' ')?;
+    write_path(names, path_at(segments, hit.segment), out)?;
+    out.push(b'\n')?;
+    Ok(())
+}
+
+/// Appends the lines of `mergeinfo`.
+pub(crate) fn write_mergeinfo(value: &MergeInfo, out: &mut Vec<u8>) -> Result<(), AllocError>
+    ensures { OnOk result (out.new.items ≡ out.old.items ++ mergeinfo_text value.now) }
+{
+    value.write(out)
+}
+
+/// Appends the lines of `merged`.
+pub(crate) fn write_merged(
+    revisions: &[MergedRevision],
+    out: &mut Vec<u8>,
+) -> Result<(), AllocError>
+    ensures { OnOk result (out.new.items ≡ out.old.items ++ merged_text revisions.now) }
+{
+    for revision in revisions {
+        out.push(b'r')?;
+        push_number(out, u64::from(revision.rev))?;
+        if !revision.inheritable {
+            out.push(b'*')?;
+        }
+        out.push(b'\n')?;
+    }
+    Ok(())
+}
+
+/// Appends the lines of `eligible`.
+pub(crate) fn write_eligible(revisions: &[u32], out: &mut Vec<u8>) -> Result<(), AllocError>
+    ensures { OnOk result (out.new.items ≡ out.old.items ++ eligible_text revisions.now) }
+{
+    for rev in revisions {
+        out.push(b'r')?;
+        push_number(out, u64::from(*rev))?;
+        out.push(b'\n')?;
+    }
+    Ok(())
+}
+
+/// Appends a path, or `-` where there is none.
+pub(crate) fn write_path(
+    names: &Names,
+    path: Option<&Path>,
+    out: &mut Vec<u8>,
+) -> Result<(), AllocError>
+    requires { IsLocationOf names.now (lent_path path) }
+    ensures { OnOk result (out.new.items ≡ out.old.items ++ location_text names.now (lent_path path.entry)) }
+{
+    match path {
+        Some(path) => path.write(names, out)?,
+        None => out.push(b'-')?,
+    }
+    Ok(())
+}
