@@ -12,7 +12,7 @@ use Rattle.svn_path.proofs.Belows.{IsSame-same_name, append-from_below}
 use Rattle.svn_dump.specs.History.{Record}
 use Rattle.svn_dump.specs.declared.record.ValueId.{ValueId}
 use Rattle.block_map.specs.Block.{IsBlock, IsRootAfter, IsRootAt, SameBlock, ShowsAction, ShowsTick, end_of_block, look_after_action, look_after_record, look_in_block}
-use Rattle.block_map.specs.Look.{Found, Look, found_after, known, look, look_after, look_at, looks_of, with_look}
+use Rattle.block_map.specs.Look.{Found, Look, found_after_action, resolved, look, look_after, look_at, looks_of, with_look}
 use Rattle.block_map.specs.Trie.{IsGrown, IsNodeOf, IsSound, PutsNode, TrieValue, at_path, at_root, found_below, nothing}
 use Rattle.block_map.specs.declared.block.Block.{Block}
 use Rattle.block_map.specs.declared.node.Node.{Node}
@@ -74,7 +74,7 @@ pub look_in_block-same : (old new : Block) (tick : ℕ) (path : List NameId) →
 look_in_block-same old new tick path same =
     let lo = sym same.start in
     let records = sym same.records in
-    λ i. known (lo i) (look same_name (lo i) (records i) tick path)
+    λ i. resolved (lo i) (look same_name (lo i) (records i) tick path)
 
 -- the last root is that of the newest tree
 pub IsRootAt-last : (block : Block) (id : NodeId) → IsBlock block → slice_get block.roots.items (length block.roots.items - 1) ≡ Some id → IsRootAt block (end_of_block block) id
@@ -139,15 +139,15 @@ look_after_record-cases block each path = by (below same_name each.path path) re
     end_is = ap (λ n. block.start + n) (length-looks_of same_name block.start block.records.records)
 
     by : (left : Option (List NameId)) → below same_name each.path path ≡ left
-        → known block.start (elim left [
+        → resolved block.start (elim left [
           | None ↦ look_at block.start looks (block.start + length looks) path
-          | Some rest ↦ found_after block.start looks each.action (look_at block.start looks (block.start + length looks) path) rest
+          | Some rest ↦ found_after_action block.start looks each.action (look_at block.start looks (block.start + length looks) path) rest
         ])
         ≡ found_by_cases block each path left
-    by None is = ap (λ tick. known block.start (look_at block.start looks tick path)) end_is
+    by None is = ap (λ tick. resolved block.start (look_at block.start looks tick path)) end_is
     by (Some rest) is =
-        ap (λ tick. known block.start (found_after block.start looks each.action (look_at block.start looks tick path) rest)) end_is
-        ∙ ap (λ whole. known block.start (found_after block.start looks each.action (look_at block.start looks (end_of_block block) whole) rest))
+        ap (λ tick. resolved block.start (found_after_action block.start looks each.action (look_at block.start looks tick path) rest)) end_is
+        ∙ ap (λ whole. resolved block.start (found_after_action block.start looks each.action (look_at block.start looks (end_of_block block) whole) rest))
         (append-from_below IsSame-same_name each.path path rest is)
 
 -- ---- nodes that are added
@@ -172,10 +172,10 @@ IsRootAt-pushed block new tick node id sound is shows at added = record {
   shows = λ path. found_below-grown block.trie new sound (IsGrown-pushed block.trie new node added) (at_root node) path is ∙ shows path;
 }
 
--- two facts of the value of an `Ok`
-pub IfOk-both : {T E : Type 0} (r : Result T E) (P Q : T → Type 0) (R : Type 0) → ((x : T) → P x → R → Q x) → IfOk r P → OnOk r R → IfOk r Q
-IfOk-both (Ok x) P Q R both p q = both x p q
-IfOk-both (Err e) P Q R both p q = tt
+-- what a fact of the value and another fact make of it
+pub IfOk-kept : {T E : Type 0} (r : Result T E) (P Q : T → Type 0) (R : Type 0) → ((x : T) → P x → R → Q x) → IfOk r P → OnOk r R → IfOk r Q
+IfOk-kept (Ok x) P Q R both p q = both x p q
+IfOk-kept (Err e) P Q R both p q = tt
 
 -- ---- the root of the next tree
 
@@ -220,8 +220,8 @@ module _ (old new : Block) (each : Record NameId ValueId) (id : NodeId) (block :
   one_more = ap length records ∙ length_push old.records.records each
 
   -- the look of the new block, by the records of the old one
-  look_is : (tick : ℕ) (path : List NameId) → look_in_block new tick path ≡ known old.start (look same_name old.start (old.records.records ++ each ∷ []) tick path)
-  look_is tick path = λ i. known (start i) (look same_name (start i) (records i) tick path)
+  look_is : (tick : ℕ) (path : List NameId) → look_in_block new tick path ≡ resolved old.start (look same_name old.start (old.records.records ++ each ∷ []) tick path)
+  look_is tick path = λ i. resolved (start i) (look same_name (start i) (records i) tick path)
 
   -- the roots there were
   earlier : (tick : ℕ) (root : NodeId) → tick ≤ end_of_block old → IsRootAt old tick root → IsRootAt new tick root
@@ -230,7 +230,7 @@ module _ (old new : Block) (each : Record NameId ValueId) (id : NodeId) (block :
     at = slice_get-grown old.trie.nodes new.trie.nodes root.0 grown.nodes (slice_get_within old.trie.nodes root.0 was.node was.at) ∙ was.at;
     shows = λ path.
         found_below-grown old.trie new.trie block.sound grown (at_root was.node) path (block.sound.nodes root.0 was.node was.at) ∙ was.shows path
-        ∙ sym (look_is tick path ∙ ap (known old.start) (look_push-before same_name old.start old.records.records each tick path within));
+        ∙ sym (look_is tick path ∙ ap (resolved old.start) (look_push-before same_name old.start old.records.records each tick path within));
   }
 
   -- and the last one
@@ -238,7 +238,7 @@ module _ (old new : Block) (each : Record NameId ValueId) (id : NodeId) (block :
   last_root tick last = record {
     node = after.node;
     at = after.at;
-    shows = λ path. after.shows path ∙ sym (look_is tick path ∙ ap (known old.start) (look_push-last same_name old.start old.records.records each tick path last));
+    shows = λ path. after.shows path ∙ sym (look_is tick path ∙ ap (resolved old.start) (look_push-last same_name old.start old.records.records each tick path last));
   }
 
   pub IsBlock-push : IsBlock new
@@ -272,5 +272,5 @@ IsRootAfter-kept old new each id same root leaves =
     action rest =
         let lo = sym same.start in
         let records = sym same.records in
-        λ i. known (lo i) (found_after (lo i) (looks_of same_name (lo i) (records i)) each.action
+        λ i. resolved (lo i) (found_after_action (lo i) (looks_of same_name (lo i) (records i)) each.action
         (look same_name (lo i) (records i) (lo i + length (records i)) (each.path ++ rest)) rest)

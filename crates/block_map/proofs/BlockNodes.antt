@@ -10,7 +10,7 @@ use Rattle.svn_dump.specs.declared.kind.Kind.TheVariants.{Dir}
 use Rattle.svn_dump.specs.declared.record.ValueId.{ValueId}
 use Rattle.block_map.specs.Block.{ShowsPath, look_in_block}
 use Rattle.block_map.specs.Look as found
-use Rattle.block_map.specs.Look.{Found, from_beginning, known, look, looks_of}
+use Rattle.block_map.specs.Look.{from_beginning, resolved, looks_of}
 use Rattle.block_map.specs.Node.{absent_node, no_children, node_at_place, node_of_kind}
 use Rattle.block_map.specs.Trie.{LookOfNumbers, TrieValue, as_at, found_below, inside}
 use Rattle.block_map.specs.declared.block.Block.{Block}
@@ -40,18 +40,18 @@ found_below-childless trie here region outside name path =
 -- ---- before a block
 
 -- what was found before it is not known to it
-pub look_in_block-before : (block : Block) (tick : ℕ) (path : List NameId) → tick ≤ block.start → look_in_block block tick path ≡ known block.start (found.at path tick)
+pub look_in_block-before : (block : Block) (tick : ℕ) (path : List NameId) → tick ≤ block.start → look_in_block block tick path ≡ resolved block.start (found.at path tick)
 look_in_block-before block tick path before =
-    ap (known block.start) (look_at_first block.start (looks_of same_name block.start block.records.records) tick path before)
+    ap (resolved block.start) (look_at_first block.start (looks_of same_name block.start block.records.records) tick path before)
 
 -- except before the first record of the history
 pub look_in_block-beginning : (block : Block) (tick : ℕ) (path : List NameId) → block.start ≡ 0 → tick ≤ block.start → look_in_block block tick path ≡ from_beginning (found.at path tick)
-look_in_block-beginning block tick path zero_is before = look_in_block-before block tick path before ∙ ap (λ lo. known lo (found.at path tick)) zero_is
+look_in_block-beginning block tick path zero_is before = look_in_block-before block tick path before ∙ ap (λ lo. resolved lo (found.at path tick)) zero_is
 
 pub look_in_block-later : (block : Block) (tick : ℕ) (path : List NameId) → block.start ≢ 0 → tick ≤ block.start → look_in_block block tick path ≡ found.at path tick
 look_in_block-later block tick path later before = look_in_block-before block tick path before ∙ by block.start later
   where
-    by : (lo : ℕ) → lo ≢ 0 → known {C = NameId} {M = ValueId} lo (found.at path tick) ≡ found.at path tick
+    by : (lo : ℕ) → lo ≢ 0 → resolved {C = NameId} {M = ValueId} lo (found.at path tick) ≡ found.at path tick
     by zero not_zero = absurd (not_zero refl)
     by (suc lo) not_zero = refl
 

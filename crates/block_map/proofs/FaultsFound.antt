@@ -12,7 +12,7 @@ use Rattle.svn_path.proofs.Belows.{IsSame, IsSame-same_name}
 use Rattle.svn_dump.specs.Dump.{DumpValue, IsDump, action_view, record_view, history_view}
 use Rattle.svn_dump.specs.Fault.{missing, exists, no_parent, no_source, is_dir, has_parent, fault_if_missing, fault_of_target, fault_of_source, fault_of}
 use Rattle.svn_dump.specs.History.{Action, delete, change, add, copy, History, Record}
-use Rattle.svn_dump.specs.State.{fault_after, fault_after_from, fault_within, state_from, tree_within}
+use Rattle.svn_dump.specs.State.{fault_of_next_record, fault_of_next_record_from, fault_within, state_from, tree_within}
 use Rattle.svn_dump.specs.Tree.{Tree, Entry, entry_at, is_there, tree_of, with_revision, trees_of}
 use Rattle.svn_dump.specs.declared.record.NodeRecord.{NodeRecord}
 use Rattle.svn_dump.proofs.Faults.{fault_of-delete, fault_of-change, fault_of-add, fault_of-copy}
@@ -113,28 +113,28 @@ module _ {C M : Type 0} (same : C → C → Bool) (ends : List ℕ) (standings :
 
 module _ {C M : Type 0} (same : C → C → Bool) where
   -- the fault of a record of the first revision
-  pub fault_after_from-within : (trees : List (Tree C M)) (records : List (Record C M)) (history : History C M) (count : ℕ) → count < length records
-      → fault_after_from same trees (records ∷ history) count ≡ fault_within same trees records count
-  unfolding fault_after_from
-  fault_after_from-within trees records history count within = rw (lt-ltb count (length records) within, fault_after_from)
+  pub fault_of_next_record_from-within : (trees : List (Tree C M)) (records : List (Record C M)) (history : History C M) (count : ℕ) → count < length records
+      → fault_of_next_record_from same trees (records ∷ history) count ≡ fault_within same trees records count
+  unfolding fault_of_next_record_from
+  fault_of_next_record_from-within trees records history count within = rw (lt-ltb count (length records) within, fault_of_next_record_from)
 
   -- and of a record of the others
-  pub fault_after_from-later : (trees : List (Tree C M)) (records : List (Record C M)) (history : History C M) (count : ℕ) → length records ≤ count
-      → fault_after_from same trees (records ∷ history) count
-      ≡ fault_after_from same (with_revision same trees records) history (count - length records)
-  unfolding fault_after_from
-  fault_after_from-later trees records history count past = rw (le-ltb count (length records) past, fault_after_from)
+  pub fault_of_next_record_from-later : (trees : List (Tree C M)) (records : List (Record C M)) (history : History C M) (count : ℕ) → length records ≤ count
+      → fault_of_next_record_from same trees (records ∷ history) count
+      ≡ fault_of_next_record_from same (with_revision same trees records) history (count - length records)
+  unfolding fault_of_next_record_from
+  fault_of_next_record_from-later trees records history count past = rw (le-ltb count (length records) past, fault_of_next_record_from)
 
 module _ {C M : Type 0} (same : C → C → Bool) (laws : IsSame same) (ends : List ℕ) (standings : Standings C M) (place : ℕ) where
   -- the first fault of a record is found, where what stands is that of the tree before it, and of the trees of revisions
-  pub fault_after_from-found : (trees : List (Tree C M)) (history : History C M) (count : ℕ) (each : Record C M)
+  pub fault_of_next_record_from-found : (trees : List (Tree C M)) (history : History C M) (count : ℕ) (each : Record C M)
       → AreFromBelow (length trees) history → slice_get (flat_map (λ records. records) history) count ≡ Some each
       → ((path : List C) → standings place path ≡ standing_at same (state_from same trees history count) path)
       → ((rev : ℕ) (path : List C) → rev < length trees + length history
       → standings (get_or ends rev 0) path ≡ standing_at same (tree_of (fold (with_revision same) trees history) rev) path)
-      → fault_after_from same trees history count ≡ fault_found standings place each.path (action_at_tick ends each.action)
-  fault_after_from-found trees [] count each all at stands stood = absurd (omega (arith, slice_get_within [] count each at))
-  fault_after_from-found trees (records ∷ history) count each all at stands stood =
+      → fault_of_next_record_from same trees history count ≡ fault_found standings place each.path (action_at_tick ends each.action)
+  fault_of_next_record_from-found trees [] count each all at stands stood = absurd (omega (arith, slice_get_within [] count each at))
+  fault_of_next_record_from-found trees (records ∷ history) count each all at stands stood =
       let rest = flat_map (λ records. records) history in
       let next = with_revision same trees records in
       elim (cases_lt count (length records)) [
@@ -142,7 +142,7 @@ module _ {C M : Type 0} (same : C → C → Bool) (laws : IsSame same) (ends : L
             let here = slice_get_left records rest count each before at in
             let of : IsFromBelow (length trees) each.action =
             subst (λ each. IsFromBelow (length trees) each.action) (get_or_from_slice_get records count each each here) (all.0 count each before) in
-            fault_after_from-within same trees records history count before
+            fault_of_next_record_from-within same trees records history count before
             ∙ ap (option_and_then (λ each. fault_of same trees (tree_within same trees records count) each.path each.action)) here
             ∙ fault_of-found same ends standings trees (tree_within same trees records count) place each.path each.action
             (λ path. stands path ∙ ap (λ tree. standing_at same tree path) (state_from-within same trees records history count (omega arith)))
@@ -150,8 +150,8 @@ module _ {C M : Type 0} (same : C → C → Bool) (laws : IsSame same) (ends : L
             ∙ ap (λ tree. standing_at same tree path) (tree_of-revisions same trees (records ∷ history) rev within)) of
         | inr past ↦
             let number : length trees + 1 ≡ length next = omega (arith, length-with_revision same trees records) in
-            fault_after_from-later same trees records history count past
-            ∙ fault_after_from-found next history (count - length records) each (subst (λ rev. AreFromBelow rev history) number all.1)
+            fault_of_next_record_from-later same trees records history count past
+            ∙ fault_of_next_record_from-found next history (count - length records) each (subst (λ rev. AreFromBelow rev history) number all.1)
             (slice_get_right records rest count each past at)
             (λ path. stands path ∙ standing_past same laws trees records history count path past)
             (λ rev path within. stood rev path (omega arith))
@@ -172,13 +172,13 @@ module _ (dump : DumpValue) (is : IsDump dump) where
       ∙ standing_revision same_name IsSame-same_name (history_view dump) rev path (omega arith)
 
 -- the first fault of a record of a dump, in the tree before it, is found by what stands at ticks
-pub fault_after-found : (dump : DumpValue) → IsDump dump → (place : ℕ) (each : NodeRecord) → slice_get dump.records place ≡ Some each
-    → fault_after same_name (history_view dump) place
+pub fault_of_next_record-found : (dump : DumpValue) → IsDump dump → (place : ℕ) (each : NodeRecord) → slice_get dump.records place ≡ Some each
+    → fault_of_next_record same_name (history_view dump) place
     ≡ fault_found (λ tick path. standing_at same_name (state_in dump tick) path) place each.path
     (action_at_tick (ends_of dump.counts) (action_view each.act))
-fault_after-found dump is place each at =
+fault_of_next_record-found dump is place each at =
     let records = flat_map (λ records. records) (history_view dump) in
     let view_at : slice_get records place ≡ Some (record_view each) =
     ap (λ all. slice_get all place) (all_records-history_view dump is) ∙ slice_get-map record_view dump.records place each at in
-    fault_after_from-found same_name IsSame-same_name (ends_of dump.counts) (λ tick path. standing_at same_name (state_in dump tick) path) place []
+    fault_of_next_record_from-found same_name IsSame-same_name (ends_of dump.counts) (λ tick path. standing_at same_name (state_in dump tick) path) place []
     (history_view dump) place (record_view each) (AreFromBelow-history_view dump is) view_at (λ path. refl) (stood_at_end dump is)

@@ -8,10 +8,10 @@ use Rattle.svn_path.specs.Path.{same_name}
 use Rattle.svn_dump.specs.Dump.{DumpValue, IsDump, history_view}
 use Rattle.svn_dump.specs.Fault.{Fault, fault_of, first_fault_in, first_fault_from, first_fault}
 use Rattle.svn_dump.specs.History.{History, Record}
-use Rattle.svn_dump.specs.State.{fault_after, fault_after_from}
+use Rattle.svn_dump.specs.State.{fault_of_next_record, fault_of_next_record_from}
 use Rattle.svn_dump.specs.Tree.{Tree, start_tree, tree_after_record, with_revision}
 use Rattle.svn_dump.proofs.Faults.{record_count, record_count-cons, first_fault_in-nil, first_fault_in_fine, first_fault_in_faulty, first_fault_from-nil, first_fault_from_fine, first_fault_from_faulty}
-use Rattle.block_map.proofs.FaultsFound.{fault_after_from-within, fault_after_from-later}
+use Rattle.block_map.proofs.FaultsFound.{fault_of_next_record_from-within, fault_of_next_record_from-later}
 use Rattle.block_map.proofs.Standings.{record_count-history_view}
 
 -- ---- the records of a revision
@@ -51,24 +51,24 @@ module _ {C M : Type 0} (same : C → C → Bool) (trees : List (Tree C M)) wher
 module _ {C M : Type 0} (same : C → C → Bool) where
   -- the fault of a record of the later revisions, counted among them or over all
   fault_after_from_next : (trees : List (Tree C M)) (records : List (Record C M)) (history : History C M) (count : ℕ)
-      → fault_after_from same (with_revision same trees records) history count
-      ≡ fault_after_from same trees (records ∷ history) (length records + count)
+      → fault_of_next_record_from same (with_revision same trees records) history count
+      ≡ fault_of_next_record_from same trees (records ∷ history) (length records + count)
   fault_after_from_next trees records history count =
       let counted : count ≡ length records + count - length records = omega arith in
-      ap (fault_after_from same (with_revision same trees records) history) counted
-      ∙ sym (fault_after_from-later same trees records history (length records + count) (omega arith))
+      ap (fault_of_next_record_from same (with_revision same trees records) history) counted
+      ∙ sym (fault_of_next_record_from-later same trees records history (length records + count) (omega arith))
 
   -- where no record of the first revision has a fault, it has no first one
   none_within : (trees : List (Tree C M)) (number : ℕ) (records : List (Record C M)) (history : History C M)
-      → ((count : ℕ) → count < length records → fault_after_from same trees (records ∷ history) count ≡ None)
+      → ((count : ℕ) → count < length records → fault_of_next_record_from same trees (records ∷ history) count ≡ None)
       → first_fault_in same trees number (start_tree trees) records ≡ None
   none_within trees number records history fine =
       first_fault_in-none same trees number (start_tree trees) records
-      (λ count within. sym (fault_after_from-within same trees records history count within) ∙ fine count within)
+      (λ count within. sym (fault_of_next_record_from-within same trees records history count within) ∙ fine count within)
 
   -- where no record has a fault, there is no first one
   first_fault_from-none : (trees : List (Tree C M)) (number : ℕ) (history : History C M)
-      → ((count : ℕ) → count < record_count history → fault_after_from same trees history count ≡ None)
+      → ((count : ℕ) → count < record_count history → fault_of_next_record_from same trees history count ≡ None)
       → first_fault_from same trees number history ≡ None
   first_fault_from-none trees number [] fine = first_fault_from-nil same trees number
   first_fault_from-none trees number (records ∷ history) fine =
@@ -80,37 +80,37 @@ module _ {C M : Type 0} (same : C → C → Bool) where
 
   -- a faulty record with no fault before it is the first one
   first_fault_from-least : (trees : List (Tree C M)) (number : ℕ) (history : History C M) (count : ℕ) (fault : Fault)
-      → fault_after_from same trees history count ≡ Some fault
-      → ((earlier : ℕ) → earlier < count → fault_after_from same trees history earlier ≡ None)
+      → fault_of_next_record_from same trees history count ≡ Some fault
+      → ((earlier : ℕ) → earlier < count → fault_of_next_record_from same trees history earlier ≡ None)
       → first_fault_from same trees number history ≡ Some (number + count, fault)
-  unfolding fault_after_from
+  unfolding fault_of_next_record_from
   first_fault_from-least trees number [] count fault faulty fine = absurd (none-some fault faulty)
   first_fault_from-least trees number (records ∷ history) count fault faulty fine =
       elim (cases_lt count (length records)) [
         | inl here ↦
             first_fault_from_faulty same trees number records history (number + count, fault)
             (first_fault_in-least same trees number (start_tree trees) records count fault
-            (sym (fault_after_from-within same trees records history count here) ∙ faulty)
-            (λ earlier before. sym (fault_after_from-within same trees records history earlier (omega arith)) ∙ fine earlier before))
+            (sym (fault_of_next_record_from-within same trees records history count here) ∙ faulty)
+            (λ earlier before. sym (fault_of_next_record_from-within same trees records history earlier (omega arith)) ∙ fine earlier before))
         | inr past ↦
             let counted : number + length records + (count - length records) ≡ number + count = omega arith in
             first_fault_from_fine same trees number records history
             (none_within trees number records history (λ earlier within. fine earlier (omega arith)))
             ∙ first_fault_from-least (with_revision same trees records) (number + length records) history (count - length records) fault
-            (sym (fault_after_from-later same trees records history count past) ∙ faulty)
+            (sym (fault_of_next_record_from-later same trees records history count past) ∙ faulty)
             (λ earlier before. fault_after_from_next trees records history earlier ∙ fine (length records + earlier) (omega arith))
             ∙ ap (λ n. Some (n, fault)) counted
       ]
 
   -- the first faulty record of a history is the one with a fault and none before it
-  pub first_fault-least : (history : History C M) (count : ℕ) (fault : Fault) → fault_after same history count ≡ Some fault
-      → ((earlier : ℕ) → earlier < count → fault_after same history earlier ≡ None) → first_fault same history ≡ Some (count + 1, fault)
+  pub first_fault-least : (history : History C M) (count : ℕ) (fault : Fault) → fault_of_next_record same history count ≡ Some fault
+      → ((earlier : ℕ) → earlier < count → fault_of_next_record same history earlier ≡ None) → first_fault same history ≡ Some (count + 1, fault)
   first_fault-least history count fault faulty fine =
       let counted : 1 + count ≡ count + 1 = omega arith in
       first_fault_from-least [] 1 history count fault faulty fine ∙ ap (λ n. Some (n, fault)) counted
 
   -- a history has none where none of its records has a fault
-  pub first_fault-none : (history : History C M) → ((count : ℕ) → count < record_count history → fault_after same history count ≡ None)
+  pub first_fault-none : (history : History C M) → ((count : ℕ) → count < record_count history → fault_of_next_record same history count ≡ None)
       → first_fault same history ≡ None
   first_fault-none history fine = first_fault_from-none [] 1 history fine
 
@@ -118,7 +118,7 @@ module _ {C M : Type 0} (same : C → C → Bool) where
 
 -- where no record of a dump has a fault, its history has no faulty one
 pub first_fault_of_dump-none : (dump : DumpValue) → IsDump dump
-    → ((place : ℕ) → place < length dump.records → fault_after same_name (history_view dump) place ≡ None)
+    → ((place : ℕ) → place < length dump.records → fault_of_next_record same_name (history_view dump) place ≡ None)
     → first_fault same_name (history_view dump) ≡ None
 first_fault_of_dump-none dump is fine =
     first_fault-none same_name (history_view dump) (λ place within. fine place (omega (arith, record_count-history_view dump is)))

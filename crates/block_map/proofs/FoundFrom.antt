@@ -4,7 +4,7 @@ use Rattle.std.proofs.lemmas.Bool.{cases_lt, le-leb, lt-leb}
 use Rattle.std.proofs.lemmas.List.Elements.{All-head, All-nil, All-push, All-tail}
 use Rattle.svn_path.specs.Below.{below}
 use Rattle.svn_dump.specs.History.{Setting, keep, put, Action, delete, change, add, copy, Record}
-use Rattle.block_map.specs.Look.{Found, at, at_with, is, absent, IsFoundFrom, Look, found_after, known, look, look_after, look_at, looks_of, settled, with_look}
+use Rattle.block_map.specs.Look.{Found, at, at_with, is, absent, IsFoundAtOrBefore, Look, found_after_action, resolved, look, look_after, look_at, looks_of, with_setting, with_look}
 
 -- what stood somewhere is found at a tick that is no later
 abbrev IsUpTo : {C M : Type 0} → ℕ → Found C M → Type 0
@@ -30,23 +30,23 @@ module _ {C M : Type 0} (lo : ℕ) where
     | inr before ↦ rw (le-leb tick lo before) before
   ]
 
-  up_to-settled : (setting : Setting M) (found : Found C M) → IsUpTo lo found → IsUpTo lo (settled setting found)
-  up_to-settled keep found up_to = up_to
-  up_to-settled (put mergeinfo) (at path tick) up_to = up_to
-  up_to-settled (put mergeinfo) (at_with path tick old) up_to = up_to
-  up_to-settled (put mergeinfo) (is kind old) up_to = tt
-  up_to-settled (put mergeinfo) absent up_to = tt
+  up_to-with_setting : (setting : Setting M) (found : Found C M) → IsUpTo lo found → IsUpTo lo (with_setting setting found)
+  up_to-with_setting keep found up_to = up_to
+  up_to-with_setting (put mergeinfo) (at path tick) up_to = up_to
+  up_to-with_setting (put mergeinfo) (at_with path tick old) up_to = up_to
+  up_to-with_setting (put mergeinfo) (is kind old) up_to = tt
+  up_to-with_setting (put mergeinfo) absent up_to = tt
 
-  up_to-found_after : (looks : List (Look C M)) (action : Action C M) (old : Found C M) (rest : List C) → All (AreUpTo lo) looks → IsUpTo lo old
-      → IsUpTo lo (found_after lo looks action old rest)
-  up_to-found_after looks delete old rest all up_to = tt
-  up_to-found_after looks (change setting) old [] all up_to = up_to-settled setting old up_to
-  up_to-found_after looks (change setting) old (c ∷ rest) all up_to = up_to
-  up_to-found_after looks (add replace kind setting) old [] all up_to = tt
-  up_to-found_after looks (add replace kind setting) old (c ∷ rest) all up_to = tt
-  up_to-found_after looks (copy replace from tick setting) old [] all up_to =
-      up_to-settled setting (look_at lo looks tick from) (up_to-look_at looks tick from all)
-  up_to-found_after looks (copy replace from tick setting) old (c ∷ rest) all up_to = up_to-look_at looks tick (from ++ c ∷ rest) all
+  up_to-found_after_action : (looks : List (Look C M)) (action : Action C M) (old : Found C M) (rest : List C) → All (AreUpTo lo) looks → IsUpTo lo old
+      → IsUpTo lo (found_after_action lo looks action old rest)
+  up_to-found_after_action looks delete old rest all up_to = tt
+  up_to-found_after_action looks (change setting) old [] all up_to = up_to-with_setting setting old up_to
+  up_to-found_after_action looks (change setting) old (c ∷ rest) all up_to = up_to
+  up_to-found_after_action looks (add replace kind setting) old [] all up_to = tt
+  up_to-found_after_action looks (add replace kind setting) old (c ∷ rest) all up_to = tt
+  up_to-found_after_action looks (copy replace from tick setting) old [] all up_to =
+      up_to-with_setting setting (look_at lo looks tick from) (up_to-look_at looks tick from all)
+  up_to-found_after_action looks (copy replace from tick setting) old (c ∷ rest) all up_to = up_to-look_at looks tick (from ++ c ∷ rest) all
 
   module _ (same : C → C → Bool) where
     up_to-look_after : (looks : List (Look C M)) (each : Record C M) → All (AreUpTo lo) looks → AreUpTo lo (look_after same lo looks each)
@@ -58,9 +58,9 @@ module _ {C M : Type 0} (lo : ℕ) where
         before : IsUpTo lo old
         before = up_to-look_at looks (lo + length looks) path all
 
-        by : (left : Option (List C)) → IsUpTo lo (elim left [ None ↦ old | Some rest ↦ found_after lo looks each.action old rest ])
+        by : (left : Option (List C)) → IsUpTo lo (elim left [ None ↦ old | Some rest ↦ found_after_action lo looks each.action old rest ])
         by None = before
-        by (Some rest) = up_to-found_after looks each.action old rest all before
+        by (Some rest) = up_to-found_after_action looks each.action old rest all before
 
     up_to-fold : (looks : List (Look C M)) (records : List (Record C M)) → All (AreUpTo lo) looks → All (AreUpTo lo) (fold (with_look same lo) looks records)
     up_to-fold looks [] all = all
@@ -73,18 +73,18 @@ module _ {C M : Type 0} (lo : ℕ) where
     up_to-look records tick path = up_to-look_at (looks_of same lo records) tick path (up_to-fold [] records (All-nil (AreUpTo lo)))
 
 -- from the beginning of a history everything is known
-from_known : {C M : Type 0} (lo : ℕ) (found : Found C M) → IsUpTo lo found → IsFoundFrom lo (known lo found)
-from_known zero (at [] tick) up_to = tt
-from_known zero (at (c ∷ path) tick) up_to = tt
-from_known zero (at_with [] tick mergeinfo) up_to = tt
-from_known zero (at_with (c ∷ path) tick mergeinfo) up_to = tt
-from_known zero (is kind mergeinfo) up_to = tt
-from_known zero absent up_to = tt
-from_known (suc lo) (at path tick) up_to = (omega arith, up_to)
-from_known (suc lo) (at_with path tick mergeinfo) up_to = (omega arith, up_to)
-from_known (suc lo) (is kind mergeinfo) up_to = tt
-from_known (suc lo) absent up_to = tt
+from_resolved : {C M : Type 0} (lo : ℕ) (found : Found C M) → IsUpTo lo found → IsFoundAtOrBefore lo (resolved lo found)
+from_resolved zero (at [] tick) up_to = tt
+from_resolved zero (at (c ∷ path) tick) up_to = tt
+from_resolved zero (at_with [] tick mergeinfo) up_to = tt
+from_resolved zero (at_with (c ∷ path) tick mergeinfo) up_to = tt
+from_resolved zero (is kind mergeinfo) up_to = tt
+from_resolved zero absent up_to = tt
+from_resolved (suc lo) (at path tick) up_to = (omega arith, up_to)
+from_resolved (suc lo) (at_with path tick mergeinfo) up_to = (omega arith, up_to)
+from_resolved (suc lo) (is kind mergeinfo) up_to = tt
+from_resolved (suc lo) absent up_to = tt
 
-pub IsFoundFrom-look : {C M : Type 0} (same : C → C → Bool) (lo : ℕ) (records : List (Record C M)) (tick : ℕ) (path : List C)
-    → IsFoundFrom lo (known lo (look same lo records tick path))
-IsFoundFrom-look same lo records tick path = from_known lo (look same lo records tick path) (up_to-look lo same records tick path)
+pub IsFoundAtOrBefore-look : {C M : Type 0} (same : C → C → Bool) (lo : ℕ) (records : List (Record C M)) (tick : ℕ) (path : List C)
+    → IsFoundAtOrBefore lo (resolved lo (look same lo records tick path))
+IsFoundAtOrBefore-look same lo records tick path = from_resolved lo (look same lo records tick path) (up_to-look lo same records tick path)

@@ -8,15 +8,15 @@ use Rattle.svn_dump.specs.History.{Record}
 use Rattle.svn_dump.specs.declared.record.NodeRecord.{NodeRecord}
 use Rattle.svn_dump.specs.declared.record.ValueId.{ValueId}
 use Rattle.block_map.specs.Ends.{ends_of, record_at_tick}
-use Rattle.block_map.specs.Look.{known, look}
-use Rattle.block_map.specs.Map.{IsEndIn, IsMapOf, IsMapOfFirst, MapValue, hi_of, look_in, records_at_ticks, revision_in}
+use Rattle.block_map.specs.Look.{resolved, look}
+use Rattle.block_map.specs.Map.{IsEndIn, IsMapOf, IsMapOfFirstRecords, MapValue, hi_of, look_in, records_at_ticks, revision_in}
 use Rattle.block_map.specs.Standing.{standing_at, standing_of}
 use Rattle.block_map.proofs.BlockLooks.{look_push-before}
 use Rattle.block_map.proofs.RevisionStates.{standing-revision}
 use Rattle.block_map.proofs.Standings.{standing-look}
 
 -- at the end of a revision it shows the tree of the revision
-pub standing-at_end : (dump : DumpValue) (rev : ℕ) (map : MapValue) (tick : ℕ) → IsMapOfFirst dump map → IsEndIn dump rev tick → tick ≤ hi_of map
+pub standing-at_end : (dump : DumpValue) (rev : ℕ) (map : MapValue) (tick : ℕ) → IsMapOfFirstRecords dump map → IsEndIn dump rev tick → tick ≤ hi_of map
     → (path : List NameId) → standing_of (look_in map tick path) ≡ standing_at same_name (revision_in dump rev) path
 standing-at_end dump rev map tick is end within path =
     standing-look dump end.dump_is map is tick path within ∙ standing-revision dump rev tick end path
@@ -38,16 +38,16 @@ module _ (dump : DumpValue) (map : MapValue) (records more : List NodeRecord) (l
       omega (arith, lo, ap length kept, length-map records (λ (each : NodeRecord). record_at_tick (ends_of dump.counts) (record_view each)))
 
   -- the map that is built of the first records of a dump, from the beginning, is one of them
-  pub IsMapOfFirst-built : IsMapOfFirst dump map
-  IsMapOfFirst-built = record {
+  pub IsMapOfFirstRecords-built : IsMapOfFirstRecords dump map
+  IsMapOfFirstRecords-built = record {
     lo = lo;
     within = omega (arith, end_of_first, ap length all, length-append records more);
     looks = λ tick path within.
         let ends = ends_of dump.counts in
         let bound : tick ≤ length (records_at_ticks ends records) = omega (arith, within, lo, ap length kept) in
-        (λ i. known (lo i) (look same_name (lo i) (kept i) tick path))
-        ∙ ap (known 0) (sym (look_more (records_at_ticks ends records) (records_at_ticks ends more) tick path bound))
-        ∙ ap (λ each. known 0 (look same_name 0 each tick path))
+        (λ i. resolved (lo i) (look same_name (lo i) (kept i) tick path))
+        ∙ ap (resolved 0) (sym (look_more (records_at_ticks ends records) (records_at_ticks ends more) tick path bound))
+        ∙ ap (λ each. resolved 0 (look same_name 0 each tick path))
         (sym (ap (records_at_ticks ends) all ∙ map-append (λ (each : NodeRecord). record_at_tick ends (record_view each)) records more));
   }
 
@@ -55,6 +55,6 @@ module _ (dump : DumpValue) (map : MapValue) (records more : List NodeRecord) (l
 pub IsMapOf-built : (dump : DumpValue) (map : MapValue) → map.lo ≡ 0 → map.records ≡ records_at_ticks (ends_of dump.counts) dump.records
     → IsMapOf dump map
 IsMapOf-built dump map lo kept = record {
-  first = IsMapOfFirst-built dump map dump.records [] lo (sym (append-nil dump.records)) kept;
+  first = IsMapOfFirstRecords-built dump map dump.records [] lo (sym (append-nil dump.records)) kept;
   whole = end_of_first dump map dump.records [] lo (sym (append-nil dump.records)) kept;
 }

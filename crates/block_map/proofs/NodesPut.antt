@@ -1,5 +1,5 @@
 -- What is found below a node where another one was put at a path.
-use Rattle.std.proofs.Common.{◌≡◌, ◌==◌, true, false, List, [], ◌∷◌, ◌++◌, Option, None, Some, IfSome, length, if◌then◌else◌, inl, inr, refl, sym, ap, subst, ◌∙◌, arith}
+use Rattle.std.proofs.Common.{◌≡◌, ◌==◌, true, false, List, [], ◌∷◌, ◌++◌, Option, None, Some, IfSome, length, if◌then◌else◌, inl, inr, refl, sym, ap, subst, ◌∙◌}
 use Rattle.std.specs.Option.{option_and_then, unwrap_or}
 use Rattle.std.specs.Prelude.{slice_get}
 use Rattle.std.proofs.lemmas.Bool.{cases_Bool}
@@ -15,9 +15,9 @@ use Rattle.block_map.specs.Trie.{At, IsGrown, IsNodeOf, IsSound, LookOfNumbers, 
 use Rattle.block_map.specs.declared.node.Node.{Node}
 use Rattle.block_map.specs.declared.part.NodeId.{NodeId}
 use Rattle.block_map.specs.declared.part.PartId.{PartId}
+use Rattle.block_map.proofs.CopiedNodes.{IsNodeOf-untouched, child_at-untouched}
 use Rattle.block_map.proofs.GrownTries.{AreMore-none, child_in-grown, found_below-grown, inside-grown}
 use Rattle.block_map.proofs.PartLookups.{eqb-turned, slice_get-last}
-use Rattle.block_map.proofs.PartSteps.{found_within-empty}
 
 -- a node and what is found there without it
 abbrev from_node : Option Node → LookOfNumbers → At
@@ -25,22 +25,12 @@ from_node node outside = record { node = node; outside = outside }
 
 -- ---- a node of which nothing is known
 
--- an untouched node has no child
-child_of-untouched : (trie : TrieValue) (name : NameId) → child_of trie untouched name ≡ None
-child_of-untouched trie name = ap (option_and_then (λ (id : NodeId). slice_get trie.nodes id.0)) (found_within-empty trie.parts 0 name.0)
-
--- so its children are found as where there is no node
-child_at-untouched : (trie : TrieValue) (before : Option Node) (outside : LookOfNumbers) (name : NameId)
-    → child_at trie (from_node before outside) name ≡ child_at trie (from_node (Some (unwrap_or before untouched)) outside) name
-child_at-untouched trie None outside name = ap (λ node. from_node node (λ rest. outside (name ∷ rest))) (sym (child_of-untouched trie name))
-child_at-untouched trie (Some node) outside name = refl
-
--- and below it
+-- below an untouched node is found what is found where there is no node
 found_below-untouched : (trie : TrieValue) (before : Option Node) (outside : LookOfNumbers) (path : List NameId)
     → found_below trie (from_node before outside) path ≡ found_below trie (from_node (Some (unwrap_or before untouched)) outside) path
 found_below-untouched trie None outside [] = refl
 found_below-untouched trie (Some node) outside [] = refl
-found_below-untouched trie before outside (name ∷ path) = ap (λ next. found_below trie next path) (child_at-untouched trie before outside name)
+found_below-untouched trie before outside (name ∷ path) = ap (λ next. found_below trie next path) (sym (child_at-untouched trie before outside name))
 
 -- ---- a child put at a name
 
@@ -106,11 +96,6 @@ module _ (old new : TrieValue) (node child : Node) (name : NameId) (id : NodeId)
 
 -- ---- a node put at a path
 
--- the node that stands for a missing one is one of the trie
-IsNodeOf-untouched : (trie : TrieValue) (before : Option Node) → IfSome before (IsNodeOf trie) → IsNodeOf trie (unwrap_or before untouched)
-IsNodeOf-untouched trie None is = (omega arith, tt)
-IsNodeOf-untouched trie (Some node) is = is
-
 -- the same is found where something may have been put
 found-same : (o : Option (List NameId)) (kept kept' : Found NameId ValueId) (put put' : List NameId → Found NameId ValueId)
     → kept ≡ kept' → ((rest : List NameId) → put rest ≡ put' rest)
@@ -140,7 +125,7 @@ PutsNode-path old mid new before name path put child after sound grown before_is
           let next : child_from ≡ child_at old from name =
           ap (λ (look : LookOfNumbers). from_node (child_of old above name) (λ more. look (name ∷ more)))
           (inside-grown old mid sound grown above.region outside above_is.1)
-          ∙ sym (child_at-untouched old before outside name) in
+          ∙ child_at-untouched old before outside name in
           rw is
           (at_name ∙ first around rest
           ∙ found-same (below same_name path rest) (found_below old child_from rest) (found_below old from (c ∷ rest))

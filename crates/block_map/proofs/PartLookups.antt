@@ -307,11 +307,7 @@ pub AreMore-push : {X E : Type 0} (r : Result X E) (old new : List Part) (part :
 AreMore-push r old new part added failed =
     push-cases r old new part (AreMore old) added failed (record { more = part ∷ []; grown = refl }) (AreMore-none old)
 
--- what holds in any case
+-- what holds in any case holds of an `Ok`
 pub OnOk-from : {X E : Type 0} (r : Result X E) (P : Type 0) → P → OnOk r P
 OnOk-from (Ok x) P holds = holds
 OnOk-from (Err e) P holds = tt
-
-pub OnErr-from : {X E : Type 0} (r : Result X E) (P : Type 0) → P → OnErr r P
-OnErr-from (Ok x) P holds = tt
-OnErr-from (Err e) P holds = holds

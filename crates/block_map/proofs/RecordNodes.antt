@@ -9,7 +9,7 @@ use Rattle.svn_dump.specs.declared.kind.Kind.{Kind}
 use Rattle.svn_dump.specs.declared.record.ValueId.{ValueId}
 use Rattle.block_map.specs.Block.{ShowsAction, ShowsPath, ShowsTick, end_of_block, look_in_block}
 use Rattle.block_map.specs.Look as found
-use Rattle.block_map.specs.Look.{Found, found_after, known, look, looks_of, settled, with_mergeinfo}
+use Rattle.block_map.specs.Look.{Found, resolved, look, with_setting, with_mergeinfo}
 use Rattle.block_map.specs.Node.{absent_node, here_with_mergeinfo, node_of_kind, node_settled, node_with_mergeinfo, untouched}
 use Rattle.block_map.specs.Trie.{At, IsNodeOf, LookOfNumbers, TrieValue, at_path, at_root, child_at, found_at, found_below, found_here}
 use Rattle.block_map.specs.declared.block.Block.{Block}
@@ -21,27 +21,27 @@ use Rattle.block_map.proofs.CopiedNodes.{child_at-untouched, found_at-untouched}
 
 -- ---- what a block knows
 
-known-absent : (lo : ℕ) → known {C = NameId} {M = ValueId} lo found.absent ≡ found.absent
-known-absent zero = refl
-known-absent (suc lo) = refl
+resolved-absent : (lo : ℕ) → resolved {C = NameId} {M = ValueId} lo found.absent ≡ found.absent
+resolved-absent zero = refl
+resolved-absent (suc lo) = refl
 
-known-is : (lo : ℕ) (kind : Kind) (mi : Option ValueId) → known {C = NameId} lo (found.is kind mi) ≡ found.is kind mi
-known-is zero kind mi = refl
-known-is (suc lo) kind mi = refl
+resolved-is : (lo : ℕ) (kind : Kind) (mi : Option ValueId) → resolved {C = NameId} lo (found.is kind mi) ≡ found.is kind mi
+resolved-is zero kind mi = refl
+resolved-is (suc lo) kind mi = refl
 
 -- other mergeinfo, put before or after
-pub known-with_mergeinfo : (lo : ℕ) (mi : Option ValueId) (each : Found NameId ValueId) → known lo (with_mergeinfo mi each) ≡ with_mergeinfo mi (known lo each)
-known-with_mergeinfo zero mi (found.at [] tick) = refl
-known-with_mergeinfo zero mi (found.at (c ∷ path) tick) = refl
-known-with_mergeinfo zero mi (found.at_with [] tick old) = refl
-known-with_mergeinfo zero mi (found.at_with (c ∷ path) tick old) = refl
-known-with_mergeinfo zero mi (found.is kind old) = refl
-known-with_mergeinfo zero mi found.absent = refl
-known-with_mergeinfo (suc lo) mi each = refl
+pub resolved-with_mergeinfo : (lo : ℕ) (mi : Option ValueId) (each : Found NameId ValueId) → resolved lo (with_mergeinfo mi each) ≡ with_mergeinfo mi (resolved lo each)
+resolved-with_mergeinfo zero mi (found.at [] tick) = refl
+resolved-with_mergeinfo zero mi (found.at (c ∷ path) tick) = refl
+resolved-with_mergeinfo zero mi (found.at_with [] tick old) = refl
+resolved-with_mergeinfo zero mi (found.at_with (c ∷ path) tick old) = refl
+resolved-with_mergeinfo zero mi (found.is kind old) = refl
+resolved-with_mergeinfo zero mi found.absent = refl
+resolved-with_mergeinfo (suc lo) mi each = refl
 
-pub known-settled : (lo : ℕ) (setting : Setting ValueId) (each : Found NameId ValueId) → known lo (settled setting each) ≡ settled setting (known lo each)
-known-settled lo keep each = refl
-known-settled lo (put mi) each = known-with_mergeinfo lo mi each
+pub resolved-with_setting : (lo : ℕ) (setting : Setting ValueId) (each : Found NameId ValueId) → resolved lo (with_setting setting each) ≡ with_setting setting (resolved lo each)
+resolved-with_setting lo keep each = refl
+resolved-with_setting lo (put mi) each = resolved-with_mergeinfo lo mi each
 
 -- ---- nodes with other mergeinfo
 
@@ -55,20 +55,20 @@ found_here-with_mergeinfo mi (here.Is kind old) each = refl
 found_here-with_mergeinfo mi here.Absent each = refl
 
 -- at the node itself
-pub found_at-settled : (trie : TrieValue) (setting : Setting ValueId) (node : Node) (outside : LookOfNumbers)
-    → found_at trie (record { node = Some (node_settled setting node); outside = outside }) ≡ settled setting (found_at trie (record { node = Some node; outside = outside }))
-found_at-settled trie keep node outside = refl
-found_at-settled trie (put mi) node outside = found_here-with_mergeinfo mi node.here _
+pub found_at-with_setting : (trie : TrieValue) (setting : Setting ValueId) (node : Node) (outside : LookOfNumbers)
+    → found_at trie (record { node = Some (node_settled setting node); outside = outside }) ≡ with_setting setting (found_at trie (record { node = Some node; outside = outside }))
+found_at-with_setting trie keep node outside = refl
+found_at-with_setting trie (put mi) node outside = found_here-with_mergeinfo mi node.here _
 
 -- and below it
-pub child_at-settled : (trie : TrieValue) (setting : Setting ValueId) (node : Node) (outside : LookOfNumbers) (name : NameId)
+pub child_at-with_setting : (trie : TrieValue) (setting : Setting ValueId) (node : Node) (outside : LookOfNumbers) (name : NameId)
     → child_at trie (record { node = Some (node_settled setting node); outside = outside }) name ≡ child_at trie (record { node = Some node; outside = outside }) name
-child_at-settled trie keep node outside name = refl
-child_at-settled trie (put mi) node outside name = refl
+child_at-with_setting trie keep node outside name = refl
+child_at-with_setting trie (put mi) node outside name = refl
 
-pub IsNodeOf-settled : (trie : TrieValue) (setting : Setting ValueId) (node : Node) → IsNodeOf trie node → IsNodeOf trie (node_settled setting node)
-IsNodeOf-settled trie keep node is = is
-IsNodeOf-settled trie (put mi) node is = is
+pub IsNodeOf-with_setting : (trie : TrieValue) (setting : Setting ValueId) (node : Node) → IsNodeOf trie node → IsNodeOf trie (node_settled setting node)
+IsNodeOf-with_setting trie keep node is = is
+IsNodeOf-with_setting trie (put mi) node is = is
 
 -- ---- the actions of records
 
@@ -78,36 +78,36 @@ found_below-append trie from path rest = ap (found_at trie) (sym (fold-append (c
 
 module _ (block : Block) (root : Node) (path : List NameId) where
   pub ShowsAction-delete : ShowsAction block root path delete absent_node
-  ShowsAction-delete [] = sym (known-absent block.start)
+  ShowsAction-delete [] = sym (resolved-absent block.start)
   ShowsAction-delete (name ∷ rest) =
-      found_below-childless block.trie absent_node.here absent_node.region (at_path block.trie (at_root root) path).outside name rest ∙ sym (known-absent block.start)
+      found_below-childless block.trie absent_node.here absent_node.region (at_path block.trie (at_root root) path).outside name rest ∙ sym (resolved-absent block.start)
 
   pub ShowsAction-add : (replace : Bool) (kind : Kind) (setting : Setting ValueId) → ShowsAction block root path (add replace kind setting) (node_of_kind kind (mergeinfo_after setting None))
-  ShowsAction-add replace kind setting [] = sym (known-is block.start kind (mergeinfo_after setting None))
+  ShowsAction-add replace kind setting [] = sym (resolved-is block.start kind (mergeinfo_after setting None))
   ShowsAction-add replace kind setting (name ∷ rest) =
       let node = node_of_kind kind (mergeinfo_after setting None) in
-      found_below-childless block.trie node.here node.region (at_path block.trie (at_root root) path).outside name rest ∙ sym (known-absent block.start)
+      found_below-childless block.trie node.here node.region (at_path block.trie (at_root root) path).outside name rest ∙ sym (resolved-absent block.start)
 
   pub ShowsAction-change : (mi : Option ValueId) → ShowsTick block (end_of_block block) root
       → ShowsAction block root path (change (put mi)) (node_with_mergeinfo mi (unwrap_or (at_path block.trie (at_root root) path).node untouched))
   ShowsAction-change mi shows [] =
       let from = at_path block.trie (at_root root) path in
-      found_at-settled block.trie (put mi) (unwrap_or from.node untouched) from.outside
+      found_at-with_setting block.trie (put mi) (unwrap_or from.node untouched) from.outside
       ∙ ap (with_mergeinfo mi) (found_at-untouched block.trie from.node from.outside ∙ shows path)
       ∙ ap (λ whole. with_mergeinfo mi (look_in_block block (end_of_block block) whole)) (sym (append-nil path))
-      ∙ sym (known-with_mergeinfo block.start mi (look same_name block.start block.records.records (end_of_block block) (path ++ [])))
+      ∙ sym (resolved-with_mergeinfo block.start mi (look same_name block.start block.records.records (end_of_block block) (path ++ [])))
   ShowsAction-change mi shows (name ∷ rest) =
       let from = at_path block.trie (at_root root) path in
-      ap (λ next. found_below block.trie next rest) (child_at-settled block.trie (put mi) (unwrap_or from.node untouched) from.outside name ∙ child_at-untouched block.trie from.node from.outside name)
+      ap (λ next. found_below block.trie next rest) (child_at-with_setting block.trie (put mi) (unwrap_or from.node untouched) from.outside name ∙ child_at-untouched block.trie from.node from.outside name)
       ∙ found_below-append block.trie (at_root root) path (name ∷ rest) ∙ shows (path ++ name ∷ rest)
 
   pub ShowsAction-copy : (replace : Bool) (source : List NameId) (tick : ℕ) (setting : Setting ValueId) (node : Node) → ShowsPath block tick source node
       → ShowsAction block root path (copy replace source tick setting) (node_settled setting node)
   ShowsAction-copy replace source tick setting node shows [] =
       let outside = (at_path block.trie (at_root root) path).outside in
-      found_at-settled block.trie setting node outside
-      ∙ ap (settled setting) (shows outside [] ∙ ap (look_in_block block tick) (append-nil source))
-      ∙ sym (known-settled block.start setting (look same_name block.start block.records.records tick source))
+      found_at-with_setting block.trie setting node outside
+      ∙ ap (with_setting setting) (shows outside [] ∙ ap (look_in_block block tick) (append-nil source))
+      ∙ sym (resolved-with_setting block.start setting (look same_name block.start block.records.records tick source))
   ShowsAction-copy replace source tick setting node shows (name ∷ rest) =
       let outside = (at_path block.trie (at_root root) path).outside in
-      ap (λ next. found_below block.trie next rest) (child_at-settled block.trie setting node outside name) ∙ shows outside (name ∷ rest)
+      ap (λ next. found_below block.trie next rest) (child_at-with_setting block.trie setting node outside name) ∙ shows outside (name ∷ rest)

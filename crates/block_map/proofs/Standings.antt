@@ -5,6 +5,7 @@ use Rattle.std.proofs.lemmas.Bool.{cases_order, cases_lt, le-leb, lt-leb}
 use Rattle.std.proofs.lemmas.List.{get_or_append_left, get_or_at, length-map, length_push, map-append}
 use Rattle.std.proofs.lemmas.List.Elements.{All-head, All-tail}
 use Rattle.std.proofs.lemmas.List.Sums.{fold-append}
+use Rattle.std.proofs.lemmas.Simd.{map-map}
 use Rattle.svn_path.specs.Below.{below}
 use Rattle.svn_path.specs.Path.{same_name}
 use Rattle.svn_path.specs.declared.names.NameId.{NameId}
@@ -18,8 +19,8 @@ use Rattle.svn_dump.proofs.Grouped.{flat_map-records_by_revision}
 use Rattle.svn_dump.proofs.Revisions.{tree_of-append, tree_of_push, length-with_revision, start_tree-nil}
 use Rattle.svn_dump.proofs.Trees.{entry_from, entry_left, settled_entry, settled_entry_at, entry_at-first_tree, entry_at-tree_after_action}
 use Rattle.block_map.specs.Ends.{action_at_tick, record_at_tick, end_of, ends_of}
-use Rattle.block_map.specs.Look.{Found, at, at_with, is, absent, Look, look, look_at, looks_of, with_look, look_after, found_after, settled, from_beginning}
-use Rattle.block_map.specs.Map.{IsMapOfFirst, MapValue, hi_of, look_in, records_at_ticks, state_in}
+use Rattle.block_map.specs.Look.{Found, at, at_with, is, absent, Look, look, look_at, looks_of, with_look, look_after, found_after_action, with_setting, from_beginning}
+use Rattle.block_map.specs.Map.{IsMapOfFirstRecords, MapValue, hi_of, look_in, records_at_ticks, state_in}
 use Rattle.block_map.specs.Standing.{Standing, standing_at, standing_of}
 use Rattle.block_map.proofs.RevisionEnds.{ends_of-at}
 use Rattle.block_map.proofs.RevisionStates.{standing_of_entry, standing_at_next, standing_past, state_from-within, state_from-zero, tree_within_all, lengths-history_view, total-dump}
@@ -68,47 +69,47 @@ module _ {C M : Type 0} where
   -- ---- what stands where something was found
 
   -- other mergeinfo is put where something stands
-  standing_of-settled : (setting : Setting M) (found : Found C M)
-      → standing_known (settled setting found) ≡ option_map (settled_standing setting) (standing_known found)
-  standing_of-settled keep (at [] tick) = refl
-  standing_of-settled keep (at (c ∷ path) tick) = refl
-  standing_of-settled keep (at_with [] tick mergeinfo) = refl
-  standing_of-settled keep (at_with (c ∷ path) tick mergeinfo) = refl
-  standing_of-settled keep (is kind mergeinfo) = refl
-  standing_of-settled keep absent = refl
-  standing_of-settled (put new) (at [] tick) = refl
-  standing_of-settled (put new) (at (c ∷ path) tick) = refl
-  standing_of-settled (put new) (at_with [] tick mergeinfo) = refl
-  standing_of-settled (put new) (at_with (c ∷ path) tick mergeinfo) = refl
-  standing_of-settled (put new) (is kind mergeinfo) = refl
-  standing_of-settled (put new) absent = refl
+  standing_of-with_setting : (setting : Setting M) (found : Found C M)
+      → standing_known (with_setting setting found) ≡ option_map (settled_standing setting) (standing_known found)
+  standing_of-with_setting keep (at [] tick) = refl
+  standing_of-with_setting keep (at (c ∷ path) tick) = refl
+  standing_of-with_setting keep (at_with [] tick mergeinfo) = refl
+  standing_of-with_setting keep (at_with (c ∷ path) tick mergeinfo) = refl
+  standing_of-with_setting keep (is kind mergeinfo) = refl
+  standing_of-with_setting keep absent = refl
+  standing_of-with_setting (put new) (at [] tick) = refl
+  standing_of-with_setting (put new) (at (c ∷ path) tick) = refl
+  standing_of-with_setting (put new) (at_with [] tick mergeinfo) = refl
+  standing_of-with_setting (put new) (at_with (c ∷ path) tick mergeinfo) = refl
+  standing_of-with_setting (put new) (is kind mergeinfo) = refl
+  standing_of-with_setting (put new) absent = refl
 
   -- and so it is in an entry
-  settled-entry : (setting : Setting M) (old : Option (Entry C M))
+  with_setting-entry : (setting : Setting M) (old : Option (Entry C M))
       → option_map (settled_standing setting) (option_map standing_of_entry old)
       ≡ option_map standing_of_entry (option_map (settled_entry setting) old)
-  settled-entry setting None = refl
-  settled-entry setting (Some e) = refl
+  with_setting-entry setting None = refl
+  with_setting-entry setting (Some e) = refl
 
   -- an entry below the path of a change keeps its mergeinfo
-  settled-below : (setting : Setting M) (c : C) (rest : List C) (old : Option (Entry C M))
+  with_setting-below : (setting : Setting M) (c : C) (rest : List C) (old : Option (Entry C M))
       → option_map standing_of_entry old ≡ option_map standing_of_entry (option_map (settled_entry_at setting (c ∷ rest)) old)
-  settled-below setting c rest None = refl
-  settled-below setting c rest (Some e) = refl
+  with_setting-below setting c rest None = refl
+  with_setting-below setting c rest (Some e) = refl
 
   -- a copied entry at the path of the copy
-  settled-copied : (setting : Setting M) (from : List C) (from_rev : ℕ) (old : Option (Entry C M))
+  with_setting-copied : (setting : Setting M) (from : List C) (from_rev : ℕ) (old : Option (Entry C M))
       → option_map (settled_standing setting) (option_map standing_of_entry old)
       ≡ option_map standing_of_entry (option_map (λ e. settled_entry_at setting [] (entry_from from from_rev e)) old)
-  settled-copied setting from from_rev None = refl
-  settled-copied setting from from_rev (Some e) = refl
+  with_setting-copied setting from from_rev None = refl
+  with_setting-copied setting from from_rev (Some e) = refl
 
   -- and one below it
-  settled-copied_below : (setting : Setting M) (from : List C) (from_rev : ℕ) (c : C) (rest : List C) (old : Option (Entry C M))
+  with_setting-copied_below : (setting : Setting M) (from : List C) (from_rev : ℕ) (c : C) (rest : List C) (old : Option (Entry C M))
       → option_map standing_of_entry old
       ≡ option_map standing_of_entry (option_map (λ e. settled_entry_at setting (c ∷ rest) (entry_from from from_rev e)) old)
-  settled-copied_below setting from from_rev c rest None = refl
-  settled-copied_below setting from from_rev c rest (Some e) = refl
+  with_setting-copied_below setting from from_rev c rest None = refl
+  with_setting-copied_below setting from from_rev c rest (Some e) = refl
 
 -- ---- one record
 
@@ -122,27 +123,27 @@ module _ {C M : Type 0} (same : C → C → Bool) (ends : List ℕ) where
     -- what an action leaves at its path and below is found as it stands
     action_stands : (action : Action C M) (found : Found C M) (old : Option (Entry C M)) (rest : List C) → IsFromBelow (length trees) action
         → standing_known found ≡ option_map standing_of_entry old
-        → standing_known (found_after 0 looks (action_at_tick ends action) found rest)
+        → standing_known (found_after_action 0 looks (action_at_tick ends action) found rest)
         ≡ option_map standing_of_entry (entry_left same trees action old rest)
     action_stands delete found old rest below_it stands = refl
     action_stands (change setting) found old [] below_it stands =
-        standing_of-settled setting found ∙ ap (option_map (settled_standing setting)) stands ∙ settled-entry setting old
-    action_stands (change setting) found old (c ∷ rest) below_it stands = stands ∙ settled-below setting c rest old
+        standing_of-with_setting setting found ∙ ap (option_map (settled_standing setting)) stands ∙ with_setting-entry setting old
+    action_stands (change setting) found old (c ∷ rest) below_it stands = stands ∙ with_setting-below setting c rest old
     action_stands (add replace kind setting) found old [] below_it stands = refl
     action_stands (add replace kind setting) found old (c ∷ rest) below_it stands = refl
     action_stands (copy replace from from_rev setting) found old [] below_it stands =
-        standing_of-settled setting (look_at 0 looks (get_or ends from_rev 0) from)
+        standing_of-with_setting setting (look_at 0 looks (get_or ends from_rev 0) from)
         ∙ ap (option_map (settled_standing setting)) (reached.stood from_rev below_it from
         ∙ ap (standing_at same (tree_of trees from_rev)) (sym (append-nil from)))
-        ∙ settled-copied setting (from ++ []) from_rev (entry_at same (tree_of trees from_rev) (from ++ []))
+        ∙ with_setting-copied setting (from ++ []) from_rev (entry_at same (tree_of trees from_rev) (from ++ []))
     action_stands (copy replace from from_rev setting) found old (c ∷ rest) below_it stands =
         reached.stood from_rev below_it (from ++ c ∷ rest)
-        ∙ settled-copied_below setting (from ++ c ∷ rest) from_rev c rest (entry_at same (tree_of trees from_rev) (from ++ c ∷ rest))
+        ∙ with_setting-copied_below setting (from ++ c ∷ rest) from_rev c rest (entry_at same (tree_of trees from_rev) (from ++ c ∷ rest))
 
     -- and so is what it leaves at any path
     action_stands_at : (action : Action C M) (b : Option (List C)) (found : Found C M) (old : Option (Entry C M)) → IsFromBelow (length trees) action
         → standing_known found ≡ option_map standing_of_entry old
-        → standing_known (elim b [ None ↦ found | Some rest ↦ found_after 0 looks (action_at_tick ends action) found rest ])
+        → standing_known (elim b [ None ↦ found | Some rest ↦ found_after_action 0 looks (action_at_tick ends action) found rest ])
         ≡ option_map standing_of_entry (option_map_or (entry_left same trees action old) b old)
     action_stands_at action None found old below_it stands = stands
     action_stands_at action (Some rest) found old below_it stands = action_stands action found old rest below_it stands
@@ -362,11 +363,6 @@ module _ {C M : Type 0} (same : C → C → Bool) (laws : IsSame same) (history 
 
 -- ---- dumps
 
--- a map of a map is one of both functions
-map-map : {A B C : Type 0} (f : B → C) (g : A → B) (xs : List A) → map f (map g xs) ≡ map (λ x. f (g x)) xs
-map-map f g [] = refl
-map-map f g (x ∷ xs) = ap (λ ys. f (g x) ∷ ys) (map-map f g xs)
-
 module _ (dump : DumpValue) (is_dump : IsDump dump) where
   -- the records of a dump's history are those of the dump
   pub all_records-history_view : flat_map (λ records. records) (history_view dump) ≡ map record_view dump.records
@@ -387,7 +383,7 @@ module _ (dump : DumpValue) (is_dump : IsDump dump) where
   record_count-history_view = ap length all_records-history_view ∙ length-map dump.records record_view
 
 -- what a map of a dump says of a path at a tick stands in the tree at that tick
-pub standing-look : (dump : DumpValue) → IsDump dump → (map : MapValue) → IsMapOfFirst dump map → (tick : ℕ) (path : List NameId)
+pub standing-look : (dump : DumpValue) → IsDump dump → (map : MapValue) → IsMapOfFirstRecords dump map → (tick : ℕ) (path : List NameId)
     → tick ≤ hi_of map → standing_of (look_in map tick path) ≡ standing_at same_name (state_in dump tick) path
 standing-look dump is_dump map of tick path within =
     ap standing_of (of.looks tick path within)

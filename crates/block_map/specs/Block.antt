@@ -8,7 +8,7 @@ use Rattle.svn_dump.specs.declared.record.NodeRecord.{NodeRecord}
 use Rattle.svn_dump.specs.declared.record.ValueId.{ValueId}
 use Rattle.block_map.specs.Ends.{action_at_tick}
 use Rattle.block_map.specs.Map.{most_nodes}
-use Rattle.block_map.specs.Look.{found_after, known, look, look_after, looks_of}
+use Rattle.block_map.specs.Look.{found_after_action, resolved, look, look_after, looks_of}
 use Rattle.block_map.specs.Trie.{IsGrown, IsNodeOf, IsSound, LookOfNumbers, at_path, at_root, found_below}
 use Rattle.block_map.specs.declared.block.Block.{Block}
 use Rattle.block_map.specs.declared.node.Node.{Node}
@@ -20,7 +20,7 @@ end_of_block block = block.start + length block.records.records
 
 -- what the records of the block say of a path at a tick
 abbrev pub look_in_block : Block → ℕ → LookOfNumbers
-look_in_block block tick path = known block.start (look same_name block.start block.records.records tick path)
+look_in_block block tick path = resolved block.start (look same_name block.start block.records.records tick path)
 
 -- the tree below the node shows that
 abbrev pub ShowsTick : Block → ℕ → Node → Type 0
@@ -60,7 +60,7 @@ ShowsPath block tick path node = (outside : LookOfNumbers) (rest : List NameId) 
 -- what an action leaves at a path and below it
 abbrev pub look_after_action : Block → List NameId → Action NameId ValueId → LookOfNumbers
 look_after_action block path action rest =
-    known block.start (found_after block.start (looks_of same_name block.start block.records.records) action
+    resolved block.start (found_after_action block.start (looks_of same_name block.start block.records.records) action
     (look same_name block.start block.records.records (end_of_block block) (path ++ rest)) rest)
 
 -- the node shows that at the path below a root
@@ -81,7 +81,7 @@ action_in ends each = action_at_tick ends (action_view each.act)
 
 -- what is found after one more record
 abbrev pub look_after_record : Block → Record NameId ValueId → LookOfNumbers
-look_after_record block each path = known block.start (look_after same_name block.start (looks_of same_name block.start block.records.records) each path)
+look_after_record block each path = resolved block.start (look_after same_name block.start (looks_of same_name block.start block.records.records) each path)
 
 -- the root of the tree after one more record
 pub record IsRootAfter (block : Block) (each : Record NameId ValueId) (id : NodeId) : Type 0 where

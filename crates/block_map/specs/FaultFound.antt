@@ -7,6 +7,10 @@ use Rattle.svn_dump.specs.History.{Action, delete, change, add, copy}
 use Rattle.svn_dump.specs.declared.kind.Kind.TheVariants.{File, Dir}
 use Rattle.block_map.specs.Standing.{Standing}
 
+-- a number that no record has
+abbrev pub no_record : ℕ
+no_record = 4294967295
+
 -- what stands at each path at each tick
 abbrev pub Standings : Type 0 → Type 0 → Type 0
 Standings C M = ℕ → List C → Option (Standing M)

@@ -24,17 +24,17 @@ with_mergeinfo mergeinfo (is kind old) = is kind mergeinfo
 with_mergeinfo mergeinfo absent = absent
 
 -- with the mergeinfo that a record leaves
-abbrev pub settled : {C M : Type 0} → Setting M → Found C M → Found C M
-settled keep found = found
-settled (put mergeinfo) found = with_mergeinfo mergeinfo found
+abbrev pub with_setting : {C M : Type 0} → Setting M → Found C M → Found C M
+with_setting keep found = found
+with_setting (put mergeinfo) found = with_mergeinfo mergeinfo found
 
 -- A look that follows a tick finds what stood somewhere at that tick or before it. From the beginning of a history it
 -- finds no such thing: there, what stands at each path is known.
-abbrev pub IsFoundFrom : {C M : Type 0} → ℕ → Found C M → Type 0
-IsFoundFrom lo (at path tick) = (0 < lo) × (tick ≤ lo)
-IsFoundFrom lo (at_with path tick mergeinfo) = (0 < lo) × (tick ≤ lo)
-IsFoundFrom lo (is kind mergeinfo) = Unit {0}
-IsFoundFrom lo absent = Unit {0}
+abbrev pub IsFoundAtOrBefore : {C M : Type 0} → ℕ → Found C M → Type 0
+IsFoundAtOrBefore lo (at path tick) = (0 < lo) × (tick ≤ lo)
+IsFoundAtOrBefore lo (at_with path tick mergeinfo) = (0 < lo) × (tick ≤ lo)
+IsFoundAtOrBefore lo (is kind mergeinfo) = Unit {0}
+IsFoundAtOrBefore lo absent = Unit {0}
 
 -- what is found at each path
 abbrev pub Look : Type 0 → Type 0 → Type 0
@@ -45,20 +45,20 @@ abbrev pub look_at : {C M : Type 0} → ℕ → List (Look C M) → ℕ → Look
 look_at lo looks tick path = if nat_le tick lo then at path tick else slice_index_or looks (tick - lo - 1) (λ other. absent) path
 
 -- what an action leaves at its path and below it, where this was found before
-abbrev pub found_after : {C M : Type 0} → ℕ → List (Look C M) → Action C M → Found C M → List C → Found C M
-found_after lo looks delete old rest = absent
-found_after lo looks (change setting) old [] = settled setting old
-found_after lo looks (change setting) old (c ∷ rest) = old
-found_after lo looks (add replace kind setting) old [] = is kind (mergeinfo_after setting None)
-found_after lo looks (add replace kind setting) old (c ∷ rest) = absent
-found_after lo looks (copy replace from tick setting) old [] = settled setting (look_at lo looks tick from)
-found_after lo looks (copy replace from tick setting) old (c ∷ rest) = look_at lo looks tick (from ++ c ∷ rest)
+abbrev pub found_after_action : {C M : Type 0} → ℕ → List (Look C M) → Action C M → Found C M → List C → Found C M
+found_after_action lo looks delete old rest = absent
+found_after_action lo looks (change setting) old [] = with_setting setting old
+found_after_action lo looks (change setting) old (c ∷ rest) = old
+found_after_action lo looks (add replace kind setting) old [] = is kind (mergeinfo_after setting None)
+found_after_action lo looks (add replace kind setting) old (c ∷ rest) = absent
+found_after_action lo looks (copy replace from tick setting) old [] = with_setting setting (look_at lo looks tick from)
+found_after_action lo looks (copy replace from tick setting) old (c ∷ rest) = look_at lo looks tick (from ++ c ∷ rest)
 
 -- what is found after one more record
 abbrev pub look_after : {C M : Type 0} → (C → C → Bool) → ℕ → List (Look C M) → Record C M → Look C M
 look_after same lo looks each path =
     let old = look_at lo looks (lo + length looks) path in
-    elim (below same each.path path) [ None ↦ old | Some rest ↦ found_after lo looks each.action old rest ]
+    elim (below same each.path path) [ None ↦ old | Some rest ↦ found_after_action lo looks each.action old rest ]
 
 abbrev pub with_look : {C M : Type 0} → (C → C → Bool) → ℕ → List (Look C M) → Record C M → List (Look C M)
 with_look same lo looks each = looks ++ look_after same lo looks each ∷ []
@@ -82,7 +82,7 @@ from_beginning (at_with (c ∷ path) tick mergeinfo) = absent
 from_beginning (is kind mergeinfo) = is kind mergeinfo
 from_beginning absent = absent
 
--- so a block that no record precedes knows what stands at each path
-abbrev pub known : {C M : Type 0} → ℕ → Found C M → Found C M
-known zero found = from_beginning found
-known (suc lo) found = found
+-- so a block that no record precedes says what stands at each path
+abbrev pub resolved : {C M : Type 0} → ℕ → Found C M → Found C M
+resolved zero found = from_beginning found
+resolved (suc lo) found = found

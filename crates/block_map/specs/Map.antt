@@ -11,7 +11,7 @@ use Rattle.svn_dump.specs.declared.record.ValueId.{ValueId}
 use Rattle.block_map.specs.Ends.{end_of, ends_of, record_at_tick}
 use Rattle.block_map.specs.FaultFound.{Standings}
 use Rattle.block_map.specs.Look as look
-use Rattle.block_map.specs.Look.{Look, at, at_with, is, absent, known, look}
+use Rattle.block_map.specs.Look.{Look, at, at_with, is, absent, resolved, look}
 use Rattle.block_map.specs.Standing.{standing_of}
 use Rattle.block_map.specs.declared.found.Found.{Found}
 use Rattle.block_map.specs.declared.found.Found.TheVariants as found
@@ -33,7 +33,7 @@ records_at_ticks ends records = map (λ each. record_at_tick ends (record_view e
 
 -- what its records say of a path at a tick
 abbrev pub look_in : MapValue → ℕ → Look NameId ValueId
-look_in map tick path = known map.lo (look same_name map.lo map.records tick path)
+look_in map tick path = resolved map.lo (look same_name map.lo map.records tick path)
 
 -- what stands at each path at each tick, as far as that is known
 abbrev pub standings_in : MapValue → Standings NameId ValueId
@@ -41,17 +41,17 @@ standings_in map tick path = standing_of (look_in map tick path)
 
 -- what the records of a dump say of a path at a tick
 abbrev pub look_in_dump : DumpValue → ℕ → Look NameId ValueId
-look_in_dump dump tick path = known 0 (look same_name 0 (records_at_ticks (ends_of dump.counts) dump.records) tick path)
+look_in_dump dump tick path = resolved 0 (look same_name 0 (records_at_ticks (ends_of dump.counts) dump.records) tick path)
 
 -- it is a map of the first records of a dump: it shows what the records of the dump say, up to its last tick
-pub record IsMapOfFirst (dump : DumpValue) (map : MapValue) : Type 0 where
+pub record IsMapOfFirstRecords (dump : DumpValue) (map : MapValue) : Type 0 where
   pub lo : map.lo ≡ 0
   pub within : hi_of map ≤ length dump.records
   pub looks : (tick : ℕ) (path : List NameId) → tick ≤ hi_of map → look_in map tick path ≡ look_in_dump dump tick path
 
 -- it is a map of all records of a dump
 pub record IsMapOf (dump : DumpValue) (map : MapValue) : Type 0 where
-  pub first : IsMapOfFirst dump map
+  pub first : IsMapOfFirstRecords dump map
   pub whole : hi_of map ≡ length dump.records
 
 -- what was found, as the definitions see it

@@ -56,7 +56,8 @@ impl Block {
         requires source { HasSourceBefore ends.now (end_of_block self.old + 1) each.now.act }
         ensures block { OnOk result (IsBlock self.new) }
         ensures start { OnOk result (self.new.start ≡ self.old.start) }
-        ensures records { OnOk result (self.new.records.records ≡ self.old.records.records ++ record_at_tick ends.now (record_view each.now) ∷ []) }
+        ensures records { OnOk result (self.new.records.records
+            ≡ self.old.records.records ++ record_at_tick ends.now (record_view each.now) ∷ []) }
         ensures nodes { OnOk result (length self.new.trie.nodes ≤ length self.old.trie.nodes + most_components + 1) }
     {
         let id = self.next_root(each, ends)?;
@@ -71,7 +72,8 @@ impl Block {
         requires source { HasSourceBefore ends.now (end_of_block self.old + 1) each.now.act }
         ensures same { OnOk result (SameBlock self.old self.new) }
         ensures shows { IfOk result (IsRootAfter self.new (record_at_tick ends.now (record_view each.now))) }
-        ensures nodes { OnOk result (length self.new.trie.nodes ≤ length self.old.trie.nodes + length each.now.path + 1) }
+        ensures nodes { OnOk result
+            (length self.new.trie.nodes ≤ length self.old.trie.nodes + length each.now.path + 1) }
         ensures sound { OnOk result (IsSound self.new.trie) }
     {
         let root = self.newest()?;
@@ -195,7 +197,7 @@ impl Block {
                 ..
             } => {
                 let node = self.node_at(ends.at(*from_rev), from.parts())?;
-                Ok(Some(node.settled(*mi)))
+                Ok(Some(node.with_setting(*mi)))
             }
         }
     }

@@ -2,11 +2,11 @@
 ghost use Rattle.std.specs.Prelude.{◌≡◌, ◌⊎◌, ℕ, ◌+◌, ◌-◌, ◌<◌, ◌≤◌, None, length, option_map, unwrap_or, IfOk, IfSome};
 ghost use Rattle.svn_dump.specs.Dump.{IsDump, history_view};
 ghost use Rattle.svn_dump.specs.Fault.{first_fault};
-ghost use Rattle.svn_dump.specs.State.{fault_after};
+ghost use Rattle.svn_dump.specs.State.{fault_of_next_record};
 ghost use Rattle.svn_path.specs.Path.{same_name};
 ghost use Rattle.block_map.specs.Block.{action_in};
 ghost use Rattle.block_map.specs.Ends.{HasSourceBefore, ends_of};
-ghost use Rattle.block_map.specs.FaultFound.{fault_found, has_parent_standing, is_dir_standing, missing_found, source_found, target_found};
+ghost use Rattle.block_map.specs.FaultFound.{fault_found, has_parent_standing, is_dir_standing, missing_found, no_record, source_found, target_found};
 ghost use Rattle.block_map.specs.FaultKind.{fault_view, kind_view};
 ghost use Rattle.block_map.specs.Map.{IsMapOf, hi_of, standings_in};
 ghost use Rattle.block_map.specs.Standing.{entry_view};
@@ -49,8 +49,8 @@ fn first_suspect<R: Threads + Sync>(rt: &R, map: &Map, dump: &Dump, ends: &Ends)
     requires ends { ends.now ≡ ends_of dump.now.counts }
     ensures within { IfSome result (λ number. (1 ≤ number) × (number ≤ length dump.now.records)) }
     ensures fine { (place : ℕ) → place < length dump.now.records
-        → place + 1 < unwrap_or result 4294967295
-        → fault_after same_name (history_view dump.now) place ≡ None }
+        → place + 1 < unwrap_or result no_record
+        → fault_of_next_record same_name (history_view dump.now) place ≡ None }
     ensures kept { IsDump dump.now }
 {
     let least = least_suspect(rt, map, dump, ends);
@@ -61,9 +61,9 @@ fn first_suspect<R: Threads + Sync>(rt: &R, map: &Map, dump: &Dump, ends: &Ends)
 fn least_suspect<R: Threads + Sync>(rt: &R, map: &Map, dump: &Dump, ends: &Ends) -> u32
     requires map { IsMapOf dump.now map.now }
     requires ends { ends.now ≡ ends_of dump.now.counts }
-    ensures within { result < 4294967295 → (1 ≤ result) × (result ≤ length dump.now.records) }
+    ensures within { result < no_record → (1 ≤ result) × (result ≤ length dump.now.records) }
     ensures fine { (place : ℕ) → place < length dump.now.records → place + 1 < result
-        → fault_after same_name (history_view dump.now) place ≡ None }
+        → fault_of_next_record same_name (history_view dump.now) place ≡ None }
     ensures kept { IsDump dump.now }
 {
     let end = dump.records().len() as u32 + 1;
@@ -73,25 +73,25 @@ fn least_suspect<R: Threads + Sync>(rt: &R, map: &Map, dump: &Dump, ends: &Ends)
             |number: u32| -> u32
                 requires { IsMapOf dump.now map.now × (ends.now ≡ ends_of dump.now.counts)
                     × (1 ≤ number) × (number ≤ length dump.now.records) }
-                ensures { ((result ≡ number) ⊎ (result ≡ 4294967295))
+                ensures { ((result ≡ number) ⊎ (result ≡ no_record))
                     × (number < result
-                    → fault_after same_name (history_view dump.entry.now) (number - 1) ≡ None) }
+                    → fault_of_next_record same_name (history_view dump.entry.now) (number - 1) ≡ None) }
             { number_if_suspect(map, dump, ends, number) },
         )
         .min(rt)
         .unwrap_or(u32::MAX)
 }
 
-/// The number of the record if it has a fault, or if want of memory keeps it from being judged, and else the largest number,
-/// which no record has.
+/// The number of the record if it has a fault, or if want of memory keeps it from being judged, and else the largest
+/// number, which no record has.
 fn number_if_suspect(map: &Map, dump: &Dump, ends: &Ends, number: u32) -> u32
     requires map { IsMapOf dump.now map.now }
     requires ends { ends.now ≡ ends_of dump.now.counts }
     requires some { 1 ≤ number }
     requires within { number ≤ length dump.now.records }
-    ensures either { (result ≡ number) ⊎ (result ≡ 4294967295) }
+    ensures either { (result ≡ number) ⊎ (result ≡ no_record) }
     ensures fine { number < result
-        → fault_after same_name (history_view dump.now) (number - 1) ≡ None }
+        → fault_of_next_record same_name (history_view dump.now) (number - 1) ≡ None }
 {
     match fault_at(map, dump, ends, number) {
         Ok(None) => u32::MAX,
@@ -111,7 +111,7 @@ pub fn fault_at(
     requires some { 1 ≤ number }
     requires within { number ≤ length dump.now.records }
     ensures { IfOk result (λ kind. option_map kind_view kind
-        ≡ fault_after same_name (history_view dump.now) (number - 1)) }
+        ≡ fault_of_next_record same_name (history_view dump.now) (number - 1)) }
 {
     let place = number - 1;
     Ok(fault_of(map, ends, place, &dump.records()[place as usize]))
@@ -122,7 +122,8 @@ fn fault_of(map: &Map, ends: &Ends, tick: u32, each: &NodeRecord) -> Option<Faul
     requires begins { map.now.lo ≡ 0 }
     requires within { tick ≤ hi_of map.now }
     requires source { HasSourceBefore ends.now (tick + 1) each.now.act }
-    ensures { option_map kind_view result ≡ fault_found (standings_in map.now) tick each.now.path (action_in ends.now each.now) }
+    ensures { option_map kind_view result
+        ≡ fault_found (standings_in map.now) tick each.now.path (action_in ends.now each.now) }
 {
     let path = each.path.parts();
     match &each.act {

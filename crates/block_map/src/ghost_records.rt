@@ -8,8 +8,8 @@ use std::marker::Model;
 use std::snapshot::Snapshot;
 use svn_dump::NodeRecord;
 
-/// Records that only contracts read: those of a snapshot, and one record more, whose revisions end as these say. It takes
-/// no memory for them.
+/// Records that only contracts read: those of a snapshot, and one record more, whose revisions end as these say. It
+/// takes no memory for them.
 #[derive(Drop)]
 pub(crate) struct GhostRecords {
     before: Option<Snapshot<GhostRecords>>,

@@ -5,8 +5,8 @@ ghost use Rattle.svn_dump.specs.Record.{most_components};
 ghost use Rattle.svn_dump.specs.declared.record.NodeRecord.{NodeRecord};
 ghost use Rattle.svn_path.specs.Path.{same_name};
 ghost use Rattle.block_map.specs.Ends.{HaveSources, ends_of};
-ghost use Rattle.block_map.specs.Look.{IsFoundFrom};
-ghost use Rattle.block_map.specs.Map.{IsEndIn, IsMapOfFirst, IsNearestOrNone, found_view, hi_of, look_in, most_nodes, records_at_ticks, revision_in, state_in};
+ghost use Rattle.block_map.specs.Look.{IsFoundAtOrBefore};
+ghost use Rattle.block_map.specs.Map.{IsEndIn, IsMapOfFirstRecords, IsNearestOrNone, found_view, hi_of, look_in, most_nodes, records_at_ticks, revision_in, state_in};
 ghost use Rattle.block_map.specs.Standing.{entry_view, mergeinfo_of, own_mergeinfo_at, standing_at, standing_of};
 
 use crate::block::Block;
@@ -32,7 +32,8 @@ impl Model for Map {
 
     ghost Value = { MapValue };
 
-    ghost view = { λ m. record { lo = m.block.start; records = m.block.records.records; nodes = length m.block.trie.nodes } };
+    ghost view = { λ m.
+        record { lo = m.block.start; records = m.block.records.records; nodes = length m.block.trie.nodes } };
 
     ghost invariant = { λ m. IsMapBlock m.block };
 }
@@ -54,7 +55,7 @@ impl Map {
 
         // Of the first records of a dump it is a map that shows what the records of the dump say.
         ensures of_first { (dump : DumpValue) (more : List NodeRecord) → start ≡ 0 → ends.now ≡ ends_of dump.counts
-            → dump.records ≡ records.now ++ more → IfOk result (IsMapOfFirst dump) }
+            → dump.records ≡ records.now ++ more → IfOk result (IsMapOfFirstRecords dump) }
     {
         let mut block = Block::new(alloc, start);
         for record in records {
@@ -90,7 +91,7 @@ impl Map {
         requires after { self.now.lo ≤ tick }
         requires within { tick ≤ hi_of self.now }
         ensures exact { IfOk result (λ found. found_view found ≡ look_in self.now tick path.now) }
-        ensures earlier { IfOk result (λ found. IsFoundFrom self.now.lo (found_view found)) }
+        ensures earlier { IfOk result (λ found. IsFoundAtOrBefore self.now.lo (found_view found)) }
     {
         self.block.look(tick, path)
     }
@@ -99,13 +100,16 @@ impl Map {
     pub fn entry(&self, tick: u32, path: &Path) -> Result<Option<Entry>, AllocError>
         requires begins { self.now.lo ≡ 0 }
         requires within { tick ≤ hi_of self.now }
-        ensures found { IfOk result (λ entry. option_map entry_view entry ≡ standing_of (look_in self.now tick path.now)) }
+        ensures found { IfOk result (λ entry.
+            option_map entry_view entry ≡ standing_of (look_in self.now tick path.now)) }
 
         // In a map of the first records of a dump it is what the tree has after so many records, and at the end of a
         // revision what the tree of that revision has.
-        ensures of_dump { (dump : _) → IsDump dump → IsMapOfFirst dump self.now → IfOk result (λ entry.
+        ensures of_dump { (dump : _) → IsDump dump → IsMapOfFirstRecords dump self.now
+            → IfOk result (λ entry.
             option_map entry_view entry ≡ standing_at same_name (state_in dump tick) path.now) }
-        ensures of_revision { (dump : _) (rev : _) → IsMapOfFirst dump self.now → IsEndIn dump rev tick → IfOk result (λ entry.
+        ensures of_revision { (dump : _) (rev : _) → IsMapOfFirstRecords dump self.now → IsEndIn dump rev tick
+            → IfOk result (λ entry.
             option_map entry_view entry ≡ standing_at same_name (revision_in dump rev) path.now) }
     {
         Ok(self.standing(tick, path.parts()))
@@ -119,7 +123,7 @@ impl Map {
         ensures found { IfOk result (IsNearestOrNone (λ above. mergeinfo_of (look_in self.now tick above)) path.now) }
 
         // In a map of the first records of a dump, at the end of a revision, it is that of the tree of the revision.
-        ensures of_revision { (dump : _) (rev : _) → IsMapOfFirst dump self.now → IsEndIn dump rev tick → IfOk result
+        ensures of_revision { (dump : _) (rev : _) → IsMapOfFirstRecords dump self.now → IsEndIn dump rev tick → IfOk result
             (IsNearestOrNone (own_mergeinfo_at same_name (revision_in dump rev)) path.now) }
     {
         Ok(self.block.nearest(tick, path.parts()))

@@ -94,7 +94,7 @@ impl Node {
     }
 
     /// The same with the mergeinfo that a record leaves.
-    pub(crate) fn settled(self, mi: Mi) -> Node
+    pub(crate) fn with_setting(self, mi: Mi) -> Node
         ensures { result ≡ node_settled (setting_view mi) self }
     {
         match mi {

@@ -1,6 +1,6 @@
 //! Maps from names to nodes that share their parts.
 ghost use Rattle.std.specs.Prelude.{◌≡◌, ◌<◌, ◌≤◌, ◌≢◌, ◌++◌, ◌∷◌, [], length, ◌+◌, ◌%◌, ◌==◌, if◌then◌else◌, IfOk, OnErr, OnOk};
-ghost use Rattle.block_map.specs.Parts.{child_in, found_within, part_at, AreMore, AreOrdered, HasOne, HasSides, HasTwo, HaveNodesBelow, IsOrderedAfter, SetsChild};
+ghost use Rattle.block_map.specs.Parts.{child_in, part_at, AreMore, AreOrdered, HasOne, HasSides, HasTwo, HaveNodesBelow, IsOrderedAfter, SetsChild};
 
 use crate::part::{NodeId, Part, PartId};
 use std::alloc::{AllocError, Global};
@@ -73,10 +73,12 @@ impl Parts {
         ensures more { OnOk result (AreMore self.old self.new) }
         ensures within { IfOk result (λ after. after.0 ≤ length self.new) }
         ensures exact { IfOk result (SetsChild self.old self.new map name.0 node) }
-        ensures nodes { (count : _) → HaveNodesBelow count self.old → node.0 < count → OnOk result (HaveNodesBelow count self.new) }
+        ensures nodes { (count : _) → HaveNodesBelow count self.old → node.0 < count
+            → OnOk result (HaveNodesBelow count self.new) }
         ensures ordered { AreOrdered self.new }
         ensures failed_more { OnErr result (AreMore self.old self.new) }
-        ensures failed_nodes { (count : _) → HaveNodesBelow count self.old → node.0 < count → OnErr result (HaveNodesBelow count self.new) }
+        ensures failed_nodes { (count : _) → HaveNodesBelow count self.old → node.0 < count
+            → OnErr result (HaveNodesBelow count self.new) }
     {
         self.set_bits(map, name.0, node)
     }
@@ -179,7 +181,8 @@ impl Parts {
         ensures more { AreMore self.old self.new }
         ensures within { IfOk result (λ after. after.0 ≤ length self.new) }
         ensures exact { IfOk result (HasTwo self.new one one_node other other_node) }
-        ensures nodes { (count : _) → HaveNodesBelow count self.old → one_node.0 < count → other_node.0 < count → HaveNodesBelow count self.new }
+        ensures nodes { (count : _) → HaveNodesBelow count self.old → one_node.0 < count → other_node.0 < count
+            → HaveNodesBelow count self.new }
         ensures ordered { AreOrdered self.new }
     {
         if one % 2 == other % 2 {

@@ -1,7 +1,7 @@
 //! Places before the records of a map.
 ghost use Rattle.std.specs.Prelude.{◌≡◌, ◌++◌, IfOk};
 
-use std::alloc::{AllocError, Global};
+use std::alloc::AllocError;
 use svn_path::{NameId, Path};
 
 /// The number of a place.
@@ -17,13 +17,11 @@ pub(crate) struct Place {
 
 impl Place {
     /// The place at these components below it.
-    pub(crate) fn below(&self, alloc: Global, rest: &[NameId]) -> Result<Self, AllocError>
+    pub(crate) fn below(&self, rest: &[NameId]) -> Result<Self, AllocError>
         ensures { IfOk result (λ place. place ≡ record { path = self.now.path ++ rest.now; tick = self.now.tick }) }
     {
-        let mut parts = Vec::from_slice(alloc, self.path.parts())?;
-        parts.extend_from_slice(rest)?;
         Ok(Place {
-            path: Path::of(alloc, parts.as_slice())?,
+            path: self.path.join(rest)?,
             tick: self.tick,
         })
     }

@@ -3,7 +3,7 @@ ghost use Rattle.std.specs.Prelude.{◌≡◌, ◌+◌, ◌<◌, ◌++◌, ◌�
 ghost use Rattle.block_map.specs.Look.{with_mergeinfo as changed};
 ghost use Rattle.block_map.specs.Map.{IsNearestOrNone, found_view, nearest_view};
 ghost use Rattle.block_map.specs.Standing.{entry_view, mergeinfo_of, standing_of};
-ghost use Rattle.block_map.specs.Trie.{HasPlace, IsAroundOf, IsRegionAround, IsCopiedNode, IsGrown, IsNodeOf, IsPlaceAround, IsPositionOf, IsSound, PutsNode, around_inside, as_at, at_path, at_root, child_at, child_of, found_at, found_below, mergeinfo_below, position_view};
+ghost use Rattle.block_map.specs.Trie.{HasPlace, IsAroundOf, IsRegionAround, IsCopiedNode, IsGrown, IsNodeOf, IsPlaceAround, IsPositionOf, IsSound, PutsNode, around_inside, as_at, child_at, child_of, found_at, mergeinfo_below, position_view};
 
 use crate::entry::Entry;
 use crate::found::Found;
@@ -16,7 +16,7 @@ use crate::position::{Around, Position};
 use std::alloc::{AllocError, Global};
 use std::marker::Model;
 use svn_dump::ValueId;
-use svn_path::{NameId, Path};
+use svn_path::{NameId};
 
 /// The nodes of trees, the maps of their children, and the places that they name. Nothing in it ever changes.
 #[derive(Drop)]
@@ -36,8 +36,8 @@ impl Model for Trie {
     ghost invariant = { λ t. IsSound (record { nodes = t.nodes.items; parts = t.parts; places = t.places.items }) };
 }
 
-/// The number of the next element of a list. A list of 4,294,967,295 elements takes no other: that is reported as want of
-/// memory.
+/// The number of the next element of a list. A list of 4,294,967,295 elements takes no other: that is reported as want
+/// of memory.
 fn next_number(len: usize) -> Result<u32, AllocError>
     ensures { IfOk result (λ number. number ≡ len) }
 {
@@ -159,7 +159,8 @@ impl Trie {
         ensures around { (path : _) → length path ≡ depth → IsAroundOf self.now path position.around
             → IsAroundOf self.now (path ++ name ∷ []) result.around }
         ensures is { (path : _) → length path ≡ depth → IsAroundOf self.now path position.around
-            → position_view self.now (path ++ name ∷ []) result ≡ child_at self.now (position_view self.now path position) name }
+            → position_view self.now (path ++ name ∷ []) result
+            ≡ child_at self.now (position_view self.now path position) name }
     {
         let Some(node) = position.node else {
             return position;
@@ -199,14 +200,15 @@ impl Trie {
             return Ok(None);
         };
         let (_, rest) = path.split_at(from);
-        Ok(Some(front.below(*self.nodes.allocator(), rest)?))
+        Ok(Some(front.below(rest)?))
     }
 
     /// What is found at a position.
     pub(crate) fn found(&self, position: Position, path: &[NameId]) -> Result<Found, AllocError>
         requires node { IfSome position.node (IsNodeOf self.now) }
         requires around { IsAroundOf self.now path.now position.around }
-        ensures { IfOk result (λ found. found_view found ≡ found_at self.now (position_view self.now path.now position)) }
+        ensures { IfOk result (λ found.
+            found_view found ≡ found_at self.now (position_view self.now path.now position)) }
     {
         let Some(node) = position.node else {
             return Ok(found_around(self.place(position.around, path)?));
@@ -254,7 +256,8 @@ impl Trie {
 
     /// What stands at a position, if it is known.
     pub(crate) fn entry(&self, position: Position) -> Option<Entry>
-        ensures { (path : _) → option_map entry_view result ≡ standing_of (found_at self.now (position_view self.now path position)) }
+        ensures { (path : _) → option_map entry_view result
+            ≡ standing_of (found_at self.now (position_view self.now path position)) }
     {
         match position.node {
             Some(

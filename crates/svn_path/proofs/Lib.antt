@@ -3,6 +3,6 @@ pub mod Components
 pub mod Keys
 pub mod Orders
 pub mod Tables
-mod Exits
+pub mod Exits
 mod Printed
 mod Reading

@@ -1,6 +1,6 @@
 -- The components of a path. Subversion's dump format notes give paths as bytes, cut at `/`; the names `.` and
 -- `..` stand in no repository (Subversion book, "Repository URLs and paths").
-use Rattle.std.specs.Prelude.{ℕ, ◌==◌, Bool, true, false, ◌||◌, List, [], ◌∷◌, filter, IsTrue, IsFalse, bytes_eq, codes, flat_map}
+use Rattle.std.specs.Prelude.{ℕ, ◌==◌, Bool, ◌||◌, List, [], ◌∷◌, filter, IsTrue, IsFalse, bytes_eq, codes, flat_map}
 use Rattle.std.specs.List.{slice_split, list_any}
 use Rattle.svn_text.specs.Bytes.{is_not_empty}
 

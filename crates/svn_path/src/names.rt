@@ -1,5 +1,5 @@
 //! The table of names that the components of paths are numbers of.
-ghost use Rattle.std.specs.Prelude.{◌≡◌, ◌≢◌, ℕ, ◌<◌, ◌≤◌, ◌↔◌, List, [], Some, All, length, slice_get, bytes_eq, IsTrue, IsOk, IsSome, IfOk, IfSome, OnErr, IsErrOf};
+ghost use Rattle.std.specs.Prelude.{◌≡◌, ℕ, ◌<◌, ◌≤◌, ◌↔◌, List, [], Some, All, length, slice_get, bytes_eq, IsTrue, IsOk, IsSome, IfOk, IfSome, OnErr, IsErrOf};
 ghost use Rattle.std.specs.List.{IsDistinct};
 ghost use Rattle.svn_path.specs.Components.{IsComponent};
 ghost use Rattle.svn_path.specs.Names.{has_name, with_name, most_names, HasNoRoomFor};

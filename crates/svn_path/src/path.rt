@@ -1,5 +1,5 @@
 //! A path as the list of the numbers of its components.
-ghost use Rattle.std.specs.Prelude.{◌≡◌, ◌≢◌, ℕ, ◌<◌, ◌↔◌, List, [], ◌++◌, Some, All, drop, take, length, option_map, is_some, IsTrue, IfOk, OnOk, OnErr, IsErrOf, refl};
+ghost use Rattle.std.specs.Prelude.{◌≡◌, ℕ, ◌<◌, ◌↔◌, List, [], ◌++◌, Some, drop, take, length, IsTrue, IfOk, OnOk, OnErr, IsErrOf, refl};
 ghost use Rattle.std.specs.Cmp.{partial_equiv_from_equiv, partial_order_from_agreeing_total};
 ghost use Rattle.std.specs.Cmp.Lexicographic.{pointwise, slice_cmp};
 ghost use Rattle.std.specs.Ordering.{as_partial_cmp};
@@ -236,17 +236,23 @@ impl Path {
         }
     }
 
+    /// The path of these components below this path.
+    pub fn join(&self, rest: &[NameId]) -> Result<Self, AllocError>
+        ensures { IfOk result (λ path. path ≡ self.now ++ rest.now) }
+    {
+        let mut parts = Vec::with_capacity(*self.parts.allocator(), self.len() + rest.len())?;
+        parts.extend_from_slice(self.parts())?;
+        parts.extend_from_slice(rest)?;
+        Ok(Path { parts })
+    }
+
     /// The same path with `to` in place of `from` at its front.
     pub fn rebase(&self, from: &Path, to: &Path) -> Result<Self, AllocError>
         requires { IsTrue (is_below same_name from.now self.now) }
         ensures { IfOk result (λ path. path ≡ to.now ++ drop (length from.now) self.now) }
     {
         let (_, rest) = self.parts().split_at(from.len());
-        let front = to.parts();
-        let mut parts = Vec::with_capacity(*self.parts.allocator(), front.len() + rest.len())?;
-        parts.extend_from_slice(front)?;
-        parts.extend_from_slice(rest)?;
-        Ok(Path { parts })
+        to.join(rest)
     }
 
     /// Appends the path as it is printed.

@@ -9,7 +9,7 @@ use Rattle.block_map.specs.FaultFound.{fault_found}
 use Rattle.block_map.specs.Ends.{HasSourceBefore, ends_of}
 use Rattle.block_map.specs.Map.{standings_in, state_in}
 use Rattle.block_map.specs.Standing.{standing_at}
-use Rattle.block_map.proofs.FaultsFound.{fault_after-found}
+use Rattle.block_map.proofs.FaultsFound.{fault_of_next_record-found}
 use Rattle.block_map.proofs.FaultsSame.{fault_found-same}
 use Rattle.block_map.proofs.Sources.{HaveSources-dump}
 use Rattle.block_map.proofs.Standings.{standing-look}
@@ -45,4 +45,4 @@ returns c =
     ∙ fault_found-same (standings_in map) (λ tick path. standing_at same_name (state_in dump tick) path) place
     (λ earlier path upto. standing-look dump kept map c.requires.map.first earlier path (omega (arith, upto, c.requires.some, c.requires.within, c.requires.map.whole)))
     (ends_of dump.counts) each.path each.act (source_before dump kept place each at)
-    ∙ sym (fault_after-found dump kept place each at)
+    ∙ sym (fault_of_next_record-found dump kept place each at)

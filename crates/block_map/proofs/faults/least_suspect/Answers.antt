@@ -8,7 +8,7 @@ use Rattle.rayon.specs.Lists.{IsLeast, range_start, range_end}
 use Rattle.rayon.specs.Numbers.{nat_range}
 use Rattle.rayon.proofs.ToStd.{nat_range-All, IsLeast-All}
 use Rattle.svn_dump.specs.Dump.{DumpValue, history_view}
-use Rattle.svn_dump.specs.State.{fault_after}
+use Rattle.svn_dump.specs.State.{fault_of_next_record}
 use Rattle.svn_path.specs.Path.{same_name}
 use Rattle.block_map.specs.Ends.{ends_of}
 use Rattle.block_map.specs.Map.{IsMapOf}
@@ -16,7 +16,7 @@ use Rattle.block_map.proofs.faults.least_suspect.Goals as goal
 
 -- the record in a place has no fault
 abbrev IsFine : DumpValue → ℕ → Type 0
-IsFine dump place = fault_after same_name (history_view dump) place ≡ None
+IsFine dump place = fault_of_next_record same_name (history_view dump) place ≡ None
 
 -- a record's number, or the largest number, which is answered only where the record has no fault
 abbrev IsAnswer : DumpValue → ℕ → ℕ → Type 0

@@ -6,7 +6,7 @@ use Rattle.block_map.specs.Block.{ShowsPath}
 use Rattle.block_map.specs.Node.{untouched}
 use Rattle.block_map.specs.Trie.{IsNodeOf, IsPositionOf, at_path, at_root}
 use Rattle.block_map.proofs.CopiedNodes.{IsNodeOf-untouched}
-use Rattle.block_map.proofs.RecordNodes.{IsNodeOf-settled, ShowsAction-add, ShowsAction-change, ShowsAction-copy, ShowsAction-delete}
+use Rattle.block_map.proofs.RecordNodes.{IsNodeOf-with_setting, ShowsAction-add, ShowsAction-change, ShowsAction-copy, ShowsAction-delete}
 use Rattle.block_map.proofs.block.Block.node_after.Goals as goal
 
 pub returns-in-Delete-clause-after : goal.returns-in-Delete-clause-after
@@ -39,7 +39,7 @@ returns-in_ok-node-in-Copy-clause-after c =
     let tick : c.at.result ≡ get_or c.args.ends.now c.in-Copy.from_rev 0 = c.at.ensures in
     let shows : ShowsPath block (get_or c.args.ends.now c.in-Copy.from_rev 0) c.in-Copy.from node =
     rw (← tick, ← c.parts-in-Copy.ensures) c.in_ok-node-in-Copy.ensures.shows in
-    rw (c.settled.ensures, c.in-Copy.is) (
-      IsNodeOf-settled block.trie (setting_view c.in-Copy.mi) node c.in_ok-node-in-Copy.ensures.sound,
+    rw (c.with_setting.ensures, c.in-Copy.is) (
+      IsNodeOf-with_setting block.trie (setting_view c.in-Copy.mi) node c.in_ok-node-in-Copy.ensures.sound,
       ShowsAction-copy block c.args.root path c.in-Copy.replace c.in-Copy.from (get_or c.args.ends.now c.in-Copy.from_rev 0) (setting_view c.in-Copy.mi) node shows,
     )

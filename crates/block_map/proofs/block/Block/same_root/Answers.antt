@@ -1,7 +1,7 @@
 use Rattle.std.proofs.Common.{◌≡◌, ◌-◌, Some, length, sym, ap, subst, ◌∙◌}
 use Rattle.std.specs.Prelude.{option_copied, slice_get}
 use Rattle.block_map.specs.Block.{end_of_block}
-use Rattle.block_map.proofs.BlockLooks.{IfOk-both, IsRootAt-last, IsRootAt-pushed}
+use Rattle.block_map.proofs.BlockLooks.{IfOk-kept, IsRootAt-last, IsRootAt-pushed}
 use Rattle.block_map.proofs.block.Block.same_root.Goals as goal
 
 pub returns-in-Some-clause-shows : goal.returns-in-Some-clause-shows
@@ -14,6 +14,6 @@ returns-in-Some-clause-shows c =
 pub returns-in-None-clause-shows : goal.returns-in-None-clause-shows
 returns-in-None-clause-shows c =
     let block = c.args.self.now in
-    IfOk-both c.push.result _ _ _
+    IfOk-kept c.push.result _ _ _
     (λ id at added. IsRootAt-pushed block c.push.new.self (end_of_block block) c.args.root id c.push.ensures.trie c.requires.sound c.requires.shows at added)
     c.push.ensures.id c.push.ensures.added

@@ -2,7 +2,7 @@ use Rattle.std.proofs.Common.{[], ◌∷◌, ◌++◌, ap, ◌∙◌, arith}
 use Rattle.svn_dump.specs.Dump.{record_view}
 use Rattle.block_map.specs.Ends.{record_at_tick}
 use Rattle.block_map.specs.Map.{records_at_ticks}
-use Rattle.block_map.proofs.MapsOfDumps.{IsMapOfFirst-built}
+use Rattle.block_map.proofs.MapsOfDumps.{IsMapOfFirstRecords-built}
 use Rattle.block_map.proofs.MapsBuilt.{IsBuiltOf-all, IsBuiltOf-more, IsBuiltOf-none, end_of-taken, source-of_next}
 use Rattle.block_map.proofs.map.Map.build.Goals as goal
 
@@ -37,5 +37,5 @@ returns-clause-nodes c = (IsBuiltOf-all c.args.start c.args.ends.now c.args.reco
 pub returns-clause-of_first : goal.returns-clause-of_first
 returns-clause-of_first c = λ dump more zero ends_are all.
     let built = IsBuiltOf-all c.args.start c.args.ends.now c.args.records.now c.loop-record.record-index c.loop-record.block c.loop-record-test.false c.loop-record.invariant in
-    IsMapOfFirst-built dump _ c.args.records.now more (built.start_is ∙ zero) all
+    IsMapOfFirstRecords-built dump _ c.args.records.now more (built.start_is ∙ zero) all
     (built.records_are ∙ ap (λ ends. records_at_ticks ends c.args.records.now) ends_are)

@@ -2,14 +2,14 @@ use Rattle.std.proofs.Common.{◌≡◌, sym, subst}
 use Rattle.std.specs.Prelude.{IfOk}
 use Rattle.std.proofs.lemmas.Result.{IfOk-weaker}
 use Rattle.svn_path.specs.Path.{same_name}
-use Rattle.block_map.specs.Look.{IsFoundFrom}
+use Rattle.block_map.specs.Look.{IsFoundAtOrBefore}
 use Rattle.block_map.specs.Map.{found_view, look_in}
-use Rattle.block_map.proofs.FoundFrom.{IsFoundFrom-look}
+use Rattle.block_map.proofs.FoundFrom.{IsFoundAtOrBefore-look}
 use Rattle.block_map.proofs.map.Map.look.Goals as goal
 
 pub returns-clause-earlier : goal.returns-clause-earlier
 returns-clause-earlier c =
     let map = c.args.self.now in
-    IfOk-weaker c.look.result (λ found. found_view found ≡ look_in map c.args.tick c.args.path.now) (λ found. IsFoundFrom map.lo (found_view found))
-    (λ found exact. subst (IsFoundFrom map.lo) (sym exact) (IsFoundFrom-look same_name map.lo map.records c.args.tick c.args.path.now))
+    IfOk-weaker c.look.result (λ found. found_view found ≡ look_in map c.args.tick c.args.path.now) (λ found. IsFoundAtOrBefore map.lo (found_view found))
+    (λ found exact. subst (IsFoundAtOrBefore map.lo) (sym exact) (IsFoundAtOrBefore-look same_name map.lo map.records c.args.tick c.args.path.now))
     (subst (λ map. IfOk c.look.result (λ found. found_view found ≡ look_in map c.args.tick c.args.path.now)) c.self.view_is c.look.ensures)

@@ -1,5 +1,6 @@
 use Rattle.block_map.specs.Parts.{HaveNodesBelow}
-use Rattle.block_map.proofs.PartLookups.{OnErr-from, OnOk-from}
+use Rattle.svn_path.proofs.Exits.{OnErr-from}
+use Rattle.block_map.proofs.PartLookups.{OnOk-from}
 use Rattle.block_map.proofs.parts.Parts.set.Goals as goal
 
 pub returns-clause-nodes : goal.returns-clause-nodes
@@ -8,4 +9,4 @@ returns-clause-nodes c count below within =
 
 pub returns-clause-failed_nodes : goal.returns-clause-failed_nodes
 returns-clause-failed_nodes c count below within =
-    OnErr-from c.set_bits.result (HaveNodesBelow count c.set_bits.new.self) (c.set_bits.ensures.nodes count below within)
+    OnErr-from c.set_bits.result (c.set_bits.ensures.nodes count below within)
