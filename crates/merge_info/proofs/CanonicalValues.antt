@@ -11,12 +11,12 @@ use Rattle.std.specs.List.{list_any}
 use Rattle.std.specs.Ordering.{is_eq, match_ordering, nat_cmp, ordering_reverse}
 use Rattle.std.specs.declared.cmp.Ordering.TheVariants.{Less, Equal, Greater}
 use Rattle.range_list.specs.Canonical.{canonical_runs}
-use Rattle.range_list.specs.Rangelist.{HasSame, IsCanonical, IsRun}
+use Rattle.range_list.specs.Rangelist.{HasSameNumbers, IsCanonical, IsRun}
 use Rattle.range_list.specs.declared.run.Run.{Run}
-use Rattle.range_list.proofs.Maximal.{canonical_runs-HasSame, canonical_runs-IsCanonical}
+use Rattle.range_list.proofs.Maximal.{canonical_runs-HasSameNumbers, canonical_runs-IsCanonical}
 use Rattle.merge_info.specs.CanonicalValue.{canonical_value, has_runs, insert_path, is_some_run, line_at, paths_of}
 use Rattle.merge_info.specs.Line.{IsLine, IsPrintedPath, Line}
-use Rattle.merge_info.specs.Value.{AreRising, HasSameRuns, IsEntry, IsMergeInfo, runs_at}
+use Rattle.merge_info.specs.Value.{AreRising, HasSameRevisions, IsEntry, IsMergeInfo, runs_at}
 use Rattle.merge_info.proofs.OnlyValues.{IsPathBefore, same_values}
 use Rattle.merge_info.proofs.RunsAt.{runs_at-cons, runs_of}
 
@@ -180,20 +180,20 @@ module _ (lines : List Line) where
     unfolding canonical_value
     IsMergeInfo-canonical_value = record { entries = AreEntries-canonical; rising = AreRising-kept (paths_of lines) (paths_of-rising lines) }
 
-    pub HasSameRuns-canonical_value : HasSameRuns (canonical_value lines) lines
+    pub HasSameRevisions-canonical_value : HasSameRevisions (canonical_value lines) lines
     unfolding canonical_value
-    HasSameRuns-canonical_value path = by (has_path path (paths_of lines)) refl
+    HasSameRevisions-canonical_value path = by (has_path path (paths_of lines)) refl
       where
-        by : (there : Bool) → has_path path (paths_of lines) ≡ there → HasSame (runs_at (kept (paths_of lines)) path) (runs_at lines path)
+        by : (there : Bool) → has_path path (paths_of lines) ≡ there → HasSameNumbers (runs_at (kept (paths_of lines)) path) (runs_at lines path)
         by true there =
-            subst (λ runs. HasSame runs (runs_at lines path)) (sym (runs_at-kept (paths_of lines) path (paths_of-rising lines) ∙ ap (λ b. cond b (canonical_runs (runs_at lines path)) []) there))
-            (canonical_runs-HasSame (runs_at lines path) (AreRuns-runs_at lines path all))
+            subst (λ runs. HasSameNumbers runs (runs_at lines path)) (sym (runs_at-kept (paths_of lines) path (paths_of-rising lines) ∙ ap (λ b. cond b (canonical_runs (runs_at lines path)) []) there))
+            (canonical_runs-HasSameNumbers (runs_at lines path) (AreRuns-runs_at lines path all))
         by false absent =
-            subst (λ runs. HasSame runs (runs_at lines path)) (sym (runs_at-kept (paths_of lines) path (paths_of-rising lines) ∙ ap (λ b. cond b (canonical_runs (runs_at lines path)) []) absent))
-            (subst (HasSame []) (sym (runs_at-absent lines path absent)) (λ n. (refl, refl)))
+            subst (λ runs. HasSameNumbers runs (runs_at lines path)) (sym (runs_at-kept (paths_of lines) path (paths_of-rising lines) ∙ ap (λ b. cond b (canonical_runs (runs_at lines path)) []) absent))
+            (subst (HasSameNumbers []) (sym (runs_at-absent lines path absent)) (λ n. (refl, refl)))
 
     -- no other value has them
-    pub canonical_value-only : (value : List Line) → IsMergeInfo value → HasSameRuns value lines → value ≡ canonical_value lines
+    pub canonical_value-only : (value : List Line) → IsMergeInfo value → HasSameRevisions value lines → value ≡ canonical_value lines
     canonical_value-only value is same =
         same_values value (canonical_value lines) is IsMergeInfo-canonical_value
-        (λ path n. ((same path n).0 ∙ sym (HasSameRuns-canonical_value path n).0, (same path n).1 ∙ sym (HasSameRuns-canonical_value path n).1))
+        (λ path n. ((same path n).0 ∙ sym (HasSameRevisions-canonical_value path n).0, (same path n).1 ∙ sym (HasSameRevisions-canonical_value path n).1))

@@ -10,23 +10,23 @@ use Rattle.std.specs.Cmp.Lexicographic.{lists_agrees, slice_cmp, slice_partial_c
 use Rattle.std.specs.List.Sorted.{IsPartitionPoint, IsPartitionedBy}
 use Rattle.std.specs.Ordering.{nat_cmp, is_eq, is_lt, is_some_and}
 use Rattle.std.specs.declared.cmp.Ordering.TheVariants.{Less, Equal, Greater}
-use Rattle.range_list.specs.Rangelist.{HasSame, IsCanonical}
+use Rattle.range_list.specs.Rangelist.{HasSameNumbers, IsCanonical}
 use Rattle.range_list.specs.declared.run.Run.{Run}
-use Rattle.range_list.proofs.Same.{HasSame-append, HasSame-refl}
+use Rattle.range_list.proofs.Same.{HasSameNumbers-append, HasSameNumbers-refl}
 use Rattle.merge_info.specs.Line.{IsLine, Line}
 use Rattle.merge_info.specs.United.{RunsOfPaths, UnitesLines, lines_in}
-use Rattle.merge_info.specs.Value.{AreRising, HasSameRuns, IsEntry, IsMergeInfo, entry_view, ranges_of, runs_at, some_runs}
+use Rattle.merge_info.specs.Value.{AreRising, HasSameRevisions, IsEntry, IsMergeInfo, entry_view, ranges_of, runs_at, some_runs}
 use Rattle.merge_info.specs.declared.entry.Entry.{Entry}
 use Rattle.merge_info.proofs.RunsAt.{runs_at-append, runs_at-cons, runs_of}
 
 -- a line with other runs of the same numbers
-HasSame-runs_of : (path : List ℕ) (a b : List Run) (each : List ℕ) → HasSame a b
-    → HasSame (runs_of (record { path = path; runs = a }) each) (runs_of (record { path = path; runs = b }) each)
-HasSame-runs_of path a b each same = by (bytes_eq path each)
+HasSameNumbers-runs_of : (path : List ℕ) (a b : List Run) (each : List ℕ) → HasSameNumbers a b
+    → HasSameNumbers (runs_of (record { path = path; runs = a }) each) (runs_of (record { path = path; runs = b }) each)
+HasSameNumbers-runs_of path a b each same = by (bytes_eq path each)
   where
-    by : (t : Bool) → HasSame (cond t a []) (cond t b [])
+    by : (t : Bool) → HasSameNumbers (cond t a []) (cond t b [])
     by true = same
-    by false = HasSame-refl []
+    by false = HasSameNumbers-refl []
 
 -- ---- a line between others
 
@@ -37,19 +37,19 @@ runs_at-middle front line back path =
     runs_at-append front (line ∷ back) path ∙ ap (λ rest. runs_at front path ++ rest) (runs_at-cons line back path)
 
 -- the runs of a line replaced
-HasSameRuns-middle : (front : List Line) (line : Line) (back : List Line) (runs : List Run) → HasSame runs line.runs
-    → HasSameRuns (front ++ record { path = line.path; runs = runs } ∷ back) (front ++ line ∷ back)
-HasSameRuns-middle front line back runs same path =
-    subst (λ all. HasSame (runs_at (front ++ record { path = line.path; runs = runs } ∷ back) path) all)
+HasSameRevisions-middle : (front : List Line) (line : Line) (back : List Line) (runs : List Run) → HasSameNumbers runs line.runs
+    → HasSameRevisions (front ++ record { path = line.path; runs = runs } ∷ back) (front ++ line ∷ back)
+HasSameRevisions-middle front line back runs same path =
+    subst (λ all. HasSameNumbers (runs_at (front ++ record { path = line.path; runs = runs } ∷ back) path) all)
     (sym (runs_at-middle front line back path))
-    (subst (λ all. HasSame all (runs_at front path ++ (runs_of line path ++ runs_at back path)))
+    (subst (λ all. HasSameNumbers all (runs_at front path ++ (runs_of line path ++ runs_at back path)))
     (sym (runs_at-middle front (record { path = line.path; runs = runs }) back path))
-    (HasSame-append (runs_at front path) (runs_at front path)
+    (HasSameNumbers-append (runs_at front path) (runs_at front path)
     (runs_of (record { path = line.path; runs = runs }) path ++ runs_at back path)
-    (runs_of line path ++ runs_at back path) (HasSame-refl (runs_at front path))
-    (HasSame-append (runs_of (record { path = line.path; runs = runs }) path) (runs_of line path) (runs_at back path)
-    (runs_at back path) (HasSame-runs_of line.path runs line.runs path same)
-    (HasSame-refl (runs_at back path)))))
+    (runs_of line path ++ runs_at back path) (HasSameNumbers-refl (runs_at front path))
+    (HasSameNumbers-append (runs_of (record { path = line.path; runs = runs }) path) (runs_of line path) (runs_at back path)
+    (runs_at back path) (HasSameNumbers-runs_of line.path runs line.runs path same)
+    (HasSameNumbers-refl (runs_at back path)))))
 
 -- a line without runs left out
 runs_at-without : (front : List Line) (path : List ℕ) (back : List Line) (each : List ℕ)
@@ -64,8 +64,8 @@ runs_at-without front path back each =
     by false = refl
 
 -- one list after another
-HasSameRuns-trans : (a b c : List Line) → HasSameRuns a b → HasSameRuns b c → HasSameRuns a c
-HasSameRuns-trans a b c first second path n =
+HasSameRevisions-trans : (a b c : List Line) → HasSameRevisions a b → HasSameRevisions b c → HasSameRevisions a c
+HasSameRevisions-trans a b c first second path n =
     ((first path n).0 ∙ (second path n).0, (first path n).1 ∙ (second path n).1)
 
 -- ---- rising paths
@@ -97,7 +97,7 @@ pub record IsSoFar (lines entries rest : List Line) : Type 0 where
   pub are_entries : All IsEntry entries
   pub are_lines : All IsLine rest
   pub rising : AreRising (entries ++ rest)
-  pub same : HasSameRuns (entries ++ rest) lines
+  pub same : HasSameRevisions (entries ++ rest) lines
 
 -- at the start
 pub IsSoFar-none : (lines : List Line) (united : RunsOfPaths) → UnitesLines lines united
@@ -107,34 +107,34 @@ IsSoFar-none lines united unites = record {
   are_lines = unites.kept;
   rising = unites.rising;
   same =
-      λ path. subst (HasSame (runs_at (lines_in united) path)) (unites.same path)
-      (HasSame-refl (runs_at (lines_in united) path));
+      λ path. subst (HasSameNumbers (runs_at (lines_in united) path)) (unites.same path)
+      (HasSameNumbers-refl (runs_at (lines_in united) path));
 }
 
 -- at the end
 pub IsSoFar-all : (lines entries : List Line) → IsSoFar lines entries []
-    → IsMergeInfo entries × HasSameRuns entries lines
+    → IsMergeInfo entries × HasSameRevisions entries lines
 IsSoFar-all lines entries so_far = (
   record { entries = so_far.are_entries; rising = subst AreRising (append-nil entries) so_far.rising },
-  subst (λ all. HasSameRuns all lines) (append-nil entries) so_far.same,
+  subst (λ all. HasSameRevisions all lines) (append-nil entries) so_far.same,
 )
 
 -- the next line has no number
 pub IsSoFar-skip : (lines entries rest : List Line) (line : Line) → IsSoFar lines entries (line ∷ rest)
-    → HasSame [] line.runs → IsSoFar lines entries rest
+    → HasSameNumbers [] line.runs → IsSoFar lines entries rest
 IsSoFar-skip lines entries rest line so_far none = record {
   are_entries = so_far.are_entries;
   are_lines = All-tail IsLine line rest so_far.are_lines;
   rising = AreRising-without entries line rest so_far.rising;
-  same = HasSameRuns-trans (entries ++ rest) (entries ++ line ∷ rest) lines
-      (λ path. subst (λ all. HasSame all (runs_at (entries ++ line ∷ rest) path))
+  same = HasSameRevisions-trans (entries ++ rest) (entries ++ line ∷ rest) lines
+      (λ path. subst (λ all. HasSameNumbers all (runs_at (entries ++ line ∷ rest) path))
       (runs_at-without entries line.path rest path)
-      (HasSameRuns-middle entries line rest [] none path)) so_far.same;
+      (HasSameRevisions-middle entries line rest [] none path)) so_far.same;
 }
 
 -- the next line gives an entry
 pub IsSoFar-push : (lines entries rest : List Line) (line : Line) (runs : List Run)
-    → IsSoFar lines entries (line ∷ rest) → HasSame runs line.runs → IsCanonical runs → runs ≢ []
+    → IsSoFar lines entries (line ∷ rest) → HasSameNumbers runs line.runs → IsCanonical runs → runs ≢ []
     → IsSoFar lines (entries ++ record { path = line.path; runs = runs } ∷ []) rest
 IsSoFar-push lines entries rest line runs so_far same canonical some =
     let entry : Line = record { path = line.path; runs = runs } in
@@ -146,8 +146,8 @@ IsSoFar-push lines entries rest line runs so_far same canonical some =
       are_lines = All-tail IsLine line rest so_far.are_lines;
       rising = rw together (AreRising-middle entries line rest runs so_far.rising);
       same =
-          rw together (HasSameRuns-trans (entries ++ entry ∷ rest) (entries ++ line ∷ rest) lines
-          (HasSameRuns-middle entries line rest runs same) so_far.same);
+          rw together (HasSameRevisions-trans (entries ++ entry ∷ rest) (entries ++ line ∷ rest) lines
+          (HasSameRevisions-middle entries line rest runs same) so_far.same);
     }
 
 -- ---- the entry of a path

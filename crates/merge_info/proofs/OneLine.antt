@@ -12,7 +12,7 @@ use Rattle.range_list.proofs.Same.{covers-within, is_in-append}
 use Rattle.range_list.specs.Rangelist.{IsCanonical, is_in}
 use Rattle.range_list.specs.declared.run.Run.{Run}
 use Rattle.merge_info.specs.Line.{Line, all_of, elements_of, has_clash, is_colon, line_from, line_of, without_blanks}
-use Rattle.merge_info.specs.Value.{HasSameRuns, IsEntry, IsMergeInfo, IsOnOneLine, is_newline, lines_between, lines_of, runs_at, text_lines}
+use Rattle.merge_info.specs.Value.{HasSameRevisions, IsEntry, IsMergeInfo, IsOnOneLine, is_newline, lines_between, lines_of, runs_at, text_lines}
 
 -- ---- what holds of each byte
 
@@ -139,7 +139,7 @@ first-is_in [] canonical some = absurd (some refl)
 first-is_in (run ∷ []) canonical some = (run.lo, or_left _ _ (covers-within run run.lo (omega arith) canonical.ordered))
 first-is_in (run ∷ next ∷ runs) canonical some = (run.lo, or_left _ _ (covers-within run run.lo (omega arith) canonical.0.ordered))
 
-pub IsOnOneLine-value : (value lines : List Line) → IsMergeInfo value → HasSameRuns value lines → All IsOnOneLine lines → All IsOnOneLine value
+pub IsOnOneLine-value : (value lines : List Line) → IsMergeInfo value → HasSameRevisions value lines → All IsOnOneLine lines → All IsOnOneLine value
 IsOnOneLine-value value lines is same all = λ k d below.
     let entry : Line = get_or value k d in
     let fine : IsEntry entry = is.entries k d below in

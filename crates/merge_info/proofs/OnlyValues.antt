@@ -12,13 +12,13 @@ use Rattle.std.proofs.lemmas.List.Elements.{All-cons, All-head, All-nil, All-tai
 use Rattle.std.proofs.lemmas.Map.Lookups.{exact_bytes}
 use Rattle.std.proofs.lemmas.Map.Text.{is_eq-slice_cmp}
 use Rattle.std.proofs.lemmas.Slice.Eq.{bytes_eq-Decides}
-use Rattle.range_list.specs.Rangelist.{HasSame}
+use Rattle.range_list.specs.Rangelist.{HasSameNumbers}
 use Rattle.range_list.specs.declared.run.Run.{Run}
 use Rattle.range_list.proofs.Only.{only_canonical}
 use Rattle.merge_info.proofs.Entries.{AreRising-tail}
 use Rattle.merge_info.proofs.RunsAt.{runs_at-cons}
 use Rattle.merge_info.specs.Line.{Line}
-use Rattle.merge_info.specs.Value.{AreRising, HasSameRuns, IsBefore, IsEntry, IsMergeInfo, IsOnlyMergeInfo, runs_at}
+use Rattle.merge_info.specs.Value.{AreRising, HasSameRevisions, IsBefore, IsEntry, IsMergeInfo, IsOnlyMergeInfo, runs_at}
 
 -- ---- the runs of a path
 
@@ -54,23 +54,23 @@ runs_at-first line lines rising =
 
 -- ---- two values
 
-HasSameRuns-sym : (a b : List Line) → HasSameRuns a b → HasSameRuns b a
-HasSameRuns-sym a b same path n = (sym (same path n).0, sym (same path n).1)
+HasSameRevisions-sym : (a b : List Line) → HasSameRevisions a b → HasSameRevisions b a
+HasSameRevisions-sym a b same path n = (sym (same path n).0, sym (same path n).1)
 
 -- the same of equal lists
-HasSame-equal : (a b c d : List Run) → a ≡ c → b ≡ d → HasSame a b → HasSame c d
-HasSame-equal a b c d left right same = subst (λ runs. HasSame runs d) left (subst (HasSame a) right same)
+HasSameNumbers-equal : (a b c d : List Run) → a ≡ c → b ≡ d → HasSameNumbers a b → HasSameNumbers c d
+HasSameNumbers-equal a b c d left right same = subst (λ runs. HasSameNumbers runs d) left (subst (HasSameNumbers a) right same)
 
 -- the other value cannot lack the first path
 first_lacks : (line : Line) (lines others : List Line) → IsMergeInfo (line ∷ lines)
-    → All (IsPathBefore line.path) others → HasSameRuns (line ∷ lines) others → ⊥
+    → All (IsPathBefore line.path) others → HasSameRevisions (line ∷ lines) others → ⊥
 first_lacks line lines others value before same =
     let entry = All-head IsEntry line lines value.entries in
     let runs = runs_at-first line lines value.rising in
-    let none = HasSame-equal _ _ line.runs [] runs (runs_at-before others line.path before) (same line.path) in
+    let none = HasSameNumbers-equal _ _ line.runs [] runs (runs_at-before others line.path before) (same line.path) in
     entry.some (only_canonical line.runs [] entry.canonical tt none)
 
-module _ (a b : Line) (more_a more_b : List Line) (value_a : IsMergeInfo (a ∷ more_a)) (value_b : IsMergeInfo (b ∷ more_b)) (same : HasSameRuns (a ∷ more_a) (b ∷ more_b)) where
+module _ (a b : Line) (more_a more_b : List Line) (value_a : IsMergeInfo (a ∷ more_a)) (value_b : IsMergeInfo (b ∷ more_b)) (same : HasSameRevisions (a ∷ more_a) (b ∷ more_b)) where
   -- neither begins with a path before the first of the other
   begins_before : IsBefore a b → ⊥
   begins_before before =
@@ -79,7 +79,7 @@ module _ (a b : Line) (more_a more_b : List Line) (value_a : IsMergeInfo (a ∷ 
   begins_after : IsBefore b a → ⊥
   begins_after after =
       first_lacks b more_b (a ∷ more_a) value_b (AreRising-first b (a ∷ more_a) (after, value_a.rising))
-      (HasSameRuns-sym (a ∷ more_a) (b ∷ more_b) same)
+      (HasSameRevisions-sym (a ∷ more_a) (b ∷ more_b) same)
 
   same_path : a.path ≡ b.path
   same_path = by (slice_cmp nat_cmp a.path b.path) refl
@@ -95,7 +95,7 @@ module _ (a b : Line) (more_a more_b : List Line) (value_a : IsMergeInfo (a ∷ 
       let entry_b = All-head IsEntry b more_b value_b.entries in
       let runs_b = ap (runs_at (b ∷ more_b)) same_path ∙ runs_at-first b more_b value_b.rising in
       only_canonical a.runs b.runs entry_a.canonical entry_b.canonical
-      (HasSame-equal _ _ a.runs b.runs (runs_at-first a more_a value_a.rising) runs_b (same a.path))
+      (HasSameNumbers-equal _ _ a.runs b.runs (runs_at-first a more_a value_a.rising) runs_b (same a.path))
 
   same_first : a ≡ b
   same_first =
@@ -103,7 +103,7 @@ module _ (a b : Line) (more_a more_b : List Line) (value_a : IsMergeInfo (a ∷ 
       ∙ ap (λ (runs : List Run). let line : Line = record { path = b.path; runs = runs } in line) same_runs
 
   -- the later lines give no runs to the first path, and to another path all that it has
-  same_rest : HasSameRuns more_a more_b
+  same_rest : HasSameRevisions more_a more_b
   same_rest path = elim (cases_Bool (bytes_eq a.path path)) [
     | inl first ↦
         let at_a = sym ((bytes_eq-Decides a.path path).0 first) in
@@ -111,13 +111,13 @@ module _ (a b : Line) (more_a more_b : List Line) (value_a : IsMergeInfo (a ∷ 
         let later_b = AreRising-first b more_b value_b.rising in
         let none_a = ap (runs_at more_a) at_a ∙ runs_at-before more_a a.path later_a in
         let none_b = ap (runs_at more_b) (at_a ∙ same_path) ∙ runs_at-before more_b b.path later_b in
-        HasSame-equal [] [] (runs_at more_a path) (runs_at more_b path) (sym none_a) (sym none_b) (λ n. (refl, refl))
+        HasSameNumbers-equal [] [] (runs_at more_a path) (runs_at more_b path) (sym none_a) (sym none_b) (λ n. (refl, refl))
     | inr other ↦
         let without_first = λ (line : Line) (lines : List Line) (apart : bytes_eq line.path path ≡ false).
         runs_at-cons line lines path ∙ ap (λ same. cond same line.runs [] ++ runs_at lines path) apart in
         let rest_a = without_first a more_a other in
         let rest_b = without_first b more_b (ap (λ first. bytes_eq first path) (sym same_path) ∙ other) in
-        HasSame-equal _ _ (runs_at more_a path) (runs_at more_b path) rest_a rest_b (same path)
+        HasSameNumbers-equal _ _ (runs_at more_a path) (runs_at more_b path) rest_a rest_b (same path)
   ]
 
 IsMergeInfo-tail : (line : Line) (lines : List Line) → IsMergeInfo (line ∷ lines) → IsMergeInfo lines
@@ -126,10 +126,10 @@ IsMergeInfo-tail line lines value = record {
   rising = AreRising-tail line lines value.rising;
 }
 
-pub same_values : (a b : List Line) → IsMergeInfo a → IsMergeInfo b → HasSameRuns a b → a ≡ b
+pub same_values : (a b : List Line) → IsMergeInfo a → IsMergeInfo b → HasSameRevisions a b → a ≡ b
 same_values [] [] value_a value_b same = refl
 same_values [] (b ∷ more_b) value_a value_b same =
-    absurd (first_lacks b more_b [] value_b (All-nil (IsPathBefore b.path)) (HasSameRuns-sym [] (b ∷ more_b) same))
+    absurd (first_lacks b more_b [] value_b (All-nil (IsPathBefore b.path)) (HasSameRevisions-sym [] (b ∷ more_b) same))
 same_values (a ∷ more_a) [] value_a value_b same =
     absurd (first_lacks a more_a [] value_a (All-nil (IsPathBefore a.path)) same)
 same_values (a ∷ more_a) (b ∷ more_b) value_a value_b same =

@@ -6,7 +6,7 @@ use Rattle.std.specs.Io.BufRead.{strip_last}
 use Rattle.std.specs.List.{slice_split}
 use Rattle.std.specs.Ordering.{nat_cmp}
 use Rattle.std.specs.declared.cmp.Ordering.TheVariants.{Less}
-use Rattle.range_list.specs.Rangelist.{IsCanonical, HasSame}
+use Rattle.range_list.specs.Rangelist.{IsCanonical, HasSameNumbers}
 use Rattle.range_list.specs.declared.run.Run.{Run}
 use Rattle.merge_info.specs.Line.{IsPrintedPath, Line, all_of, line_of}
 use Rattle.merge_info.specs.declared.entry.Entry.{Entry}
@@ -40,8 +40,8 @@ abbrev pub ranges_of : List Line → List ℕ → Option (List Run)
 ranges_of value path = some_runs (runs_at value path)
 
 -- the two give each path the same revisions
-abbrev pub HasSameRuns : List Line → List Line → Type 0
-HasSameRuns a b = (path : List ℕ) → HasSame (runs_at a path) (runs_at b path)
+abbrev pub HasSameRevisions : List Line → List Line → Type 0
+HasSameRevisions a b = (path : List ℕ) → HasSameNumbers (runs_at a path) (runs_at b path)
 
 -- a path with a rangelist that is not empty
 pub record IsEntry (line : Line) : Type 0 where
@@ -64,7 +64,7 @@ pub record IsMergeInfo (lines : List Line) : Type 0 where
 
 -- no other value gives each path the same revisions
 abbrev pub IsOnlyMergeInfo : List Line → Type 0
-IsOnlyMergeInfo value = (other : List Line) → IsMergeInfo other → HasSameRuns other value → other ≡ value
+IsOnlyMergeInfo value = (other : List Line) → IsMergeInfo other → HasSameRevisions other value → other ≡ value
 
 -- a text can give the path, since no newline stands in it
 abbrev pub IsOnOneLine : Line → Type 0
@@ -74,7 +74,7 @@ IsOnOneLine line = All (λ byte. is_newline byte ≡ false) line.path
 pub record IsTextOf (text : List ℕ) (value : List Line) : Type 0 where
   pub lines : List Line
   pub read : lines_of text ≡ Some lines
-  pub same : HasSameRuns value lines
+  pub same : HasSameRevisions value lines
 
 abbrev pub entry_view : Entry → Line
 entry_view entry = record { path = entry.path.items; runs = entry.ranges }

@@ -1,5 +1,5 @@
 //! The elements of a rangelist.
-ghost use Rattle.std.specs.Prelude.{◌≡◌, ◌≤◌, option_map, IfSome};
+ghost use Rattle.std.specs.Prelude.{◌≡◌, ◌≤◌, IfSome};
 ghost use Rattle.range_list.specs.Rangelist.{IsRun};
 ghost use Rattle.merge_info.specs.Element.{element_of, revision_of, run_of};
 

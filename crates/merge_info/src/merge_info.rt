@@ -1,10 +1,10 @@
 //! The values of `svn:mergeinfo`.
-ghost use Rattle.std.specs.Prelude.{◌≡◌, ◌↔◌, [], ◌++◌, IsTrue, None, All, Some, IfOk, OnOk, OnErr, IsErrOf, option_map, map};
+ghost use Rattle.std.specs.Prelude.{◌≡◌, ◌↔◌, [], ◌++◌, IsTrue, None, All, Some, IfOk, OnOk, IsErrOf, option_map, map};
 ghost use Rattle.merge_info.specs.CanonicalValue.{canonical_value, inherited_value, value_of};
 ghost use Rattle.merge_info.specs.Inherited.{inherited_lines};
 ghost use Rattle.merge_info.specs.Line.{IsLine, IsPrintedPath, line_view};
 ghost use Rattle.merge_info.specs.Text.{value_text};
-ghost use Rattle.merge_info.specs.Value.{HasSameRuns, IsMergeInfo, IsOnlyMergeInfo, IsOnOneLine, IsTextOf, lines_of, ranges_of};
+ghost use Rattle.merge_info.specs.Value.{HasSameRevisions, IsMergeInfo, IsOnlyMergeInfo, IsOnOneLine, IsTextOf, lines_of, ranges_of};
 
 use crate::entry::Entry;
 use crate::error::MergeError;
@@ -79,7 +79,7 @@ impl MergeInfo {
     /// What a path inherits, given what follows the path that has this value.
     pub fn inherited(&self, rest: &[u8]) -> Result<Self, AllocError>
         requires { IsPrintedPath rest.now }
-        ensures same { IfOk result (λ below. HasSameRuns below (inherited_lines rest.now self.now)) }
+        ensures same { IfOk result (λ below. HasSameRevisions below (inherited_lines rest.now self.now)) }
         ensures exact { IfOk result (λ below. below ≡ inherited_value rest.now self.now) }
     {
         let alloc = *self.entries.allocator();
@@ -117,7 +117,7 @@ impl MergeInfo {
     /// The value of lines in any order, in which a path may stand more than once.
     fn of_lines(alloc: Global, lines: Vec<Line>) -> Result<Self, AllocError>
         requires { All IsLine (map line_view lines.items) }
-        ensures same { IfOk result (λ value. HasSameRuns value (map line_view lines.items)) }
+        ensures same { IfOk result (λ value. HasSameRevisions value (map line_view lines.items)) }
         ensures canonical { IfOk result IsMergeInfo }
         ensures exact { IfOk result (λ value. value ≡ canonical_value (map line_view lines.items)) }
     {

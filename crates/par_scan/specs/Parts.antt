@@ -4,6 +4,10 @@ use Rattle.std.specs.Global.{Global}
 use Rattle.std.specs.Fork.{slice_chunk}
 use Rattle.par_scan.specs.Chain.{IsChain, IsJoined}
 
+-- how many parts there may be
+abbrev pub most_parts : ℕ
+most_parts = 64
+
 -- there are so many elements, and each suits its place, where the first one stands at `start`
 pub record IsFilled {M : Type 0} (Suits : ℕ → M → Type 0) (start count : ℕ) (elements : List M) : Type 0 where
   pub len : length elements ≡ count

@@ -1,7 +1,7 @@
 //! Making the items of a scan.
 ghost use Rattle.std.specs.Prelude.{◌≡◌, ℕ, ◌+◌, ◌-◌, ◌*◌, ◌^◌, ◌<◌, ◌≤◌, min, IfOk, vec_len};
 ghost use Rattle.par_scan.specs.Making.{AreMade};
-ghost use Rattle.par_scan.specs.Parts.{IsFilled, IsFilledPart};
+ghost use Rattle.par_scan.specs.Parts.{IsFilled, IsFilledPart, most_parts};
 
 use crate::gathering::{all_ok, append_all};
 use crate::make::Make;
@@ -19,7 +19,7 @@ pub fn make_all<R: Threads + Sync, K: Make>(
 ) -> Result<Vec<K::Item>, AllocError>
     requires numbers { (i : ℕ) → i < n → K.has maker.now i }
     requires some_part { 0 < parts }
-    requires few_parts { parts ≤ 64 }
+    requires few_parts { parts ≤ most_parts }
     ensures len { IfOk result (λ made. vec_len made ≡ n) }
     ensures made { IfOk result (λ made. AreMade K.gives maker.now made.items) }
 {

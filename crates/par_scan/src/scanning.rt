@@ -17,15 +17,7 @@ ghost use Rattle.std.specs.Prelude.{
 };
 ghost use Rattle.par_scan.specs.Chain.{AreJoinedUpTo, IsChain, IsJoined, IsSomeChain};
 ghost use denote.Param.Send.{IsSend, IsSync};
-ghost use Rattle.par_scan.specs.Parts.{
-  AreOfParts,
-  AreScans,
-  FitsAt,
-  IsAfterAt,
-  IsFilled,
-  IsScan,
-  IsUpToPart,
-};
+ghost use Rattle.par_scan.specs.Parts.{AreOfParts, AreScans, FitsAt, IsAfterAt, IsFilled, IsScan, IsUpToPart, most_parts};
 
 use crate::acts::Acts;
 use crate::gathering::{all_ok, append_all};
@@ -43,7 +35,7 @@ pub fn scan<R: Threads + Sync, M: Acts>(
 ) -> Result<Vec<M>, AllocError>
     requires chain { IsChain M.begin M.end M.weight items.items }
     requires some_part { 0 < parts }
-    requires few_parts { parts ≤ 64 }
+    requires few_parts { parts ≤ most_parts }
     ensures len { IfOk result (λ joined. vec_len joined ≡ vec_len items) }
     ensures joined { IfOk result (λ joined. AreJoinedUpTo M.act M.begin M.end items.items joined.items) }
 {
@@ -66,7 +58,7 @@ pub fn total<R: Threads + Sync, M: Acts>(
 ) -> Result<Option<M>, AllocError>
     requires chain { IsChain M.begin M.end M.weight items.items }
     requires some_part { 0 < parts }
-    requires few_parts { parts ≤ 64 }
+    requires few_parts { parts ≤ most_parts }
     ensures joined { IfOk result (λ total. IfSome total (IsJoined M.act M.begin M.end items.items)) }
     ensures none { IfOk result (λ total. IfNone total (items.items ≡ [])) }
 {

@@ -1,7 +1,7 @@
 //! Serving the places of a job by several workers.
-ghost use Rattle.std.specs.Prelude.{ℕ, ◌<◌, ◌≤◌, All, IfOk};
+ghost use Rattle.std.specs.Prelude.{ℕ, ◌<◌, ◌≤◌, All, IfOk, length};
 ghost use denote.Param.Send.{IsSync, IsSend};
-ghost use Rattle.query_pool.specs.Serving.{HasEachOnce, results_of};
+ghost use Rattle.query_pool.specs.Serving.{HasEachOnce, results_of, most_places, most_workers};
 ghost use Rattle.query_pool.specs.Shares.{IsServedBelow, IsServedBy};
 
 use crate::gate::Gate;
@@ -25,9 +25,10 @@ pub fn serve<R: Threads + Wait + Sync, J: Job, G: Gate>(
     gate: &G,
 ) -> Result<Vec<Part<J::Out>>, AllocError>
     requires places { (place : ℕ) → place < n → J.has job.now place }
-    requires few_places { n ≤ 1000000 }
+    requires few_places { n ≤ most_places }
     requires some_worker { 0 < workers }
-    requires few_workers { workers ≤ 64 }
+    requires few_workers { workers ≤ most_workers }
+    ensures few { IfOk result (λ parts. length parts.items ≤ workers) }
     ensures each_once { IfOk result (λ parts. HasEachOnce n (results_of parts.items)) }
     ensures gives { IfOk result (λ parts. All (λ each. J.gives job.now each.0 each.1) (results_of parts.items)) }
 {
@@ -47,10 +48,11 @@ fn serve_first<R: Threads + Sync, J: Job, G: Gate>(
     gate: &G,
 ) -> Result<Vec<Part<J::Out>>, AllocError>
     requires places { (place : ℕ) → place < n → J.has job.now place }
-    requires few_places { n ≤ 1000000 }
-    requires few_workers { workers ≤ 64 }
+    requires few_places { n ≤ most_places }
+    requires few_workers { workers ≤ most_workers }
     requires some { 0 < count }
     requires of_all { count ≤ workers }
+    ensures few { IfOk result (λ parts. length parts.items ≤ count) }
     ensures places { IfOk result (λ parts. IsServedBelow workers count n (results_of parts.items)) }
     ensures gives { IfOk result (λ parts. All (λ each. J.gives job.now each.0 each.1) (results_of parts.items)) }
 {
@@ -62,15 +64,17 @@ fn serve_first<R: Threads + Sync, J: Job, G: Gate>(
     }
     let last = || -> Result<Part<J::Out>, AllocError>
         requires { IsSync J.row × IsSync G.row × IsSend J.Out.row × IsSend J.State.row
-            × ((place : ℕ) → place < n → J.has job.now place) × (n ≤ 1000000) × (workers ≤ 64) × (worker < workers) }
+            × ((place : ℕ) → place < n → J.has job.now place) × (n ≤ most_places)
+            × (workers ≤ most_workers) × (worker < workers) }
         ensures { IfOk result (λ part. IsServedBy workers worker n part.done.items
             × All (λ each. J.gives job.entry.now each.0 each.1) part.done.items) }
     { serve_share(alloc, job, n, workers, worker, gate) };
     let others = || -> Result<Vec<Part<J::Out>>, AllocError>
         requires { IsSync R.row × IsSync J.row × IsSync G.row × IsSend J.Out.row × IsSend J.State.row
-            × ((place : ℕ) → place < n → J.has job.now place) × (n ≤ 1000000)
-            × (workers ≤ 64) × (0 < worker) × (worker ≤ workers) }
-        ensures { IfOk result (λ parts. IsServedBelow workers worker n (results_of parts.items)
+            × ((place : ℕ) → place < n → J.has job.now place) × (n ≤ most_places)
+            × (workers ≤ most_workers) × (0 < worker) × (worker ≤ workers) }
+        ensures { IfOk result (λ parts. (length parts.items ≤ worker)
+            × IsServedBelow workers worker n (results_of parts.items)
             × All (λ each. J.gives job.entry.now each.0 each.1) (results_of parts.items)) }
     { serve_first(rt, alloc, job, n, workers, worker, gate) };
     let (part, parts) = thread::join(rt, last, others);
@@ -89,8 +93,8 @@ fn serve_share<J: Job, G: Gate>(
     gate: &G,
 ) -> Result<Part<J::Out>, AllocError>
     requires places { (place : ℕ) → place < n → J.has job.now place }
-    requires few_places { n ≤ 1000000 }
-    requires few_workers { workers ≤ 64 }
+    requires few_places { n ≤ most_places }
+    requires few_workers { workers ≤ most_workers }
     requires worker { worker < workers }
     ensures places { IfOk result (λ part. IsServedBy workers worker n part.done.items) }
     ensures gives { IfOk result (λ part. All (λ each. J.gives job.now each.0 each.1) part.done.items) }

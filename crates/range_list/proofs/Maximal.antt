@@ -4,36 +4,36 @@ use Rattle.std.specs.Cmp.{booleans_Decides}
 use Rattle.std.proofs.lemmas.Bool.{and_parts, and_from, and_right, cases_Bool, cases_lt, both_ways, le-leb, or_from, or_parts}
 use Rattle.std.proofs.lemmas.List.Elements.{All-head, All-tail}
 use Rattle.range_list.specs.Canonical.{canonical_runs, continues, put_before, run_of_one, runs_from}
-use Rattle.range_list.specs.Rangelist.{covers, is_in, is_inheritable, sort_of, HasSame, IsCanonical, IsRun}
+use Rattle.range_list.specs.Rangelist.{covers, is_in, is_inheritable, inheritability_of, HasSameNumbers, IsCanonical, IsRun}
 use Rattle.svn_text.specs.Number.{greatest_revision}
 use Rattle.range_list.specs.declared.run.Run.{Run}
 use Rattle.range_list.proofs.Canonical.{BeginsFrom, BeginsFrom-tail, IsApartFromFirst, IsCanonical-apart, IsCanonical-cons, IsCanonical-head, IsCanonical-tail, IsOut, IsOut-below}
-use Rattle.range_list.proofs.Places.{sort_of-first, sort_of-out, sort_of-skip}
+use Rattle.range_list.proofs.Places.{inheritability_of-first, inheritability_of-out, inheritability_of-skip}
 use Rattle.range_list.proofs.Only.{only_canonical}
-use Rattle.range_list.proofs.Same.{covers-above, covers-below, HasSame-sym, HasSame-trans}
+use Rattle.range_list.proofs.Same.{covers-above, covers-below, HasSameNumbers-sym, HasSameNumbers-trans}
 
 -- what one more number makes of runs above it
 record IsPutBefore (number : ℕ) (sort : Option Bool) (runs put : List Run) : Type 0 where
   canonical : IsCanonical put
   begins : BeginsFrom number put
-  here : sort_of put number ≡ sort
-  above : (n : ℕ) → number < n → sort_of put n ≡ sort_of runs n
+  here : inheritability_of put number ≡ sort
+  above : (n : ℕ) → number < n → inheritability_of put n ≡ inheritability_of runs n
 
 module _ (number : ℕ) (from : 1 ≤ number) (to : number ≤ greatest_revision) where
   IsRun-one : (inheritable : Bool) → IsRun (run_of_one number inheritable)
   IsRun-one inheritable = record { first = from; ordered = omega arith; last = to }
 
   -- a first run that begins at the number
-  sort_of-begins : (run : Run) (runs : List Run) → run.lo ≡ number → IsRun run → IsOut runs number → sort_of (run ∷ runs) number ≡ Some run.inheritable
-  sort_of-begins run runs at is out =
-      sort_of-first run runs number out (omega (arith, is.ordered)) ∙ ap (λ b. cond b (Some run.inheritable) None) (le-leb run.lo number (omega arith))
+  inheritability_of-begins : (run : Run) (runs : List Run) → run.lo ≡ number → IsRun run → IsOut runs number → inheritability_of (run ∷ runs) number ≡ Some run.inheritable
+  inheritability_of-begins run runs at is out =
+      inheritability_of-first run runs number out (omega (arith, is.ordered)) ∙ ap (λ b. cond b (Some run.inheritable) None) (le-leb run.lo number (omega arith))
 
   IsPutBefore-alone : (inheritable : Bool) → IsPutBefore number (Some inheritable) [] (run_of_one number inheritable ∷ [])
   IsPutBefore-alone inheritable = record {
     canonical = IsRun-one inheritable;
     begins = omega arith;
-    here = sort_of-begins (run_of_one number inheritable) [] refl (IsRun-one inheritable) (record { out = refl; not_inheritable = refl });
-    above = λ n more. sort_of-skip (run_of_one number inheritable) [] n (covers-above (run_of_one number inheritable) n more);
+    here = inheritability_of-begins (run_of_one number inheritable) [] refl (IsRun-one inheritable) (record { out = refl; not_inheritable = refl });
+    above = λ n more. inheritability_of-skip (run_of_one number inheritable) [] n (covers-above (run_of_one number inheritable) n more);
   }
 
   module _ (run : Run) (runs : List Run) (canonical : IsCanonical (run ∷ runs)) (begins : suc number ≤ run.lo) where
@@ -47,7 +47,7 @@ module _ (number : ℕ) (from : 1 ≤ number) (to : number ≤ greatest_revision
     IsPutBefore-none = record {
       canonical = canonical;
       begins = omega arith;
-      here = sort_of-out (run ∷ runs) number (IsOut-below (run ∷ runs) (suc number) number canonical begins (omega arith));
+      here = inheritability_of-out (run ∷ runs) number (IsOut-below (run ∷ runs) (suc number) number canonical begins (omega arith));
       above = λ n more. refl;
     }
 
@@ -59,8 +59,8 @@ module _ (number : ℕ) (from : 1 ≤ number) (to : number ≤ greatest_revision
         canonical,
       );
       begins = omega arith;
-      here = sort_of-begins (run_of_one number inheritable) (run ∷ runs) refl (IsRun-one inheritable) (IsOut-below (run ∷ runs) (suc number) number canonical begins (omega arith));
-      above = λ n more. sort_of-skip (run_of_one number inheritable) (run ∷ runs) n (covers-above (run_of_one number inheritable) n more);
+      here = inheritability_of-begins (run_of_one number inheritable) (run ∷ runs) refl (IsRun-one inheritable) (IsOut-below (run ∷ runs) (suc number) number canonical begins (omega arith));
+      above = λ n more. inheritability_of-skip (run_of_one number inheritable) (run ∷ runs) n (covers-above (run_of_one number inheritable) n more);
     }
 
     longer : Run
@@ -76,7 +76,7 @@ module _ (number : ℕ) (from : 1 ≤ number) (to : number ≤ greatest_revision
         record {
           canonical = IsCanonical-cons (record { lo = number; hi = run.hi; inheritable = run.inheritable }) runs is (IsApartFromFirst-longer runs (IsCanonical-apart run runs canonical)) (IsCanonical-tail run runs canonical);
           begins = omega arith;
-          here = sort_of-begins (record { lo = number; hi = run.hi; inheritable = run.inheritable }) runs refl is out;
+          here = inheritability_of-begins (record { lo = number; hi = run.hi; inheritable = run.inheritable }) runs refl is out;
           above = λ n more. rw (le-leb number n (omega arith), le-leb run.lo n (omega arith)) refl;
         }
 
@@ -99,8 +99,8 @@ module _ (number : ℕ) (from : 1 ≤ number) (to : number ≤ greatest_revision
 record AreMaximal (sort : ℕ → Option Bool) (number count : ℕ) (runs : List Run) : Type 0 where
   canonical : IsCanonical runs
   begins : BeginsFrom number runs
-  within : (n : ℕ) → number ≤ n → n < number + count → sort_of runs n ≡ sort n
-  above : (n : ℕ) → number + count ≤ n → sort_of runs n ≡ None
+  within : (n : ℕ) → number ≤ n → n < number + count → inheritability_of runs n ≡ sort n
+  above : (n : ℕ) → number + count ≤ n → inheritability_of runs n ≡ None
 
 AreMaximal-runs_from : (sort : ℕ → Option Bool) (count number : ℕ) → 1 ≤ number → number + count ≤ greatest_revision + 1 → AreMaximal sort number count (runs_from sort number count)
 unfolding runs_from
@@ -113,7 +113,7 @@ AreMaximal-runs_from sort (suc count) number from to =
       begins = put.begins;
       within = λ n least below. elim (cases_lt number n) [
         | inl more ↦ put.above n more ∙ rest.within n (omega arith) (omega arith)
-        | inr most ↦ let same : number ≡ n = omega arith in ap (sort_of (put_before number (sort number) (runs_from sort (suc number) count))) (sym same) ∙ put.here ∙ ap sort same
+        | inr most ↦ let same : number ≡ n = omega arith in ap (inheritability_of (put_before number (sort number) (runs_from sort (suc number) count))) (sym same) ∙ put.here ∙ ap sort same
       ];
       above = λ n more. put.above n (omega arith) ∙ rest.above n (omega arith);
     }
@@ -127,8 +127,8 @@ is_inheritable-out (run ∷ runs) n absent =
     or_from _ _ (and_right run.inheritable (covers run n) first) (is_inheritable-out runs n rest)
 
 -- lists that tell a number's sort alike
-HasSame-sort_of : (a b : List Run) (n : ℕ) → sort_of a n ≡ sort_of b n → (is_in a n ≡ is_in b n) × (is_inheritable a n ≡ is_inheritable b n)
-HasSame-sort_of a b n same = elim (cases_Bool (is_in a n)) [
+HasSameNumbers-inheritability_of : (a b : List Run) (n : ℕ) → inheritability_of a n ≡ inheritability_of b n → (is_in a n ≡ is_in b n) × (is_inheritable a n ≡ is_inheritable b n)
+HasSameNumbers-inheritability_of a b n same = elim (cases_Bool (is_in a n)) [
   | inl in_a ↦ elim (cases_Bool (is_in b n)) [
     | inl in_b ↦ let told = rw (in_a, in_b) at same in (in_a ∙ sym in_b, cc)
     | inr out_b ↦ let told = rw (in_a, out_b) at same in cc
@@ -140,40 +140,40 @@ HasSame-sort_of a b n same = elim (cases_Bool (is_in a n)) [
 ]
 
 -- no run has a number above the greatest, nor 0
-sort_of-outside : (runs : List Run) (n : ℕ) → All IsRun runs → (n ≡ 0) ⊎ (greatest_revision < n) → sort_of runs n ≡ None
-sort_of-outside [] n all outside = refl
-sort_of-outside (run ∷ runs) n all outside =
+inheritability_of-outside : (runs : List Run) (n : ℕ) → All IsRun runs → (n ≡ 0) ⊎ (greatest_revision < n) → inheritability_of runs n ≡ None
+inheritability_of-outside [] n all outside = refl
+inheritability_of-outside (run ∷ runs) n all outside =
     let is : IsRun run = All-head IsRun run runs all in
     let uncovered : covers run n ≡ false = elim outside [
       | inl none ↦ covers-below run n (omega (arith, is.first))
       | inr high ↦ covers-above run n (omega (arith, is.last))
     ] in
-    sort_of-skip run runs n uncovered ∙ sort_of-outside runs n (All-tail IsRun run runs all) outside
+    inheritability_of-skip run runs n uncovered ∙ inheritability_of-outside runs n (All-tail IsRun run runs all) outside
 
 module _ (runs : List Run) where
   pub canonical_runs-IsCanonical : IsCanonical (canonical_runs runs)
   unfolding canonical_runs
-  canonical_runs-IsCanonical = (AreMaximal-runs_from (sort_of runs) greatest_revision 1 (omega arith) (omega arith)).canonical
+  canonical_runs-IsCanonical = (AreMaximal-runs_from (inheritability_of runs) greatest_revision 1 (omega arith) (omega arith)).canonical
 
-  canonical_runs-sort_of : All IsRun runs → (n : ℕ) → sort_of (canonical_runs runs) n ≡ sort_of runs n
+  canonical_runs-inheritability_of : All IsRun runs → (n : ℕ) → inheritability_of (canonical_runs runs) n ≡ inheritability_of runs n
   unfolding canonical_runs
-  canonical_runs-sort_of all n =
-      let are = AreMaximal-runs_from (sort_of runs) greatest_revision 1 (omega arith) (omega arith) in
+  canonical_runs-inheritability_of all n =
+      let are = AreMaximal-runs_from (inheritability_of runs) greatest_revision 1 (omega arith) (omega arith) in
       elim (cases_lt n 1) [
         | inl none ↦
-            sort_of-out (canonical_runs runs) n (IsOut-below (canonical_runs runs) 1 n are.canonical are.begins none)
-            ∙ sym (sort_of-outside runs n all (inl (omega arith)))
+            inheritability_of-out (canonical_runs runs) n (IsOut-below (canonical_runs runs) 1 n are.canonical are.begins none)
+            ∙ sym (inheritability_of-outside runs n all (inl (omega arith)))
         | inr some ↦ elim (cases_lt greatest_revision n) [
-          | inl high ↦ are.above n (omega arith) ∙ sym (sort_of-outside runs n all (inr high))
+          | inl high ↦ are.above n (omega arith) ∙ sym (inheritability_of-outside runs n all (inr high))
           | inr low ↦ are.within n some (omega arith)
         ]
       ]
 
-  pub canonical_runs-HasSame : All IsRun runs → HasSame (canonical_runs runs) runs
-  canonical_runs-HasSame all n = HasSame-sort_of (canonical_runs runs) runs n (canonical_runs-sort_of all n)
+  pub canonical_runs-HasSameNumbers : All IsRun runs → HasSameNumbers (canonical_runs runs) runs
+  canonical_runs-HasSameNumbers all n = HasSameNumbers-inheritability_of (canonical_runs runs) runs n (canonical_runs-inheritability_of all n)
 
   -- it is the only one
-  pub canonical_runs-only : (other : List Run) → All IsRun runs → IsCanonical other → HasSame other runs → other ≡ canonical_runs runs
+  pub canonical_runs-only : (other : List Run) → All IsRun runs → IsCanonical other → HasSameNumbers other runs → other ≡ canonical_runs runs
   canonical_runs-only other all canonical same =
       only_canonical other (canonical_runs runs) canonical canonical_runs-IsCanonical
-      (HasSame-trans other runs (canonical_runs runs) same (HasSame-sym (canonical_runs runs) runs (canonical_runs-HasSame all)))
+      (HasSameNumbers-trans other runs (canonical_runs runs) same (HasSameNumbers-sym (canonical_runs runs) runs (canonical_runs-HasSameNumbers all)))

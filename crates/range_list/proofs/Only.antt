@@ -1,10 +1,10 @@
 -- Two canonical lists with the same numbers are equal.
 use Rattle.std.proofs.Common.{◌≡◌, ℕ, ◌+◌, ◌<◌, ◌≤◌, Bool, true, false, ◌||◌, List, [], ◌∷◌, refl, sym, ap, ◌∙◌, inl, inr, arith}
 use Rattle.std.proofs.lemmas.Bool.{cases_lt, true≢false}
-use Rattle.range_list.specs.Rangelist.{is_in, is_inheritable, HasSame, IsCanonical}
+use Rattle.range_list.specs.Rangelist.{is_in, is_inheritable, HasSameNumbers, IsCanonical}
 use Rattle.range_list.specs.declared.run.Run.{Run}
 use Rattle.range_list.proofs.Canonical.{BeginsFrom-tail, IsCanonical-head, IsCanonical-apart, IsCanonical-tail, IsOut-below}
-use Rattle.range_list.proofs.Same.{covers-above, covers-within, HasSame-sym, and_or, and_or_false}
+use Rattle.range_list.proofs.Same.{covers-above, covers-within, HasSameNumbers-sym, and_or, and_or_false}
 
 -- a number of the first run
 record IsFirst (run : Run) (runs : List Run) (n : ℕ) : Type 0 where
@@ -28,10 +28,10 @@ IsLater-from run runs n above =
     record { is_in = ap (λ b. b || is_in runs n) uncovered; is_inheritable = and_or_false run.inheritable _ _ uncovered }
 
 -- a number is in one list and not in the other
-no_number : (a b : List Run) (n : ℕ) → HasSame a b → is_in a n ≡ true → is_in b n ≡ false → ⊥
+no_number : (a b : List Run) (n : ℕ) → HasSameNumbers a b → is_in a n ≡ true → is_in b n ≡ false → ⊥
 no_number a b n same has lacks = true≢false (sym has ∙ (same n).0 ∙ lacks)
 
-module _ (x y : Run) (xs ys : List Run) (canonical_x : IsCanonical (x ∷ xs)) (canonical_y : IsCanonical (y ∷ ys)) (same : HasSame (x ∷ xs) (y ∷ ys)) where
+module _ (x y : Run) (xs ys : List Run) (canonical_x : IsCanonical (x ∷ xs)) (canonical_y : IsCanonical (y ∷ ys)) (same : HasSameNumbers (x ∷ xs) (y ∷ ys)) where
   -- neither begins before the other
   begins_no_later : x.lo < y.lo → ⊥
   begins_no_later before =
@@ -68,7 +68,7 @@ module _ (x y : Run) (xs ys : List Run) (canonical_x : IsCanonical (x ∷ xs)) (
                   apart.maximal touches (like ∙ sym inherits ∙ first.is_inheritable)
             ]
 
-    same_tail : x.hi ≡ y.hi → HasSame xs ys
+    same_tail : x.hi ≡ y.hi → HasSameNumbers xs ys
     same_tail same_hi n = elim (cases_lt x.hi n) [
       | inl above ↦
           let later = IsLater-from x xs n above in
@@ -87,16 +87,16 @@ same_run x y lo hi sort =
     begun ∙ ended ∙ ap (λ (b : Bool). let run : Run = record y { inheritable = b } in run) sort
 
 -- one canonical list for each set
-pub only_canonical : (a b : List Run) → IsCanonical a → IsCanonical b → HasSame a b → a ≡ b
+pub only_canonical : (a b : List Run) → IsCanonical a → IsCanonical b → HasSameNumbers a b → a ≡ b
 only_canonical [] [] canonical_a canonical_b same = refl
 only_canonical [] (y ∷ ys) canonical_a canonical_b same =
     let first = IsFirst-from y ys y.lo canonical_b (omega arith) (IsCanonical-head y ys canonical_b).ordered in
-    absurd (no_number (y ∷ ys) [] y.lo (HasSame-sym [] (y ∷ ys) same) first.is_in refl)
+    absurd (no_number (y ∷ ys) [] y.lo (HasSameNumbers-sym [] (y ∷ ys) same) first.is_in refl)
 only_canonical (x ∷ xs) [] canonical_a canonical_b same =
     let first = IsFirst-from x xs x.lo canonical_a (omega arith) (IsCanonical-head x xs canonical_a).ordered in
     absurd (no_number (x ∷ xs) [] x.lo same first.is_in refl)
 only_canonical (x ∷ xs) (y ∷ ys) canonical_a canonical_b same =
-    let back = HasSame-sym (x ∷ xs) (y ∷ ys) same in
+    let back = HasSameNumbers-sym (x ∷ xs) (y ∷ ys) same in
     let no_later = begins_no_later x y xs ys canonical_a canonical_b same in
     let no_sooner = begins_no_later y x ys xs canonical_b canonical_a back in
     let lo : x.lo ≡ y.lo = omega (arith, no_later, no_sooner) in

@@ -4,7 +4,7 @@ use Rattle.std.proofs.lemmas.Bool.{cases_lt, ltb-true, ltb-false, lt-leb, le-leb
 use Rattle.std.proofs.lemmas.List.Sorted.{IsNonDecreasingBy-from_all_adjacent, IsPartitionedBy-ltb}
 use Rattle.std.specs.List.{AllAdjacentBelow}
 use Rattle.std.specs.List.Sorted.{IsPartitionPoint, IsPartitionedBy}
-use Rattle.range_list.specs.Rangelist.{covers, is_in, is_inheritable, sort_of, IsCanonical}
+use Rattle.range_list.specs.Rangelist.{covers, is_in, is_inheritable, inheritability_of, IsCanonical}
 use Rattle.range_list.specs.declared.run.Run.{Run}
 use Rattle.range_list.proofs.Canonical.{BeginsFrom-tail, IsCanonical-head, IsCanonical-tail, IsOut, IsOut-below}
 use Rattle.range_list.proofs.Same.{covers-above, covers-below, covers-within, and_or, and_or_false}
@@ -21,19 +21,19 @@ pub IsPartitionedBy-hi : (runs : List Run) (n : ℕ) → IsCanonical runs → Is
 IsPartitionedBy-hi runs n canonical = IsPartitionedBy-ltb (λ run. run.hi) runs n (IsNonDecreasingBy-from_all_adjacent (λ run. run.hi) runs (ends_rise runs canonical))
 
 -- a list in which the number is not
-pub sort_of-out : (runs : List Run) (n : ℕ) → IsOut runs n → sort_of runs n ≡ None
-sort_of-out runs n out = ap (λ b. cond b (Some (is_inheritable runs n)) None) out.out
+pub inheritability_of-out : (runs : List Run) (n : ℕ) → IsOut runs n → inheritability_of runs n ≡ None
+inheritability_of-out runs n out = ap (λ b. cond b (Some (is_inheritable runs n)) None) out.out
 
 -- a first run that has not the number
-pub sort_of-skip : (run : Run) (runs : List Run) (n : ℕ) → covers run n ≡ false → sort_of (run ∷ runs) n ≡ sort_of runs n
-sort_of-skip run runs n uncovered =
+pub inheritability_of-skip : (run : Run) (runs : List Run) (n : ℕ) → covers run n ≡ false → inheritability_of (run ∷ runs) n ≡ inheritability_of runs n
+inheritability_of-skip run runs n uncovered =
     ap (λ b. cond (b || is_in runs n) (Some (is_inheritable (run ∷ runs) n)) None) uncovered
     ∙ ap (λ b. cond (is_in runs n) (Some b) None) (and_or_false run.inheritable (covers run n) (is_inheritable runs n) uncovered)
 
 -- a number that no run but the first may have
-pub sort_of-first : (run : Run) (runs : List Run) (n : ℕ) → IsOut runs n → n ≤ run.hi → sort_of (run ∷ runs) n ≡ cond (leb run.lo n) (Some run.inheritable) None
-sort_of-first run runs n out to = elim (cases_lt n run.lo) [
-  | inl below ↦ sort_of-skip run runs n (covers-below run n below) ∙ sort_of-out runs n out ∙ ap (λ b. cond b (Some run.inheritable) None) (sym (lt-leb run.lo n below))
+pub inheritability_of-first : (run : Run) (runs : List Run) (n : ℕ) → IsOut runs n → n ≤ run.hi → inheritability_of (run ∷ runs) n ≡ cond (leb run.lo n) (Some run.inheritable) None
+inheritability_of-first run runs n out to = elim (cases_lt n run.lo) [
+  | inl below ↦ inheritability_of-skip run runs n (covers-below run n below) ∙ inheritability_of-out runs n out ∙ ap (λ b. cond b (Some run.inheritable) None) (sym (lt-leb run.lo n below))
   | inr from ↦
       let covered = covers-within run n from to in
       ap (λ b. cond (b || is_in runs n) (Some (is_inheritable (run ∷ runs) n)) None) covered
@@ -42,31 +42,31 @@ sort_of-first run runs n out to = elim (cases_lt n run.lo) [
 ]
 
 -- the runs before the place end below the number, and the run at the place does not
-sort_of-at : (runs : List Run) (i n : ℕ) (run : Run) → IsCanonical runs → i < length runs → run ≡ get_or runs i run →
+inheritability_of-at : (runs : List Run) (i n : ℕ) (run : Run) → IsCanonical runs → i < length runs → run ≡ get_or runs i run →
     ((k : ℕ) (d : Run) → k < i → (get_or runs k d).hi < n) → n ≤ run.hi →
-    sort_of runs n ≡ cond (leb run.lo n) (Some run.inheritable) None
-sort_of-at [] i n run canonical within is before to = absurd (omega arith)
-sort_of-at (first ∷ runs) zero n run canonical within is before to =
+    inheritability_of runs n ≡ cond (leb run.lo n) (Some run.inheritable) None
+inheritability_of-at [] i n run canonical within is before to = absurd (omega arith)
+inheritability_of-at (first ∷ runs) zero n run canonical within is before to =
     let rest = IsOut-below runs (first.hi + 1) n (IsCanonical-tail first runs canonical) (BeginsFrom-tail first runs canonical) (omega (arith, ap (λ (each : Run). each.hi) is)) in
-    sort_of-first first runs n rest (omega (arith, ap (λ (each : Run). each.hi) is))
+    inheritability_of-first first runs n rest (omega (arith, ap (λ (each : Run). each.hi) is))
     ∙ ap (λ (each : Run). cond (leb each.lo n) (Some each.inheritable) None) (sym is)
-sort_of-at (first ∷ runs) (suc i) n run canonical within is before to =
-    sort_of-skip first runs n (covers-above first n (before 0 first (omega arith)))
-    ∙ sort_of-at runs i n run (IsCanonical-tail first runs canonical) (omega arith) is (λ k d below. before (suc k) d (omega arith)) to
+inheritability_of-at (first ∷ runs) (suc i) n run canonical within is before to =
+    inheritability_of-skip first runs n (covers-above first n (before 0 first (omega arith)))
+    ∙ inheritability_of-at runs i n run (IsCanonical-tail first runs canonical) (omega arith) is (λ k d below. before (suc k) d (omega arith)) to
 
 -- all runs end below the number
-sort_of-past : (runs : List Run) (n : ℕ) → ((k : ℕ) (d : Run) → k < length runs → (get_or runs k d).hi < n) → sort_of runs n ≡ None
-sort_of-past [] n before = refl
-sort_of-past (run ∷ runs) n before =
-    sort_of-skip run runs n (covers-above run n (before 0 run (omega arith)))
-    ∙ sort_of-past runs n (λ k d below. before (suc k) d (omega arith))
+inheritability_of-past : (runs : List Run) (n : ℕ) → ((k : ℕ) (d : Run) → k < length runs → (get_or runs k d).hi < n) → inheritability_of runs n ≡ None
+inheritability_of-past [] n before = refl
+inheritability_of-past (run ∷ runs) n before =
+    inheritability_of-skip run runs n (covers-above run n (before 0 run (omega arith)))
+    ∙ inheritability_of-past runs n (λ k d below. before (suc k) d (omega arith))
 
 -- what a search for the first run that does not end below the number finds
 module _ (runs : List Run) (n i : ℕ) (canonical : IsCanonical runs) (point : IsPartitionPoint (λ run. ltb run.hi n ≡ true) (λ run. ltb run.hi n ≡ false) runs i) where
-  pub sort_of-found : (run : Run) → i < length runs → run ≡ get_or runs i run → sort_of runs n ≡ cond (leb run.lo n) (Some run.inheritable) None
-  sort_of-found run within is =
+  pub inheritability_of-found : (run : Run) → i < length runs → run ≡ get_or runs i run → inheritability_of runs n ≡ cond (leb run.lo n) (Some run.inheritable) None
+  inheritability_of-found run within is =
       let reaches : n ≤ run.hi = subst (λ (each : Run). n ≤ each.hi) (sym is) (ltb-false (get_or runs i run).hi n (point.1 i run (omega arith) within)) in
-      sort_of-at runs i n run canonical within is (λ k d before. ltb-true (get_or runs k d).hi n (point.0 k d (omega arith) before)) reaches
+      inheritability_of-at runs i n run canonical within is (λ k d before. ltb-true (get_or runs k d).hi n (point.0 k d (omega arith) before)) reaches
 
-  pub sort_of-not_found : length runs ≤ i → sort_of runs n ≡ None
-  sort_of-not_found past = sort_of-past runs n (λ k d within. ltb-true (get_or runs k d).hi n (point.0 k d (omega arith) (omega arith)))
+  pub inheritability_of-not_found : length runs ≤ i → inheritability_of runs n ≡ None
+  inheritability_of-not_found past = inheritability_of-past runs n (λ k d within. ltb-true (get_or runs k d).hi n (point.0 k d (omega arith) (omega arith)))

@@ -2,10 +2,10 @@
 use Rattle.std.proofs.Common.{◌≡◌, ℕ, ◌+◌, ◌<◌, ◌≤◌, Bool, true, false, ◌&&◌, ◌||◌, List, [], ◌∷◌, ◌++◌, length, get_or, set, take, refl, sym, ap, subst, ◌∙◌, arith}
 use Rattle.std.proofs.lemmas.Bool.Decides.{nat_tests}
 use Rattle.std.proofs.lemmas.List.{append_assoc, length-set, take_all, take_more, take_more_set}
-use Rattle.range_list.specs.Rangelist.{covers, HasSame, IsCanonical, IsRun}
+use Rattle.range_list.specs.Rangelist.{covers, HasSameNumbers, IsCanonical, IsRun}
 use Rattle.range_list.specs.declared.run.Run.{Run}
 use Rattle.range_list.proofs.Canonical.{AreRuns-from_canonical, IsCanonical-append, IsCanonical-last}
-use Rattle.range_list.proofs.Same.{HasSame-append, HasSame-refl}
+use Rattle.range_list.proofs.Same.{HasSameNumbers-append, HasSameNumbers-refl}
 
 -- the first run up to the end of one that continues it
 abbrev pub joined : Run → Run → Run
@@ -21,8 +21,8 @@ or_same true false x y z same covered = cc
 or_same false true x y z same covered = cc
 or_same false false x y z same covered = refl
 
-pub HasSame-joined : (last run : Run) → last.lo ≤ last.hi → last.hi + 1 ≡ run.lo → run.lo ≤ run.hi → last.inheritable ≡ run.inheritable → HasSame (joined last run ∷ []) (last ∷ run ∷ [])
-HasSame-joined last run ordered next not_empty same_sort n =
+pub HasSameNumbers-joined : (last run : Run) → last.lo ≤ last.hi → last.hi + 1 ≡ run.lo → run.lo ≤ run.hi → last.inheritable ≡ run.inheritable → HasSameNumbers (joined last run ∷ []) (last ∷ run ∷ [])
+HasSameNumbers-joined last run ordered next not_empty same_sort n =
     let covered = covers-joined last run n ordered next not_empty in
     (or_same true true _ _ _ refl covered, or_same last.inheritable run.inheritable _ _ _ same_sort covered)
 
@@ -55,11 +55,11 @@ module _ (runs : List Run) (i : ℕ) (last : Run) (end : i + 1 ≡ length runs) 
             subst IsCanonical (sym (set_split (joined last run)))
             (IsCanonical-last (take i runs) last (joined last run) (subst IsCanonical runs_split canonical) joined_run refl refl)
 
-        pub HasSame-set : HasSame (set runs i (joined last run)) (runs ++ run ∷ [])
-        HasSame-set =
-            let parts = HasSame-append (take i runs) (take i runs) (joined last run ∷ []) (last ∷ run ∷ []) (HasSame-refl (take i runs)) (HasSame-joined last run last_is_run.ordered next is_run.ordered same_sort) in
-            subst (λ a. HasSame a (runs ++ run ∷ [])) (sym (set_split (joined last run)))
-            (subst (HasSame (take i runs ++ joined last run ∷ [])) (push_split run) parts)
+        pub HasSameNumbers-set : HasSameNumbers (set runs i (joined last run)) (runs ++ run ∷ [])
+        HasSameNumbers-set =
+            let parts = HasSameNumbers-append (take i runs) (take i runs) (joined last run ∷ []) (last ∷ run ∷ []) (HasSameNumbers-refl (take i runs)) (HasSameNumbers-joined last run last_is_run.ordered next is_run.ordered same_sort) in
+            subst (λ a. HasSameNumbers a (runs ++ run ∷ [])) (sym (set_split (joined last run)))
+            (subst (HasSameNumbers (take i runs ++ joined last run ∷ [])) (push_split run) parts)
 
       -- the last run is apart from one that does not continue it
       pub IsCanonical-push : last.hi < run.lo → (last.hi + 1 ≡ run.lo → last.inheritable ≡ run.inheritable → ⊥) → IsCanonical (runs ++ run ∷ [])

@@ -4,7 +4,7 @@ use Rattle.std.proofs.lemmas.Bool.{le-leb, lt-leb, and_left, and_right, and_from
 use Rattle.std.proofs.lemmas.List.Folds.{list_any-append}
 use Rattle.std.proofs.lemmas.List.Sorted.{list_any-IsPermutation}
 use Rattle.std.specs.List.Sorted.{IsPermutation}
-use Rattle.range_list.specs.Rangelist.{covers, is_in, is_inheritable, HasSame}
+use Rattle.range_list.specs.Rangelist.{covers, is_in, is_inheritable, HasSameNumbers}
 use Rattle.range_list.specs.declared.run.Run.{Run}
 
 abbrev pub covers_inheritably : ℕ → Run → Bool
@@ -42,20 +42,20 @@ is_inheritable-append a b n = list_any-append (covers_inheritably n) a b
 
 -- ---- the same numbers
 
-pub HasSame-refl : (a : List Run) → HasSame a a
-HasSame-refl a n = (refl, refl)
+pub HasSameNumbers-refl : (a : List Run) → HasSameNumbers a a
+HasSameNumbers-refl a n = (refl, refl)
 
-pub HasSame-sym : (a b : List Run) → HasSame a b → HasSame b a
-HasSame-sym a b same n = (sym (same n).0, sym (same n).1)
+pub HasSameNumbers-sym : (a b : List Run) → HasSameNumbers a b → HasSameNumbers b a
+HasSameNumbers-sym a b same n = (sym (same n).0, sym (same n).1)
 
-pub HasSame-trans : (a b c : List Run) → HasSame a b → HasSame b c → HasSame a c
-HasSame-trans a b c first second n = ((first n).0 ∙ (second n).0, (first n).1 ∙ (second n).1)
+pub HasSameNumbers-trans : (a b c : List Run) → HasSameNumbers a b → HasSameNumbers b c → HasSameNumbers a c
+HasSameNumbers-trans a b c first second n = ((first n).0 ∙ (second n).0, (first n).1 ∙ (second n).1)
 
-pub HasSame-permutation : (a b : List Run) → IsPermutation a b → HasSame a b
-HasSame-permutation a b moved n = (list_any-IsPermutation (λ run. covers run n) a b moved, list_any-IsPermutation (covers_inheritably n) a b moved)
+pub HasSameNumbers-permutation : (a b : List Run) → IsPermutation a b → HasSameNumbers a b
+HasSameNumbers-permutation a b moved n = (list_any-IsPermutation (λ run. covers run n) a b moved, list_any-IsPermutation (covers_inheritably n) a b moved)
 
-pub HasSame-append : (a b c d : List Run) → HasSame a b → HasSame c d → HasSame (a ++ c) (b ++ d)
-HasSame-append a b c d front back n = (
+pub HasSameNumbers-append : (a b c d : List Run) → HasSameNumbers a b → HasSameNumbers c d → HasSameNumbers (a ++ c) (b ++ d)
+HasSameNumbers-append a b c d front back n = (
   is_in-append a c n ∙ ap (λ x. x || is_in c n) (front n).0 ∙ ap (λ y. is_in b n || y) (back n).0 ∙ sym (is_in-append b d n),
   is_inheritable-append a c n ∙ ap (λ x. x || is_inheritable c n) (front n).1 ∙ ap (λ y. is_inheritable b n || y) (back n).1 ∙ sym (is_inheritable-append b d n),
 )

@@ -2,7 +2,7 @@
 use Rattle.std.specs.Prelude.{ℕ, suc, zero, ◌==◌, Bool, ◌&&◌, List, [], ◌∷◌, Option, Some, None, if◌then◌else◌}
 use Rattle.std.specs.Bool.{beq}
 use Rattle.svn_text.specs.Number.{greatest_revision}
-use Rattle.range_list.specs.Rangelist.{sort_of}
+use Rattle.range_list.specs.Rangelist.{inheritability_of}
 use Rattle.range_list.specs.declared.run.Run.{Run}
 
 abbrev pub run_of_one : ℕ → Bool → Run
@@ -27,4 +27,4 @@ runs_from sort number (suc count) = put_before number (sort number) (runs_from s
 
 -- the maximal runs of a set
 unfoldable pub canonical_runs : List Run → List Run
-canonical_runs runs = runs_from (sort_of runs) 1 greatest_revision
+canonical_runs runs = runs_from (inheritability_of runs) 1 greatest_revision

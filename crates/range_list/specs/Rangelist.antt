@@ -17,8 +17,8 @@ abbrev pub is_inheritable : List Run → ℕ → Bool
 is_inheritable runs n = list_any (λ run. run.inheritable && covers run n) runs
 
 -- whether the number is inheritable, if it is in the set
-abbrev pub sort_of : List Run → ℕ → Option Bool
-sort_of runs n = if is_in runs n then Some (is_inheritable runs n) else None
+abbrev pub inheritability_of : List Run → ℕ → Option Bool
+inheritability_of runs n = if is_in runs n then Some (is_inheritable runs n) else None
 
 pub record IsRun (run : Run) : Type 0 where
   pub first : 1 ≤ run.lo
@@ -37,8 +37,8 @@ IsCanonical (run ∷ []) = IsRun run
 IsCanonical (run ∷ next ∷ runs) = IsRun run × IsApart run next × IsCanonical (next ∷ runs)
 
 -- the two lists have the same numbers, inheritable in both or in neither
-abbrev pub HasSame : List Run → List Run → Type 0
-HasSame a b = (n : ℕ) → (is_in a n ≡ is_in b n) × (is_inheritable a n ≡ is_inheritable b n)
+abbrev pub HasSameNumbers : List Run → List Run → Type 0
+HasSameNumbers a b = (n : ℕ) → (is_in a n ≡ is_in b n) × (is_inheritable a n ≡ is_inheritable b n)
 
 -- the part has the inheritable numbers of all, and those alone
 abbrev pub IsInheritablePart : List Run → List Run → Type 0
@@ -46,8 +46,8 @@ IsInheritablePart all part = (n : ℕ) → (is_in part n ≡ is_inheritable all 
 
 -- no other canonical list has the same numbers
 abbrev pub IsOnlyCanonical : List Run → Type 0
-IsOnlyCanonical runs = (other : List Run) → IsCanonical other → HasSame other runs → other ≡ runs
+IsOnlyCanonical runs = (other : List Run) → IsCanonical other → HasSameNumbers other runs → other ≡ runs
 
 -- the new list has the numbers of the old one and those from lo to hi
 abbrev pub AddsRun : List Run → List Run → ℕ → ℕ → Bool → Type 0
-AddsRun old new lo hi inheritable = HasSame new (old ++ record { lo = lo; hi = hi; inheritable = inheritable } ∷ [])
+AddsRun old new lo hi inheritable = HasSameNumbers new (old ++ record { lo = lo; hi = hi; inheritable = inheritable } ∷ [])

@@ -1,6 +1,6 @@
 //! A set of revision numbers, each inheritable or not.
-ghost use Rattle.std.specs.Prelude.{◌≡◌, ◌≤◌, ◌<◌, ◌↔◌, List, [], ◌∷◌, ◌++◌, All, IfOk, OnOk, OnErr, IsTrue};
-ghost use Rattle.range_list.specs.Rangelist.{sort_of, IsRun, IsCanonical, HasSame, IsInheritablePart, IsOnlyCanonical, AddsRun};
+ghost use Rattle.std.specs.Prelude.{◌≡◌, ◌≤◌, ◌<◌, ◌↔◌, List, [], ◌++◌, All, IfOk, OnOk, OnErr, IsTrue};
+ghost use Rattle.range_list.specs.Rangelist.{inheritability_of, IsRun, IsCanonical, HasSameNumbers, IsInheritablePart, IsOnlyCanonical, AddsRun};
 ghost use Rattle.svn_text.specs.Number.{greatest_revision};
 ghost use Rattle.range_list.specs.Canonical.{canonical_runs};
 ghost use Rattle.range_list.specs.Text.{rangelist_text};
@@ -43,7 +43,7 @@ impl Ranges {
     /// The union of the runs, which may come in any order and overlap. A number given both ways is inheritable.
     pub fn of_runs(mut runs: Vec<Run>) -> Result<Self, AllocError>
         requires { All IsRun runs.items }
-        ensures same { IfOk result (λ ranges. HasSame ranges runs.items) }
+        ensures same { IfOk result (λ ranges. HasSameNumbers ranges runs.items) }
         ensures exact { IfOk result (λ ranges. ranges ≡ canonical_runs runs.items) }
     {
         runs.sort_by_key(|run| run.lo)?;
@@ -77,7 +77,7 @@ impl Ranges {
 
     /// The numbers of this set and of the other one.
     pub fn union(&self, other: &Ranges) -> Result<Self, AllocError>
-        ensures { IfOk result (λ both. HasSame both (self.now ++ other.now)) }
+        ensures { IfOk result (λ both. HasSameNumbers both (self.now ++ other.now)) }
     {
         let mut runs = Vec::with_capacity(
             *self.runs.allocator(),
@@ -101,7 +101,7 @@ impl Ranges {
 
     /// Whether the number is inheritable, if the set has it.
     pub fn has(&self, rev: u32) -> Option<bool>
-        ensures { result ≡ sort_of self.now rev }
+        ensures { result ≡ inheritability_of self.now rev }
     {
         let place = self.runs.partition_point(|run| run.hi < rev);
         match self.runs.get(place) {

@@ -1,6 +1,6 @@
 //! A sweep over runs in the order of their first numbers, which joins them.
-ghost use Rattle.std.specs.Prelude.{◌≡◌, ℕ, ◌+◌, ◌<◌, ◌≤◌, List, [], ◌∷◌, ◌++◌, IfOk, OnOk};
-ghost use Rattle.range_list.specs.Rangelist.{IsRun, IsCanonical, HasSame};
+ghost use Rattle.std.specs.Prelude.{◌≡◌, ℕ, ◌+◌, ◌<◌, ◌≤◌, [], ◌∷◌, ◌++◌, IfOk, OnOk};
+ghost use Rattle.range_list.specs.Rangelist.{IsRun, IsCanonical, HasSameNumbers};
 ghost use Rattle.svn_text.specs.Number.{greatest_revision};
 ghost use Rattle.range_list.specs.Sweep.{EndsBelow, IsSweep, runs_of};
 
@@ -26,7 +26,7 @@ impl Sweep {
     pub(crate) fn new(alloc: Global) -> Self
         ensures sweep { IsSweep result }
         ensures cursor { result.cursor ≡ 1 }
-        ensures empty { HasSame (runs_of result) [] }
+        ensures empty { HasSameNumbers (runs_of result) [] }
     {
         Sweep {
             done: Vec::new(alloc),
@@ -43,7 +43,7 @@ impl Sweep {
         requires rising { self.old.cursor ≤ run.lo }
         ensures sweep { OnOk result (IsSweep self.new) }
         ensures cursor { OnOk result (self.new.cursor ≡ run.lo) }
-        ensures same { OnOk result (HasSame (runs_of self.new) (runs_of self.old ++ run ∷ [])) }
+        ensures same { OnOk result (HasSameNumbers (runs_of self.new) (runs_of self.old ++ run ∷ [])) }
     {
         self.settle(run.lo)?;
         if run.inheritable {
@@ -60,7 +60,7 @@ impl Sweep {
         requires rising { self.old.cursor ≤ cursor }
         ensures sweep { OnOk result (IsSweep self.new) }
         ensures cursor { OnOk result (self.new.cursor ≡ cursor) }
-        ensures same { OnOk result (HasSame (runs_of self.new) (runs_of self.old)) }
+        ensures same { OnOk result (HasSameNumbers (runs_of self.new) (runs_of self.old)) }
     {
         let end = cursor - 1;
         let inheritable_end = self.inheritable_to.min(end);
@@ -89,7 +89,7 @@ impl Sweep {
         requires sweep { IsSweep self }
         requires bounded { self.cursor ≤ greatest_revision + 1 }
         ensures canonical { IfOk result (λ runs. IsCanonical runs.items) }
-        ensures same { IfOk result (λ runs. HasSame runs.items (runs_of self)) }
+        ensures same { IfOk result (λ runs. HasSameNumbers runs.items (runs_of self)) }
     {
         self.settle(GREATEST_REVISION + 1)?;
         Ok(self.done)
@@ -105,7 +105,7 @@ fn push_run(runs: &mut Vec<Run>, run: Run) -> Result<(), AllocError>
     requires last { run.hi ≤ greatest_revision }
     ensures canonical { OnOk result (IsCanonical runs.new.items) }
     ensures below { OnOk result ((n : ℕ) → run.lo ≤ n → run.hi < n → EndsBelow n runs.new.items) }
-    ensures same { OnOk result (HasSame runs.new.items (runs.old.items ++ run ∷ [])) }
+    ensures same { OnOk result (HasSameNumbers runs.new.items (runs.old.items ++ run ∷ [])) }
 {
     if run.hi < run.lo {
         return Ok(());

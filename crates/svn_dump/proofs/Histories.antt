@@ -4,6 +4,7 @@ use Rattle.std.specs.Prelude.{All}
 use Rattle.std.specs.List.{flat_map}
 use Rattle.std.proofs.lemmas.Grind.{fold-append, flat_map-append}
 use Rattle.std.proofs.lemmas.List.{map-append, length-map}
+use Rattle.std.proofs.lemmas.Simd.{map-map}
 use Rattle.svn_path.specs.Names.{name_of, with_name, with_names}
 use Rattle.svn_dump.specs.Draft.{Extends, record_in_bytes, dump_of}
 use Rattle.svn_dump.specs.Dump.{IsRecordOf, record_view, records_by_revision, revisions_from, history_in_bytes, text_of}
@@ -13,10 +14,6 @@ use Rattle.svn_dump.specs.Record.{RecordOfBytes, HistoryOfBytes, with_record}
 use Rattle.svn_dump.specs.declared.record.NodeRecord.{NodeRecord}
 use Rattle.svn_dump.proofs.Growing.{map-record_in_bytes-grows}
 use Rattle.svn_dump.proofs.Grouped.{total, with_more, length-records_by_revision, map-records_by_revision, flat_map-records_by_revision, records_by_revision-with_more, records_by_revision-with_group, length-revisions_from}
-
-map-map : {A B C : Type 0} (f : B → C) (g : A → B) (xs : List A) → map f (map g xs) ≡ map (λ x. f (g x)) xs
-map-map f g [] = refl
-map-map f g (x ∷ xs) = ap (λ ys. f (g x) ∷ ys) (map-map f g xs)
 
 -- the history in bytes, by its flat list of records
 pub history_in_bytes-told : (names : List (List ℕ)) (records : List NodeRecord) (counts : List ℕ) (texts : List (List ℕ)) → history_in_bytes (dump_of names records counts texts) ≡ records_by_revision counts (map (record_in_bytes names texts) records)

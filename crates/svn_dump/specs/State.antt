@@ -26,12 +26,12 @@ fault_within same trees records count =
     option_and_then (λ each. fault_of same trees (tree_within same trees records count) each.path each.action) (slice_get records count)
 
 -- the first fault of the record that so many others of the revisions that follow these trees precede
-unfoldable pub fault_after_from : {C M : Type 0} → (C → C → Bool) → List (Tree C M) → History C M → ℕ → Option Fault
-fault_after_from same trees [] count = None
-fault_after_from same trees (records ∷ history) count =
+unfoldable pub fault_of_next_record_from : {C M : Type 0} → (C → C → Bool) → List (Tree C M) → History C M → ℕ → Option Fault
+fault_of_next_record_from same trees [] count = None
+fault_of_next_record_from same trees (records ∷ history) count =
     if nat_lt count (length records) then fault_within same trees records count
-    else fault_after_from same (with_revision same trees records) history (count - length records)
+    else fault_of_next_record_from same (with_revision same trees records) history (count - length records)
 
 -- the first fault of the record that so many others of a history precede, in the tree after those
-abbrev pub fault_after : {C M : Type 0} → (C → C → Bool) → History C M → ℕ → Option Fault
-fault_after same history count = fault_after_from same [] history count
+abbrev pub fault_of_next_record : {C M : Type 0} → (C → C → Bool) → History C M → ℕ → Option Fault
+fault_of_next_record same history count = fault_of_next_record_from same [] history count

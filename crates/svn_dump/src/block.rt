@@ -1,5 +1,5 @@
 //! The blocks of a dump.
-ghost use Rattle.std.specs.Prelude.{◌≡◌, ℕ, ◌∷◌, ◌++◌, IsFalse, IsTrue, IfErr, IfOk, IfSome, MatchOption, Some, []};
+ghost use Rattle.std.specs.Prelude.{◌≡◌, IsFalse, IsTrue, IfErr, IfOk, IfSome, MatchOption, Some, []};
 ghost use Rattle.svn_dump.specs.FirstRefusal.{IsEmptyLines, begins_with_newline, front_refusals, without_empty_lines};
 ghost use Rattle.svn_dump.specs.FrontBlock.{BeginsWithBlock, BeginsWithHeaders};
 ghost use Rattle.svn_dump.specs.Refusal.{first_holding};

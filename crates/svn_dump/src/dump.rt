@@ -21,9 +21,11 @@ impl Model for Dump {
 
     ghost Value = { DumpValue };
 
-    ghost view = { λ d. record { names = d.names; records = d.records.items; counts = d.counts.items; values = d.texts } };
+    ghost view = { λ d.
+        record { names = d.names; records = d.records.items; counts = d.counts.items; values = d.texts } };
 
-    ghost invariant = { λ d. IsDump (record { names = d.names; records = d.records.items; counts = d.counts.items; values = d.texts }) };
+    ghost invariant = { λ d.
+        IsDump (record { names = d.names; records = d.records.items; counts = d.counts.items; values = d.texts }) };
 }
 
 impl Dump {

@@ -1,12 +1,11 @@
 //! What a node block says: a record of its revision.
-ghost use Rattle.std.specs.Prelude.{◌≡◌, ℕ, [], pred, ◌||◌, Bool, IsFalse, Some, option_copied, IfErr, IfOk, OnOk};
+ghost use Rattle.std.specs.Prelude.{◌≡◌, [], ◌||◌, IsFalse, Some, option_copied, IfErr, IfOk, OnOk};
 ghost use Rattle.std.specs.List.{list_all, list_any};
-ghost use Rattle.svn_path.specs.Components.{is_slash, parts_of};
+ghost use Rattle.svn_path.specs.Components.{is_slash};
 ghost use Rattle.svn_path.specs.Names.{with_names};
 ghost use Rattle.svn_dump.specs.Draft.{Extends};
-ghost use Rattle.svn_dump.specs.DumpText.{parts_of_action, texts_of_action};
-ghost use Rattle.svn_dump.specs.Record.{action_of, has_dot, is_late, is_long, is_root_action, paths_read, record_of, says_true};
-ghost use Rattle.svn_dump.specs.Refusal.{action_refusals, first_holding, node_refusals};
+ghost use Rattle.svn_dump.specs.Record.{has_dot, is_late, is_long, is_root_action, paths_read, record_of, says_true};
+ghost use Rattle.svn_dump.specs.Refusal.{action_refusals, first_holding};
 ghost use Rattle.svn_dump.specs.HeaderValues.{node_action_view, is_delta_from_headers, node_of_front};
 ghost use Rattle.svn_dump.specs.NumberedRecord.{IsAcceptedAs, IsActOfNode, IsFirstAtAnySize, IsFirstReason, IsNumberedPath, IsRecordOfNode, IsTooLarge, has_long_source, is_act_large, is_path_large, record_refusals, texts_of_node};
 

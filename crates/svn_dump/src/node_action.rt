@@ -1,5 +1,5 @@
 //! What a node block does.
-ghost use Rattle.std.specs.Prelude.{◌≡◌, option_copied, option_map};
+ghost use Rattle.std.specs.Prelude.{◌≡◌, option_map};
 ghost use Rattle.svn_dump.specs.Node.{is_change, kind_of};
 ghost use Rattle.svn_dump.specs.Record.{is_late};
 ghost use Rattle.svn_dump.specs.HeaderValues.{addition_from_headers, node_action_from_headers, node_action_view};

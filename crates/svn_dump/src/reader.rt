@@ -6,7 +6,7 @@ ghost use Rattle.svn_dump.specs.Dump.{history_in_bytes};
 ghost use Rattle.svn_dump.specs.DumpText.{IsDumpText, first_line, names_of, values_of};
 ghost use Rattle.svn_dump.specs.DumpError.{IsRefusal};
 ghost use Rattle.svn_dump.specs.FirstRefusal.{begins_with_newline, first_refusal, line_refusals};
-ghost use Rattle.svn_dump.specs.FrontBlock.{AddsBlock, AddsBlockTo, IsBlockRefusal};
+ghost use Rattle.svn_dump.specs.FrontBlock.{AddsBlockTo, IsBlockRefusal};
 ghost use Rattle.svn_dump.specs.Property.{SectionsAreExact};
 ghost use Rattle.svn_dump.specs.Record.{HistoryOfBytes};
 ghost use Rattle.svn_dump.specs.Refusal.{first_holding};

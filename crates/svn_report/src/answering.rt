@@ -4,9 +4,10 @@ ghost use Rattle.std.specs.List.{flat_map};
 ghost use Rattle.svn_dump.specs.Dump.{history_in_bytes};
 ghost use Rattle.query_answer.specs.Answer.{answer_text};
 ghost use Rattle.query_answer.specs.Query.{query_of};
-ghost use Rattle.query_answer.specs.Repo.{answer_by};
+ghost use Rattle.query_answer.specs.Repo.{answer_in};
 ghost use Rattle.svn_report.specs.QueryLines.{query_lines};
 ghost use Rattle.svn_report.specs.Report.{answers, most_queries};
+ghost use Rattle.query_pool.specs.Serving.{most_workers};
 
 use crate::query_lines::lines_of;
 use query_answer::{Query, Repo, answer};
@@ -68,7 +69,7 @@ pub(crate) fn answer_lines<R: Threads + Wait + Sync, G: Gate>(
 ) -> Result<Vec<u8>, AllocError>
     requires few_queries { length (query_lines queries.now) ≤ most_queries }
     requires some_worker { 0 < workers }
-    requires few_workers { workers ≤ 64 }
+    requires few_workers { workers ≤ most_workers }
     ensures { IfOk result (λ out. out.items ≡ answers (history_in_bytes repo.now) queries.now) }
 {
     let lines = lines_of(alloc, queries)?;
@@ -95,7 +96,7 @@ fn answer_line(
     out: &mut Vec<u8>,
 ) -> Result<(), AllocError>
     ensures { OnOk result
-        (out.new.items ≡ out.old.items ++ answer_text (place + 1) (answer_by repo.now (query_of line.now))) }
+        (out.new.items ≡ out.old.items ++ answer_text (place + 1) (answer_in repo.now (query_of line.now))) }
 {
     answer(alloc, repo, Query::read(line))?.write(repo, place, out)
 }

@@ -3,6 +3,7 @@ ghost use Rattle.std.specs.Prelude.{◌≡◌, ◌<◌, ◌≤◌, All, IfOk, le
 ghost use Rattle.svn_dump.specs.Dump.{IsDump};
 ghost use Rattle.svn_report.specs.Blocks.{AreBorders};
 ghost use Rattle.svn_report.specs.RecordEnds.{AreRecordBorders, AreRecordEnds, sum_at, sum_of};
+ghost use Rattle.query_pool.specs.Serving.{most_workers};
 
 use crate::blocks::Blocks;
 use crate::cutting::cut;
@@ -22,7 +23,7 @@ pub(crate) fn index_of<R: Threads + Sync>(
 ) -> Result<Index, AllocError>
     requires borders { AreBorders 0 (length dump.now.records) borders.now }
     requires some_worker { 0 < workers }
-    requires few_workers { workers ≤ 64 }
+    requires few_workers { workers ≤ most_workers }
     ensures records { IfOk result (λ index. index.records ≡ dump.now.records) }
     ensures first { IfOk result (λ index. index.first ≡ 0) }
 {
@@ -38,8 +39,8 @@ pub(crate) fn index_of<R: Threads + Sync>(
     }
 }
 
-/// How many records precede each block that `cuts` make of the revisions of a dump, and how many there are. Each join of
-/// indexes copies, so neighbouring blocks are taken together until there is one for each worker.
+/// How many records precede each block that `cuts` make of the revisions of a dump, and how many there are. Each join
+/// of indexes copies, so neighbouring blocks are taken together until there is one for each worker.
 pub(crate) fn record_borders(
     alloc: Global,
     dump: &Dump,
@@ -65,7 +66,7 @@ pub(crate) fn record_ends<R: Threads + Sync>(
     workers: usize,
 ) -> Result<Vec<Sum>, AllocError>
     requires some_worker { 0 < workers }
-    requires few_workers { workers ≤ 64 }
+    requires few_workers { workers ≤ most_workers }
     ensures exact { IfOk result (λ sums. AreRecordEnds dump.now.counts sums.items) }
     ensures kept { IsDump dump.now }
 {

@@ -6,8 +6,8 @@ ghost use Rattle.svn_report.specs.Cutting.{AreBlockEnds, IsCut, block_length, ev
 use std::alloc::{AllocError, Global};
 
 /// Revision 0 and the last revision of each block, of `last` revisions from 1 on. Blocks take revisions by the lengths
-/// `cuts` in turn; the last length is repeated, and no lengths mean one block. Neighbouring blocks are taken together so
-/// that at most `most` are left.
+/// `cuts` in turn; the last length is repeated, and no lengths mean one block. Neighbouring blocks are taken together
+/// so that at most `most` are left.
 pub fn cut(alloc: Global, cuts: &[u32], last: usize, most: usize) -> Result<Vec<usize>, AllocError>
     requires cuts { All (λ length. 0 < length) cuts.now }
     requires few_revisions { last < 2 ^ 32 }

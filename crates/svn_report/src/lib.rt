@@ -1,5 +1,5 @@
-//! The report on a dump: the answers to a list of queries about its history, the same for each number of workers and each
-//! cutting of the history into blocks.
+//! The report on a dump: the answers to a list of queries about its history, the same for each number of workers and
+//! each cutting of the history into blocks.
 #![tactic(auto)]
 
 mod answering;

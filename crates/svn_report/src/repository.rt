@@ -6,12 +6,12 @@ ghost use Rattle.svn_dump.specs.Fault.{first_fault};
 ghost use Rattle.block_map.specs.Ends.{ends_of};
 ghost use Rattle.block_map.specs.Map.{IsMapOf};
 ghost use Rattle.svn_report.specs.LoadRepo.{IsLoadError};
+ghost use Rattle.query_pool.specs.Serving.{most_workers};
 
 use crate::block_index::{index_of, record_borders, record_ends};
 use block_map::{Ends, Fault, Map, check};
 use query_answer::Repo;
 use std::alloc::{AllocError, Global};
-use std::sync::Wait;
 use std::thread::Threads;
 use svn_dump::Dump;
 use thiserror::Error;
@@ -41,7 +41,7 @@ impl From<AllocError> for LoadError {
 /// At most `workers` threads at a time make the indexes of blocks, which are then joined. Blocks take whole revisions
 /// from 1 on by the lengths `cuts` in turn; the last length is repeated, and no lengths mean one block. Neighbouring
 /// blocks are taken together so that there are at most as many as workers.
-pub fn load_repo<R: Threads + Wait + Sync>(
+pub fn load_repo<R: Threads + Sync>(
     rt: &R,
     alloc: Global,
     dump: Dump,
@@ -50,7 +50,7 @@ pub fn load_repo<R: Threads + Wait + Sync>(
 ) -> Result<Repo, LoadError>
     requires cuts { All (λ blocks. 0 < blocks) cuts.now }
     requires some_worker { 0 < workers }
-    requires few_workers { workers ≤ 64 }
+    requires few_workers { workers ≤ most_workers }
     ensures repo { IfOk result (λ repo. repo ≡ dump) }
     ensures lawful { OnOk result (first_fault bytes_eq (history_in_bytes dump) ≡ None) }
     ensures faulty { IfErr result (IsLoadError dump) }

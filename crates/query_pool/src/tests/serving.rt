@@ -1,5 +1,6 @@
 //! Serving places.
 ghost use Rattle.std.specs.Prelude.{◌<◌, ◌≤◌};
+ghost use Rattle.query_pool.specs.Serving.{most_workers};
 
 use crate::tests::meetings::Meeting;
 use crate::{Gate, Job, NoGate, gather, serve};
@@ -221,7 +222,7 @@ fn nine_are_served<R: Threads + Wait + Sync>(
     wanted: &[u32],
 ) -> Result<bool, Fail>
     requires some_worker { 0 < workers }
-    requires few_workers { workers ≤ 64 }
+    requires few_workers { workers ≤ most_workers }
 {
     let gate = Counting::new();
     let job = Watched {

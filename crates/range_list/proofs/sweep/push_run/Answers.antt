@@ -3,7 +3,7 @@ use Rattle.std.proofs.lemmas.Bool.{iff_false}
 use Rattle.std.proofs.lemmas.List.{get_or_default}
 use Rattle.range_list.specs.Rangelist.{IsRun}
 use Rattle.range_list.specs.declared.run.Run.{Run}
-use Rattle.range_list.proofs.Pushed.{IsCanonical-first, IsCanonical-push, IsCanonical-set, HasSame-set}
+use Rattle.range_list.proofs.Pushed.{IsCanonical-first, IsCanonical-push, IsCanonical-set, HasSameNumbers-set}
 use Rattle.range_list.proofs.sweep.push_run.Goals as goal
 use Rattle.range_list.proofs.sweep.push_run.Goals.{else-len-gt0-via-then-len-gt0+else-continues_with, else-len-gt0-via-else-len-gt0}
 
@@ -23,7 +23,7 @@ returns-then-continues_with-clause-same c =
     let is_run : IsRun c.args.run = record { first = c.requires.first; ordered = c.if-run.false; last = c.requires.last } in
     let same = c.index_mut.ensures.value ∙ get_or_default runs _ c.index_mut.result.now c.index.result.now (omega arith) ∙ sym c.index.ensures in
     let next = c.continues_with.ensures.0 c.if-continues_with.true in
-    HasSame-set runs _ c.index_mut.result.now (omega arith) c.index_mut.ensures.value c.requires.canonical c.args.run is_run
+    HasSameNumbers-set runs _ c.index_mut.result.now (omega arith) c.index_mut.ensures.value c.requires.canonical c.args.run is_run
     (ap (λ (each : Run). each.hi + 1) same ∙ next.0) (ap (λ (each : Run). each.inheritable) same ∙ next.1)
 
 pub returns-in_ok-push-clause-canonical : goal.returns-in_ok-push-clause-canonical

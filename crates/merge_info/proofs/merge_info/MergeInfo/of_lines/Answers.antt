@@ -3,7 +3,7 @@ use Rattle.std.proofs.lemmas.Bool.{both_ways}
 use Rattle.std.proofs.lemmas.List.{map_push}
 use Rattle.std.proofs.lemmas.List.Elements.{All-head}
 use Rattle.std.proofs.lemmas.Map.Iter.{rest_more}
-use Rattle.range_list.specs.Rangelist.{HasSame, IsCanonical}
+use Rattle.range_list.specs.Rangelist.{HasSameNumbers, IsCanonical}
 use Rattle.merge_info.specs.Line.{IsLine, line_view}
 use Rattle.merge_info.specs.Value.{entry_view}
 use Rattle.merge_info.specs.declared.entry.Entry.{Entry}
@@ -30,7 +30,7 @@ loop-path-preserved-then-is_empty c =
     let next = rest_more (λ (each : MapEntry). each) c.loop-path.path-iterator c.next.new.self
     c.next.result entry c.in-Some.is c.next.ensures.steps in
     let so_far = subst (λ rest. IsSoFar lines entries (map line_in rest)) next c.loop-path.invariant in
-    let none = subst (λ ranges. HasSame ranges c.in-Some.runs.items)
+    let none = subst (λ ranges. HasSameNumbers ranges c.in-Some.runs.items)
     (c.is_empty.ensures.0 c.if-is_empty.true) c.in_ok-ranges.ensures.same in
     IsSoFar-skip lines entries (map line_in c.next.new.self) (line_in entry) so_far none
 
