@@ -12,7 +12,8 @@ use Rattle.std.specs.List.{list_all, list_any, slice_split}
 use Rattle.svn_text.specs.Line.{is_newline, line_text}
 use Rattle.svn_text.specs.Number.{is_digit, number_up_to, greatest_revision}
 use Rattle.svn_text.specs.Bytes.{is_not_empty}
-use Rattle.svnhist.specs.Bundle.{AreLines, BundleValue, IsBundle, most_workers}
+use Rattle.query_pool.specs.Serving.{most_workers}
+use Rattle.svnhist.specs.Bundle.{AreLines, BundleValue, IsBundle}
 use Rattle.svn_report.specs.Report.{most_queries}
 use Rattle.svn_text.specs.Cut.{Lacks}
 use Rattle.svn_text.proofs.Lines.{Lacks-list_any}

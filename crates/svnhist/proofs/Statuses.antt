@@ -2,8 +2,8 @@
 use Rattle.std.proofs.Common.{◌≡◌, ℕ, List, [], inl, inr, refl, sym, subst, ◌∙◌, arith}
 use Rattle.svn_dump.specs.declared.error.DumpError.TheVariants as refusal
 use Rattle.devices.specs.Device.{PullState, PushState}
-use Rattle.svn_report.specs.Load.{IsLoadError, IsReadError}
-use Rattle.svnhist.specs.ExitStatus.{IsFilesError, IsInputError, IsErrorLine, IsRefusedFilesRun, IsRefusedRun, PrintsLine}
+use Rattle.svn_report.specs.Load.{IsReadOrMemory, IsReadError}
+use Rattle.svnhist.specs.ExitStatus.{IsFilesError, IsInputError, IsErrorLine, IsRefusedOnFiles, IsRefused, PrintsLine}
 use Rattle.svn_report.specs.RunError.{line_of, status_of}
 use Rattle.svn_report.specs.ReportError.{IsRunError}
 use Rattle.svn_report.specs.declared.run_error.RunError.{RunError}
@@ -12,7 +12,7 @@ use Rattle.devices.specs.declared.source.Source.{Source}
 use Rattle.devices.specs.declared.source.Source.TheVariants as source
 
 -- an input that was not read is not refused
-not_refused : (error : RunError) → IsLoadError source.Input error → status_of error ≡ 1 → ⊥
+not_refused : (error : RunError) → IsReadOrMemory source.Input error → status_of error ≡ 1 → ⊥
 not_refused run.TooMany unread one = unread
 not_refused (run.Dump refused) unread one = unread
 not_refused (run.Fault fault) unread one = unread
@@ -47,18 +47,18 @@ module _ (old new : PushState) where
       by run.Memory four line = line
 
   -- an error of a run on files, or that memory ran out for its line
-  pub IsRefusedFilesRun-refusal : (error : RunError) (status : ℕ) → IsFilesError error → IsErrorLine status error old new → IsRefusedFilesRun status old new
-  IsRefusedFilesRun-refusal error status files (inl (same, line)) = record { error = error; files = files; same = same; line = line }
-  IsRefusedFilesRun-refusal error status files (inr (memory, line)) = record { error = run.Memory; files = inr ([], [], tt); same = memory; line = line }
+  pub IsRefusedOnFiles-refusal : (error : RunError) (status : ℕ) → IsFilesError error → IsErrorLine status error old new → IsRefusedOnFiles status old new
+  IsRefusedOnFiles-refusal error status files (inl (same, line)) = record { error = error; files = files; same = same; line = line }
+  IsRefusedOnFiles-refusal error status files (inr (memory, line)) = record { error = run.Memory; files = inr ([], [], tt); same = memory; line = line }
 
 module _ (input_old input_new : PullState) (old new : PushState) where
   -- status 1 is that of an input that was read and is refused
-  pub IsRefusedRun-from_status : (error : RunError) (status : ℕ) → IsInputError input_old input_new error → IsErrorLine status error old new
-      → status ≡ 1 → IsRefusedRun input_old input_new old new
-  IsRefusedRun-from_status error status (inl unread) (inl (same, line)) one = absurd (not_refused error unread (sym same ∙ one))
-  IsRefusedRun-from_status error status (inr (bytes, read, refused)) (inl (same, line)) one =
+  pub IsRefused-from_status : (error : RunError) (status : ℕ) → IsInputError input_old input_new error → IsErrorLine status error old new
+      → status ≡ 1 → IsRefused input_old input_new old new
+  IsRefused-from_status error status (inl unread) (inl (same, line)) one = absurd (not_refused error unread (sym same ∙ one))
+  IsRefused-from_status error status (inr (bytes, read, refused)) (inl (same, line)) one =
       record { bytes = bytes; error = error; read = read; refused = refused; status = sym same ∙ one; line = line }
-  IsRefusedRun-from_status error status why (inr (memory, line)) one = absurd (omega (arith, memory, one))
+  IsRefused-from_status error status why (inr (memory, line)) one = absurd (omega (arith, memory, one))
 
   -- status 3 is that of an input that was not read
   pub IsReadError-from_status : (error : RunError) (status : ℕ) → IsInputError input_old input_new error → IsErrorLine status error old new
@@ -66,7 +66,7 @@ module _ (input_old input_new : PullState) (old new : PushState) where
   IsReadError-from_status error status why (inr (memory, line)) three = absurd (omega (arith, memory, three))
   IsReadError-from_status error status (inl unread) (inl (same, line)) three = by error unread (sym same ∙ three) line
     where
-      by : (error : RunError) → IsLoadError source.Input error → status_of error ≡ 3 → PrintsLine old new (line_of error)
+      by : (error : RunError) → IsReadOrMemory source.Input error → status_of error ≡ 3 → PrintsLine old new (line_of error)
           → IsReadError error × PrintsLine old new (line_of (run.Read source.Input))
       by run.TooMany unread three line = absurd unread
       by (run.Dump refused) unread three line = absurd unread
@@ -78,13 +78,13 @@ module _ (input_old input_new : PullState) (old new : PushState) where
       by : (error : RunError) → IsRunError wrong.0.dump wrong.0.queries error → status_of error ≡ 3 → ⊥
       by run.TooMany refused three = omega (arith, three)
       by (run.Dump (refusal.Refused number at)) refused three = omega (arith, three)
-      by (run.Dump refusal.Memory) refused three = refused
+      by (run.Dump refusal.Memory) refused three = refused.1
       by (run.Fault fault) refused three = omega (arith, three)
       by (run.Read source) refused three = refused
       by run.Memory refused three = omega (arith, three)
 
 -- a source that is a file's
-pub IsFilesError-load : (which : Source) (error : RunError) → (which ≡ source.Input → ⊥) → IsLoadError which error → IsFilesError error
+pub IsFilesError-load : (which : Source) (error : RunError) → (which ≡ source.Input → ⊥) → IsReadOrMemory which error → IsFilesError error
 IsFilesError-load which run.TooMany file wrong = absurd wrong
 IsFilesError-load which (run.Dump refused) file wrong = absurd wrong
 IsFilesError-load which (run.Fault fault) file wrong = absurd wrong

@@ -2,7 +2,7 @@
 -- of workers.
 use Rattle.std.specs.Prelude.{◌≡◌, ℕ, ◌<◌, List, [], ◌∷◌, Some}
 use Rattle.svn_text.specs.Number.{number_up_to, greatest_revision}
-use Rattle.svnhist.specs.Bundle.{most_workers}
+use Rattle.query_pool.specs.Serving.{most_workers}
 use Rattle.svnhist.specs.declared.arguments.Arguments.{Arguments}
 
 pub record ArgumentsValue : Type 0 where

@@ -5,11 +5,13 @@ use Rattle.std.specs.Prelude.{◌≡◌, ℕ, ◌<◌, List, ◌∷◌, ◌++◌
 use Rattle.std.specs.List.{list_any}
 use Rattle.svn_text.specs.Line.{is_newline, line_text}
 use Rattle.svn_text.specs.Number.{number_up_to, greatest_revision}
+use Rattle.query_pool.specs.Serving.{most_workers}
 use Rattle.svn_report.specs.Report.{most_queries}
 use Rattle.svnhist.specs.declared.bundle.Bundle.{Bundle}
 
-abbrev pub most_workers : ℕ
-most_workers = 64
+-- the byte of the digit 0
+abbrev pub first_digit : ℕ
+first_digit = 48
 
 pub record BundleValue : Type 0 where
   pub block : ℕ

@@ -1,14 +1,14 @@
 //! Taking a bundle apart.
 ghost use Rattle.std.specs.Prelude.{◌≡◌, ◌<◌, ◌≤◌, ℕ, List, ◌++◌, IfNone, IfSome};
 ghost use Rattle.svn_text.specs.Number.{greatest_length};
-ghost use Rattle.svnhist.specs.Bundle.{AreLines, BundleValue, HasNoNumberBefore, IsBundle, IsNumberBefore, bundle_view};
+ghost use Rattle.svnhist.specs.Bundle.{AreLines, BundleValue, HasNoNumberBefore, IsBundle, IsNumberBefore, bundle_view, first_digit};
 
 use crate::bundle::Bundle;
 use svn_text::{GREATEST_REVISION, number_up_to, split_at_byte};
 
 /// The number before the first such byte, and what follows that byte.
 fn number_before(bytes: &[u8], end: u8, most: u64) -> Option<(u64, &[u8])>
-    requires before_digits { end < 48 }
+    requires before_digits { end < first_digit }
     requires small { most ≤ greatest_length }
     ensures found { IfSome result (λ found. IsNumberBefore end most bytes.now found.0 found.1.now) }
     ensures none { IfNone result (HasNoNumberBefore end most bytes.now) }

@@ -2,11 +2,12 @@
 ghost use Rattle.std.specs.Prelude.{◌≡◌, ◌≢◌, ℕ, ◌<◌, ◌≤◌, ◌⊎◌, List, IfErr, IfOk, IsFalse, IsTrue};
 ghost use Rattle.std.specs.Io.KnownBytes.{Appends};
 ghost use Rattle.svn_report.specs.Load.{IsReadError, IsUnread};
-ghost use Rattle.svnhist.specs.ExitStatus.{IsBundleAnswer, IsBundleError, IsCutAfter, IsFailedFilesRun, IsFailedRun, IsFailureLine, IsFilesError, IsFilesRun, IsInputAnswer, IsInputError, IsErrorLine, IsRefusedFilesRun, IsRefusedRun, IsRun, IsUsageRun, PrintsLine};
+ghost use Rattle.svnhist.specs.ExitStatus.{IsBundleAnswer, IsBundleError, IsPartSent, IsFailedOnFiles, IsFailed, IsFailureLine, IsFilesError, IsDoneOnFiles, IsInputAnswer, IsInputError, IsErrorLine, IsRefusedOnFiles, IsRefused, IsDone, IsNoBundle, PrintsLine};
 ghost use Rattle.svn_report.specs.Report.{IsReport};
 ghost use Rattle.svn_report.specs.ReportError.{IsRunError};
 ghost use Rattle.svn_report.specs.RunError.{line_of};
 ghost use Rattle.svnhist.specs.ProgramLines.{unsent_line, usage_line};
+ghost use Rattle.query_pool.specs.Serving.{most_workers};
 
 use crate::arguments::Arguments;
 use crate::bundle_reader::bundle;
@@ -35,13 +36,13 @@ pub(crate) fn run<R: Threads + Wait + Sync, I: Pull, O: Push, E: Push>(
     errors: &mut E,
 ) -> u8
     ensures done { result ≡ 0 →
-        IsRun (I.state input.old) (I.state input.new) (O.state output.old) (O.state output.new) }
+        IsDone (I.state input.old) (I.state input.new) (O.state output.old) (O.state output.new) }
     ensures refused { result ≡ 1 →
-        IsRefusedRun (I.state input.old) (I.state input.new) (E.state errors.old) (E.state errors.new) }
+        IsRefused (I.state input.old) (I.state input.new) (E.state errors.old) (E.state errors.new) }
     ensures usage { result ≡ 2 →
-        IsUsageRun (I.state input.old) (I.state input.new) (E.state errors.old) (E.state errors.new) }
+        IsNoBundle (I.state input.old) (I.state input.new) (E.state errors.old) (E.state errors.new) }
     ensures failed { result ≡ 3 →
-        IsFailedRun (I.state input.old) (I.state input.new) (O.state output.old) (O.state output.new) }
+        IsFailed (I.state input.old) (I.state input.new) (O.state output.old) (O.state output.new) }
     ensures failure_line { result ≡ 3 →
         IsFailureLine (O.state output.old) (O.state output.new) (E.state errors.old) (E.state errors.new) }
     ensures memory { result ≡ 4 → PrintsLine (E.state errors.old) (E.state errors.new) (line_of RunError.Memory) }
@@ -66,12 +67,12 @@ pub(crate) fn run_files<R: Files + Threads + Wait + Sync, O: Push, E: Push>(
     errors: &mut E,
 ) -> u8
     requires some_worker { 0 < asked.now.workers }
-    requires few_workers { asked.now.workers ≤ 64 }
-    ensures done { result ≡ 0 → IsFilesRun (O.state output.old) (O.state output.new) }
+    requires few_workers { asked.now.workers ≤ most_workers }
+    ensures done { result ≡ 0 → IsDoneOnFiles (O.state output.old) (O.state output.new) }
     ensures failed { result ≡ 3 →
-        IsFailedFilesRun (O.state output.old) (O.state output.new) (E.state errors.old) (E.state errors.new) }
+        IsFailedOnFiles (O.state output.old) (O.state output.new) (E.state errors.old) (E.state errors.new) }
     ensures refused { result ≢ 0 → output.new ≡ output.old →
-        IsRefusedFilesRun result (E.state errors.old) (E.state errors.new) }
+        IsRefusedOnFiles result (E.state errors.old) (E.state errors.new) }
     ensures silent { result ≡ 0 → errors.new ≡ errors.old }
     ensures quiet { (result ≡ 0) ⊎ (result ≡ 3) ⊎ (output.new ≡ output.old) }
     ensures untouched { (output.new ≡ output.old) ⊎ ((O.state output.old).calls < (O.state output.new).calls) }
@@ -130,7 +131,7 @@ fn deliver<O: Push, E: Push>(output: &mut O, errors: &mut E, report: &[u8]) -> u
     ensures flushed { result ≡ 0 → IsTrue (O.state output.new).is_flushed }
     ensures sound { result ≡ 0 → IsFalse (O.state output.new).has_failed }
     ensures silent { result ≡ 0 → errors.new ≡ errors.old }
-    ensures cut { result ≡ 3 → IsCutAfter (O.state output.old) (O.state output.new) report.now }
+    ensures cut { result ≡ 3 → IsPartSent (O.state output.old) (O.state output.new) report.now }
     ensures line { result ≡ 3 → PrintsLine (E.state errors.old) (E.state errors.new) unsent_line }
 {
     match send(output, report) {
@@ -193,7 +194,7 @@ fn answer_files<R: Files + Threads + Wait + Sync>(
     asked: &Arguments<'_>,
 ) -> Result<Vec<u8>, RunError>
     requires some_worker { 0 < asked.now.workers }
-    requires few_workers { asked.now.workers ≤ 64 }
+    requires few_workers { asked.now.workers ≤ most_workers }
     ensures ok { IfOk result (λ report. (dump queries : List ℕ) × IsReport dump queries report.items) }
     ensures error { IfErr result IsFilesError }
 {
@@ -219,7 +220,7 @@ fn answer_blocks<R: Threads + Wait + Sync>(
     workers: usize,
 ) -> Result<Vec<u8>, RunError>
     requires some_worker { 0 < workers }
-    requires few_workers { workers ≤ 64 }
+    requires few_workers { workers ≤ most_workers }
     ensures ok { IfOk result (λ report. IsReport dump.now queries.now report.items) }
     ensures error { IfErr result (IsRunError dump.now queries.now) }
 {

@@ -1,9 +1,9 @@
 use Rattle.std.proofs.Common.{inr, refl}
-use Rattle.svnhist.proofs.Statuses.{IsReadError-from_status, IsRefusedRun-from_status, PrintsLine-from_status}
+use Rattle.svnhist.proofs.Statuses.{IsReadError-from_status, IsRefused-from_status, PrintsLine-from_status}
 use Rattle.svnhist.proofs.program.run.Goals as goal
 
 pub returns-in-Err-clause-refused : goal.returns-in-Err-clause-refused
-returns-in-Err-clause-refused g c = IsRefusedRun-from_status (g.I.Pull.state c.args.input.now) (g.I.Pull.state c.answer_input.new.input) (g.E.Push.state c.args.errors.now) (g.E.Push.state c.refuse.new.errors) c.in-Err.error c.refuse.result c.in-Err.ensures.error c.refuse.ensures
+returns-in-Err-clause-refused g c = IsRefused-from_status (g.I.Pull.state c.args.input.now) (g.I.Pull.state c.answer_input.new.input) (g.E.Push.state c.args.errors.now) (g.E.Push.state c.refuse.new.errors) c.in-Err.error c.refuse.result c.in-Err.ensures.error c.refuse.ensures
 
 pub returns-in-Err-clause-failed : goal.returns-in-Err-clause-failed
 returns-in-Err-clause-failed g c three =
