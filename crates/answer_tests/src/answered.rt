@@ -1,7 +1,7 @@
 //! The comparison of answers with those that are wanted.
 //!
-//! Here and in the modules beside it a large value is released by `drop`, in place of the end of its scope. So its release is
-//! proved once, and not again in each function.
+//! Here and in the modules beside it a large value is released by `drop`, in place of the end of its scope. So its
+//! release is proved once, and not again in each function.
 use crate::repository::repo_of;
 use query_answer::{Query, Repo, answer};
 use std::alloc::Global;

@@ -2,14 +2,13 @@
 use block_map::{Fault, FaultKind};
 use sample_dumps::NO_PARENT;
 use std::alloc::Global;
-use std::sync::Wait;
 use std::test::Fail;
 use std::thread::Threads;
 use svn_dump::{Dump, read};
 use svn_report::{LoadError, load_repo};
 
 // The first fault of a dump.
-fn fault_of<R: Threads + Wait + Sync>(rt: &R, alloc: Global, dump: Dump) -> Option<Fault> {
+fn fault_of<R: Threads + Sync>(rt: &R, alloc: Global, dump: Dump) -> Option<Fault> {
     match load_repo(rt, alloc, dump, &[], 1) {
         Err(LoadError::Fault(fault)) => Some(fault),
         Err(LoadError::Memory) => None,

@@ -13,6 +13,9 @@ const A: NameId = NameId(0);
 
 const B: NameId = NameId(1);
 
+// In place of a path that has not one component.
+const OTHER: NameId = NameId(2);
+
 fn path_of(alloc: Global, name: NameId) -> Result<Path, AllocError>
     ensures { IfOk result (λ path. path ≡ name ∷ []) }
 {
@@ -113,7 +116,10 @@ fn index_of_replacements(alloc: Global) -> Result<Index, AllocError>
 
 // The only component of a path.
 fn name_of(path: Option<&Path>) -> Option<NameId> {
-    path.and_then(|path| path.parts().first().copied())
+    path.map(|path| match path.parts() {
+        [name] => *name,
+        _ => OTHER,
+    })
 }
 
 // Where `b` of a revision was in another one.

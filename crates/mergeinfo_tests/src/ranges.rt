@@ -83,7 +83,7 @@ fn a_number_given_both_ways_is_inheritable(rt: HostRuntime) -> Result<(), Fail> 
 }
 
 // How the set has a number.
-fn sort_of(alloc: Global, rev: u32) -> Result<Option<bool>, Fail> {
+fn inheritability_of(alloc: Global, rev: u32) -> Result<Option<bool>, Fail> {
     Ok(ranges(alloc)?.has(rev))
 }
 
@@ -97,7 +97,7 @@ fn numbers_are_looked_up(rt: HostRuntime) -> Result<(), Fail> {
         (9, Some(false)),
         (10, None),
     ] {
-        assert!(rt; sort_of(rt.alloc(), rev)? == sort, "{rev}");
+        assert!(rt; inheritability_of(rt.alloc(), rev)? == sort, "{rev}");
     }
     Ok(())
 }
@@ -155,21 +155,22 @@ fn the_greatest_number_is_kept(rt: HostRuntime) -> Result<(), Fail> {
     Ok(())
 }
 
-// The text of the set, after which that of an empty one is written.
-fn write_both(alloc: Global, ranges: &Ranges) -> Result<Vec<u8>, Fail> {
-    let mut out = Vec::new(alloc);
+// These bytes, after which the text of a set is written.
+fn written_after(alloc: Global, before: &[u8], ranges: &Ranges) -> Result<Vec<u8>, Fail> {
+    let mut out = Vec::from_slice(alloc, before)?;
     ranges.write(&mut out)?;
-    Ranges::new(alloc).write(&mut out)?;
     Ok(out)
 }
 
 fn is_printed_as(alloc: Global, wanted: &[u8]) -> Result<bool, Fail> {
     let ranges = ranges(alloc)?;
-    Ok(write_both(alloc, &ranges)?.as_slice() == wanted)
+    Ok(written_after(alloc, b"/a:", &ranges)?.as_slice() == wanted)
 }
 
 #[test]
 fn a_rangelist_is_printed(rt: HostRuntime) -> Result<(), Fail> {
-    assert!(rt; is_printed_as(rt.alloc(), b"3-5,9*")?);
+    let empty = Ranges::new(rt.alloc());
+    assert!(rt; is_printed_as(rt.alloc(), b"/a:3-5,9*")?);
+    assert!(rt; written_after(rt.alloc(), b"/a:", &empty)?.as_slice() == b"/a:");
     Ok(())
 }

@@ -124,7 +124,7 @@ fn inherited_paths_are_in_their_own_order(rt: HostRuntime) -> Result<(), Fail> {
 }
 
 // How the value has a path, and how that has a revision.
-fn sort_of(alloc: Global, path: &str, rev: u32) -> Result<Option<Option<bool>>, Fail> {
+fn inheritability_of(alloc: Global, path: &str, rev: u32) -> Result<Option<Option<bool>>, Fail> {
     let value = MergeInfo::parse(alloc, b"/a:1\n/a/b:2-4,9*\n/z:3")?;
     Ok(value.ranges(path.as_bytes()).map(|ranges| ranges.has(rev)))
 }
@@ -137,7 +137,7 @@ fn paths_are_looked_up(rt: HostRuntime) -> Result<(), Fail> {
         ("/a/", 1, None),
         ("/zz", 3, None),
     ] {
-        assert!(rt; sort_of(rt.alloc(), path, rev)? == sort, "{path}");
+        assert!(rt; inheritability_of(rt.alloc(), path, rev)? == sort, "{path}");
     }
     Ok(())
 }

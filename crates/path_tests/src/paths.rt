@@ -30,8 +30,12 @@ fn read_after(alloc: Global, text: &str, numbers: &[NameId]) -> Result<(bool, us
 
 #[test]
 fn paths_are_read_between_slashes(rt: HostRuntime) -> Result<(), Fail> {
-    let numbers = [NameId(0), NameId(3)];
-    assert!(rt; read_after(rt.alloc(), "/a//d/", numbers.as_slice())? == (true, 4));
+    for (text, numbers, count) in [
+        ("/a//c/", [NameId(0), NameId(2)], 3),
+        ("/a//d/", [NameId(0), NameId(3)], 4),
+    ] {
+        assert!(rt; read_after(rt.alloc(), text, numbers.as_slice())? == (true, count));
+    }
     Ok(())
 }
 
@@ -165,24 +169,26 @@ fn paths_are_rebased_onto_another(rt: HostRuntime) -> Result<(), Fail> {
     Ok(())
 }
 
-// How many components the path above a path has, if there is one.
-fn above(path: &Path) -> Result<Option<usize>, Fail> {
+// Whether the path above a path is the root, if there is one.
+fn is_below_root(alloc: Global, path: &Path) -> Result<Option<bool>, Fail> {
     match path.parent()? {
         None => Ok(None),
-        Some(above) => Ok(Some(above.len())),
+        Some(above) => Ok(Some(above == Path::root(alloc))),
     }
 }
 
-fn above_in_table(alloc: Global, text: &str) -> Result<Option<usize>, Fail> {
+fn is_found_below_root(alloc: Global, text: &str) -> Result<Option<bool>, Fail> {
     let names = table(alloc)?;
     let path = known(alloc, &names, text)?;
-    above(&path)
+    is_below_root(alloc, &path)
 }
 
 #[test]
 fn the_parent_is_the_path_above(rt: HostRuntime) -> Result<(), Fail> {
-    assert!(rt; above_in_table(rt.alloc(), "")?.is_none());
-    assert!(rt; above_in_table(rt.alloc(), "/a")? == Some(0));
+    assert!(rt; is_below_root(rt.alloc(), &Path::root(rt.alloc()))?.is_none());
+    assert!(rt; is_found_below_root(rt.alloc(), "")?.is_none());
+    assert!(rt; is_found_below_root(rt.alloc(), "/a")? == Some(true));
+    assert!(rt; is_found_below_root(rt.alloc(), "/a/c")? == Some(false));
     Ok(())
 }
 
@@ -200,23 +206,24 @@ fn is_written(alloc: Global, names: &Names, path: &Path, wanted: &[u8]) -> Resul
     Ok(out.as_slice() == wanted)
 }
 
-fn is_of_its_parts(alloc: Global, names: &Names) -> Result<bool, Fail> {
-    let path = known(alloc, names, "a/c")?;
-    let same = Path::of(alloc, path.parts())?;
-    is_written(alloc, names, &same, b"/a/c".as_slice())
+fn is_copied(alloc: Global, names: &Names, path: &Path, wanted: &[u8]) -> Result<bool, Fail>
+    requires { IsPathOf names.now path.now }
+{
+    let copy = path.dup()?;
+    is_written(alloc, names, &copy, wanted)
 }
 
-fn is_copied(alloc: Global, names: &Names) -> Result<bool, Fail> {
+// Whether a copy of the path of the same parts is written like this.
+fn is_of_its_parts(alloc: Global, names: &Names, wanted: &[u8]) -> Result<bool, Fail> {
     let path = known(alloc, names, "a/c")?;
-    let copy = path.dup()?;
-    is_written(alloc, names, &copy, b"/a/c".as_slice())
+    let same = Path::of(alloc, path.parts())?;
+    is_copied(alloc, names, &same, wanted)
 }
 
 #[test]
 fn a_path_of_the_same_parts_is_equal(rt: HostRuntime) -> Result<(), Fail> {
     let names = table(rt.alloc())?;
-    assert!(rt; is_of_its_parts(rt.alloc(), &names)?);
-    assert!(rt; is_copied(rt.alloc(), &names)?);
+    assert!(rt; is_of_its_parts(rt.alloc(), &names, b"/a/c")?);
     Ok(())
 }
 
@@ -257,16 +264,15 @@ fn a_path_comes_before_those_below_it(rt: HostRuntime) -> Result<(), Fail> {
 }
 
 // What is found at a path in a map with one other key.
-fn size_at(alloc: Global, path: &Path, key: &Path) -> Result<Option<u32>, Fail> {
+fn size_at(alloc: Global, path: &Path, key: Path) -> Result<Option<u32>, Fail> {
     let mut sizes = BTreeMap::new(alloc);
     sizes.insert(key, 5u32)?;
-    Ok(sizes.get(&path).copied())
+    Ok(sizes.get(path).copied())
 }
 
 fn size_in_table(alloc: Global, names: &Names, text: &str) -> Result<Option<u32>, Fail> {
-    let key = known(alloc, names, "a/c")?;
     let path = known(alloc, names, text)?;
-    size_at(alloc, &path, &key)
+    size_at(alloc, &path, known(alloc, names, "a/c")?)
 }
 
 fn size_of(alloc: Global, text: &str) -> Result<Option<u32>, Fail> {

@@ -125,14 +125,33 @@ fn queries_are_counted_before_the_dump_is_read(rt: HostRuntime) -> Result<(), Fa
     Ok(())
 }
 
-#[test]
-fn other_bytes_are_not_a_dump(rt: HostRuntime) {
-    let skipping = b"SVN-fs-dump-format-version: 2\n\nRevision-number: 0\n\nRevision-number: 2\n\n";
-    for (dump, number, at) in [(b"x".as_slice(), 1, 0), (skipping, 8, 51)] {
-        let found = match error_of(&rt, rt.alloc(), dump, b"") {
-            Some(RunError::Dump(DumpError::Refused { number, at })) => Some((number, at)),
-            _ => None,
-        };
-        assert_eq!(rt; found, Some((number, at)));
+// Whether there is no report on a dump, for an error with this line.
+fn is_refused<R: Threads + Wait + Sync>(
+    rt: &R,
+    alloc: Global,
+    dump: &[u8],
+    line: &[u8],
+) -> Result<bool, AllocError> {
+    match report_of(rt, alloc, dump, b"") {
+        Err(error) => is_printed(alloc, &error, 1, line),
+        Ok(_) => Ok(false),
     }
+}
+
+#[test]
+fn other_bytes_are_not_a_dump(rt: HostRuntime) -> Result<(), Fail> {
+    let skipping = b"SVN-fs-dump-format-version: 2\n\nRevision-number: 0\n\nRevision-number: 2\n\n";
+    for (dump, line) in [
+        (
+            b"x".as_slice(),
+            b"svnhist: dump refused: 1 Magic at byte 0\n".as_slice(),
+        ),
+        (
+            skipping,
+            b"svnhist: dump refused: 8 Revision at byte 51\n",
+        ),
+    ] {
+        assert!(rt; is_refused(&rt, rt.alloc(), dump, line)?);
+    }
+    Ok(())
 }

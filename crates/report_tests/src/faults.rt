@@ -1,5 +1,6 @@
 //! Histories with a faulty record.
 ghost use Rattle.std.specs.Prelude.{◌<◌, ◌≤◌, All};
+ghost use Rattle.query_pool.specs.Serving.{most_workers};
 
 use block_map::{Fault, FaultKind};
 use query_pool::NoGate;
@@ -20,7 +21,7 @@ fn fault_of<R: Threads + Wait + Sync>(
 ) -> Option<Fault>
     requires cuts { All (λ blocks. 0 < blocks) cuts.now }
     requires some_worker { 0 < workers }
-    requires few_workers { workers ≤ 64 }
+    requires few_workers { workers ≤ most_workers }
 {
     match report(rt, alloc, dump, b"", cuts, workers, &NoGate) {
         Err(RunError::Fault(fault)) => Some(fault),

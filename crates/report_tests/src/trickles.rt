@@ -5,13 +5,14 @@ use std::alloc::Global;
 use std::io::{self, Write};
 use std::test::Fail;
 
-// A writer that takes so many bytes a call. One of its calls fails, and a flush may.
+// A writer that takes so many bytes a call. One of its calls fails, or takes nothing where there is no error. A flush
+// may fail.
 #[derive(Drop)]
 struct Trickle<'a> {
     taken: &'a mut Vec<u8>,
     most: usize,
     good_calls: usize,
-    error: io::ErrorKind,
+    error: Option<io::ErrorKind>,
     flushes: bool,
 }
 
@@ -19,7 +20,10 @@ impl Write for Trickle<'_> {
     fn write(&mut self, bytes: &[u8]) -> io::Result<usize> {
         if self.good_calls == 0 {
             self.good_calls = usize::MAX;
-            return Err(io::Error::from(self.error));
+            return match self.error {
+                Some(error) => Err(io::Error::from(error)),
+                None => Ok(0),
+            };
         }
         self.good_calls -= 1;
         let n = bytes.len().min(self.most);
@@ -31,20 +35,20 @@ impl Write for Trickle<'_> {
         if self.flushes {
             Ok(())
         } else {
-            Err(io::Error::from(self.error))
+            Err(io::Error::from(io::ErrorKind::Other))
         }
     }
 }
 
 const REPORT: &[u8] = b"#1 ok\n/trunk\n#2 ok\n/trunk\n#3 ok\n-\n";
 
-// What sending the report to such a writer gives, and how many bytes of the report the writer took; `None` where it took
-// others.
+// What sending the report to such a writer gives, and how many bytes of the report the writer took; `None` where it
+// took others.
 fn sent(
     alloc: Global,
     most: usize,
     good_calls: usize,
-    error: io::ErrorKind,
+    error: Option<io::ErrorKind>,
     flushes: bool,
 ) -> (Result<(), SendError>, Option<usize>) {
     let mut taken = Vec::new(alloc);
@@ -69,7 +73,11 @@ fn a_failed_send_counts_what_went_out(rt: HostRuntime) {
         (0, 9, true, 0),
         (34, 9, false, 34),
     ] {
-        for error in [io::ErrorKind::Other, io::ErrorKind::Interrupted] {
+        for error in [
+            Some(io::ErrorKind::Other),
+            Some(io::ErrorKind::Interrupted),
+            None,
+        ] {
             let wanted = Err(SendError { sent: count as u64 });
             assert_eq!(rt;
                 sent(rt.alloc(), most, good_calls, error, flushes),
@@ -81,7 +89,7 @@ fn a_failed_send_counts_what_went_out(rt: HostRuntime) {
 
 #[test]
 fn all_bytes_are_sent_in_pieces(rt: HostRuntime) -> Result<(), Fail> {
-    let found = sent(rt.alloc(), 7, 5, io::ErrorKind::Other, true);
+    let found = sent(rt.alloc(), 7, 5, None, true);
     assert_eq!(rt; found, (Ok(()), Some(REPORT.len())));
     Ok(())
 }

@@ -1,5 +1,6 @@
 //! Reports by several workers.
 ghost use Rattle.std.specs.Prelude.{◌<◌, ◌≤◌};
+ghost use Rattle.query_pool.specs.Serving.{most_workers};
 
 use crate::meetings::Meeting;
 use crate::reports::report_of;
@@ -33,7 +34,7 @@ fn is_report_of_workers<R: Threads + Wait + Sync>(
     wanted: &[u8],
 ) -> Result<bool, RunError>
     requires some_worker { 0 < workers }
-    requires few_workers { workers ≤ 64 }
+    requires few_workers { workers ≤ most_workers }
 {
     let found = report(rt, alloc, MERGED, queries, &[1], workers, &NoGate)?;
     Ok(found.as_slice() == wanted)
@@ -68,7 +69,7 @@ fn answer_at_once<R: Threads + Wait + Sync>(
     first: u32,
 ) -> Result<bool, RunError>
     requires some_worker { 0 < workers }
-    requires few_workers { workers ≤ 64 }
+    requires few_workers { workers ≤ most_workers }
 {
     let wanted = report_of(rt, alloc, MERGED, queries)?;
     let gate = Meeting::of(first, workers);
@@ -85,7 +86,7 @@ fn reports_through<R: Threads + Wait + Sync>(
     wanted: &[u8],
 ) -> Result<bool, RunError>
     requires some_worker { 0 < workers }
-    requires few_workers { workers ≤ 64 }
+    requires few_workers { workers ≤ most_workers }
 {
     let found = report(rt, alloc, MERGED, queries, &[], workers, gate)?;
     Ok(found.as_slice() == wanted)

@@ -2,6 +2,7 @@
 ghost use Rattle.std.specs.Prelude.{ℕ, ◌<◌, ◌≤◌, IfOk, ⊤};
 ghost use Rattle.par_scan.specs.Chain.{IsChain};
 ghost use Rattle.par_scan.specs.Weightless.{no_weight};
+ghost use Rattle.par_scan.specs.Parts.{most_parts};
 
 use crate::{Acts, Make, make_all, scan, total};
 use std::alloc::{AllocError, Global};
@@ -140,17 +141,18 @@ fn items<'a>(alloc: Global, meeting: &'a Meeting, n: usize) -> Result<Vec<Item<'
     Ok(items)
 }
 
-// How many first joins of a scan of n items met, of as many as there are parts.
+// How many of the first joins of a scan of n items met, of so many guests.
 fn met_in_scan<R: Threads + Sync>(
     rt: &R,
     alloc: Global,
     n: usize,
     parts: usize,
+    guests: usize,
 ) -> Result<usize, Fail>
     requires some { 0 < parts }
-    requires few { parts ≤ 64 }
+    requires few { parts ≤ most_parts }
 {
-    let meeting = Meeting::new(parts);
+    let meeting = Meeting::new(guests);
     let scanned = scan(rt, alloc, items(alloc, &meeting, n)?, parts)?;
     Ok(if scanned.len() == n { meeting.met() } else { 0 })
 }
@@ -161,11 +163,12 @@ fn met_in_total<R: Threads + Sync>(
     alloc: Global,
     n: usize,
     parts: usize,
+    guests: usize,
 ) -> Result<usize, Fail>
     requires some { 0 < parts }
-    requires few { parts ≤ 64 }
+    requires few { parts ≤ most_parts }
 {
-    let meeting = Meeting::new(parts);
+    let meeting = Meeting::new(guests);
     let all = total(rt, alloc, items(alloc, &meeting, n)?, parts)?;
     Ok(if all.is_some() { meeting.met() } else { 0 })
 }
@@ -176,12 +179,13 @@ fn met_in_makes<R: Threads + Sync>(
     alloc: Global,
     n: usize,
     parts: usize,
+    guests: usize,
     absent: usize,
 ) -> Result<usize, Fail>
     requires some { 0 < parts }
-    requires few { parts ≤ 64 }
+    requires few { parts ≤ most_parts }
 {
-    let meeting = Meeting::new(parts);
+    let meeting = Meeting::new(guests);
     let makes = Makes {
         meeting: &meeting,
         absent,
@@ -192,22 +196,22 @@ fn met_in_makes<R: Threads + Sync>(
 
 #[test]
 fn the_joins_of_two_pairs_meet(rt: HostRuntime) -> Result<(), Fail> {
-    assert_eq!(rt; met_in_scan(&rt, rt.alloc(), 4, 2)?, 2);
-    assert_eq!(rt; met_in_total(&rt, rt.alloc(), 4, 2)?, 2);
+    assert_eq!(rt; met_in_scan(&rt, rt.alloc(), 4, 2, 2)?, 2);
+    assert_eq!(rt; met_in_total(&rt, rt.alloc(), 4, 2, 2)?, 2);
     Ok(())
 }
 
 #[test]
 fn the_first_make_and_the_last_one_meet(rt: HostRuntime) -> Result<(), Fail> {
-    assert_eq!(rt; met_in_makes(&rt, rt.alloc(), 4, 2, 2)?, 2);
+    assert_eq!(rt; met_in_makes(&rt, rt.alloc(), 4, 2, 2, 2)?, 2);
     Ok(())
 }
 
 #[test]
 fn a_join_of_each_part_meets_the_others(rt: HostRuntime) -> Result<(), Fail> {
     for parts in [2, 3, 8] {
-        assert_eq!(rt; met_in_scan(&rt, rt.alloc(), 40, parts)?, parts);
-        assert_eq!(rt; met_in_total(&rt, rt.alloc(), 40, parts)?, parts);
+        assert_eq!(rt; met_in_scan(&rt, rt.alloc(), 40, parts, parts)?, parts);
+        assert_eq!(rt; met_in_total(&rt, rt.alloc(), 40, parts, parts)?, parts);
     }
     Ok(())
 }
@@ -215,7 +219,18 @@ fn a_join_of_each_part_meets_the_others(rt: HostRuntime) -> Result<(), Fail> {
 #[test]
 fn a_make_of_each_part_meets_the_others(rt: HostRuntime) -> Result<(), Fail> {
     for parts in [2, 3, 8] {
-        assert_eq!(rt; met_in_makes(&rt, rt.alloc(), 40, parts, 0)?, parts);
+        assert_eq!(rt; met_in_makes(&rt, rt.alloc(), 40, parts, parts, 0)?, parts);
+    }
+    Ok(())
+}
+
+// One guest more than there are parts can't meet the others, since no more threads than parts run at once.
+#[test]
+fn no_more_threads_run_than_parts(rt: HostRuntime) -> Result<(), Fail> {
+    for parts in [2, 3] {
+        assert!(rt; met_in_scan(&rt, rt.alloc(), 40, parts, parts + 1)? <= parts);
+        assert!(rt; met_in_total(&rt, rt.alloc(), 40, parts, parts + 1)? <= parts);
+        assert!(rt; met_in_makes(&rt, rt.alloc(), 40, parts, parts + 1, 0)? <= parts);
     }
     Ok(())
 }

@@ -1,4 +1,4 @@
-use Rattle.std.proofs.Common.{◌≡◌, ◌+◌, ◌<◌, ◌≤◌, ◌^◌, ℕ, All, List, get_or, length, take, sym, ap, subst, ◌∙◌, arith, take_all}
+use Rattle.std.proofs.Common.{◌≡◌, ◌+◌, ◌<◌, ◌≤◌, ◌^◌, ℕ, All, List, get_or, length, sym, ap, subst, ◌∙◌, arith, take_all}
 use Rattle.par_scan.specs.declared.sum.Sum.{Sum}
 use Rattle.block_map.specs.Ends.{ends_of, ends_view}
 use Rattle.block_map.proofs.RevisionEnds.{length-ends_of}
