@@ -16,7 +16,7 @@ use crate::position::{Around, Position};
 use std::alloc::{AllocError, Global};
 use std::marker::Model;
 use svn_dump::ValueId;
-use svn_path::{NameId};
+use svn_path::NameId;
 
 /// The nodes of trees, the maps of their children, and the places that they name. Nothing in it ever changes.
 #[derive(Drop)]

@@ -171,6 +171,6 @@ fn is_printed_as(alloc: Global, wanted: &[u8]) -> Result<bool, Fail> {
 fn a_rangelist_is_printed(rt: HostRuntime) -> Result<(), Fail> {
     let empty = Ranges::new(rt.alloc());
     assert!(rt; is_printed_as(rt.alloc(), b"/a:3-5,9*")?);
-    assert!(rt; written_after(rt.alloc(), b"/a:", &empty)?.as_slice() == b"/a:");
+    assert!(rt; written_after(rt.alloc(), b"/a:", &empty)?.as_slice() == b"/a:".as_slice());
     Ok(())
 }

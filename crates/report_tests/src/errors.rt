@@ -146,10 +146,7 @@ fn other_bytes_are_not_a_dump(rt: HostRuntime) -> Result<(), Fail> {
             b"x".as_slice(),
             b"svnhist: dump refused: 1 Magic at byte 0\n".as_slice(),
         ),
-        (
-            skipping,
-            b"svnhist: dump refused: 8 Revision at byte 51\n",
-        ),
+        (skipping, b"svnhist: dump refused: 8 Revision at byte 51\n"),
     ] {
         assert!(rt; is_refused(&rt, rt.alloc(), dump, line)?);
     }

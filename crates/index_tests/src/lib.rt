@@ -1,4 +1,4 @@
-//! Tests of the index and of the map of a history.
+//! Tests of the index of a history.
 //!
 //! A large value is released by `drop`, in place of the end of its scope. So its release is proved once, and not again
 //! in each function that has one.
@@ -6,5 +6,3 @@
 
 #[cfg(test)]
 mod indexes;
-#[cfg(test)]
-mod maps;

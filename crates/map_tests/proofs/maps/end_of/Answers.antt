@@ -1,6 +1,6 @@
 use Rattle.std.proofs.Common.{length, ap, arith}
 use Rattle.block_map.proofs.RevisionEnds.{length-ends_of}
-use Rattle.history_tests.proofs.maps.end_of.Goals as goal
+use Rattle.map_tests.proofs.maps.end_of.Goals as goal
 
 pub at-end-requires : goal.at-end-requires
 at-end-requires c =

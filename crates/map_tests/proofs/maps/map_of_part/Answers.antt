@@ -4,7 +4,7 @@ use Rattle.std.proofs.lemmas.Option.{get_or_from_slice_get, slice_get-get_or, sl
 use Rattle.svn_dump.specs.declared.record.NodeRecord.{NodeRecord}
 use Rattle.block_map.specs.Ends.{HasSourceBefore, HaveSources}
 use Rattle.block_map.proofs.Sources.{HaveSources-dump}
-use Rattle.history_tests.proofs.maps.map_of_part.Goals as goal
+use Rattle.map_tests.proofs.maps.map_of_part.Goals as goal
 
 -- what holds of the sources of all records holds of those of a part of them
 HaveSources-part : (ends : List ℕ) (records : List NodeRecord) (start count : ℕ) → HaveSources 0 ends records

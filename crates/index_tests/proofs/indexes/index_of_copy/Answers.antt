@@ -8,7 +8,7 @@ use Rattle.svn_dump.specs.declared.record.NodeRecord.{NodeRecord}
 use Rattle.svn_dump.specs.Tree.{tree_after_action, entry_at, start_tree, trees_of}
 use Rattle.path_index.specs.History.{history_to}
 use Rattle.path_index.specs.Index.{IsThere}
-use Rattle.history_tests.proofs.indexes.index_of_copy.Goals as goal
+use Rattle.index_tests.proofs.indexes.index_of_copy.Goals as goal
 
 abbrev the_records : List NameId → List NameId → List NameId → List NodeRecord
 the_records added source top =

@@ -1,0 +1,8 @@
+//! Tests of the map of a history.
+//!
+//! A large value is released by `drop`, in place of the end of its scope. So its release is proved once, and not again
+//! in each function that has one.
+#![tactic(auto)]
+
+#[cfg(test)]
+mod maps;
