@@ -1,10 +1,10 @@
--- Nodes that stand at other places than those at which they were made.
+-- Nodes that stand at other locations than those at which they were made.
 use Rattle.std.proofs.Common.{◌≡◌, List, [], ◌∷◌, Option, None, Some, IfSome, unwrap_or, refl, ap, ◌∙◌, arith}
 use Rattle.std.specs.Option.{option_and_then}
 use Rattle.std.specs.Prelude.{slice_get}
 use Rattle.svn_path.specs.declared.names.NameId.{NameId}
 use Rattle.block_map.specs.Node.{untouched}
-use Rattle.block_map.specs.Trie.{At, IsCopiedNode, IsGrown, IsNodeOf, IsSound, LookOfNumbers, TrieValue, child_at, child_of, found_at, found_below, found_here, inside}
+use Rattle.block_map.specs.Trie.{At, IsCopiedNode, ExtendsTrie, IsNodeOf, IsSound, LookOfNumbers, TrieValue, child_at, child_of, found_at, found_below, found_here, inside}
 use Rattle.block_map.specs.declared.node.Node.{Node}
 use Rattle.block_map.specs.declared.node.Region.{Region}
 use Rattle.block_map.specs.declared.part.NodeId.{NodeId}
@@ -30,7 +30,7 @@ IsNodeOf-untouched trie None is = (omega arith, tt)
 IsNodeOf-untouched trie (Some node) is = is
 
 -- in a region with what is found around it, a node shows outside all others what it showed there
-pub IsCopiedNode-region : (old new : TrieValue) → IsSound old → IsGrown old new → (from : At) → IfSome from.node (IsNodeOf old) → (region : Region)
+pub IsCopiedNode-region : (old new : TrieValue) → IsSound old → ExtendsTrie old new → (from : At) → IfSome from.node (IsNodeOf old) → (region : Region)
     → ((outside : LookOfNumbers) → inside new region outside ≡ inside old (unwrap_or from.node untouched).region from.outside)
     → IsCopiedNode old new from (record (unwrap_or from.node untouched) { region = region })
 IsCopiedNode-region old new sound grown from is region around = λ outside path. by outside path

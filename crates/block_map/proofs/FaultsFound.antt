@@ -125,14 +125,14 @@ module _ {C M : Type 0} (same : C → C → Bool) where
   unfolding fault_of_next_record_from
   fault_of_next_record_from-later trees records history count past = rw (le-ltb count (length records) past, fault_of_next_record_from)
 
-module _ {C M : Type 0} (same : C → C → Bool) (laws : IsSame same) (ends : List ℕ) (standings : Standings C M) (place : ℕ) where
+module _ {C M : Type 0} (same : C → C → Bool) (laws : IsSame same) (ends : List ℕ) (standings : Standings C M) (index : ℕ) where
   -- the first fault of a record is found, where what stands is that of the tree before it, and of the trees of revisions
   pub fault_of_next_record_from-found : (trees : List (Tree C M)) (history : History C M) (count : ℕ) (each : Record C M)
       → AreFromBelow (length trees) history → slice_get (flat_map (λ records. records) history) count ≡ Some each
-      → ((path : List C) → standings place path ≡ standing_at same (state_from same trees history count) path)
+      → ((path : List C) → standings index path ≡ standing_at same (state_from same trees history count) path)
       → ((rev : ℕ) (path : List C) → rev < length trees + length history
       → standings (get_or ends rev 0) path ≡ standing_at same (tree_of (fold (with_revision same) trees history) rev) path)
-      → fault_of_next_record_from same trees history count ≡ fault_found standings place each.path (action_at_tick ends each.action)
+      → fault_of_next_record_from same trees history count ≡ fault_found standings index each.path (action_at_tick ends each.action)
   fault_of_next_record_from-found trees [] count each all at stands stood = absurd (omega (arith, slice_get_within [] count each at))
   fault_of_next_record_from-found trees (records ∷ history) count each all at stands stood =
       let rest = flat_map (λ records. records) history in
@@ -144,7 +144,7 @@ module _ {C M : Type 0} (same : C → C → Bool) (laws : IsSame same) (ends : L
             subst (λ each. IsFromBelow (length trees) each.action) (get_or_from_slice_get records count each each here) (all.0 count each before) in
             fault_of_next_record_from-within same trees records history count before
             ∙ ap (option_and_then (λ each. fault_of same trees (tree_within same trees records count) each.path each.action)) here
-            ∙ fault_of-found same ends standings trees (tree_within same trees records count) place each.path each.action
+            ∙ fault_of-found same ends standings trees (tree_within same trees records count) index each.path each.action
             (λ path. stands path ∙ ap (λ tree. standing_at same tree path) (state_from-within same trees records history count (omega arith)))
             (λ rev path within. stood rev path (omega arith)
             ∙ ap (λ tree. standing_at same tree path) (tree_of-revisions same trees (records ∷ history) rev within)) of
@@ -172,13 +172,13 @@ module _ (dump : DumpValue) (is : IsDump dump) where
       ∙ standing_revision same_name IsSame-same_name (history_view dump) rev path (omega arith)
 
 -- the first fault of a record of a dump, in the tree before it, is found by what stands at ticks
-pub fault_of_next_record-found : (dump : DumpValue) → IsDump dump → (place : ℕ) (each : NodeRecord) → slice_get dump.records place ≡ Some each
-    → fault_of_next_record same_name (history_view dump) place
-    ≡ fault_found (λ tick path. standing_at same_name (state_in dump tick) path) place each.path
+pub fault_of_next_record-found : (dump : DumpValue) → IsDump dump → (index : ℕ) (each : NodeRecord) → slice_get dump.records index ≡ Some each
+    → fault_of_next_record same_name (history_view dump) index
+    ≡ fault_found (λ tick path. standing_at same_name (state_in dump tick) path) index each.path
     (action_at_tick (ends_of dump.counts) (action_view each.act))
-fault_of_next_record-found dump is place each at =
+fault_of_next_record-found dump is index each at =
     let records = flat_map (λ records. records) (history_view dump) in
-    let view_at : slice_get records place ≡ Some (record_view each) =
-    ap (λ all. slice_get all place) (all_records-history_view dump is) ∙ slice_get-map record_view dump.records place each at in
-    fault_of_next_record_from-found same_name IsSame-same_name (ends_of dump.counts) (λ tick path. standing_at same_name (state_in dump tick) path) place []
-    (history_view dump) place (record_view each) (AreFromBelow-history_view dump is) view_at (λ path. refl) (stood_at_end dump is)
+    let view_at : slice_get records index ≡ Some (record_view each) =
+    ap (λ all. slice_get all index) (all_records-history_view dump is) ∙ slice_get-map record_view dump.records index each at in
+    fault_of_next_record_from-found same_name IsSame-same_name (ends_of dump.counts) (λ tick path. standing_at same_name (state_in dump tick) path) index []
+    (history_view dump) index (record_view each) (AreFromBelow-history_view dump is) view_at (λ path. refl) (stood_at_end dump is)

@@ -118,7 +118,7 @@ module _ {C M : Type 0} (same : C → C → Bool) where
 
 -- where no record of a dump has a fault, its history has no faulty one
 pub first_fault_of_dump-none : (dump : DumpValue) → IsDump dump
-    → ((place : ℕ) → place < length dump.records → fault_of_next_record same_name (history_view dump) place ≡ None)
+    → ((index : ℕ) → index < length dump.records → fault_of_next_record same_name (history_view dump) index ≡ None)
     → first_fault same_name (history_view dump) ≡ None
 first_fault_of_dump-none dump is fine =
-    first_fault-none same_name (history_view dump) (λ place within. fine place (omega (arith, record_count-history_view dump is)))
+    first_fault-none same_name (history_view dump) (λ index within. fine index (omega (arith, record_count-history_view dump is)))

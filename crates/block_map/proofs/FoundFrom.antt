@@ -19,10 +19,10 @@ AreUpTo lo found = (path : _) → IsUpTo lo (found path)
 
 module _ {C M : Type 0} (lo : ℕ) where
   -- each look of a list, or nothing past its end
-  up_to-get : (looks : List (Look C M)) (place : ℕ) → All (AreUpTo lo) looks → AreUpTo lo (get_or looks place (λ other. absent))
-  up_to-get [] place all path = tt
+  up_to-get : (looks : List (Look C M)) (index : ℕ) → All (AreUpTo lo) looks → AreUpTo lo (get_or looks index (λ other. absent))
+  up_to-get [] index all path = tt
   up_to-get (each ∷ looks) zero all path = All-head (AreUpTo lo) each looks all path
-  up_to-get (each ∷ looks) (suc place) all path = up_to-get looks place (All-tail (AreUpTo lo) each looks all) path
+  up_to-get (each ∷ looks) (suc index) all path = up_to-get looks index (All-tail (AreUpTo lo) each looks all) path
 
   up_to-look_at : (looks : List (Look C M)) (tick : ℕ) (path : List C) → All (AreUpTo lo) looks → IsUpTo lo (look_at lo looks tick path)
   up_to-look_at looks tick path all = elim (cases_lt lo tick) [

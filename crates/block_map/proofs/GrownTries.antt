@@ -1,11 +1,11 @@
--- What is found below the nodes of a trie stays as nodes, parts and places are added.
+-- What is found below the nodes of a trie stays as nodes, parts and locations are added.
 use Rattle.std.proofs.Common.{◌≡◌, ℕ, zero, suc, ◌<◌, ◌≤◌, ◌%◌, ◌/◌, ◌==◌, Bool, true, false, List, [], ◌∷◌, ◌++◌, Option, None, Some, IfSome, length, if◌then◌else◌, refl, sym, ap, subst, ◌∙◌, arith, length-append, append-nil, append_assoc}
 use Rattle.std.specs.Option.{option_and_then}
 use Rattle.std.specs.Prelude.{slice_get}
 use Rattle.std.proofs.lemmas.Option.{same_Some}
 use Rattle.svn_path.specs.declared.names.NameId.{NameId}
-use Rattle.block_map.specs.Parts.{AreMore, AreOrdered, HaveNodesBelow, child_in, found_within, part_at}
-use Rattle.block_map.specs.Trie.{At, HasPlace, IsGrown, IsNodeOf, IsSound, LookOfNumbers, TrieValue, at_path, child_at, child_of, found_at, found_below, found_here, inside, as_at}
+use Rattle.block_map.specs.Parts.{Extends, AreOrdered, HaveNodesBelow, child_in, found_within, part_at}
+use Rattle.block_map.specs.Trie.{At, HasLocation, ExtendsTrie, IsNodeOf, IsSound, LookOfNumbers, TrieValue, at_path, child_at, child_of, found_at, found_below, found_here, inside, as_at}
 use Rattle.block_map.specs.declared.node.Node.{Node}
 use Rattle.block_map.specs.declared.node.Region.{Region}
 use Rattle.block_map.specs.declared.node.Region.TheVariants as region
@@ -17,66 +17,66 @@ use Rattle.block_map.proofs.PartSteps.{found_in_part, found_within-suc, found_wi
 
 -- ---- lists
 
--- an element stays in its place as others are added
+-- an element keeps its index as others are added
 pub slice_get-front : {X : Type 0} (xs more : List X) (i : ℕ) → i < length xs → slice_get (xs ++ more) i ≡ slice_get xs i
 slice_get-front [] more i within = absurd (omega (arith, within))
 slice_get-front (x ∷ xs) more zero within = refl
 slice_get-front (x ∷ xs) more (suc i) within = slice_get-front xs more i (omega (arith, within))
 
-pub slice_get-grown : {X : Type 0} (old new : List X) (i : ℕ) → AreMore old new → i < length old → slice_get new i ≡ slice_get old i
+pub slice_get-grown : {X : Type 0} (old new : List X) (i : ℕ) → Extends old new → i < length old → slice_get new i ≡ slice_get old i
 slice_get-grown old new i grown within = ap (λ xs. slice_get xs i) grown.grown ∙ slice_get-front old grown.more i within
 
-pub length-grown : {X : Type 0} (old new : List X) → AreMore old new → length old ≤ length new
+pub length-grown : {X : Type 0} (old new : List X) → Extends old new → length old ≤ length new
 length-grown old new grown = omega (arith, ap length grown.grown, length-append old grown.more)
 
-pub AreMore-none : {X : Type 0} (xs : List X) → AreMore xs xs
-AreMore-none xs = record { more = []; grown = sym (append-nil xs) }
+pub Extends-none : {X : Type 0} (xs : List X) → Extends xs xs
+Extends-none xs = record { more = []; grown = sym (append-nil xs) }
 
-pub AreMore-again : {X : Type 0} (xs ys zs : List X) → AreMore xs ys → AreMore ys zs → AreMore xs zs
-AreMore-again xs ys zs one other = record {
+pub Extends-again : {X : Type 0} (xs ys zs : List X) → Extends xs ys → Extends ys zs → Extends xs zs
+Extends-again xs ys zs one other = record {
   more = one.more ++ other.more;
   grown = other.grown ∙ ap (λ front. front ++ other.more) one.grown ∙ append_assoc xs one.more other.more;
 }
 
-pub IsGrown-none : (trie : TrieValue) → IsGrown trie trie
-IsGrown-none trie = record { nodes = AreMore-none trie.nodes; parts = AreMore-none trie.parts; places = AreMore-none trie.places }
+pub ExtendsTrie-none : (trie : TrieValue) → ExtendsTrie trie trie
+ExtendsTrie-none trie = record { nodes = Extends-none trie.nodes; parts = Extends-none trie.parts; locations = Extends-none trie.locations }
 
-pub IsGrown-again : (one two three : TrieValue) → IsGrown one two → IsGrown two three → IsGrown one three
-IsGrown-again one two three first second = record {
-  nodes = AreMore-again one.nodes two.nodes three.nodes first.nodes second.nodes;
-  parts = AreMore-again one.parts two.parts three.parts first.parts second.parts;
-  places = AreMore-again one.places two.places three.places first.places second.places;
+pub ExtendsTrie-again : (one two three : TrieValue) → ExtendsTrie one two → ExtendsTrie two three → ExtendsTrie one three
+ExtendsTrie-again one two three first second = record {
+  nodes = Extends-again one.nodes two.nodes three.nodes first.nodes second.nodes;
+  parts = Extends-again one.parts two.parts three.parts first.parts second.parts;
+  locations = Extends-again one.locations two.locations three.locations first.locations second.locations;
 }
 
 -- ---- maps of children
 
-part_at-grown : (old new : List Part) (number : ℕ) → AreMore old new → number ≤ length old → part_at new number ≡ part_at old number
+part_at-grown : (old new : List Part) (number : ℕ) → Extends old new → number ≤ length old → part_at new number ≡ part_at old number
 part_at-grown old new zero grown within = refl
-part_at-grown old new (suc place) grown within = slice_get-grown old new place grown (omega (arith, within))
+part_at-grown old new (suc index) grown within = slice_get-grown old new index grown (omega (arith, within))
 
 pub found_within-zero : (parts : List Part) (number bits : ℕ) → found_within parts 0 number bits ≡ None
 unfolding found_within
 found_within-zero parts number bits = refl
 
-found_within-grown : (old new : List Part) → AreOrdered old → AreMore old new → (steps number bits : ℕ) → number ≤ length old
+found_within-grown : (old new : List Part) → AreOrdered old → Extends old new → (steps number bits : ℕ) → number ≤ length old
     → found_within new steps number bits ≡ found_within old steps number bits
 found_within-grown old new ordered grown zero number bits within = found_within-zero new number bits ∙ sym (found_within-zero old number bits)
 found_within-grown old new ordered grown (suc steps) zero bits within = found_within-empty new (suc steps) bits ∙ sym (found_within-empty old (suc steps) bits)
-found_within-grown old new ordered grown (suc steps) (suc place) bits within =
-    found_within-suc new steps (suc place) bits
-    ∙ ap (λ part. found_in_part part (found_within new steps) bits) (part_at-grown old new (suc place) grown within)
-    ∙ by (λ number rest before. found_within-grown old new ordered grown steps number rest (omega (arith, before, within))) (slice_get old place) refl
-    ∙ sym (found_within-suc old steps (suc place) bits)
+found_within-grown old new ordered grown (suc steps) (suc index) bits within =
+    found_within-suc new steps (suc index) bits
+    ∙ ap (λ part. found_in_part part (found_within new steps) bits) (part_at-grown old new (suc index) grown within)
+    ∙ by (λ number rest before. found_within-grown old new ordered grown steps number rest (omega (arith, before, within))) (slice_get old index) refl
+    ∙ sym (found_within-suc old steps (suc index) bits)
   where
-    by : ((number rest : ℕ) → number ≤ place → found_within new steps number rest ≡ found_within old steps number rest)
-        → (part : Option Part) → slice_get old place ≡ part → found_in_part part (found_within new steps) bits ≡ found_in_part part (found_within old steps) bits
+    by : ((number rest : ℕ) → number ≤ index → found_within new steps number rest ≡ found_within old steps number rest)
+        → (part : Option Part) → slice_get old index ≡ part → found_in_part part (found_within new steps) bits ≡ found_in_part part (found_within old steps) bits
     by same None at = refl
     by same (Some (Leaf left node)) at = refl
     by same (Some (Branch even odd)) at =
-        let (even_before, odd_before) = ordered place even odd at in
+        let (even_before, odd_before) = ordered index even odd at in
         λ i. if bits % 2 == 0 then same even.0 (bits / 2) even_before i else same odd.0 (bits / 2) odd_before i
 
-pub child_in-grown : (old new : List Part) → AreOrdered old → AreMore old new → (id : PartId) (bits : ℕ) → id.0 ≤ length old → child_in new id bits ≡ child_in old id bits
+pub child_in-grown : (old new : List Part) → AreOrdered old → Extends old new → (id : PartId) (bits : ℕ) → id.0 ≤ length old → child_in new id bits ≡ child_in old id bits
 child_in-grown old new ordered grown id bits within = found_within-grown old new ordered grown id.0 id.0 bits within
 
 -- what is found is among the nodes
@@ -85,15 +85,15 @@ found_within-below count parts below zero number bits node found = let never : N
 found_within-below count parts below (suc steps) number bits node found =
     by (λ smaller rest is. found_within-below count parts below steps smaller rest node is) number (sym (found_within-suc parts steps number bits) ∙ found)
   where
-    of_part : ((smaller rest : ℕ) → found_within parts steps smaller rest ≡ Some node → node.0 < count) → (place : ℕ) (part : Option Part) → slice_get parts place ≡ part
+    of_part : ((smaller rest : ℕ) → found_within parts steps smaller rest ≡ Some node → node.0 < count) → (index : ℕ) (part : Option Part) → slice_get parts index ≡ part
         → found_in_part part (found_within parts steps) bits ≡ Some node → node.0 < count
-    of_part deeper place None at is = cc
-    of_part deeper place (Some (Leaf left kept)) at is = leaf (left == bits) is
+    of_part deeper index None at is = cc
+    of_part deeper index (Some (Leaf left kept)) at is = leaf (left == bits) is
       where
         leaf : (same : Bool) → (if same then Some kept else None) ≡ Some node → node.0 < count
-        leaf true one = subst (λ (each : NodeId). each.0 < count) (same_Some kept node one) (below place left kept at)
+        leaf true one = subst (λ (each : NodeId). each.0 < count) (same_Some kept node one) (below index left kept at)
         leaf false one = cc
-    of_part deeper place (Some (Branch even odd)) at is = branch (bits % 2 == 0) is
+    of_part deeper index (Some (Branch even odd)) at is = branch (bits % 2 == 0) is
       where
         branch : (is_even : Bool) → (if is_even then found_within parts steps even.0 (bits / 2) else found_within parts steps odd.0 (bits / 2)) ≡ Some node → node.0 < count
         branch true one = deeper even.0 (bits / 2) one
@@ -102,7 +102,7 @@ found_within-below count parts below (suc steps) number bits node found =
     by : ((smaller rest : ℕ) → found_within parts steps smaller rest ≡ Some node → node.0 < count) → (number : ℕ)
         → found_in_part (part_at parts number) (found_within parts steps) bits ≡ Some node → node.0 < count
     by deeper zero is = cc
-    by deeper (suc place) is = of_part deeper place (slice_get parts place) refl is
+    by deeper (suc index) is = of_part deeper index (slice_get parts index) refl is
 
 pub child_in-below : (count : ℕ) (parts : List Part) (id : PartId) (bits : ℕ) (node : NodeId) → HaveNodesBelow count parts → child_in parts id bits ≡ Some node → node.0 < count
 child_in-below count parts id bits node below found = found_within-below count parts below id.0 id.0 bits node found
@@ -113,7 +113,7 @@ IfSome-from : {X : Type 0} {P : X → Type 0} (o : Option X) → ((x : X) → o 
 IfSome-from None holds = tt
 IfSome-from (Some x) holds = holds x refl
 
-module _ (old new : TrieValue) (sound : IsSound old) (grown : IsGrown old new) where
+module _ (old new : TrieValue) (sound : IsSound old) (grown : ExtendsTrie old new) where
   pub child_of-grown : (node : Node) (name : NameId) → IsNodeOf old node → child_of new node name ≡ child_of old node name
   child_of-grown node name is =
       ap (option_and_then (λ (id : NodeId). slice_get new.nodes id.0)) (child_in-grown old.parts new.parts sound.ordered grown.parts node.children name.0 is.0)
@@ -124,19 +124,19 @@ module _ (old new : TrieValue) (sound : IsSound old) (grown : IsGrown old new) w
       by None within = refl
       by (Some id) within = slice_get-grown old.nodes new.nodes id.0 grown.nodes (within id refl)
 
-  pub inside-grown : (within : Region) (outside : LookOfNumbers) → HasPlace old within → inside new within outside ≡ inside old within outside
+  pub inside-grown : (within : Region) (outside : LookOfNumbers) → HasLocation old within → inside new within outside ≡ inside old within outside
   inside-grown region.Above outside has = refl
   inside-grown region.Nothing outside has = refl
-  inside-grown (region.At id) outside has = ap as_at (slice_get-grown old.places new.places id.0 grown.places has)
+  inside-grown (region.At id) outside has = ap as_at (slice_get-grown old.locations new.locations id.0 grown.locations has)
 
   -- a node of the trie is one of the grown trie
   pub IsNodeOf-grown : (node : Node) → IsNodeOf old node → IsNodeOf new node
   IsNodeOf-grown node is = (omega (arith, is.0, length-grown old.parts new.parts grown.parts), by node.region is.1)
     where
-      by : (within : Region) → HasPlace old within → HasPlace new within
+      by : (within : Region) → HasLocation old within → HasLocation new within
       by region.Above has = tt
       by region.Nothing has = tt
-      by (region.At id) has = omega (arith, has, length-grown old.places new.places grown.places)
+      by (region.At id) has = omega (arith, has, length-grown old.locations new.locations grown.locations)
 
   pub found_at-grown : (from : At) → IfSome from.node (IsNodeOf old) → found_at new from ≡ found_at old from
   found_at-grown from is = by from.node from.outside is

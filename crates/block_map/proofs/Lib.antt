@@ -1,5 +1,3 @@
-pub mod BlockLooks
-pub mod BlockNodes
 pub mod CopiedNodes
 pub mod FaultsFound
 pub mod FaultsSame
@@ -18,3 +16,5 @@ pub mod RevisionEnds
 pub mod RevisionStates
 pub mod Sources
 pub mod Standings
+pub mod TreesLooks
+pub mod TreesNodes

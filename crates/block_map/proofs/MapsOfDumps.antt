@@ -11,7 +11,7 @@ use Rattle.block_map.specs.Ends.{ends_of, record_at_tick}
 use Rattle.block_map.specs.Look.{resolved, look}
 use Rattle.block_map.specs.Map.{IsEndIn, IsMapOf, IsMapOfFirstRecords, MapValue, hi_of, look_in, records_at_ticks, revision_in}
 use Rattle.block_map.specs.Standing.{standing_at, standing_of}
-use Rattle.block_map.proofs.BlockLooks.{look_push-before}
+use Rattle.block_map.proofs.TreesLooks.{look_push-before}
 use Rattle.block_map.proofs.RevisionStates.{standing-revision}
 use Rattle.block_map.proofs.Standings.{standing-look}
 

@@ -10,13 +10,13 @@ use Rattle.svn_path.specs.declared.names.NameId.{NameId}
 use Rattle.svn_path.proofs.Belows.{IsSame-same_name}
 use Rattle.block_map.specs.Look.{Found}
 use Rattle.block_map.specs.Node.{untouched}
-use Rattle.block_map.specs.Parts.{AreMore, SetsChild, child_in}
-use Rattle.block_map.specs.Trie.{At, IsGrown, IsNodeOf, IsSound, LookOfNumbers, PutsNode, TrieValue, at_path, child_at, child_of, found_below, found_here, inside}
+use Rattle.block_map.specs.Parts.{Extends, SetsChild, child_in}
+use Rattle.block_map.specs.Trie.{At, ExtendsTrie, IsNodeOf, IsSound, LookOfNumbers, PutsNode, TrieValue, at_path, child_at, child_of, found_below, found_here, inside}
 use Rattle.block_map.specs.declared.node.Node.{Node}
 use Rattle.block_map.specs.declared.part.NodeId.{NodeId}
 use Rattle.block_map.specs.declared.part.PartId.{PartId}
 use Rattle.block_map.proofs.CopiedNodes.{IsNodeOf-untouched, child_at-untouched}
-use Rattle.block_map.proofs.GrownTries.{AreMore-none, child_in-grown, found_below-grown, inside-grown}
+use Rattle.block_map.proofs.GrownTries.{Extends-none, child_in-grown, found_below-grown, inside-grown}
 use Rattle.block_map.proofs.PartLookups.{eqb-turned, slice_get-last}
 
 -- a node and what is found there without it
@@ -42,16 +42,16 @@ module _ (old new : TrieValue) (node child : Node) (name : NameId) (id : NodeId)
     pub child_is : IsNodeOf old child
     pub nodes : new.nodes ≡ old.nodes ++ child ∷ []
     pub id_is : id.0 ≡ length old.nodes
-    pub parts : AreMore old.parts new.parts
-    pub places : new.places ≡ old.places
+    pub parts : Extends old.parts new.parts
+    pub locations : new.locations ≡ old.locations
     pub sets : SetsChild old.parts new.parts node.children name.0 id children
 
   -- nothing but the child and parts were added
-  IsGrown-child : PutsChild → IsGrown old new
-  IsGrown-child puts = record {
+  ExtendsTrie-child : PutsChild → ExtendsTrie old new
+  ExtendsTrie-child puts = record {
     nodes = record { more = child ∷ []; grown = puts.nodes };
     parts = puts.parts;
-    places = subst (AreMore old.places) (sym puts.places) (AreMore-none old.places);
+    locations = subst (Extends old.locations) (sym puts.locations) (Extends-none old.locations);
   }
 
   -- the child of the name is the one that was put
@@ -76,9 +76,9 @@ module _ (old new : TrieValue) (node child : Node) (name : NameId) (id : NodeId)
   pub PutsNode-child : PutsChild → PutsNode old new (Some node) (name ∷ []) child (record node { children = children })
   PutsNode-child puts outside [] =
       ap (λ (look : LookOfNumbers). found_here node.here (look []))
-      (inside-grown old new puts.sound (IsGrown-child puts) node.region outside puts.node_is.1)
+      (inside-grown old new puts.sound (ExtendsTrie-child puts) node.region outside puts.node_is.1)
   PutsNode-child puts outside (c ∷ rest) =
-      let grown = IsGrown-child puts in
+      let grown = ExtendsTrie-child puts in
       let within = inside-grown old new puts.sound grown node.region outside puts.node_is.1 in
       let around : LookOfNumbers = λ more. inside old node.region outside (name ∷ more) in
       elim (cases_Bool (name.0 == c.0)) [
@@ -105,7 +105,7 @@ found-same (Some rest) kept kept' put put' same_kept same_put = same_put rest
 
 -- a node is put at a path below a name, and then what it became at the name
 pub PutsNode-path : (old mid new : TrieValue) (before : Option Node) (name : NameId) (path : List NameId) (put child after : Node)
-    → IsSound old → IsGrown old mid → IfSome before (IsNodeOf old)
+    → IsSound old → ExtendsTrie old mid → IfSome before (IsNodeOf old)
     → PutsNode old mid (child_of old (unwrap_or before untouched) name) path put child
     → PutsNode mid new (Some (unwrap_or before untouched)) (name ∷ []) child after → PutsNode old new before (name ∷ path) put after
 PutsNode-path old mid new before name path put child after sound grown before_is first second outside [] =

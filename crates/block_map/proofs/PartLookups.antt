@@ -3,12 +3,12 @@ use Rattle.std.proofs.Common.{◌≡◌, ◌≢◌, ◌⊎◌, ℕ, zero, suc, �
 use Rattle.std.specs.Prelude.{slice_get}
 use Rattle.std.proofs.lemmas.Bool.{cases_eq, eq-eqb, ne_eqb}
 use Rattle.std.proofs.lemmas.Option.{same_Some, slice_get_within}
-use Rattle.block_map.specs.Parts.{AreMore, AreOrdered, HaveNodesBelow, IsOrderedAfter, HasOne, HasSides, HasTwo, SetsChild, child_in, found_within, leaf_of, part_at, sides_of, with_name}
+use Rattle.block_map.specs.Parts.{Extends, AreOrdered, HaveNodesBelow, IsOrderedAfter, HasOne, HasSides, HasTwo, SetsChild, child_in, found_within, leaf_of, part_at, sides_of, with_name}
 use Rattle.block_map.specs.declared.part.NodeId.{NodeId}
 use Rattle.block_map.specs.declared.part.Part.{Part}
 use Rattle.block_map.specs.declared.part.Part.TheVariants.{Leaf, Branch}
 use Rattle.block_map.specs.declared.part.PartId.{PartId}
-use Rattle.block_map.proofs.GrownTries.{AreMore-none, child_in-grown, slice_get-grown}
+use Rattle.block_map.proofs.GrownTries.{Extends-none, child_in-grown, slice_get-grown}
 use Rattle.block_map.proofs.PartSteps.{child_in-None, child_in-Leaf, child_in-Branch, found_within-empty}
 
 -- ---- maps as functions of the bits of a name
@@ -110,45 +110,45 @@ sides_of-branch bits even odd find name =
 -- ---- parts that were added
 
 -- an element of a list with one more is that or one of the others
-slice_get-push : {X : Type 0} (xs : List X) (last : X) (place : ℕ) (x : X) → slice_get (xs ++ last ∷ []) place ≡ Some x
-    → ((place ≡ length xs) × (x ≡ last)) ⊎ (slice_get xs place ≡ Some x)
+slice_get-push : {X : Type 0} (xs : List X) (last : X) (index : ℕ) (x : X) → slice_get (xs ++ last ∷ []) index ≡ Some x
+    → ((index ≡ length xs) × (x ≡ last)) ⊎ (slice_get xs index ≡ Some x)
 slice_get-push [] last zero x at = inl (refl, same_Some x last (sym at))
-slice_get-push [] last (suc place) x at = let never : None ≡ Some x = at in cc
+slice_get-push [] last (suc index) x at = let never : None ≡ Some x = at in cc
 slice_get-push (y ∷ xs) last zero x at = inr at
-slice_get-push (y ∷ xs) last (suc place) x at =
-    elim (slice_get-push xs last place x at) [ inl (is, same) ↦ inl (ap suc is, same) | inr before ↦ inr before ]
+slice_get-push (y ∷ xs) last (suc index) x at =
+    elim (slice_get-push xs last index x at) [ inl (is, same) ↦ inl (ap suc is, same) | inr before ↦ inr before ]
 
--- and that one has the place after them
+-- and that one has the index after them
 pub slice_get-last : {X : Type 0} (xs : List X) (last : X) → slice_get (xs ++ last ∷ []) (length xs) ≡ Some last
 slice_get-last [] last = refl
 slice_get-last (x ∷ xs) last = slice_get-last xs last
 
 -- parts stay ordered
 pub AreOrdered-push : (parts : List Part) (part : Part) → AreOrdered parts → IsOrderedAfter parts part → AreOrdered (parts ++ part ∷ [])
-AreOrdered-push parts part ordered after place even odd at =
-    elim (slice_get-push parts part place (Branch even odd) at) [
+AreOrdered-push parts part ordered after index even odd at =
+    elim (slice_get-push parts part index (Branch even odd) at) [
       | inl (is, same) ↦
           let (even_before, odd_before) = subst (IsOrderedAfter parts) (sym same) after in
           (omega arith, omega arith)
-      | inr before ↦ ordered place even odd before
+      | inr before ↦ ordered index even odd before
     ]
 
 -- a branch adds no node
 pub HaveNodesBelow-branch : (count : ℕ) (parts : List Part) (even odd : PartId) → HaveNodesBelow count parts
     → HaveNodesBelow count (parts ++ Branch even odd ∷ [])
-HaveNodesBelow-branch count parts even odd below place bits node at =
-    elim (slice_get-push parts (Branch even odd) place (Leaf bits node) at) [
+HaveNodesBelow-branch count parts even odd below index bits node at =
+    elim (slice_get-push parts (Branch even odd) index (Leaf bits node) at) [
       | inl (is, same) ↦ cc
-      | inr before ↦ below place bits node before
+      | inr before ↦ below index bits node before
     ]
 
 -- and a leaf its own
 pub HaveNodesBelow-leaf : (count : ℕ) (parts : List Part) (left : ℕ) (kept : NodeId) → HaveNodesBelow count parts → kept.0 < count
     → HaveNodesBelow count (parts ++ Leaf left kept ∷ [])
-HaveNodesBelow-leaf count parts left kept below within place bits node at =
-    elim (slice_get-push parts (Leaf left kept) place (Leaf bits node) at) [
+HaveNodesBelow-leaf count parts left kept below within index bits node at =
+    elim (slice_get-push parts (Leaf left kept) index (Leaf bits node) at) [
       | inl (is, same) ↦ let nodes : kept ≡ node = cc in subst (λ (each : NodeId). each.0 < count) nodes within
-      | inr before ↦ below place bits node before
+      | inr before ↦ below index bits node before
     ]
 
 -- the part that was added last is the one of its map
@@ -163,9 +163,9 @@ HasOne-push old new bits node id ordered number added name =
     ∙ ap (λ same. if same then Some node else None) (eqb-turned bits name)
 
 -- parts were ordered before others were added
-pub AreOrdered-before : (old new : List Part) → AreMore old new → AreOrdered new → AreOrdered old
-AreOrdered-before old new more ordered place even odd at =
-    ordered place even odd (slice_get-grown old new place more (slice_get_within old place (Branch even odd) at) ∙ at)
+pub AreOrdered-before : (old new : List Part) → Extends old new → AreOrdered new → AreOrdered old
+AreOrdered-before old new more ordered index even odd at =
+    ordered index even odd (slice_get-grown old new index more (slice_get_within old index (Branch even odd) at) ∙ at)
 
 -- one of two that were chosen by the same test
 chosen-twice : (low : Bool) (same other : PartId) → (if low then (if low then same else other) else (if low then other else same)) ≡ same
@@ -179,7 +179,7 @@ pub HasSides-push : (old new : List Part) (bits : ℕ) (same other : PartId) (id
 HasSides-push old new bits same other id ordered same_within other_within number added name =
     let even : PartId = if bits % 2 == 0 then same else other in
     let odd : PartId = if bits % 2 == 0 then other else same in
-    let more : AreMore old new = record { more = Branch even odd ∷ []; grown = added } in
+    let more : Extends old new = record { more = Branch even odd ∷ []; grown = added } in
     let before = AreOrdered-before old new more ordered in
     child_in-Branch new id name even odd ordered (ap (λ parts. part_at parts id.0) added ∙ part_at-push old (Branch even odd) id.0 number)
     ∙ sides_of-branch bits even odd (child_in new) name
@@ -208,7 +208,7 @@ HasTwo-same_side old new one one_node other other_node both none map bit empty t
 
 -- and with different ones
 pub HasTwo-other_side : (first old new : List Part) (one : ℕ) (one_node : NodeId) (other : ℕ) (other_node : NodeId) (one_map other_map map : PartId)
-    → one % 2 ≢ other % 2 → AreOrdered first → AreMore first old → one_map.0 ≤ length first
+    → one % 2 ≢ other % 2 → AreOrdered first → Extends first old → one_map.0 ≤ length first
     → HasOne first (one / 2) one_node one_map → HasOne old (other / 2) other_node other_map
     → HasSides old new one one_map other_map map → HasTwo new one one_node other other_node map
 HasTwo-other_side first old new one one_node other other_node one_map other_map map differ ordered more within has_one has_other sides name =
@@ -252,22 +252,22 @@ SetsChild-other old new map left bits kept node after ordered at two name =
 branch-within : (parts : List Part) (number : ℕ) (even odd : PartId) → AreOrdered parts → part_at parts number ≡ Some (Branch even odd)
     → (even.0 ≤ length parts) × (odd.0 ≤ length parts)
 branch-within parts zero even odd ordered at = cc
-branch-within parts (suc place) even odd ordered at =
-    let within = slice_get_within parts place (Branch even odd) at in
-    let (even_before, odd_before) = ordered place even odd at in
+branch-within parts (suc index) even odd ordered at =
+    let within = slice_get_within parts index (Branch even odd) at in
+    let (even_before, odd_before) = ordered index even odd at in
     (omega arith, omega arith)
 
 -- the node of a leaf is among the nodes
 pub node-within : (count : ℕ) (parts : List Part) (number left : ℕ) (node : NodeId) → HaveNodesBelow count parts
     → part_at parts number ≡ Some (Leaf left node) → node.0 < count
 node-within count parts zero left node below at = cc
-node-within count parts (suc place) left node below at = below place left node at
+node-within count parts (suc index) left node below at = below index left node at
 
 -- and in a branch, on its own side
 pub SetsChild-branch : (old mid new : List Part) (map : PartId) (bits : ℕ) (even odd : PartId) (node : NodeId) (near far same after : PartId)
     → AreOrdered old → part_at old map.0 ≡ Some (Branch even odd)
     → near ≡ (if bits % 2 == 0 then even else odd) → far ≡ (if bits % 2 == 0 then odd else even)
-    → AreMore old mid → SetsChild old mid near (bits / 2) node same → HasSides mid new bits same far after → SetsChild old new map bits node after
+    → Extends old mid → SetsChild old mid near (bits / 2) node same → HasSides mid new bits same far after → SetsChild old new map bits node after
 SetsChild-branch old mid new map bits even odd node near far same after ordered at near_is far_is more sets sides name =
     sides name
     ∙ sides_of-same bits (child_in mid same) (child_in mid far) (with_name (child_in old near) (bits / 2) node) (child_in old far)
@@ -302,10 +302,10 @@ push-cases (Ok x) old new part P added failed more same = subst P (sym added) mo
 push-cases (Err e) old new part P added failed more same = subst P (sym failed) same
 
 -- so the parts from before are kept
-pub AreMore-push : {X E : Type 0} (r : Result X E) (old new : List Part) (part : Part)
-    → OnOk r (new ≡ old ++ part ∷ []) → OnErr r (new ≡ old) → AreMore old new
-AreMore-push r old new part added failed =
-    push-cases r old new part (AreMore old) added failed (record { more = part ∷ []; grown = refl }) (AreMore-none old)
+pub Extends-push : {X E : Type 0} (r : Result X E) (old new : List Part) (part : Part)
+    → OnOk r (new ≡ old ++ part ∷ []) → OnErr r (new ≡ old) → Extends old new
+Extends-push r old new part added failed =
+    push-cases r old new part (Extends old) added failed (record { more = part ∷ []; grown = refl }) (Extends-none old)
 
 -- what holds in any case holds of an `Ok`
 pub OnOk-from : {X E : Type 0} (r : Result X E) (P : Type 0) → P → OnOk r P

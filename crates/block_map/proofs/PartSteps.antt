@@ -38,37 +38,37 @@ found_within-empty parts (suc steps) bits = refl
 pub found_within-more : (parts : List Part) → AreOrdered parts → (steps more number bits : ℕ) → number ≤ steps → number ≤ more
     → found_within parts steps number bits ≡ found_within parts more number bits
 found_within-more parts ordered steps more zero bits enough other = found_within-empty parts steps bits ∙ sym (found_within-empty parts more bits)
-found_within-more parts ordered zero more (suc place) bits enough other = absurd (omega (arith, enough))
-found_within-more parts ordered (suc steps) zero (suc place) bits enough other = absurd (omega (arith, other))
-found_within-more parts ordered (suc steps) (suc more) (suc place) bits enough other =
-    found_within-suc parts steps (suc place) bits
+found_within-more parts ordered zero more (suc index) bits enough other = absurd (omega (arith, enough))
+found_within-more parts ordered (suc steps) zero (suc index) bits enough other = absurd (omega (arith, other))
+found_within-more parts ordered (suc steps) (suc more) (suc index) bits enough other =
+    found_within-suc parts steps (suc index) bits
     ∙ by (λ number rest before. found_within-more parts ordered steps more number rest (omega (arith, before, enough)) (omega (arith, before, other)))
-    (slice_get parts place) refl
-    ∙ sym (found_within-suc parts more (suc place) bits)
+    (slice_get parts index) refl
+    ∙ sym (found_within-suc parts more (suc index) bits)
   where
-    by : ((number rest : ℕ) → number ≤ place → found_within parts steps number rest ≡ found_within parts more number rest)
-        → (part : Option Part) → slice_get parts place ≡ part → found_in_part part (found_within parts steps) bits ≡ found_in_part part (found_within parts more) bits
+    by : ((number rest : ℕ) → number ≤ index → found_within parts steps number rest ≡ found_within parts more number rest)
+        → (part : Option Part) → slice_get parts index ≡ part → found_in_part part (found_within parts steps) bits ≡ found_in_part part (found_within parts more) bits
     by smaller None at = refl
     by smaller (Some (Leaf left node)) at = refl
     by smaller (Some (Branch even odd)) at =
-        let (even_before, odd_before) = ordered place even odd at in
+        let (even_before, odd_before) = ordered index even odd at in
         λ i. if bits % 2 == 0 then smaller even.0 (bits / 2) even_before i else smaller odd.0 (bits / 2) odd_before i
 
 -- what a map gives for a name
 found_within-part : (parts : List Part) → AreOrdered parts → (number bits : ℕ)
     → found_within parts number number bits ≡ found_in_part (part_at parts number) (λ smaller rest. found_within parts smaller smaller rest) bits
 found_within-part parts ordered zero bits = found_within-empty parts 0 bits
-found_within-part parts ordered (suc place) bits = found_within-suc parts place (suc place) bits ∙ by (slice_get parts place) refl
+found_within-part parts ordered (suc index) bits = found_within-suc parts index (suc index) bits ∙ by (slice_get parts index) refl
   where
-    by : (part : Option Part) → slice_get parts place ≡ part
-        → found_in_part part (found_within parts place) bits ≡ found_in_part part (λ smaller rest. found_within parts smaller smaller rest) bits
+    by : (part : Option Part) → slice_get parts index ≡ part
+        → found_in_part part (found_within parts index) bits ≡ found_in_part part (λ smaller rest. found_within parts smaller smaller rest) bits
     by None at = refl
     by (Some (Leaf left node)) at = refl
     by (Some (Branch even odd)) at =
-        let (even_before, odd_before) = ordered place even odd at in
+        let (even_before, odd_before) = ordered index even odd at in
         λ i. if bits % 2 == 0
-        then found_within-more parts ordered place even.0 even.0 (bits / 2) even_before (omega arith) i
-        else found_within-more parts ordered place odd.0 odd.0 (bits / 2) odd_before (omega arith) i
+        then found_within-more parts ordered index even.0 even.0 (bits / 2) even_before (omega arith) i
+        else found_within-more parts ordered index odd.0 odd.0 (bits / 2) odd_before (omega arith) i
 
 pub child_in-part : (parts : List Part) → AreOrdered parts → (id : PartId) (bits : ℕ)
     → child_in parts id bits ≡ found_in_part (part_at parts id.0) (λ smaller rest. found_within parts smaller smaller rest) bits
@@ -97,8 +97,8 @@ child_in-Branch parts id bits even odd ordered at =
 pub part_at-before : (parts : List Part) (number bits : ℕ) (even odd : PartId) → AreOrdered parts → part_at parts number ≡ Some (Branch even odd)
     → (if bits % 2 == 0 then even else odd).0 < number
 part_at-before parts zero bits even odd ordered at = cc
-part_at-before parts (suc place) bits even odd ordered at = by (bits % 2 == 0)
+part_at-before parts (suc index) bits even odd ordered at = by (bits % 2 == 0)
   where
-    by : (is_even : Bool) → (if is_even then even else odd).0 < suc place
-    by true = omega (arith, (ordered place even odd at).0)
-    by false = omega (arith, (ordered place even odd at).1)
+    by : (is_even : Bool) → (if is_even then even else odd).0 < suc index
+    by true = omega (arith, (ordered index even odd at).0)
+    by false = omega (arith, (ordered index even odd at).1)

@@ -6,13 +6,13 @@ use Rattle.std.proofs.lemmas.List.{take_more}
 use Rattle.std.proofs.lemmas.List.Sums.{fold-append}
 use Rattle.svn_path.specs.declared.names.NameId.{NameId}
 use Rattle.block_map.specs.Look.{at}
-use Rattle.block_map.specs.Trie.{At, HasPlace, IsPlaceAround, IsAroundOf, IsNodeOf, IsPositionOf, TrieValue, around_inside, around_view, as_at, at_path, at_root, child_at, found_at, found_here, inside, position_view}
+use Rattle.block_map.specs.Trie.{At, HasLocation, IsLocationAround, IsAroundOf, IsNodeOf, IsPositionOf, TrieValue, around_inside, around_view, as_at, at_path, at_root, child_at, found_at, found_here, inside, position_view}
 use Rattle.block_map.specs.declared.node.Here.{Here}
 use Rattle.block_map.specs.declared.node.Node.{Node}
 use Rattle.block_map.specs.declared.node.Region.{Region}
 use Rattle.block_map.specs.declared.node.Region.TheVariants as region
-use Rattle.block_map.specs.declared.place.Place.{Place}
-use Rattle.block_map.specs.declared.place.PlaceId.{PlaceId}
+use Rattle.block_map.specs.declared.location.Location.{Location}
+use Rattle.block_map.specs.declared.location.LocationId.{LocationId}
 use Rattle.block_map.specs.declared.position.Around.{Around}
 use Rattle.block_map.specs.declared.position.Around.TheVariants as around
 use Rattle.block_map.specs.declared.position.Position.{Position}
@@ -36,27 +36,27 @@ IsPositionOf-step trie root path depth d position next within before node around
     } in
     subst (λ whole. IsPositionOf trie root whole next) (sym (take_more path depth d within)) position_is
 
--- inside the region of a sound node there is a place of the trie
+-- inside the region of a sound node there is a location of the trie
 pub IsAroundOf-inside : (trie : TrieValue) (node : Node) (path : List NameId) (outside : Around) → IsNodeOf trie node → IsAroundOf trie path outside
     → IsAroundOf trie path (around_inside node.region outside (length path))
 IsAroundOf-inside trie node path outside sound is = by node.region sound.1
   where
-    by : (region : Region) → HasPlace trie region → IsAroundOf trie path (around_inside region outside (length path))
+    by : (region : Region) → HasLocation trie region → IsAroundOf trie path (around_inside region outside (length path))
     by region.Above has = is
     by region.Nothing has = tt
     by (region.At id) has = (has, omega arith)
 
--- what is found inside a region is what its place shows
+-- what is found inside a region is what its location shows
 pub around_view-inside : (trie : TrieValue) (region : Region) (path : List NameId) (outside : Around)
     → around_view trie path (around_inside region outside (length path)) ≡ inside trie region (around_view trie path outside)
 around_view-inside trie region.Above path outside = refl
 around_view-inside trie region.Nothing path outside = refl
-around_view-inside trie (region.At id) path outside = λ i rest. as_at (slice_get trie.places id.0) (drop-length path i ++ rest)
+around_view-inside trie (region.At id) path outside = λ i rest. as_at (slice_get trie.locations id.0) (drop-length path i ++ rest)
 
--- what is found around a path is what the place further down shows
-pub IsPlaceAround-below : (trie : TrieValue) (path : List NameId) (id : PlaceId) (from : ℕ) (front place : Place) → slice_get trie.places id.0 ≡ Some front
-    → place ≡ record { path = front.path ++ drop from path; tick = front.tick } → IsPlaceAround trie path (around.At id from) (Some place)
-IsPlaceAround-below trie path id from front place found is = λ rest.
+-- what is found around a path is what the location further down shows
+pub IsLocationAround-below : (trie : TrieValue) (path : List NameId) (id : LocationId) (from : ℕ) (front location : Location) → slice_get trie.locations id.0 ≡ Some front
+    → location ≡ record { path = front.path ++ drop from path; tick = front.tick } → IsLocationAround trie path (around.At id from) (Some location)
+IsLocationAround-below trie path id from front location found is = λ rest.
     ap (λ shown. as_at (Some shown) rest) is
     ∙ ap (λ whole. at whole front.tick) (append_assoc front.path (drop from path) rest)
     ∙ ap (λ shown. as_at shown (drop from path ++ rest)) (sym found)

@@ -7,19 +7,19 @@ use Rattle.svn_dump.specs.History.{Setting, delete, change, add, copy, keep, put
 use Rattle.svn_dump.specs.Tree.{mergeinfo_after}
 use Rattle.svn_dump.specs.declared.kind.Kind.{Kind}
 use Rattle.svn_dump.specs.declared.record.ValueId.{ValueId}
-use Rattle.block_map.specs.Block.{ShowsAction, ShowsPath, ShowsTick, end_of_block, look_in_block}
+use Rattle.block_map.specs.Trees.{ShowsAction, ShowsPath, ShowsTick, end_of_trees, look_in_trees}
 use Rattle.block_map.specs.Look as found
 use Rattle.block_map.specs.Look.{Found, resolved, look, with_setting, with_mergeinfo}
 use Rattle.block_map.specs.Node.{absent_node, here_with_mergeinfo, node_of_kind, node_settled, node_with_mergeinfo, untouched}
 use Rattle.block_map.specs.Trie.{At, IsNodeOf, LookOfNumbers, TrieValue, at_path, at_root, child_at, found_at, found_below, found_here}
-use Rattle.block_map.specs.declared.block.Block.{Block}
+use Rattle.block_map.specs.declared.trees.Trees.{Trees}
 use Rattle.block_map.specs.declared.node.Here.{Here}
 use Rattle.block_map.specs.declared.node.Here.TheVariants as here
 use Rattle.block_map.specs.declared.node.Node.{Node}
-use Rattle.block_map.proofs.BlockNodes.{found_below-childless}
+use Rattle.block_map.proofs.TreesNodes.{found_below-childless}
 use Rattle.block_map.proofs.CopiedNodes.{child_at-untouched, found_at-untouched}
 
--- ---- what a block knows
+-- ---- what trees show
 
 resolved-absent : (lo : ℕ) → resolved {C = NameId} {M = ValueId} lo found.absent ≡ found.absent
 resolved-absent zero = refl
@@ -76,38 +76,38 @@ IsNodeOf-with_setting trie (put mi) node is = is
 pub found_below-append : (trie : TrieValue) (from : At) (path rest : List NameId) → found_below trie (at_path trie from path) rest ≡ found_below trie from (path ++ rest)
 found_below-append trie from path rest = ap (found_at trie) (sym (fold-append (child_at trie) from path rest))
 
-module _ (block : Block) (root : Node) (path : List NameId) where
-  pub ShowsAction-delete : ShowsAction block root path delete absent_node
-  ShowsAction-delete [] = sym (resolved-absent block.start)
+module _ (trees : Trees) (root : Node) (path : List NameId) where
+  pub ShowsAction-delete : ShowsAction trees root path delete absent_node
+  ShowsAction-delete [] = sym (resolved-absent trees.start)
   ShowsAction-delete (name ∷ rest) =
-      found_below-childless block.trie absent_node.here absent_node.region (at_path block.trie (at_root root) path).outside name rest ∙ sym (resolved-absent block.start)
+      found_below-childless trees.trie absent_node.here absent_node.region (at_path trees.trie (at_root root) path).outside name rest ∙ sym (resolved-absent trees.start)
 
-  pub ShowsAction-add : (replace : Bool) (kind : Kind) (setting : Setting ValueId) → ShowsAction block root path (add replace kind setting) (node_of_kind kind (mergeinfo_after setting None))
-  ShowsAction-add replace kind setting [] = sym (resolved-is block.start kind (mergeinfo_after setting None))
+  pub ShowsAction-add : (replace : Bool) (kind : Kind) (setting : Setting ValueId) → ShowsAction trees root path (add replace kind setting) (node_of_kind kind (mergeinfo_after setting None))
+  ShowsAction-add replace kind setting [] = sym (resolved-is trees.start kind (mergeinfo_after setting None))
   ShowsAction-add replace kind setting (name ∷ rest) =
       let node = node_of_kind kind (mergeinfo_after setting None) in
-      found_below-childless block.trie node.here node.region (at_path block.trie (at_root root) path).outside name rest ∙ sym (resolved-absent block.start)
+      found_below-childless trees.trie node.here node.region (at_path trees.trie (at_root root) path).outside name rest ∙ sym (resolved-absent trees.start)
 
-  pub ShowsAction-change : (mi : Option ValueId) → ShowsTick block (end_of_block block) root
-      → ShowsAction block root path (change (put mi)) (node_with_mergeinfo mi (unwrap_or (at_path block.trie (at_root root) path).node untouched))
+  pub ShowsAction-change : (mi : Option ValueId) → ShowsTick trees (end_of_trees trees) root
+      → ShowsAction trees root path (change (put mi)) (node_with_mergeinfo mi (unwrap_or (at_path trees.trie (at_root root) path).node untouched))
   ShowsAction-change mi shows [] =
-      let from = at_path block.trie (at_root root) path in
-      found_at-with_setting block.trie (put mi) (unwrap_or from.node untouched) from.outside
-      ∙ ap (with_mergeinfo mi) (found_at-untouched block.trie from.node from.outside ∙ shows path)
-      ∙ ap (λ whole. with_mergeinfo mi (look_in_block block (end_of_block block) whole)) (sym (append-nil path))
-      ∙ sym (resolved-with_mergeinfo block.start mi (look same_name block.start block.records.records (end_of_block block) (path ++ [])))
+      let from = at_path trees.trie (at_root root) path in
+      found_at-with_setting trees.trie (put mi) (unwrap_or from.node untouched) from.outside
+      ∙ ap (with_mergeinfo mi) (found_at-untouched trees.trie from.node from.outside ∙ shows path)
+      ∙ ap (λ whole. with_mergeinfo mi (look_in_trees trees (end_of_trees trees) whole)) (sym (append-nil path))
+      ∙ sym (resolved-with_mergeinfo trees.start mi (look same_name trees.start trees.records.records (end_of_trees trees) (path ++ [])))
   ShowsAction-change mi shows (name ∷ rest) =
-      let from = at_path block.trie (at_root root) path in
-      ap (λ next. found_below block.trie next rest) (child_at-with_setting block.trie (put mi) (unwrap_or from.node untouched) from.outside name ∙ child_at-untouched block.trie from.node from.outside name)
-      ∙ found_below-append block.trie (at_root root) path (name ∷ rest) ∙ shows (path ++ name ∷ rest)
+      let from = at_path trees.trie (at_root root) path in
+      ap (λ next. found_below trees.trie next rest) (child_at-with_setting trees.trie (put mi) (unwrap_or from.node untouched) from.outside name ∙ child_at-untouched trees.trie from.node from.outside name)
+      ∙ found_below-append trees.trie (at_root root) path (name ∷ rest) ∙ shows (path ++ name ∷ rest)
 
-  pub ShowsAction-copy : (replace : Bool) (source : List NameId) (tick : ℕ) (setting : Setting ValueId) (node : Node) → ShowsPath block tick source node
-      → ShowsAction block root path (copy replace source tick setting) (node_settled setting node)
+  pub ShowsAction-copy : (replace : Bool) (source : List NameId) (tick : ℕ) (setting : Setting ValueId) (node : Node) → ShowsPath trees tick source node
+      → ShowsAction trees root path (copy replace source tick setting) (node_settled setting node)
   ShowsAction-copy replace source tick setting node shows [] =
-      let outside = (at_path block.trie (at_root root) path).outside in
-      found_at-with_setting block.trie setting node outside
-      ∙ ap (with_setting setting) (shows outside [] ∙ ap (look_in_block block tick) (append-nil source))
-      ∙ sym (resolved-with_setting block.start setting (look same_name block.start block.records.records tick source))
+      let outside = (at_path trees.trie (at_root root) path).outside in
+      found_at-with_setting trees.trie setting node outside
+      ∙ ap (with_setting setting) (shows outside [] ∙ ap (look_in_trees trees tick) (append-nil source))
+      ∙ sym (resolved-with_setting trees.start setting (look same_name trees.start trees.records.records tick source))
   ShowsAction-copy replace source tick setting node shows (name ∷ rest) =
-      let outside = (at_path block.trie (at_root root) path).outside in
-      ap (λ next. found_below block.trie next rest) (child_at-with_setting block.trie setting node outside name) ∙ shows outside (name ∷ rest)
+      let outside = (at_path trees.trie (at_root root) path).outside in
+      ap (λ next. found_below trees.trie next rest) (child_at-with_setting trees.trie setting node outside name) ∙ shows outside (name ∷ rest)

@@ -23,63 +23,63 @@ end_of-cons count counts rev =
 pub end_of-zero : (count : ℕ) (counts : List ℕ) → end_of (count ∷ counts) 0 ≡ count
 end_of-zero count counts = omega (arith, sum_by-cons (λ (x : ℕ). x) count [])
 
--- where the revisions after the first end by a place, so does each from the first on, if the records of the first do
-ends_by-cons : (count : ℕ) (counts : List ℕ) (from place last rev : ℕ) → count ≤ place → from + rev < last
-    → ((rev : ℕ) → from + 1 + rev < last → (rev < length counts) × (end_of counts rev ≤ place - count))
-    → (rev < length (count ∷ counts)) × (end_of (count ∷ counts) rev ≤ place)
-ends_by-cons count counts from place last zero past before more = (omega arith, omega (arith, end_of-zero count counts))
-ends_by-cons count counts from place last (suc rev) past before more =
+-- where the revisions after the first end by an index, so does each from the first on, if the records of the first do
+ends_by-cons : (count : ℕ) (counts : List ℕ) (from index last rev : ℕ) → count ≤ index → from + rev < last
+    → ((rev : ℕ) → from + 1 + rev < last → (rev < length counts) × (end_of counts rev ≤ index - count))
+    → (rev < length (count ∷ counts)) × (end_of (count ∷ counts) rev ≤ index)
+ends_by-cons count counts from index last zero past before more = (omega arith, omega (arith, end_of-zero count counts))
+ends_by-cons count counts from index last (suc rev) past before more =
     let (within, ends) = more rev (omega arith) in
     (omega arith, omega (arith, end_of-cons count counts rev))
 
--- a revision before that of the record at a place ends there at the latest
-pub end_of-before : (from : ℕ) (counts : List ℕ) (place rev : ℕ) → place < length (revisions_from from counts)
-    → from + rev < get_or (revisions_from from counts) place 0 → (rev < length counts) × (end_of counts rev ≤ place)
-end_of-before from [] place rev within before = absurd (omega arith)
-end_of-before from (count ∷ counts) place rev within before =
-    elim (cases_lt place count) [
+-- a revision before that of the record at a index ends there at the latest
+pub end_of-before : (from : ℕ) (counts : List ℕ) (index rev : ℕ) → index < length (revisions_from from counts)
+    → from + rev < get_or (revisions_from from counts) index 0 → (rev < length counts) × (end_of counts rev ≤ index)
+end_of-before from [] index rev within before = absurd (omega arith)
+end_of-before from (count ∷ counts) index rev within before =
+    elim (cases_lt index count) [
       | inl first ↦
           absurd (omega (
             arith,
-            get_or_append_left (replicate count from) (revisions_from (from + 1) counts) 0 place (omega (arith, length-replicate count from)),
-            get_or-replicate count place from 0 first,
+            get_or_append_left (replicate count from) (revisions_from (from + 1) counts) 0 index (omega (arith, length-replicate count from)),
+            get_or-replicate count index from 0 first,
           ))
       | inr past ↦
-          let here = get_or (revisions_from (from + 1) counts) (place - count) 0 in
-          let later : get_or (revisions_from from (count ∷ counts)) place 0 ≡ here =
-          get_or-append_right (replicate count from) (revisions_from (from + 1) counts) count place 0 (length-replicate count from) past in
-          let within_more : place - count < length (revisions_from (from + 1) counts) =
+          let here = get_or (revisions_from (from + 1) counts) (index - count) 0 in
+          let later : get_or (revisions_from from (count ∷ counts)) index 0 ≡ here =
+          get_or-append_right (replicate count from) (revisions_from (from + 1) counts) count index 0 (length-replicate count from) past in
+          let within_more : index - count < length (revisions_from (from + 1) counts) =
           omega (arith, length-append (replicate count from) (revisions_from (from + 1) counts), length-replicate count from) in
-          ends_by-cons count counts from place here rev past (subst (λ r. from + rev < r) later before)
-          (λ rev before. end_of-before (from + 1) counts (place - count) rev within_more before)
+          ends_by-cons count counts from index here rev past (subst (λ r. from + rev < r) later before)
+          (λ rev before. end_of-before (from + 1) counts (index - count) rev within_more before)
     ]
 
 module _ (dump : DumpValue) (is : IsDump dump) where
-  -- the revision of a record, by its place
-  pub rev_at-place : (place : ℕ) (each : NodeRecord) → place < length dump.records → get_or dump.records place each ≡ each
-      → get_or (revisions_from 0 dump.counts) place 0 ≡ each.rev
-  rev_at-place place each within at =
-      ap (λ revs. get_or revs place 0) (sym is.revisions) ∙ get_or-map (λ each. each.rev) dump.records place each 0 within ∙ ap (λ each. each.rev) at
+  -- the revision of a record, by its index
+  pub rev_at-index : (index : ℕ) (each : NodeRecord) → index < length dump.records → get_or dump.records index each ≡ each
+      → get_or (revisions_from 0 dump.counts) index 0 ≡ each.rev
+  rev_at-index index each within at =
+      ap (λ revs. get_or revs index 0) (sym is.revisions) ∙ get_or-map (λ each. each.rev) dump.records index each 0 within ∙ ap (λ each. each.rev) at
 
-  -- the source of a copy at a place, of that revision, stands before it
-  sources_of : (place : ℕ) (each : NodeRecord) (act : Act) → place < length (revisions_from 0 dump.counts)
-      → get_or (revisions_from 0 dump.counts) place 0 ≡ each.rev → IsActOf dump each.rev act
-      → HasSourceBefore (ends_of dump.counts) (0 + place + 1) act
-  sources_of place each act.Delete within at of = tt
-  sources_of place each (act.Change mi) within at of = tt
-  sources_of place each (act.Add replace kind mi) within at of = tt
-  sources_of place each (act.Copy replace from from_rev mi) within at of =
-      let before = end_of-before 0 dump.counts place from_rev within (omega (arith, of.2)) in
+  -- the source of a copy at a index, of that revision, stands before it
+  sources_of : (index : ℕ) (each : NodeRecord) (act : Act) → index < length (revisions_from 0 dump.counts)
+      → get_or (revisions_from 0 dump.counts) index 0 ≡ each.rev → IsActOf dump each.rev act
+      → HasSourceBefore (ends_of dump.counts) (0 + index + 1) act
+  sources_of index each act.Delete within at of = tt
+  sources_of index each (act.Change mi) within at of = tt
+  sources_of index each (act.Add replace kind mi) within at of = tt
+  sources_of index each (act.Copy replace from from_rev mi) within at of =
+      let before = end_of-before 0 dump.counts index from_rev within (omega (arith, of.2)) in
       (omega (arith, before.0, length-ends_of dump.counts), omega (arith, before.1, ends_of-at dump.counts from_rev before.0))
 
 -- the source of each copy of a dump stands before it
 pub HaveSources-dump : (dump : DumpValue) → IsDump dump → HaveSources 0 (ends_of dump.counts) dump.records
-HaveSources-dump dump is place each at =
-    let within = slice_get_within dump.records place each at in
-    let here = get_or_from_slice_get dump.records place each each at in
-    let of : IsRecordOf dump each = subst (IsRecordOf dump) here (is.records place each within) in
-    sources_of dump is place each each.act (omega (arith, ap length is.revisions, length-map dump.records (λ each. each.rev)))
-    (rev_at-place dump is place each within here) of.act
+HaveSources-dump dump is index each at =
+    let within = slice_get_within dump.records index each at in
+    let here = get_or_from_slice_get dump.records index each each at in
+    let of : IsRecordOf dump each = subst (IsRecordOf dump) here (is.records index each within) in
+    sources_of dump is index each each.act (omega (arith, ap length is.revisions, length-map dump.records (λ each. each.rev)))
+    (rev_at-index dump is index each within here) of.act
 
 -- ---- histories
 

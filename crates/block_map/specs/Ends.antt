@@ -36,4 +36,4 @@ HasSourceBefore ends tick _ = Unit {0}
 -- the source of each copy stands before it, where the records follow a tick
 abbrev pub HaveSources : ℕ → List ℕ → List NodeRecord → Type 0
 HaveSources start ends records =
-    (place : ℕ) (each : NodeRecord) → slice_get records place ≡ Some each → HasSourceBefore ends (start + place + 1) each.act
+    (index : ℕ) (each : NodeRecord) → slice_get records index ≡ Some each → HasSourceBefore ends (start + index + 1) each.act

@@ -1,4 +1,3 @@
-pub mod Block
 pub mod Ends
 pub mod FaultFound
 pub mod FaultKind
@@ -8,4 +7,5 @@ pub mod Map
 pub mod Node
 pub mod Parts
 pub mod Standing
+pub mod Trees
 pub mod Trie

@@ -8,7 +8,7 @@ use Rattle.block_map.specs.declared.node.Here.TheVariants as here
 use Rattle.block_map.specs.declared.node.Node.{Node}
 use Rattle.block_map.specs.declared.node.Region.TheVariants as region
 use Rattle.block_map.specs.declared.part.PartId.{PartId}
-use Rattle.block_map.specs.declared.place.PlaceId.{PlaceId}
+use Rattle.block_map.specs.declared.location.LocationId.{LocationId}
 
 abbrev pub no_children : PartId
 no_children = record { 0 = 0 }
@@ -23,8 +23,8 @@ absent_node = record { here = here.Absent; region = region.Nothing; children = n
 abbrev pub node_of_kind : Kind → Option ValueId → Node
 node_of_kind kind mi = record { here = here.Is kind mi; region = region.Nothing; children = no_children }
 
-abbrev pub node_at_place : PlaceId → Node
-node_at_place id = record { here = here.Unchanged; region = region.At id; children = no_children }
+abbrev pub node_at_location : LocationId → Node
+node_at_location id = record { here = here.Unchanged; region = region.At id; children = no_children }
 
 -- what stands at the node with other mergeinfo, if anything stands there
 abbrev pub here_with_mergeinfo : Option ValueId → Here → Here

@@ -6,10 +6,10 @@ use Rattle.block_map.specs.declared.part.Part.{Part}
 use Rattle.block_map.specs.declared.part.Part.TheVariants.{Leaf, Branch}
 use Rattle.block_map.specs.declared.part.PartId.{PartId}
 
--- the part at a place has the number after it; 0 is the number of the empty map
+-- the part of an index has the number after it; 0 is the number of the empty map
 abbrev pub part_at : List Part → ℕ → Option Part
 part_at parts zero = None
-part_at parts (suc place) = slice_get parts place
+part_at parts (suc index) = slice_get parts index
 
 -- the node of the name of which these bits are left, found in at most so many steps
 unfoldable pub found_within : List Part → ℕ → ℕ → ℕ → Option NodeId
@@ -26,7 +26,7 @@ abbrev pub child_in : List Part → PartId → ℕ → Option NodeId
 child_in parts id bits = found_within parts id.0 id.0 bits
 
 abbrev pub AreOrdered : List Part → Type 0
-AreOrdered parts = (place : ℕ) (even odd : PartId) → slice_get parts place ≡ Some (Branch even odd) → (even.0 ≤ place) × (odd.0 ≤ place)
+AreOrdered parts = (index : ℕ) (even odd : PartId) → slice_get parts index ≡ Some (Branch even odd) → (even.0 ≤ index) × (odd.0 ≤ index)
 
 -- the part is made of parts that stand among these
 abbrev pub IsOrderedAfter : List Part → Part → Type 0
@@ -35,10 +35,10 @@ IsOrderedAfter parts (Branch even odd) = (even.0 ≤ length parts) × (odd.0 ≤
 
 -- each node of a leaf is among the first so many
 abbrev pub HaveNodesBelow : ℕ → List Part → Type 0
-HaveNodesBelow count parts = (place bits : ℕ) (node : NodeId) → slice_get parts place ≡ Some (Leaf bits node) → node.0 < count
+HaveNodesBelow count parts = (index bits : ℕ) (node : NodeId) → slice_get parts index ≡ Some (Leaf bits node) → node.0 < count
 
 -- some were added
-pub record AreMore {X : Type 0} (old new : List X) : Type 0 where
+pub record Extends {X : Type 0} (old new : List X) : Type 0 where
   pub more : List X
   pub grown : new ≡ old ++ more
 

@@ -5,7 +5,7 @@ use Rattle.svn_path.specs.Path.{same_name}
 use Rattle.svn_path.specs.declared.names.NameId.{NameId}
 use Rattle.svn_dump.specs.declared.record.ValueId.{ValueId}
 use Rattle.block_map.specs.Look.{Found, Look, at, is, absent, with_mergeinfo}
-use Rattle.block_map.specs.Parts.{AreMore, AreOrdered, HaveNodesBelow, child_in}
+use Rattle.block_map.specs.Parts.{Extends, AreOrdered, HaveNodesBelow, child_in}
 use Rattle.block_map.specs.Standing.{mergeinfo_of}
 use Rattle.block_map.specs.declared.node.Here.{Here}
 use Rattle.block_map.specs.declared.node.Here.TheVariants as here
@@ -13,7 +13,7 @@ use Rattle.block_map.specs.declared.node.Node.{Node}
 use Rattle.block_map.specs.declared.node.Region.{Region}
 use Rattle.block_map.specs.declared.node.Region.TheVariants as region
 use Rattle.block_map.specs.declared.part.Part.{Part}
-use Rattle.block_map.specs.declared.place.Place.{Place}
+use Rattle.block_map.specs.declared.location.Location.{Location}
 use Rattle.block_map.specs.declared.position.Around.{Around}
 use Rattle.block_map.specs.declared.position.Around.TheVariants as around
 use Rattle.block_map.specs.declared.position.Position.{Position}
@@ -21,7 +21,7 @@ use Rattle.block_map.specs.declared.position.Position.{Position}
 pub record TrieValue : Type 0 where
   pub nodes : List Node
   pub parts : List Part
-  pub places : List Place
+  pub locations : List Location
 
 abbrev pub LookOfNumbers : Type 0
 LookOfNumbers = Look NameId ValueId
@@ -32,16 +32,16 @@ LookOfNumbers = Look NameId ValueId
 abbrev pub nothing : LookOfNumbers
 nothing rest = absent
 
--- the same as at a place and below it
-abbrev pub as_at : Option Place → LookOfNumbers
+-- the same as at a location and below it
+abbrev pub as_at : Option Location → LookOfNumbers
 as_at None rest = absent
-as_at (Some place) rest = at (place.path ++ rest) place.tick
+as_at (Some location) rest = at (location.path ++ rest) location.tick
 
 -- what is found at a node and below it, unless its children say otherwise, given what is found there without it
 abbrev pub inside : TrieValue → Region → LookOfNumbers → LookOfNumbers
 inside trie region.Above outside = outside
 inside trie region.Nothing outside = nothing
-inside trie (region.At id) outside = as_at (slice_get trie.places id.0)
+inside trie (region.At id) outside = as_at (slice_get trie.locations id.0)
 
 -- what is found at the node itself
 abbrev pub found_here : Here → Found NameId ValueId → Found NameId ValueId
@@ -91,40 +91,40 @@ mergeinfo_below trie root path = mergeinfo_of (found_below trie (at_root root) p
 
 -- ---- sound tries
 
-abbrev pub HasPlace : TrieValue → Region → Type 0
-HasPlace trie region.Above = Unit {0}
-HasPlace trie region.Nothing = Unit {0}
-HasPlace trie (region.At id) = id.0 < length trie.places
+abbrev pub HasLocation : TrieValue → Region → Type 0
+HasLocation trie region.Above = Unit {0}
+HasLocation trie region.Nothing = Unit {0}
+HasLocation trie (region.At id) = id.0 < length trie.locations
 
--- the children and the place of the node are those of the trie
+-- the children and the location of the node are those of the trie
 abbrev pub IsNodeOf : TrieValue → Node → Type 0
-IsNodeOf trie node = (node.children.0 ≤ length trie.parts) × HasPlace trie node.region
+IsNodeOf trie node = (node.children.0 ≤ length trie.parts) × HasLocation trie node.region
 
 pub record IsSound (trie : TrieValue) : Type 0 where
   pub ordered : AreOrdered trie.parts
   pub leaves : HaveNodesBelow (length trie.nodes) trie.parts
-  pub nodes : (place : ℕ) (node : Node) → slice_get trie.nodes place ≡ Some node → IsNodeOf trie node
+  pub nodes : (index : ℕ) (node : Node) → slice_get trie.nodes index ≡ Some node → IsNodeOf trie node
 
--- nodes, parts and places were added, and none changed
-pub record IsGrown (old new : TrieValue) : Type 0 where
-  pub nodes : AreMore old.nodes new.nodes
-  pub parts : AreMore old.parts new.parts
-  pub places : AreMore old.places new.places
+-- nodes, parts and locations were added, and none changed
+pub record ExtendsTrie (old new : TrieValue) : Type 0 where
+  pub nodes : Extends old.nodes new.nodes
+  pub parts : Extends old.parts new.parts
+  pub locations : Extends old.locations new.locations
 
 -- ---- positions as they are kept
 
--- what is found around the end of a path: what stood at a place, below which the path goes on from so many components
+-- what is found around the end of a path: what stood at a location, below which the path goes on from so many components
 abbrev pub around_view : TrieValue → List NameId → Around → LookOfNumbers
 around_view trie path around.Nothing = nothing
-around_view trie path (around.At place from) = λ rest. as_at (slice_get trie.places place.0) (drop from path ++ rest)
+around_view trie path (around.At location from) = λ rest. as_at (slice_get trie.locations location.0) (drop from path ++ rest)
 
 abbrev pub position_view : TrieValue → List NameId → Position → At
 position_view trie path position = record { node = position.node; outside = around_view trie path position.around }
 
--- the node and the place are those of the trie, and no more components were passed than the path has
+-- the node and the location are those of the trie, and no more components were passed than the path has
 abbrev pub IsAroundOf : TrieValue → List NameId → Around → Type 0
 IsAroundOf trie path around.Nothing = Unit {0}
-IsAroundOf trie path (around.At place from) = (place.0 < length trie.places) × (from ≤ length path)
+IsAroundOf trie path (around.At location from) = (location.0 < length trie.locations) × (from ≤ length path)
 
 -- the position is that of the path below a root
 pub record IsPositionOf (trie : TrieValue) (root : Node) (path : List NameId) (position : Position) : Type 0 where
@@ -138,15 +138,15 @@ around_inside region.Above outside depth = outside
 around_inside region.Nothing outside depth = around.Nothing
 around_inside (region.At id) outside depth = around.At id depth
 
--- the place shows what is found around the end of a path
-abbrev pub IsPlaceAround : TrieValue → List NameId → Around → Option Place → Type 0
-IsPlaceAround trie path outside place = (rest : List NameId) → as_at place rest ≡ around_view trie path outside rest
+-- the location shows what is found around the end of a path
+abbrev pub IsLocationAround : TrieValue → List NameId → Around → Option Location → Type 0
+IsLocationAround trie path outside location = (rest : List NameId) → as_at location rest ≡ around_view trie path outside rest
 
 -- inside the region there is what is found around the end of a path
 abbrev pub IsRegionAround : TrieValue → TrieValue → List NameId → Around → Region → Type 0
 IsRegionAround old new path around inner = (outside : LookOfNumbers) → inside new inner outside ≡ around_view old path around
 
--- the node shows outside all others what was found at a place
+-- the node shows outside all others what was found at a location
 abbrev pub IsCopiedNode : TrieValue → TrieValue → At → Node → Type 0
 IsCopiedNode old new from node = (outside : LookOfNumbers) (path : List NameId) →
     found_below new (record { node = Some node; outside = outside }) path ≡ found_below old from path

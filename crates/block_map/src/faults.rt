@@ -4,7 +4,7 @@ ghost use Rattle.svn_dump.specs.Dump.{IsDump, history_view};
 ghost use Rattle.svn_dump.specs.Fault.{first_fault};
 ghost use Rattle.svn_dump.specs.State.{fault_of_next_record};
 ghost use Rattle.svn_path.specs.Path.{same_name};
-ghost use Rattle.block_map.specs.Block.{action_in};
+ghost use Rattle.block_map.specs.Trees.{action_in};
 ghost use Rattle.block_map.specs.Ends.{HasSourceBefore, ends_of};
 ghost use Rattle.block_map.specs.FaultFound.{fault_found, has_parent_standing, is_dir_standing, missing_found, no_record, source_found, target_found};
 ghost use Rattle.block_map.specs.FaultKind.{fault_view, kind_view};
@@ -48,9 +48,9 @@ fn first_suspect<R: Threads + Sync>(rt: &R, map: &Map, dump: &Dump, ends: &Ends)
     requires map { IsMapOf dump.now map.now }
     requires ends { ends.now ≡ ends_of dump.now.counts }
     ensures within { IfSome result (λ number. (1 ≤ number) × (number ≤ length dump.now.records)) }
-    ensures fine { (place : ℕ) → place < length dump.now.records
-        → place + 1 < unwrap_or result no_record
-        → fault_of_next_record same_name (history_view dump.now) place ≡ None }
+    ensures fine { (index : ℕ) → index < length dump.now.records
+        → index + 1 < unwrap_or result no_record
+        → fault_of_next_record same_name (history_view dump.now) index ≡ None }
     ensures kept { IsDump dump.now }
 {
     let least = least_suspect(rt, map, dump, ends);
@@ -62,8 +62,8 @@ fn least_suspect<R: Threads + Sync>(rt: &R, map: &Map, dump: &Dump, ends: &Ends)
     requires map { IsMapOf dump.now map.now }
     requires ends { ends.now ≡ ends_of dump.now.counts }
     ensures within { result < no_record → (1 ≤ result) × (result ≤ length dump.now.records) }
-    ensures fine { (place : ℕ) → place < length dump.now.records → place + 1 < result
-        → fault_of_next_record same_name (history_view dump.now) place ≡ None }
+    ensures fine { (index : ℕ) → index < length dump.now.records → index + 1 < result
+        → fault_of_next_record same_name (history_view dump.now) index ≡ None }
     ensures kept { IsDump dump.now }
 {
     let end = dump.records().len() as u32 + 1;
@@ -113,8 +113,8 @@ pub fn fault_at(
     ensures { IfOk result (λ kind. option_map kind_view kind
         ≡ fault_of_next_record same_name (history_view dump.now) (number - 1)) }
 {
-    let place = number - 1;
-    Ok(fault_of(map, ends, place, &dump.records()[place as usize]))
+    let index = number - 1;
+    Ok(fault_of(map, ends, index, &dump.records()[index as usize]))
 }
 
 /// The first fault of a record that so many others precede.

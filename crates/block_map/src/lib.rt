@@ -1,20 +1,20 @@
 //! What stands at each path after each record of a history, in a map that shares what revisions have in common.
 #![tactic(auto)]
 
-mod block;
 mod ends;
 mod entry;
 mod fault;
 mod faults;
 mod found;
 mod ghost_records;
+mod location;
 mod map;
 mod nearest;
 mod node;
 mod part;
 mod parts;
-mod place;
 mod position;
+mod trees;
 mod trie;
 
 pub use ends::Ends;

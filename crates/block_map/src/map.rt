@@ -9,11 +9,11 @@ ghost use Rattle.block_map.specs.Look.{IsFoundAtOrBefore};
 ghost use Rattle.block_map.specs.Map.{IsEndIn, IsMapOfFirstRecords, IsNearestOrNone, found_view, hi_of, look_in, most_nodes, records_at_ticks, revision_in, state_in};
 ghost use Rattle.block_map.specs.Standing.{entry_view, mergeinfo_of, own_mergeinfo_at, standing_at, standing_of};
 
-use crate::block::Block;
 use crate::ends::Ends;
 use crate::entry::Entry;
 use crate::found::Found;
 use crate::nearest::Nearest;
+use crate::trees::Trees;
 use std::alloc::{AllocError, Global};
 use std::marker::Model;
 use svn_dump::NodeRecord;
@@ -22,20 +22,20 @@ use svn_path::{NameId, Path};
 /// What stands at each path after each of some records.
 #[derive(Drop)]
 pub struct Map {
-    block: Block,
+    trees: Trees,
 }
 
 impl Model for Map {
     ghost use Rattle.std.specs.Prelude.{length};
-    ghost use Rattle.block_map.specs.Block.{IsMapBlock};
+    ghost use Rattle.block_map.specs.Trees.{AreMapTrees};
     ghost use Rattle.block_map.specs.Map.{MapValue};
 
     ghost Value = { MapValue };
 
     ghost view = { λ m.
-        record { lo = m.block.start; records = m.block.records.records; nodes = length m.block.trie.nodes } };
+        record { lo = m.trees.start; records = m.trees.records.records; nodes = length m.trees.trie.nodes } };
 
-    ghost invariant = { λ m. IsMapBlock m.block };
+    ghost invariant = { λ m. AreMapTrees m.trees };
 }
 
 impl Map {
@@ -57,25 +57,25 @@ impl Map {
         ensures of_first { (dump : DumpValue) (more : List NodeRecord) → start ≡ 0 → ends.now ≡ ends_of dump.counts
             → dump.records ≡ records.now ++ more → IfOk result (IsMapOfFirstRecords dump) }
     {
-        let mut block = Block::new(alloc, start);
+        let mut trees = Trees::new(alloc, start);
         for record in records {
-            block.add(record, ends)?;
+            trees.add(record, ends)?;
         }
-        Ok(Map { block })
+        Ok(Map { trees })
     }
 
     /// The tick before the first record.
     pub fn lo(&self) -> u32
         ensures { result ≡ self.now.lo }
     {
-        self.block.start
+        self.trees.start
     }
 
     /// The tick after the last record.
     pub fn hi(&self) -> u32
         ensures { result ≡ hi_of self.now }
     {
-        self.block.start + self.block.roots.len() as u32
+        self.trees.start + self.trees.roots.len() as u32
     }
 
     /// How many nodes the map keeps.
@@ -83,7 +83,7 @@ impl Map {
         ensures exact { result ≡ self.now.nodes }
         ensures few { result ≤ most_nodes (length self.now.records) }
     {
-        self.block.trie.len() as u64
+        self.trees.trie.len() as u64
     }
 
     /// What the records say of a path at a tick.
@@ -93,7 +93,7 @@ impl Map {
         ensures exact { IfOk result (λ found. found_view found ≡ look_in self.now tick path.now) }
         ensures earlier { IfOk result (λ found. IsFoundAtOrBefore self.now.lo (found_view found)) }
     {
-        self.block.look(tick, path)
+        self.trees.look(tick, path)
     }
 
     /// What stands at a path at a tick, in a map from the beginning of a history.
@@ -126,7 +126,7 @@ impl Map {
         ensures of_revision { (dump : _) (rev : _) → IsMapOfFirstRecords dump self.now → IsEndIn dump rev tick → IfOk result
             (IsNearestOrNone (own_mergeinfo_at same_name (revision_in dump rev)) path.now) }
     {
-        Ok(self.block.nearest(tick, path.parts()))
+        Ok(self.trees.nearest(tick, path.parts()))
     }
 
     /// What stands at a path of these components at a tick.
@@ -135,6 +135,6 @@ impl Map {
         requires within { tick ≤ hi_of self.now }
         ensures { option_map entry_view result ≡ standing_of (look_in self.now tick path.now) }
     {
-        self.block.standing(tick, path)
+        self.trees.standing(tick, path)
     }
 }

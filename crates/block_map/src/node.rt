@@ -1,10 +1,10 @@
 //! The nodes of a map.
 ghost use Rattle.std.specs.Prelude.{◌≡◌, unwrap_or};
 ghost use Rattle.svn_dump.specs.Dump.{setting_view};
-ghost use Rattle.block_map.specs.Node.{absent_node, node_at_place, node_of_kind, node_settled, node_with_mergeinfo, untouched};
+ghost use Rattle.block_map.specs.Node.{absent_node, node_at_location, node_of_kind, node_settled, node_with_mergeinfo, untouched};
 
+use crate::location::LocationId;
 use crate::part::PartId;
-use crate::place::PlaceId;
 use svn_dump::{Kind, Mi, ValueId};
 
 /// What stands at a node itself.
@@ -24,8 +24,8 @@ pub(crate) enum Region {
     /// What the region of the node above says.
     Above,
     Nothing,
-    /// What stood at a place and below it.
-    At(PlaceId),
+    /// What stood at a location and below it.
+    At(LocationId),
 }
 
 /// What is known of a path and of the paths below it. Nodes are shared by all trees that have the same there.
@@ -70,13 +70,13 @@ impl Node {
         }
     }
 
-    /// What stood at a place and below it.
-    pub(crate) fn at(place: PlaceId) -> Node
-        ensures { result ≡ node_at_place place }
+    /// What stood at a location and below it.
+    pub(crate) fn at(location: LocationId) -> Node
+        ensures { result ≡ node_at_location location }
     {
         Node {
             here: Here::Unchanged,
-            region: Region::At(place),
+            region: Region::At(location),
             children: PartId(0),
         }
     }

@@ -1,6 +1,6 @@
 //! Maps from names to nodes that share their parts.
 ghost use Rattle.std.specs.Prelude.{◌≡◌, ◌<◌, ◌≤◌, ◌≢◌, ◌++◌, ◌∷◌, [], length, ◌+◌, ◌%◌, ◌==◌, if◌then◌else◌, IfOk, OnErr, OnOk};
-ghost use Rattle.block_map.specs.Parts.{child_in, part_at, AreMore, AreOrdered, HasOne, HasSides, HasTwo, HaveNodesBelow, IsOrderedAfter, SetsChild};
+ghost use Rattle.block_map.specs.Parts.{child_in, part_at, Extends, AreOrdered, HasOne, HasSides, HasTwo, HaveNodesBelow, IsOrderedAfter, SetsChild};
 
 use crate::part::{NodeId, Part, PartId};
 use std::alloc::{AllocError, Global};
@@ -70,13 +70,13 @@ impl Parts {
         node: NodeId,
     ) -> Result<PartId, AllocError>
         requires { map.0 ≤ length self.old }
-        ensures more { OnOk result (AreMore self.old self.new) }
+        ensures more { OnOk result (Extends self.old self.new) }
         ensures within { IfOk result (λ after. after.0 ≤ length self.new) }
         ensures exact { IfOk result (SetsChild self.old self.new map name.0 node) }
         ensures nodes { (count : _) → HaveNodesBelow count self.old → node.0 < count
             → OnOk result (HaveNodesBelow count self.new) }
         ensures ordered { AreOrdered self.new }
-        ensures failed_more { OnErr result (AreMore self.old self.new) }
+        ensures failed_more { OnErr result (Extends self.old self.new) }
         ensures failed_nodes { (count : _) → HaveNodesBelow count self.old → node.0 < count
             → OnErr result (HaveNodesBelow count self.new) }
     {
@@ -112,7 +112,7 @@ impl Parts {
 
     /// The map of one name.
     fn push_leaf(&mut self, bits: u32, node: NodeId) -> Result<PartId, AllocError>
-        ensures more { AreMore self.old self.new }
+        ensures more { Extends self.old self.new }
         ensures within { IfOk result (λ after. after.0 ≤ length self.new) }
         ensures exact { IfOk result (HasOne self.new bits node) }
         ensures nodes { (count : _) → HaveNodesBelow count self.old → node.0 < count → HaveNodesBelow count self.new }
@@ -125,7 +125,7 @@ impl Parts {
     fn push_sides(&mut self, bits: u32, same: PartId, other: PartId) -> Result<PartId, AllocError>
         requires same { same.0 ≤ length self.old }
         requires other { other.0 ≤ length self.old }
-        ensures more { AreMore self.old self.new }
+        ensures more { Extends self.old self.new }
         ensures within { IfOk result (λ after. after.0 ≤ length self.new) }
         ensures exact { IfOk result (HasSides self.old self.new bits same other) }
         ensures nodes { (count : _) → HaveNodesBelow count self.old → HaveNodesBelow count self.new }
@@ -140,7 +140,7 @@ impl Parts {
     #[cycle(set_bits)]
     fn set_bits(&mut self, map: PartId, bits: u32, node: NodeId) -> Result<PartId, AllocError>
         requires { map.0 ≤ length self.old }
-        ensures more { AreMore self.old self.new }
+        ensures more { Extends self.old self.new }
         ensures within { IfOk result (λ after. after.0 ≤ length self.new) }
         ensures exact { IfOk result (SetsChild self.old self.new map bits node) }
         ensures nodes { (count : _) → HaveNodesBelow count self.old → node.0 < count → HaveNodesBelow count self.new }
@@ -178,7 +178,7 @@ impl Parts {
         other_node: NodeId,
     ) -> Result<PartId, AllocError>
         requires { one ≢ other }
-        ensures more { AreMore self.old self.new }
+        ensures more { Extends self.old self.new }
         ensures within { IfOk result (λ after. after.0 ≤ length self.new) }
         ensures exact { IfOk result (HasTwo self.new one one_node other other_node) }
         ensures nodes { (count : _) → HaveNodesBelow count self.old → one_node.0 < count → other_node.0 < count

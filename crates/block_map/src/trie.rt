@@ -3,27 +3,27 @@ ghost use Rattle.std.specs.Prelude.{◌≡◌, ◌+◌, ◌<◌, ◌++◌, ◌�
 ghost use Rattle.block_map.specs.Look.{with_mergeinfo as changed};
 ghost use Rattle.block_map.specs.Map.{IsNearestOrNone, found_view, nearest_view};
 ghost use Rattle.block_map.specs.Standing.{entry_view, mergeinfo_of, standing_of};
-ghost use Rattle.block_map.specs.Trie.{HasPlace, IsAroundOf, IsRegionAround, IsCopiedNode, IsGrown, IsNodeOf, IsPlaceAround, IsPositionOf, IsSound, PutsNode, around_inside, as_at, child_at, child_of, found_at, mergeinfo_below, position_view};
+ghost use Rattle.block_map.specs.Trie.{HasLocation, IsAroundOf, IsRegionAround, IsCopiedNode, ExtendsTrie, IsNodeOf, IsLocationAround, IsPositionOf, IsSound, PutsNode, around_inside, as_at, child_at, child_of, found_at, mergeinfo_below, position_view};
 
 use crate::entry::Entry;
 use crate::found::Found;
+use crate::location::{Location, LocationId};
 use crate::nearest::Nearest;
 use crate::node::{Here, Node, Region};
 use crate::part::NodeId;
 use crate::parts::Parts;
-use crate::place::{Place, PlaceId};
 use crate::position::{Around, Position};
 use std::alloc::{AllocError, Global};
 use std::marker::Model;
 use svn_dump::ValueId;
 use svn_path::NameId;
 
-/// The nodes of trees, the maps of their children, and the places that they name. Nothing in it ever changes.
+/// The nodes of trees, the maps of their children, and the locations that they name. Nothing in it ever changes.
 #[derive(Drop)]
 pub(crate) struct Trie {
     nodes: Vec<Node>,
     parts: Parts,
-    places: Vec<Place>,
+    locations: Vec<Location>,
 }
 
 impl Model for Trie {
@@ -31,9 +31,9 @@ impl Model for Trie {
 
     ghost Value = { TrieValue };
 
-    ghost view = { λ t. record { nodes = t.nodes.items; parts = t.parts; places = t.places.items } };
+    ghost view = { λ t. record { nodes = t.nodes.items; parts = t.parts; locations = t.locations.items } };
 
-    ghost invariant = { λ t. IsSound (record { nodes = t.nodes.items; parts = t.parts; places = t.places.items }) };
+    ghost invariant = { λ t. IsSound (record { nodes = t.nodes.items; parts = t.parts; locations = t.locations.items }) };
 }
 
 /// The number of the next element of a list. A list of 4,294,967,295 elements takes no other: that is reported as want
@@ -51,13 +51,13 @@ fn next_number(len: usize) -> Result<u32, AllocError>
 impl Trie {
     /// No nodes. It takes no memory.
     pub(crate) fn new(alloc: Global) -> Self
-        ensures empty { result ≡ record { nodes = []; parts = []; places = [] } }
+        ensures empty { result ≡ record { nodes = []; parts = []; locations = [] } }
         ensures sound { IsSound result }
     {
         Trie {
             nodes: Vec::new(alloc),
             parts: Parts::new(alloc),
-            places: Vec::new(alloc),
+            locations: Vec::new(alloc),
         }
     }
 
@@ -90,14 +90,14 @@ impl Trie {
         Ok(id)
     }
 
-    /// Adds a place.
-    pub(crate) fn push_place(&mut self, place: Place) -> Result<PlaceId, AllocError>
-        ensures id { IfOk result (λ id. id.0 ≡ length self.old.places) }
-        ensures added { OnOk result (self.new ≡ record self.old { places = self.old.places ++ place ∷ [] }) }
+    /// Adds a location.
+    pub(crate) fn push_location(&mut self, location: Location) -> Result<LocationId, AllocError>
+        ensures id { IfOk result (λ id. id.0 ≡ length self.old.locations) }
+        ensures added { OnOk result (self.new ≡ record self.old { locations = self.old.locations ++ location ∷ [] }) }
         ensures after { IsSound self.new }
     {
-        let id = PlaceId(next_number(self.places.len())?);
-        self.places.push(place)?;
+        let id = LocationId(next_number(self.locations.len())?);
+        self.locations.push(location)?;
         Ok(id)
     }
 
@@ -123,7 +123,7 @@ impl Trie {
     ) -> Result<Node, AllocError>
         requires before { IfSome before (IsNodeOf self.old) }
         requires node { IsNodeOf self.old node }
-        ensures grown { OnOk result (IsGrown self.old self.new) }
+        ensures grown { OnOk result (ExtendsTrie self.old self.new) }
         ensures sound { IfOk result (IsNodeOf self.new) }
         ensures count { OnOk result (length self.new.nodes ≡ length self.old.nodes + length path.now) }
         ensures exact { IfOk result (PutsNode self.old self.new before path.now node) }
@@ -141,7 +141,7 @@ impl Trie {
     fn with_child(&mut self, node: Node, name: NameId, child: Node) -> Result<Node, AllocError>
         requires node { IsNodeOf self.old node }
         requires child { IsNodeOf self.old child }
-        ensures grown { OnOk result (IsGrown self.old self.new) }
+        ensures grown { OnOk result (ExtendsTrie self.old self.new) }
         ensures sound { IfOk result (IsNodeOf self.new) }
         ensures count { OnOk result (length self.new.nodes ≡ length self.old.nodes + 1) }
         ensures exact { IfOk result (PutsNode self.old self.new (Some node) (name ∷ []) child) }
@@ -186,17 +186,17 @@ impl Trie {
         position
     }
 
-    /// The place around the end of a path, if there is one.
-    fn place(&self, around: Around, path: &[NameId]) -> Result<Option<Place>, AllocError>
+    /// The location around the end of a path, if there is one.
+    fn location(&self, around: Around, path: &[NameId]) -> Result<Option<Location>, AllocError>
         requires { IsAroundOf self.now path.now around }
-        ensures place { IfOk result (IsPlaceAround self.now path.now around) }
+        ensures location { IfOk result (IsLocationAround self.now path.now around) }
         ensures sound { IsSound self.now }
     {
-        let places = self.places.as_slice();
-        let Around::At { place, from } = around else {
+        let locations = self.locations.as_slice();
+        let Around::At { location, from } = around else {
             return Ok(None);
         };
-        let Some(front) = places.get(place.0 as usize) else {
+        let Some(front) = locations.get(location.0 as usize) else {
             return Ok(None);
         };
         let (_, rest) = path.split_at(from);
@@ -211,38 +211,38 @@ impl Trie {
             found_view found ≡ found_at self.now (position_view self.now path.now position)) }
     {
         let Some(node) = position.node else {
-            return Ok(found_around(self.place(position.around, path)?));
+            return Ok(found_around(self.location(position.around, path)?));
         };
         let around = inside(node.region, position.around, path.len());
         match node.here {
-            Here::Unchanged => Ok(found_around(self.place(around, path)?)),
-            Here::WithMergeinfo(mi) => Ok(with_mergeinfo(self.place(around, path)?, mi)),
+            Here::Unchanged => Ok(found_around(self.location(around, path)?)),
+            Here::WithMergeinfo(mi) => Ok(with_mergeinfo(self.location(around, path)?, mi)),
             Here::Is { kind, mi } => Ok(Found::Is { kind, mi }),
             Here::Absent => Ok(Found::Absent),
         }
     }
 
-    /// The region in which there is what is found around the end of a path. It may add a place.
+    /// The region in which there is what is found around the end of a path. It may add a location.
     fn region_of(&mut self, around: Around, path: &[NameId]) -> Result<Region, AllocError>
         requires { IsAroundOf self.old path.now around }
-        ensures grown { OnOk result (IsGrown self.old self.new) }
+        ensures grown { OnOk result (ExtendsTrie self.old self.new) }
         ensures nodes { OnOk result (self.new.nodes ≡ self.old.nodes) }
-        ensures place { IfOk result (HasPlace self.new) }
+        ensures location { IfOk result (HasLocation self.new) }
         ensures exact { IfOk result (IsRegionAround self.old self.new path.now around) }
         ensures before { IsSound self.old }
         ensures after { IsSound self.new }
     {
-        match self.place(around, path)? {
+        match self.location(around, path)? {
             None => Ok(Region::Nothing),
-            Some(place) => Ok(Region::At(self.push_place(place)?)),
+            Some(location) => Ok(Region::At(self.push_location(location)?)),
         }
     }
 
-    /// The node at a position, as it is outside all others. It may add a place.
+    /// The node at a position, as it is outside all others. It may add a location.
     pub(crate) fn copied(&mut self, position: Position, path: &[NameId]) -> Result<Node, AllocError>
         requires node { IfSome position.node (IsNodeOf self.old) }
         requires around { IsAroundOf self.old path.now position.around }
-        ensures grown { OnOk result (IsGrown self.old self.new) }
+        ensures grown { OnOk result (ExtendsTrie self.old self.new) }
         ensures nodes { OnOk result (self.new.nodes ≡ self.old.nodes) }
         ensures sound { IfOk result (IsNodeOf self.new) }
         ensures exact { IfOk result (IsCopiedNode self.old self.new (position_view self.old path.now position)) }
@@ -306,26 +306,29 @@ fn inside(region: Region, around: Around, depth: usize) -> Around
     match region {
         Region::Above => around,
         Region::Nothing => Around::Nothing,
-        Region::At(place) => Around::At { place, from: depth },
+        Region::At(location) => Around::At {
+            location,
+            from: depth,
+        },
     }
 }
 
-/// What is found at a place.
-fn found_around(place: Option<Place>) -> Found
-    ensures { found_view result ≡ as_at place [] }
+/// What is found at a location.
+fn found_around(location: Option<Location>) -> Found
+    ensures { found_view result ≡ as_at location [] }
 {
-    match place {
+    match location {
         None => Found::Absent,
-        Some(Place { path, tick }) => Found::At { path, tick },
+        Some(Location { path, tick }) => Found::At { path, tick },
     }
 }
 
-/// What is found at a place, with other mergeinfo.
-fn with_mergeinfo(place: Option<Place>, mi: Option<ValueId>) -> Found
-    ensures { found_view result ≡ changed mi (as_at place []) }
+/// What is found at a location, with other mergeinfo.
+fn with_mergeinfo(location: Option<Location>, mi: Option<ValueId>) -> Found
+    ensures { found_view result ≡ changed mi (as_at location []) }
 {
-    match place {
+    match location {
         None => Found::Absent,
-        Some(Place { path, tick }) => Found::AtWith { path, tick, mi },
+        Some(Location { path, tick }) => Found::AtWith { path, tick, mi },
     }
 }

@@ -65,10 +65,10 @@ module _ {M P : Type 0} (act : M → P → P) (begin end : M → ℕ) where
   pub IsJoined-alike : (xs : List M) (x y : M) → IsJoined act begin end xs x → ActsLike act begin end x y → IsJoined act begin end xs y
   IsJoined-alike xs x y j l = record { some = j.some; acts = λ p. l.acts p ∙ j.acts p; begins = λ d. l.begins ∙ j.begins d; ends = λ d. l.ends ∙ j.ends d }
 
-  -- the item at a place is a run of its own
-  pub IsJoined-at : (items : List M) (place : ℕ) (x : M) → place < length items → x ≡ get_or items place x → IsJoined act begin end (take 1 (drop place items)) x
-  IsJoined-at items place x within read =
-      let is : drop place items ≡ x ∷ drop (place + 1) items = drop_more items place x within ∙ ap (λ y. y ∷ drop (place + 1) items) (sym read) in
+  -- the item at an index is a run of its own
+  pub IsJoined-at : (items : List M) (index : ℕ) (x : M) → index < length items → x ≡ get_or items index x → IsJoined act begin end (take 1 (drop index items)) x
+  IsJoined-at items index x within read =
+      let is : drop index items ≡ x ∷ drop (index + 1) items = drop_more items index x within ∙ ap (λ y. y ∷ drop (index + 1) items) (sym read) in
       subst (λ l. IsJoined act begin end (take 1 l) x) (sym is) (IsJoined-one x)
 
   -- two runs that are neighbours, joined

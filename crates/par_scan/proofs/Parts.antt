@@ -23,18 +23,18 @@ IsFilled-push {M} Suits start count xs y f s =
     let len : length xs ≡ count = f.len in
     record {
       len = omega (arith, length_push xs y);
-      each = λ place d below. ⊎_elim
-          (λ h. subst (Suits (start + place)) (sym (get_or_append_left xs (y ∷ []) d place (omega arith))) (f.each place d h))
+      each = λ index d below. ⊎_elim
+          (λ h. subst (Suits (start + index)) (sym (get_or_append_left xs (y ∷ []) d index (omega arith))) (f.each index d h))
           (λ h.
-          let is : place ≡ count = omega arith in
+          let is : index ≡ count = omega arith in
           subst (λ p. Suits (start + p) (get_or (xs ++ y ∷ []) p d)) (sym is) (subst (Suits (start + count)) (sym (get_or_push xs y d count len)) s))
-          (cases_lt place count);
+          (cases_lt index count);
     }
 
 -- lists of elements, each list filling a part, fill the whole one after the other
 pub IsFilled-flat : {M X : Type 0} (Suits : ℕ → M → Type 0) (list_of : X → List M) (size : ℕ) (parts : List X) (start count : ℕ) → count ≤ length parts * size → ((part : ℕ) (d : X) → part < length parts → IsFilled Suits (start + part * size) (min size (count - part * size)) (list_of (get_or parts part d))) → IsFilled Suits start count (flat_map list_of parts)
 IsFilled-flat Suits list_of size [] start count covers each =
-    record { len = omega (arith, zero-mul size); each = λ place d below. absurd (omega (arith, zero-mul size)) }
+    record { len = omega (arith, zero-mul size); each = λ index d below. absurd (omega (arith, zero-mul size)) }
 IsFilled-flat {M} {X} Suits list_of size (part ∷ parts) start count covers each =
     let xs = list_of part in
     let zero_size : 0 * size ≡ 0 = zero-mul size in
@@ -54,16 +54,16 @@ IsFilled-flat {M} {X} Suits list_of size (part ∷ parts) start count covers eac
     subst (IsFilled Suits start count) (sym is)
     (record {
       len = omega (arith, length-append xs rest, others.len);
-      each = λ place d below. ⊎_elim
+      each = λ index d below. ⊎_elim
           (λ h.
-          let here : start + 0 * size + place ≡ start + place = omega arith in
-          subst (Suits (start + place)) (sym (get_or_append_left xs rest d place (omega arith)))
-          (subst (λ p. Suits p (get_or xs place d)) here (one.each place d (omega arith))))
+          let here : start + 0 * size + index ≡ start + index = omega arith in
+          subst (Suits (start + index)) (sym (get_or_append_left xs rest d index (omega arith)))
+          (subst (λ p. Suits p (get_or xs index d)) here (one.each index d (omega arith))))
           (λ h.
-          let there : start + size + (place - length xs) ≡ start + place = omega arith in
-          subst (Suits (start + place)) (sym (get_or-append_right xs rest place d (omega arith)))
-          (subst (λ p. Suits p (get_or rest (place - length xs) d)) there (others.each (place - length xs) d (omega arith))))
-          (cases_lt place (min size count));
+          let there : start + size + (index - length xs) ≡ start + index = omega arith in
+          subst (Suits (start + index)) (sym (get_or-append_right xs rest index d (omega arith)))
+          (subst (λ p. Suits p (get_or rest (index - length xs) d)) there (others.each (index - length xs) d (omega arith))))
+          (cases_lt index (min size count));
     })
 
 -- n elements that are all items up to each of some cuts, joined, and the next run
@@ -178,15 +178,15 @@ some-of [] some = absurd (omega arith)
 some-of (x ∷ xs) some = x
 
 module _ {M P X : Type 0} (act : M → P → P) (begin end : M → ℕ) (list_of : X → List M) (size : ℕ) (items : List M) (scanned : List X) (parts : AreOfParts (λ run each. IsScan act begin end run (list_of each)) size items scanned) where
-  -- an element of a part is the items of the part up to its place, joined
-  scanned-run : (part place : ℕ) (p : X) (d : M) → part < length scanned → place < length (list_of (get_or scanned part p)) → IsJoined act begin end (take (place + 1) (drop (part * size) items)) (get_or (list_of (get_or scanned part p)) place d)
-  scanned-run part place p d below within =
+  -- an element of a part is the items of the part up to its index, joined
+  scanned-run : (part index : ℕ) (p : X) (d : M) → part < length scanned → index < length (list_of (get_or scanned part p)) → IsJoined act begin end (take (index + 1) (drop (part * size) items)) (get_or (list_of (get_or scanned part p)) index d)
+  scanned-run part index p d below within =
       let scan : IsScan act begin end (slice_chunk items size part) (list_of (get_or scanned part p)) = parts.each part p below in
       let len = scan.len in
-      let is : 0 + place + 1 ≡ place + 1 = omega arith in
-      subst (λ l. IsJoined act begin end l (get_or (list_of (get_or scanned part p)) place d))
-      (ap (λ n. take n (slice_chunk items size part)) is ∙ chunk-take items size part (place + 1) (omega arith))
-      (scan.each place d (omega arith))
+      let is : 0 + index + 1 ≡ index + 1 = omega arith in
+      subst (λ l. IsJoined act begin end l (get_or (list_of (get_or scanned part p)) index d))
+      (ap (λ n. take n (slice_chunk items size part)) is ∙ chunk-take items size part (index + 1) (omega arith))
+      (scan.each index d (omega arith))
 
   module _ (before : List M) (filled : IsFilled (IsUpToPart act begin end items size) 0 (length scanned - 1) before) where
     before-run : (part : ℕ) (b : M) → part < length before → IsJoined act begin end (take ((part + 1) * size) items) (get_or before part b)
@@ -197,10 +197,10 @@ module _ {M P X : Type 0} (act : M → P → P) (begin end : M → ℕ) (list_of
 
     -- what stands before a part fits before each of its elements
     pub parts-fit : (weight : M → ℕ) → ((l : List M) (j : M) → ActsAsAll act l j → weight j ≡ sum_by weight l) → IsChain begin end weight items → (part : ℕ) → part < length before → (b : M) (p : X) → EachFits begin end weight (get_or before part b) (list_of (get_or scanned (part + 1) p))
-    parts-fit weight weighs chain part below b p place d within =
+    parts-fit weight weighs chain part below b p index d within =
         let len = filled.len in
-        IsChain-next act begin end weight weighs ((part + 1) * size) (place + 1) items _ _ chain (before-run part b below)
-        (scanned-run (part + 1) place p d (omega arith) within)
+        IsChain-next act begin end weight weighs ((part + 1) * size) (index + 1) items _ _ chain (before-run part b below)
+        (scanned-run (part + 1) index p d (omega arith) within)
 
     module _ (first : X) (later : List X) (some : 0 < length scanned) (read : first ≡ get_or scanned 0 first) (count : length later ≡ length before) (joined : (part : ℕ) (x : X) → part < length before → (b : M) (p : X) → IsFilled (IsAfter act begin end (get_or before part b) (list_of (get_or scanned (part + 1) p))) 0 (length (list_of (get_or scanned (part + 1) p))) (list_of (get_or later part x))) where
       whole-part : (part : ℕ) (x : X) → part < length (first ∷ later) → IsFilled (IsUpTo act begin end items) (part * size) (min size (length items - part * size)) (list_of (get_or (first ∷ later) part x))
@@ -210,12 +210,12 @@ module _ {M P X : Type 0} (act : M → P → P) (begin end : M → ℕ) (list_of
           let scan_len = scan.len in
           record {
             len = omega (arith, length-chunk items size 0);
-            each = λ place d within.
-                let is : place + 1 ≡ 0 * size + place + 1 = omega (arith, zero-mul size) in
-                subst (λ n. IsJoined act begin end (take n items) (get_or (list_of first) place d)) is
-                (subst (λ each. IsJoined act begin end (take (place + 1) items) (get_or (list_of each) place d)) (sym read)
-                (subst (λ n. IsJoined act begin end (take (place + 1) (drop n items)) (get_or (list_of (get_or scanned 0 first)) place d)) (zero-mul size)
-                (scanned-run 0 place first d some (omega (arith, length-chunk items size 0)))));
+            each = λ index d within.
+                let is : index + 1 ≡ 0 * size + index + 1 = omega (arith, zero-mul size) in
+                subst (λ n. IsJoined act begin end (take n items) (get_or (list_of first) index d)) is
+                (subst (λ each. IsJoined act begin end (take (index + 1) items) (get_or (list_of each) index d)) (sym read)
+                (subst (λ n. IsJoined act begin end (take (index + 1) (drop n items)) (get_or (list_of (get_or scanned 0 first)) index d)) (zero-mul size)
+                (scanned-run 0 index first d some (omega (arith, length-chunk items size 0)))));
           }
       whole-part (suc part) x below =
           let early : part < length before = omega arith in
@@ -230,15 +230,15 @@ module _ {M P X : Type 0} (act : M → P → P) (begin end : M → ℕ) (list_of
           let b = some-of before (omega arith) in
           record {
             len = omega (arith, length-chunk items size (part + 1));
-            each = λ place d within.
-                let inside : place < length (list_of (get_or scanned (part + 1) x)) = omega (arith, length-chunk items size (part + 1)) in
-                let is : (part + 1) * size + (place + 1) ≡ suc part * size + place + 1 = omega arith in
-                let at : 0 + place ≡ place = omega arith in
-                subst (λ n. IsJoined act begin end (take n items) (get_or (list_of (get_or later part x)) place d)) is
-                (IsJoined-next act begin end ((part + 1) * size) (place + 1) items _ _ _ (before-run part b early)
-                (scanned-run (part + 1) place x d there inside)
-                (subst (λ i. IsJoined act begin end (get_or before part b ∷ get_or (list_of (get_or scanned (part + 1) x)) i d ∷ []) (get_or (list_of (get_or later part x)) place d)) at
-                (made.each place d inside d)));
+            each = λ index d within.
+                let inside : index < length (list_of (get_or scanned (part + 1) x)) = omega (arith, length-chunk items size (part + 1)) in
+                let is : (part + 1) * size + (index + 1) ≡ suc part * size + index + 1 = omega arith in
+                let at : 0 + index ≡ index = omega arith in
+                subst (λ n. IsJoined act begin end (take n items) (get_or (list_of (get_or later part x)) index d)) is
+                (IsJoined-next act begin end ((part + 1) * size) (index + 1) items _ _ _ (before-run part b early)
+                (scanned-run (part + 1) index x d there inside)
+                (subst (λ i. IsJoined act begin end (get_or before part b ∷ get_or (list_of (get_or scanned (part + 1) x)) i d ∷ []) (get_or (list_of (get_or later part x)) index d)) at
+                (made.each index d inside d)));
           }
 
       -- the first part and the joined others are a scan of the whole
@@ -251,9 +251,9 @@ module _ {M P X : Type 0} (act : M → P → P) (begin end : M → ℕ) (list_of
           (IsFilled-parts (IsUpTo act begin end items) list_of size (length items) (first ∷ later) covers whole-part)
 
 pub scan-AreJoinedUpTo : {M P : Type 0} (act : M → P → P) (begin end : M → ℕ) (items joined : List M) → IsScan act begin end items joined → AreJoinedUpTo act begin end items joined
-scan-AreJoinedUpTo act begin end items joined scan place d below =
-    let is : 0 + place + 1 ≡ place + 1 = omega arith in
-    subst (λ n. IsJoined act begin end (take n items) (get_or joined place d)) is (scan.each place d below)
+scan-AreJoinedUpTo act begin end items joined scan index d below =
+    let is : 0 + index + 1 ≡ index + 1 = omega arith in
+    subst (λ n. IsJoined act begin end (take n items) (get_or joined index d)) is (scan.each index d below)
 
 pub IsFilled-AreMade : {K M : Type 0} (gives : K → ℕ → M → Type 0) (maker : K) (n : ℕ) (made : List M) → IsFilled (gives maker) 0 n made → AreMade gives maker made
 IsFilled-AreMade gives maker n made filled i d below =

@@ -46,8 +46,8 @@ pub record IsJoined {M P : Type 0} (act : M → P → P) (begin end : M → ℕ)
   pub begins : (d : M) → begin joined ≡ begin (slice_index_or items 0 d)
   pub ends : (d : M) → end joined ≡ end (slice_index_or items (length items - 1) d)
 
--- at each place stands an element that is all items up to that place, joined
+-- at each index stands an element that is all items up to that index, joined
 abbrev pub AreJoinedUpTo : {M P : Type 0} → (M → P → P) → (M → ℕ) → (M → ℕ) → List M → List M → Type 0
 AreJoinedUpTo {M} act begin end items joined =
-    (place : ℕ) (d : M) → place < length items
-    → IsJoined act begin end (take (place + 1) items) (slice_index_or joined place d)
+    (index : ℕ) (d : M) → index < length items
+    → IsJoined act begin end (take (index + 1) items) (slice_index_or joined index d)

@@ -8,10 +8,10 @@ use Rattle.par_scan.specs.Chain.{IsChain, IsJoined}
 abbrev pub most_parts : ℕ
 most_parts = 64
 
--- there are so many elements, and each suits its place, where the first one stands at `start`
+-- there are so many elements, and each suits its index, where the first one stands at `start`
 pub record IsFilled {M : Type 0} (Suits : ℕ → M → Type 0) (start count : ℕ) (elements : List M) : Type 0 where
   pub len : length elements ≡ count
-  pub each : (place : ℕ) (d : M) → place < count → Suits (start + place) (slice_index_or elements place d)
+  pub each : (index : ℕ) (d : M) → index < count → Suits (start + index) (slice_index_or elements index d)
 
 -- the elements are what is made of the parts in order; each part has `size` items, the last one perhaps fewer
 pub record AreOfParts {M X : Type 0} (IsOf : List M → X → Type 0) (size : ℕ) (items : List M) (elements : List X) : Type 0 where
@@ -19,15 +19,15 @@ pub record AreOfParts {M X : Type 0} (IsOf : List M → X → Type 0) (size : �
   pub inside : (part : ℕ) → part < length elements → part * size < length items
   pub each : (part : ℕ) (d : X) → part < length elements → IsOf (slice_chunk items size part) (slice_index_or elements part d)
 
--- the elements suit their places, and are the part of that number of `count` elements
+-- the elements suit their indices, and are the part of that number of `count` elements
 abbrev pub IsFilledPart : {M : Type 0} → (ℕ → M → Type 0) → ℕ → ℕ → ℕ → List M → Type 0
 IsFilledPart Suits count size part elements = IsFilled Suits (part * size) (min size (count - part * size)) elements
 
--- the element is all items up to that place, joined
+-- the element is all items up to that index, joined
 abbrev pub IsUpTo : {M P : Type 0} → (M → P → P) → (M → ℕ) → (M → ℕ) → List M → ℕ → M → Type 0
-IsUpTo act begin end items place joined = IsJoined act begin end (take (place + 1) items) joined
+IsUpTo act begin end items index joined = IsJoined act begin end (take (index + 1) items) joined
 
--- the elements are all items up to each place, joined
+-- the elements are all items up to each index, joined
 abbrev pub IsScan : {M P : Type 0} → (M → P → P) → (M → ℕ) → (M → ℕ) → List M → List M → Type 0
 IsScan act begin end items joined = IsFilled (IsUpTo act begin end items) 0 (length items) joined
 
@@ -43,14 +43,14 @@ last_and_next earlier d next = slice_index_or earlier (length earlier - 1) d ∷
 abbrev pub IsUpToPart : {M P : Type 0} → (M → P → P) → (M → ℕ) → (M → ℕ) → List M → ℕ → ℕ → M → Type 0
 IsUpToPart act begin end items size part joined = IsJoined act begin end (take ((part + 1) * size) items) joined
 
--- the element is `before` and the item at that place, joined
+-- the element is `before` and the item at that index, joined
 abbrev pub IsAfter : {M P : Type 0} → (M → P → P) → (M → ℕ) → (M → ℕ) → M → List M → ℕ → M → Type 0
-IsAfter {M} act begin end before items place joined = (d : M) → IsJoined act begin end (before ∷ slice_index_or items place d ∷ []) joined
+IsAfter {M} act begin end before items index joined = (d : M) → IsJoined act begin end (before ∷ slice_index_or items index d ∷ []) joined
 
 -- each item may be joined to `before`
 abbrev pub EachFits : {M : Type 0} → (M → ℕ) → (M → ℕ) → (M → ℕ) → M → List M → Type 0
 EachFits {M} begin end weight before items =
-    (place : ℕ) (d : M) → place < length items → IsChain begin end weight (before ∷ slice_index_or items place d ∷ [])
+    (index : ℕ) (d : M) → index < length items → IsChain begin end weight (before ∷ slice_index_or items index d ∷ [])
 
 -- the items of the part after that one may each be joined to the element of that number
 abbrev pub FitsAt : {M : Type 0} → (M → ℕ) → (M → ℕ) → (M → ℕ) → List M → List (Vec M Global) → ℕ → Type 0

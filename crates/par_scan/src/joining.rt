@@ -59,7 +59,7 @@ pub(crate) fn last_of<M>(items: &[M]) -> &M
     &items[items.len() - 1]
 }
 
-/// For each place all items up to it, joined in order.
+/// For each index all items up to it, joined in order.
 pub(crate) fn scan_run<M: Acts>(alloc: Global, items: &[M]) -> Result<Vec<M>, AllocError>
     requires { IsChain M.begin M.end M.weight items.now }
     ensures { IfOk result (λ joined. IsScan M.act M.begin M.end items.now joined.items) }

@@ -1,4 +1,4 @@
-//! Joining neighbours in parallel: elements that act on points, all of them up to each place joined in order.
+//! Joining neighbours in parallel: elements that act on points, all of them up to each index joined in order.
 #![tactic(auto)]
 
 mod acts;

@@ -51,8 +51,8 @@ fn make_run<K: Make>(
     ensures { IfOk result (λ made. IsFilled (K.gives maker.now) start count made.items) }
 {
     let mut made = Vec::with_capacity(alloc, count)?;
-    for place in 0..count {
-        let item = maker.make(start + place)?;
+    for index in 0..count {
+        let item = maker.make(start + index)?;
         made.push(item)?;
     }
     Ok(made)

@@ -1,4 +1,4 @@
-//! Joining all items up to each place.
+//! Joining all items up to each index.
 ghost use Rattle.std.specs.Prelude.{
   ◌≡◌,
   ℕ,
@@ -25,7 +25,7 @@ use crate::joining::{join_all, join_each, join_to_last, last_of, scan_run};
 use std::alloc::{AllocError, Global};
 use std::thread::{self, Threads, map_chunks, map_indices};
 
-/// For each place an element that is all items up to that place, joined in order. The work is divided into at most
+/// For each index an element that is all items up to that index, joined in order. The work is divided into at most
 /// `parts` parts of neighbours, each done in a thread of its own, or by the caller where none can be started.
 pub fn scan<R: Threads + Sync, M: Acts>(
     rt: &R,

@@ -14,7 +14,7 @@ use Rattle.svn_dump.specs.declared.record.Act.TheVariants as act
 use Rattle.svn_dump.specs.declared.record.Mi.{Mi}
 use Rattle.svn_dump.specs.declared.record.NodeRecord.{NodeRecord}
 use Rattle.path_index.specs.NamedRevisions.{is_named, named_revisions}
-use Rattle.path_index.specs.Nodes.{node_of, IsGrown}
+use Rattle.path_index.specs.Nodes.{node_of, Extends}
 use Rattle.path_index.specs.Numbers.{has_number, AddsNumbers, ArePair, HasNumber, HaveSameNumbers}
 use Rattle.path_index.specs.Operative.{down_from}
 use Rattle.path_index.specs.RecordEffect.{IsAddition, IsCopy, SetsPath}
@@ -27,14 +27,14 @@ use Rattle.path_index.proofs.NumbersOfNodes.{has_number-HasNumber, HasNumber-has
 
 -- ---- nodes that are added
 
-pub IsGrown-none : (nodes : List Child) → IsGrown nodes nodes
-IsGrown-none nodes = record { more = []; grown = sym (append-nil nodes) }
+pub Extends-none : (nodes : List Child) → Extends nodes nodes
+Extends-none nodes = record { more = []; grown = sym (append-nil nodes) }
 
-pub IsGrown-again : (old middle new : List Child) → IsGrown old middle → IsGrown middle new → IsGrown old new
-IsGrown-again old middle new one other =
+pub Extends-again : (old middle new : List Child) → Extends old middle → Extends middle new → Extends old new
+Extends-again old middle new one other =
     record { more = one.more ++ other.more; grown = other.grown ∙ ap (λ front. front ++ other.more) one.grown ∙ append_assoc old one.more other.more }
 
-module _ (old new : List Child) (grown : IsGrown old new) where
+module _ (old new : List Child) (grown : Extends old new) where
   IsEntryOf-grown : (P : List NameId → ℕ → Type 0) (node number : ℕ) → IsEntryOf old P node number → IsEntryOf new P node number
   IsEntryOf-grown P node number of = record { path = of.path; found = node_of-grown old new of.path node grown of.found; small = of.small; holds = of.holds }
 
@@ -113,49 +113,49 @@ AddsEntries-next nodes whole most rev node old middle new adds found small inser
 -- ---- the numbers of records
 
 -- one record more
-pub AreEntriesOf-more : (old_nodes nodes : List Child) (IsOf : NodeRecord → ℕ → List NameId → ℕ → Type 0) (records : List NodeRecord) (place : ℕ) (each : NodeRecord) (old new : List (Vec ℕ))
-    → IsGrown old_nodes nodes → slice_get records place ≡ Some each → AreEntriesOf old_nodes (IsOfSome IsOf records place) old → AddsEntries nodes (IsOf each place) old new
-    → AreEntriesOf nodes (IsOfSome IsOf records (place + 1)) new
-AreEntriesOf-more old_nodes nodes IsOf records place each old new grown at are adds =
-    let before = AreEntriesOf-grown old_nodes nodes grown (IsOfSome IsOf records place) old are in
+pub AreEntriesOf-more : (old_nodes nodes : List Child) (IsOf : NodeRecord → ℕ → List NameId → ℕ → Type 0) (records : List NodeRecord) (index : ℕ) (each : NodeRecord) (old new : List (Vec ℕ))
+    → Extends old_nodes nodes → slice_get records index ≡ Some each → AreEntriesOf old_nodes (IsOfSome IsOf records index) old → AddsEntries nodes (IsOf each index) old new
+    → AreEntriesOf nodes (IsOfSome IsOf records (index + 1)) new
+AreEntriesOf-more old_nodes nodes IsOf records index each old new grown at are adds =
+    let before = AreEntriesOf-grown old_nodes nodes grown (IsOfSome IsOf records index) old are in
     record {
       sound = λ node number has. elim (adds.sound node number has) [
         | inl earlier ↦
-            IsEntryOf-weaker nodes (IsOfSome IsOf records place) (IsOfSome IsOf records (place + 1))
-            (λ path n of. record { place = of.place; each = of.each; early = (let early = of.early in omega (arith, early)); at = of.at; so = of.so }) node number (before.sound node number earlier)
+            IsEntryOf-weaker nodes (IsOfSome IsOf records index) (IsOfSome IsOf records (index + 1))
+            (λ path n of. record { index = of.index; each = of.each; early = (let early = of.early in omega (arith, early)); at = of.at; so = of.so }) node number (before.sound node number earlier)
         | inr of ↦
-            IsEntryOf-weaker nodes (IsOf each place) (IsOfSome IsOf records (place + 1))
-            (λ path n so. record { place = place; each = each; early = omega arith; at = at; so = so }) node number of
+            IsEntryOf-weaker nodes (IsOf each index) (IsOfSome IsOf records (index + 1))
+            (λ path n so. record { index = index; each = each; early = omega arith; at = at; so = so }) node number of
       ];
-      complete = λ path number of. elim (cases_lt of.place place) [
+      complete = λ path number of. elim (cases_lt of.index index) [
         | inl earlier ↦
             HasEntryOf-more nodes path number old new adds.kept
-            (before.complete path number (record { place = of.place; each = of.each; early = earlier; at = of.at; so = of.so }))
+            (before.complete path number (record { index = of.index; each = of.each; early = earlier; at = of.at; so = of.so }))
         | inr late ↦
-            let here : of.place ≡ place = let early = of.early in omega (arith, early, late) in
+            let here : of.index ≡ index = let early = of.early in omega (arith, early, late) in
             let same : of.each ≡ each = same_Some of.each each (sym of.at ∙ ap (slice_get records) here ∙ at) in
-            adds.complete path number (subst (λ r. IsOf r place path number) same (subst (λ k. IsOf of.each k path number) here of.so))
+            adds.complete path number (subst (λ r. IsOf r index path number) same (subst (λ k. IsOf of.each k path number) here of.so))
       ];
     }
 
 -- all three lists, where each gets those of the record
-pub AreListed-more : (old_nodes nodes : List Child) (records : List NodeRecord) (place : ℕ) (each : NodeRecord) (added copied named added' copied' named' : List (Vec ℕ)) → IsGrown old_nodes nodes → slice_get records place ≡ Some each
-    → AreListed records place old_nodes added copied named → AddsEntries nodes (AddsPath each place) added added' → AddsEntries nodes (CopiesPath each place) copied copied' → AddsEntries nodes (NamesPath each place) named named'
-    → AreListed records (place + 1) nodes added' copied' named'
-AreListed-more old_nodes nodes records place each added copied named added' copied' named' grown at so adds copies names = record {
-  of_added = AreEntriesOf-more old_nodes nodes AddsPath records place each added added' grown at so.of_added adds;
-  of_copied = AreEntriesOf-more old_nodes nodes CopiesPath records place each copied copied' grown at so.of_copied copies;
-  of_named = AreEntriesOf-more old_nodes nodes NamesPath records place each named named' grown at so.of_named names;
+pub AreListed-more : (old_nodes nodes : List Child) (records : List NodeRecord) (index : ℕ) (each : NodeRecord) (added copied named added' copied' named' : List (Vec ℕ)) → Extends old_nodes nodes → slice_get records index ≡ Some each
+    → AreListed records index old_nodes added copied named → AddsEntries nodes (AddsPath each index) added added' → AddsEntries nodes (CopiesPath each index) copied copied' → AddsEntries nodes (NamesPath each index) named named'
+    → AreListed records (index + 1) nodes added' copied' named'
+AreListed-more old_nodes nodes records index each added copied named added' copied' named' grown at so adds copies names = record {
+  of_added = AreEntriesOf-more old_nodes nodes AddsPath records index each added added' grown at so.of_added adds;
+  of_copied = AreEntriesOf-more old_nodes nodes CopiesPath records index each copied copied' grown at so.of_copied copies;
+  of_named = AreEntriesOf-more old_nodes nodes NamesPath records index each named named' grown at so.of_named names;
 }
 
-module _ (Is : Act → Type 0) (nodes : List Child) (each : NodeRecord) (place : ℕ) (old : List (Vec ℕ)) where
+module _ (Is : Act → Type 0) (nodes : List Child) (each : NodeRecord) (index : ℕ) (old : List (Vec ℕ)) where
   abbrev IsOwn : List NameId → ℕ → Type 0
-  IsOwn path number = Is each.act × (each.path ≡ path) × (number ≡ place)
+  IsOwn path number = Is each.act × (each.path ≡ path) × (number ≡ index)
 
   -- a record with such an act adds its own path
-  pub AddsEntries-own : (act : Act) → each.act ≡ act → Is act → (node : ℕ) (new : List (Vec ℕ)) → node_of nodes each.path ≡ Some node → place < 2 ^ 32 → AddsNumbers (ArePair node place) old new → AddsEntries nodes IsOwn old new
+  pub AddsEntries-own : (act : Act) → each.act ≡ act → Is act → (node : ℕ) (new : List (Vec ℕ)) → node_of nodes each.path ≡ Some node → index < 2 ^ 32 → AddsNumbers (ArePair node index) old new → AddsEntries nodes IsOwn old new
   AddsEntries-own act is so node new found small inserted =
-      AddsEntries-more nodes (λ p n. ⊥) IsOwn old old new each.path node place (AddsEntries-none nodes (λ p n. ⊥) old (λ p n never. never)) inserted found small
+      AddsEntries-more nodes (λ p n. ⊥) IsOwn old old new each.path node index (AddsEntries-none nodes (λ p n. ⊥) old (λ p n never. never)) inserted found small
       (λ p n never. absurd never) (subst Is (sym is) so, refl, refl) (λ p n (acts, own, here). inr (sym own, here))
 
   -- another adds none
@@ -212,32 +212,32 @@ HasNumber-HasEntryOf nodes path node number lists found has =
 
 -- ---- the revisions in which a path is named
 
-is_named-from_place : (path : List NameId) (rev : ℕ) (records : List NodeRecord) (place : ℕ) (each : NodeRecord) → slice_get records place ≡ Some each → each.rev ≡ rev → is_below same_name path each.path ≡ true → is_named path records rev ≡ true
-is_named-from_place path rev [] place each at here below = cc
-is_named-from_place path rev (x ∷ records) zero each at here below =
+is_named-from_index : (path : List NameId) (rev : ℕ) (records : List NodeRecord) (index : ℕ) (each : NodeRecord) → slice_get records index ≡ Some each → each.rev ≡ rev → is_below same_name path each.path ≡ true → is_named path records rev ≡ true
+is_named-from_index path rev [] index each at here below = cc
+is_named-from_index path rev (x ∷ records) zero each at here below =
     let same : x ≡ each = same_Some x each at in
     let now : (x.rev == rev) ≡ true = eq-eqb x.rev rev (ap (λ (r : NodeRecord). r.rev) same ∙ here) in
     let named : is_below same_name path x.path ≡ true = ap (λ (r : NodeRecord). is_below same_name path r.path) same ∙ below in
     rw (now, named) refl
-is_named-from_place path rev (x ∷ records) (suc place) each at here below =
-    let rest = is_named-from_place path rev records place each at here below in
+is_named-from_index path rev (x ∷ records) (suc index) each at here below =
+    let rest = is_named-from_index path rev records index each at here below in
     elim (cases_Bool (x.rev == rev)) [
       | inl now ↦ rw now (or_right (is_below same_name path x.path) (is_named path records rev) rest)
       | inr other ↦ rw other rest
     ]
 
-place-from_is_named : (path : List NameId) (rev : ℕ) (records : List NodeRecord) → is_named path records rev ≡ true → (place : ℕ) × (each : NodeRecord) × (slice_get records place ≡ Some each) × (each.rev ≡ rev) × (is_below same_name path each.path ≡ true)
-place-from_is_named path rev [] named = cc
-place-from_is_named path rev (x ∷ records) named = elim (cases_Bool (x.rev == rev)) [
+index-from_is_named : (path : List NameId) (rev : ℕ) (records : List NodeRecord) → is_named path records rev ≡ true → (index : ℕ) × (each : NodeRecord) × (slice_get records index ≡ Some each) × (each.rev ≡ rev) × (is_below same_name path each.path ≡ true)
+index-from_is_named path rev [] named = cc
+index-from_is_named path rev (x ∷ records) named = elim (cases_Bool (x.rev == rev)) [
   | inl now ↦ elim (cases_Bool (is_below same_name path x.path)) [
     | inl below ↦ (0, x, refl, eqb-true x.rev rev now, below)
     | inr other ↦
-        let (place, each, at, here, below) = place-from_is_named path rev records (rw other at (rw now at named)) in
-        (suc place, each, at, here, below)
+        let (index, each, at, here, below) = index-from_is_named path rev records (rw other at (rw now at named)) in
+        (suc index, each, at, here, below)
   ]
   | inr other ↦
-      let (place, each, at, here, below) = place-from_is_named path rev records (rw other at named) in
-      (suc place, each, at, here, below)
+      let (index, each, at, here, below) = index-from_is_named path rev records (rw other at named) in
+      (suc index, each, at, here, below)
 ]
 
 -- a path is above another exactly where it is a front of it
@@ -258,21 +258,21 @@ has_number-is_named records by_path are path node found rev = elim (cases_Bool (
       let of = holds-HasEntryOf by_path.nodes (IsOfSome NamesPath records (length records)) by_path.named path rev are.listed.of_named
       (record { node = node; found = found; within = HasNumber-has_number by_path.named node rev has }) in
       let ((n, few, is), at) = of.so in
-      has ∙ sym (is_named-from_place path rev records of.place of.each of.at (sym at) (is_below-from_take of.each.path path n is))
+      has ∙ sym (is_named-from_index path rev records of.index of.each of.at (sym at) (is_below-from_take of.each.path path n is))
   | inr lacks ↦
       lacks ∙ sym (false_from_ne_true (is_named path records rev) (λ named.
-      let (place, each, at, here, below) = place-from_is_named path rev records named in
+      let (index, each, at, here, below) = index-from_is_named path rev records named in
       let front = take-from_is_below each.path path below in
-      let has = are.listed.of_named.complete path rev (record { place = place; each = each; early = slice_get_within records place each at; at = at; so = (front, sym here) }) in
+      let has = are.listed.of_named.complete path rev (record { index = index; each = each; early = slice_get_within records index each at; at = at; so = (front, sym here) }) in
       true≢false (sym (has_number-HasNumber by_path.named node rev (HasNumber-HasEntryOf by_path.nodes path node rev by_path.named found has)) ∙ lacks)))
 ]
 
 -- a path without a node is named in none
 is_named-none : (records : List NodeRecord) (by_path : RecordsByPath) → AreByPath records by_path → (path : List NameId) → node_of by_path.nodes path ≡ None → (rev : ℕ) → is_named path records rev ≡ false
 is_named-none records by_path are path none rev = false_from_ne_true (is_named path records rev) (λ named.
-    let (place, each, at, here, below) = place-from_is_named path rev records named in
+    let (index, each, at, here, below) = index-from_is_named path rev records named in
     let front = take-from_is_below each.path path below in
-    let has = are.listed.of_named.complete path rev (record { place = place; each = each; early = slice_get_within records place each at; at = at; so = (front, sym here) }) in
+    let has = are.listed.of_named.complete path rev (record { index = index; each = each; early = slice_get_within records index each at; at = at; so = (front, sym here) }) in
     let never : None ≡ Some has.node = sym none ∙ has.found in cc)
 
 -- so the revisions that are found by the numbers are those of the records
@@ -290,26 +290,26 @@ named_revisions-none records by_path are path lo hi none =
 -- ---- the records that set the origin of a path
 
 module _ (records : List NodeRecord) (by_path : RecordsByPath) (are : AreByPath records by_path) (path : List NameId) where
-  -- by the numbers the record at the place sets it
-  pub SetsPath-SetsAt : (place : ℕ) → SetsAt by_path path place → (each : NodeRecord) × (slice_get records place ≡ Some each) × SetsPath each path
-  SetsPath-SetsAt place sets = elim sets [
+  -- by the numbers the record of the index sets it
+  pub SetsPath-SetsAt : (index : ℕ) → SetsAt by_path path index → (each : NodeRecord) × (slice_get records index ≡ Some each) × SetsPath each path
+  SetsPath-SetsAt index sets = elim sets [
     | inl (n, has) ↦
-        let of = holds-HasEntryOf by_path.nodes (IsOfSome CopiesPath records (length records)) by_path.copied (take n path) place are.listed.of_copied has in
+        let of = holds-HasEntryOf by_path.nodes (IsOfSome CopiesPath records (length records)) by_path.copied (take n path) index are.listed.of_copied has in
         let (copies, own, here) = of.so in
         (of.each, ap (slice_get records) here ∙ of.at, inr (copies, is_below-from_take path of.each.path n own))
     | inr has ↦
-        let of = holds-HasEntryOf by_path.nodes (IsOfSome AddsPath records (length records)) by_path.added path place are.listed.of_added has in
+        let of = holds-HasEntryOf by_path.nodes (IsOfSome AddsPath records (length records)) by_path.added path index are.listed.of_added has in
         let (adds, own, here) = of.so in
         (of.each, ap (slice_get records) here ∙ of.at, inl (adds, own))
   ]
 
   -- and so do the numbers where the record does
-  pub SetsAt-SetsPath : (place : ℕ) (each : NodeRecord) → slice_get records place ≡ Some each → SetsPath each path → SetsAt by_path path place
-  SetsAt-SetsPath place each at sets = elim sets [
+  pub SetsAt-SetsPath : (index : ℕ) (each : NodeRecord) → slice_get records index ≡ Some each → SetsPath each path → SetsAt by_path path index
+  SetsAt-SetsPath index each at sets = elim sets [
     | inl (adds, own) ↦
-        inr (are.listed.of_added.complete path place (record { place = place; each = each; early = slice_get_within records place each at; at = at; so = (adds, own, refl) }))
+        inr (are.listed.of_added.complete path index (record { index = index; each = each; early = slice_get_within records index each at; at = at; so = (adds, own, refl) }))
     | inr (copies, below) ↦
         let (n, few, is) = take-from_is_below path each.path below in
-        let has = are.listed.of_copied.complete each.path place (record { place = place; each = each; early = slice_get_within records place each at; at = at; so = (copies, refl, refl) }) in
-        inl (n, subst (λ p. HasEntryOf by_path.nodes p place by_path.copied) is has)
+        let has = are.listed.of_copied.complete each.path index (record { index = index; each = each; early = slice_get_within records index each at; at = at; so = (copies, refl, refl) }) in
+        inl (n, subst (λ p. HasEntryOf by_path.nodes p index by_path.copied) is has)
   ]

@@ -172,13 +172,13 @@ module _ {C M : Type 0} (same : C → C → Bool) (history : History C M) (last 
       filter_down-same (is_operative same front (trees_of same front) path) (is_operative same history (trees_of same history) path)
       (segment.hi + 1 - segment.lo) segment.hi (omega arith) (λ rev up inside. is_operative-take path rev (omega arith))
 
-  operative_from-take : (place : ℕ) (segments : List (Segment C)) → All (λ segment. segment.hi ≤ last) segments
-      → operative_from same front (trees_of same front) place segments ≡ operative_from same history (trees_of same history) place segments
+  operative_from-take : (index : ℕ) (segments : List (Segment C)) → All (λ segment. segment.hi ≤ last) segments
+      → operative_from same front (trees_of same front) index segments ≡ operative_from same history (trees_of same history) index segments
   unfolding operative_from
-  operative_from-take place [] before = refl
-  operative_from-take place (segment ∷ segments) before =
-      λ i. map (hit_at place) (operative_in-take segment (All-head (λ segment. segment.hi ≤ last) segment segments before) segment.path i)
-      ++ operative_from-take (place + 1) segments (All-tail (λ segment. segment.hi ≤ last) segment segments before) i
+  operative_from-take index [] before = refl
+  operative_from-take index (segment ∷ segments) before =
+      λ i. map (hit_at index) (operative_in-take segment (All-head (λ segment. segment.hi ≤ last) segment segments before) segment.path i)
+      ++ operative_from-take (index + 1) segments (All-tail (λ segment. segment.hi ≤ last) segment segments before) i
 
   -- and the operative revisions
   pub operative_of-take : (segments : List (Segment C)) → All (λ segment. segment.hi ≤ last) segments
@@ -191,26 +191,26 @@ module _ {C : Type 0} (same : C → C → Bool) where
   UpTo : ℕ → List (Segment C) → Type 0
   UpTo rev segments = All (λ segment. segment.hi ≤ rev) segments
 
-  by_test : (b : Bool) (rev : ℕ) (place : Option (List C)) (segment : Segment C) (segments : List (Segment C)) → UpTo rev (segment ∷ segments)
-      → UpTo rev (if b then record segment { hi = rev } ∷ segments else record { lo = rev; hi = rev; path = place } ∷ segment ∷ segments)
+  by_test : (b : Bool) (rev : ℕ) (index : Option (List C)) (segment : Segment C) (segments : List (Segment C)) → UpTo rev (segment ∷ segments)
+      → UpTo rev (if b then record segment { hi = rev } ∷ segments else record { lo = rev; hi = rev; path = index } ∷ segment ∷ segments)
   unfolding UpTo
-  by_test true rev place segment segments up =
+  by_test true rev index segment segments up =
       All-cons (λ segment. segment.hi ≤ rev) (record segment { hi = rev }) segments (omega arith) (All-tail (λ segment. segment.hi ≤ rev) segment segments up)
-  by_test false rev place segment segments up = All-cons (λ segment. segment.hi ≤ rev) (record { lo = rev; hi = rev; path = place }) (segment ∷ segments) (omega arith) up
+  by_test false rev index segment segments up = All-cons (λ segment. segment.hi ≤ rev) (record { lo = rev; hi = rev; path = index }) (segment ∷ segments) (omega arith) up
 
-  with_location-up : (rev : ℕ) (place : Option (List C)) (segments : List (Segment C)) → UpTo rev segments → UpTo rev (with_location same rev place segments)
+  with_location-up : (rev : ℕ) (index : Option (List C)) (segments : List (Segment C)) → UpTo rev segments → UpTo rev (with_location same rev index segments)
   unfolding with_location UpTo
   with_location-up rev None [] up = up
   with_location-up rev (Some path) [] up = All-cons (λ segment. segment.hi ≤ rev) (record { lo = rev; hi = rev; path = Some path }) [] (omega arith) up
   with_location-up rev None (segment ∷ segments) up = by_test (same_location same None segment.path) rev None segment segments up
   with_location-up rev (Some path) (segment ∷ segments) up = by_test (same_location same (Some path) segment.path) rev (Some path) segment segments up
 
-  segments_up_to-up : (place : ℕ → Option (List C)) (top : ℕ) → UpTo top (segments_up_to same place top)
+  segments_up_to-up : (index : ℕ → Option (List C)) (top : ℕ) → UpTo top (segments_up_to same index top)
   unfolding segments_up_to UpTo
-  segments_up_to-up place zero = with_location-up zero (place zero) [] (All-nil (λ segment. segment.hi ≤ 0))
-  segments_up_to-up place (suc rev) =
-      with_location-up (suc rev) (place (suc rev)) (segments_up_to same place rev)
-      (All-weaker (λ segment. segment.hi ≤ rev) (λ segment. segment.hi ≤ suc rev) (λ (segment : Segment C) (up : segment.hi ≤ rev). omega arith) (segments_up_to same place rev) (segments_up_to-up place rev))
+  segments_up_to-up index zero = with_location-up zero (index zero) [] (All-nil (λ segment. segment.hi ≤ 0))
+  segments_up_to-up index (suc rev) =
+      with_location-up (suc rev) (index (suc rev)) (segments_up_to same index rev)
+      (All-weaker (λ segment. segment.hi ≤ rev) (λ segment. segment.hi ≤ suc rev) (λ (segment : Segment C) (up : segment.hi ≤ rev). omega arith) (segments_up_to same index rev) (segments_up_to-up index rev))
 
   -- so do the segments of a path
   pub segments_of-up : {M : Type 0} (trees : List (Tree C M)) (path : List C) (peg : ℕ) → All (λ segment. segment.hi ≤ peg) (segments_of same trees path peg)

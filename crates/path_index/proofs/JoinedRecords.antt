@@ -6,7 +6,7 @@ use Rattle.std.proofs.lemmas.List.{get_or_append_left, get_or-append-add}
 use Rattle.std.proofs.lemmas.Option.{get_or_from_slice_get, slice_get-get_or, slice_get_within}
 use Rattle.svn_path.specs.declared.names.NameId.{NameId}
 use Rattle.svn_dump.specs.declared.record.NodeRecord.{NodeRecord}
-use Rattle.path_index.specs.Nodes.{AreNodesOf, IsGrown}
+use Rattle.path_index.specs.Nodes.{AreNodesOf, Extends}
 use Rattle.path_index.specs.Numbers.{AddsNumbers, FitShifted, IsMoved}
 use Rattle.path_index.specs.RecordsByPath.{AddsPath, AreByPath, AreEntriesOf, CopiesPath, IsOfSome, NamesPath}
 use Rattle.path_index.specs.declared.nodes.Child.{Child}
@@ -23,7 +23,7 @@ record AreBoth (P Q R : List NameId → ℕ → Type 0) (shift : ℕ) : Type 0 w
   small : (path : List NameId) (number : ℕ) → Q path number → number < 2 ^ 32 → number + shift < 2 ^ 32
   either : (path : List NameId) (number : ℕ) → R path number → P path number ⊎ ((earlier : ℕ) × Q path earlier × (number ≡ earlier + shift))
 
-AreEntriesOf-both : (P Q R : List NameId → ℕ → Type 0) (shift : ℕ) → AreBoth P Q R shift → (old_nodes nodes later_nodes : List Child) (mapped : List ℕ) (old new later : List (Vec ℕ)) → IsGrown old_nodes nodes
+AreEntriesOf-both : (P Q R : List NameId → ℕ → Type 0) (shift : ℕ) → AreBoth P Q R shift → (old_nodes nodes later_nodes : List Child) (mapped : List ℕ) (old new later : List (Vec ℕ)) → Extends old_nodes nodes
     → AreNodesOf later_nodes nodes mapped → AddsNumbers (IsMoved later mapped (length mapped) shift) old new → AreEntriesOf old_nodes P old → AreEntriesOf later_nodes Q later → AreEntriesOf nodes R new
 AreEntriesOf-both P Q R shift both old_nodes nodes later_nodes mapped old new later grown nodes_of adds one other =
     let before = AreEntriesOf-grown old_nodes nodes grown P old one in
@@ -56,57 +56,57 @@ AreEntriesOf-both P Q R shift both old_nodes nodes later_nodes mapped old new la
 -- ---- the records of both
 
 module _ (records more : List NodeRecord) where
-  pub slice_get-first : (place : ℕ) (each : NodeRecord) → slice_get records place ≡ Some each → slice_get (records ++ more) place ≡ Some each
-  slice_get-first place each at =
-      let within = slice_get_within records place each at in
-      slice_get-get_or (records ++ more) place each (omega (arith, within, length-append records more))
-      ∙ ap Some (get_or_append_left records more each place within ∙ get_or_from_slice_get records place each each at)
+  pub slice_get-first : (index : ℕ) (each : NodeRecord) → slice_get records index ≡ Some each → slice_get (records ++ more) index ≡ Some each
+  slice_get-first index each at =
+      let within = slice_get_within records index each at in
+      slice_get-get_or (records ++ more) index each (omega (arith, within, length-append records more))
+      ∙ ap Some (get_or_append_left records more each index within ∙ get_or_from_slice_get records index each each at)
 
-  pub slice_get-second : (place : ℕ) (each : NodeRecord) → slice_get more place ≡ Some each → slice_get (records ++ more) (length records + place) ≡ Some each
-  slice_get-second place each at =
-      let within = slice_get_within more place each at in
-      slice_get-get_or (records ++ more) (length records + place) each (omega (arith, within, length-append records more))
-      ∙ ap Some (get_or-append-add records more place each ∙ get_or_from_slice_get more place each each at)
+  pub slice_get-second : (index : ℕ) (each : NodeRecord) → slice_get more index ≡ Some each → slice_get (records ++ more) (length records + index) ≡ Some each
+  slice_get-second index each at =
+      let within = slice_get_within more index each at in
+      slice_get-get_or (records ++ more) (length records + index) each (omega (arith, within, length-append records more))
+      ∙ ap Some (get_or-append-add records more index each ∙ get_or_from_slice_get more index each each at)
 
-  pub slice_get-before : (place : ℕ) (each : NodeRecord) → place < length records → slice_get (records ++ more) place ≡ Some each → slice_get records place ≡ Some each
-  slice_get-before place each within at =
-      slice_get-get_or records place each within
-      ∙ ap Some (sym (get_or_append_left records more each place within) ∙ get_or_from_slice_get (records ++ more) place each each at)
+  pub slice_get-before : (index : ℕ) (each : NodeRecord) → index < length records → slice_get (records ++ more) index ≡ Some each → slice_get records index ≡ Some each
+  slice_get-before index each within at =
+      slice_get-get_or records index each within
+      ∙ ap Some (sym (get_or_append_left records more each index within) ∙ get_or_from_slice_get (records ++ more) index each each at)
 
-  pub slice_get-after : (place : ℕ) (each : NodeRecord) → length records ≤ place → slice_get (records ++ more) place ≡ Some each → slice_get more (place - length records) ≡ Some each
-  slice_get-after place each past at =
-      let within = slice_get_within (records ++ more) place each at in
-      let is : length records + (place - length records) ≡ place = omega arith in
-      slice_get-get_or more (place - length records) each (omega (arith, within, length-append records more))
-      ∙ ap Some (sym (get_or-append-add records more (place - length records) each) ∙ ap (λ n. get_or (records ++ more) n each) is ∙ get_or_from_slice_get (records ++ more) place each each at)
+  pub slice_get-after : (index : ℕ) (each : NodeRecord) → length records ≤ index → slice_get (records ++ more) index ≡ Some each → slice_get more (index - length records) ≡ Some each
+  slice_get-after index each past at =
+      let within = slice_get_within (records ++ more) index each at in
+      let is : length records + (index - length records) ≡ index = omega arith in
+      slice_get-get_or more (index - length records) each (omega (arith, within, length-append records more))
+      ∙ ap Some (sym (get_or-append-add records more (index - length records) each) ∙ ap (λ n. get_or (records ++ more) n each) is ∙ get_or_from_slice_get (records ++ more) index each each at)
 
   module _ (IsOf : NodeRecord → ℕ → List NameId → ℕ → Type 0) (shift : ℕ)
-      (forth : (each : NodeRecord) (place : ℕ) (path : List NameId) (number : ℕ) → IsOf each place path number → IsOf each (length records + place) path (number + shift))
-      (back : (each : NodeRecord) (place : ℕ) (path : List NameId) (number : ℕ) → length records ≤ place → IsOf each place path number → (earlier : ℕ) × IsOf each (place - length records) path earlier × (number ≡ earlier + shift))
+      (forth : (each : NodeRecord) (index : ℕ) (path : List NameId) (number : ℕ) → IsOf each index path number → IsOf each (length records + index) path (number + shift))
+      (back : (each : NodeRecord) (index : ℕ) (path : List NameId) (number : ℕ) → length records ≤ index → IsOf each index path number → (earlier : ℕ) × IsOf each (index - length records) path earlier × (number ≡ earlier + shift))
       (small : (path : List NameId) (number : ℕ) → IsOfSome IsOf more (length more) path number → number < 2 ^ 32 → number + shift < 2 ^ 32) where
     AreBoth-records : AreBoth (IsOfSome IsOf records (length records)) (IsOfSome IsOf more (length more)) (IsOfSome IsOf (records ++ more) (length (records ++ more))) shift
     AreBoth-records = record {
       first = λ path number of. record {
-        place = of.place;
+        index = of.index;
         each = of.each;
         early = (let early = of.early in omega (arith, early, length-append records more));
-        at = slice_get-first of.place of.each of.at;
+        at = slice_get-first of.index of.each of.at;
         so = of.so;
       };
       second = λ path number of. record {
-        place = length records + of.place;
+        index = length records + of.index;
         each = of.each;
         early = (let early = of.early in omega (arith, early, length-append records more));
-        at = slice_get-second of.place of.each of.at;
-        so = forth of.each of.place path number of.so;
+        at = slice_get-second of.index of.each of.at;
+        so = forth of.each of.index path number of.so;
       };
       small = small;
-      either = λ path number of. elim (cases_lt of.place (length records)) [
-        | inl before ↦ inl (record { place = of.place; each = of.each; early = before; at = slice_get-before of.place of.each before of.at; so = of.so })
+      either = λ path number of. elim (cases_lt of.index (length records)) [
+        | inl before ↦ inl (record { index = of.index; each = of.each; early = before; at = slice_get-before of.index of.each before of.at; so = of.so })
         | inr past ↦
-            let (earlier, so, is) = back of.each of.place path number past of.so in
-            let rest : of.place - length records < length more = let early = of.early in omega (arith, early, length-append records more, past) in
-            inr (earlier, record { place = of.place - length records; each = of.each; early = rest; at = slice_get-after of.place of.each past of.at; so = so }, is)
+            let (earlier, so, is) = back of.each of.index path number past of.so in
+            let rest : of.index - length records < length more = let early = of.early in omega (arith, early, length-append records more, past) in
+            inr (earlier, record { index = of.index - length records; each = of.each; early = rest; at = slice_get-after of.index of.each past of.at; so = so }, is)
       ];
     }
 
@@ -128,7 +128,7 @@ module _ (records more : List NodeRecord) (few : length records + length more < 
   pub FitShifted-named : FitShifted other.named 0
   FitShifted-named = record { fits = λ node number has. let of = second.listed.of_named.sound node number has in let small = of.small in omega (arith, small) }
 
-  module _ (joined : RecordsByPath) (mapped : List ℕ) (grown : IsGrown one.nodes joined.nodes) (nodes_of : AreNodesOf other.nodes joined.nodes mapped)
+  module _ (joined : RecordsByPath) (mapped : List ℕ) (grown : Extends one.nodes joined.nodes) (nodes_of : AreNodesOf other.nodes joined.nodes mapped)
       (added : AddsNumbers (IsMoved other.added mapped (length mapped) (length records)) one.added joined.added)
       (copied : AddsNumbers (IsMoved other.copied mapped (length mapped) (length records)) one.copied joined.copied)
       (named : AddsNumbers (IsMoved other.named mapped (length mapped) 0) one.named joined.named) where
@@ -145,16 +145,16 @@ module _ (records more : List NodeRecord) (few : length records + length more < 
       few = omega (arith, few, length-append records more);
       listed = record {
         of_added = of_both AddsPath (length records)
-            (AreBoth-records records more AddsPath (length records) (λ each place path number (adds, own, here). (adds, own, omega (arith, here)))
-            (λ each place path number past (adds, own, here). (place - length records, (adds, own, refl), omega (arith, here))) (λ path number of low. added_early path number of))
+            (AreBoth-records records more AddsPath (length records) (λ each index path number (adds, own, here). (adds, own, omega (arith, here)))
+            (λ each index path number past (adds, own, here). (index - length records, (adds, own, refl), omega (arith, here))) (λ path number of low. added_early path number of))
             one.added joined.added other.added added first.listed.of_added second.listed.of_added;
         of_copied = of_both CopiesPath (length records)
-            (AreBoth-records records more CopiesPath (length records) (λ each place path number (copies, own, here). (copies, own, omega (arith, here)))
-            (λ each place path number past (copies, own, here). (place - length records, (copies, own, refl), omega (arith, here))) (λ path number of low. copied_early path number of))
+            (AreBoth-records records more CopiesPath (length records) (λ each index path number (copies, own, here). (copies, own, omega (arith, here)))
+            (λ each index path number past (copies, own, here). (index - length records, (copies, own, refl), omega (arith, here))) (λ path number of low. copied_early path number of))
             one.copied joined.copied other.copied copied first.listed.of_copied second.listed.of_copied;
         of_named = of_both NamesPath 0
-            (AreBoth-records records more NamesPath 0 (λ each place path number (front, at). (front, omega (arith, at)))
-            (λ each place path number past so. (number, so, omega arith)) (λ path number of low. omega (arith, low)))
+            (AreBoth-records records more NamesPath 0 (λ each index path number (front, at). (front, omega (arith, at)))
+            (λ each index path number past so. (number, so, omega arith)) (λ path number of low. omega (arith, low)))
             one.named joined.named other.named named first.listed.of_named second.listed.of_named;
       };
     }

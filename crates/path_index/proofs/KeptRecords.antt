@@ -21,8 +21,8 @@ use Rattle.path_index.proofs.JoinedRecords.{slice_get-first, slice_get-second, s
 use Rattle.path_index.proofs.RecordEffects.{SetsOrigin-Copy, below_from_copy}
 
 -- a copy stands before the end of the records
-place_within : (records : List NodeRecord) (copied : Copied) → IsCopied records copied → copied.place < length records
-place_within records copied so = slice_get_within records copied.place so.each so.at
+index_within : (records : List NodeRecord) (copied : Copied) → IsCopied records copied → copied.index < length records
+index_within records copied so = slice_get_within records copied.index so.each so.at
 
 -- ---- the copies of two lists of records
 
@@ -34,18 +34,18 @@ module _ (records more : List NodeRecord) (copies others : List Copied) (one : A
   moved = map (moved_by (length records)) others
 
   first : (copied : Copied) → IsCopied records copied → IsCopied (records ++ more) copied
-  first copied so = record { each = so.each; at = slice_get-first records more copied.place so.each so.at; to = so.to; from = so.from }
+  first copied so = record { each = so.each; at = slice_get-first records more copied.index so.each so.at; to = so.to; from = so.from }
 
   second : (copied : Copied) → IsCopied more copied → IsCopied (records ++ more) (moved_by (length records) copied)
   second copied so = record {
     each = so.each;
-    at = (let is : copied.place + length records ≡ length records + copied.place = omega arith in ap (slice_get (records ++ more)) is ∙ slice_get-second records more copied.place so.each so.at);
+    at = (let is : copied.index + length records ≡ length records + copied.index = omega arith in ap (slice_get (records ++ more)) is ∙ slice_get-second records more copied.index so.each so.at);
     to = so.to;
     from = so.from;
   }
 
-  moved_at : (k : ℕ) (d : Copied) → k < length others → (get_or moved k d).place ≡ (get_or others k d).place + length records
-  moved_at k d within = ap (λ (c : Copied). c.place) (get_or-map (moved_by (length records)) others k d d within)
+  moved_at : (k : ℕ) (d : Copied) → k < length others → (get_or moved k d).index ≡ (get_or others k d).index + length records
+  moved_at k d within = ap (λ (c : Copied). c.index) (get_or-map (moved_by (length records)) others k d d within)
 
   long : length moved ≡ length others
   long = length-map others (moved_by (length records))
@@ -55,79 +55,79 @@ module _ (records more : List NodeRecord) (copies others : List Copied) (one : A
     sound =
         All-append (IsCopied (records ++ more)) copies moved (All-weaker (IsCopied records) (IsCopied (records ++ more)) first copies one.sound)
         (All-map (IsCopied (records ++ more)) (moved_by (length records)) others (All-weaker (IsCopied more) (λ copied. IsCopied (records ++ more) (moved_by (length records) copied)) second others other.sound));
-    complete = λ place each at copy. elim (cases_lt place (length records)) [
+    complete = λ index each at copy. elim (cases_lt index (length records)) [
       | inl before ↦
-          let has = one.complete place each (slice_get-before records more place each before at) copy in
+          let has = one.complete index each (slice_get-before records more index each before at) copy in
           let within = has.within in
           record {
-            index = has.index;
+            number = has.number;
             within = omega (arith, within, length-append copies moved);
-            is = λ d. ap (λ (c : Copied). c.place) (get_or_append_left copies moved d has.index within) ∙ has.is d;
+            is = λ d. ap (λ (c : Copied). c.index) (get_or_append_left copies moved d has.number within) ∙ has.is d;
           }
       | inr past ↦
-          let has = other.complete (place - length records) each (slice_get-after records more place each past at) copy in
+          let has = other.complete (index - length records) each (slice_get-after records more index each past at) copy in
           let within = has.within in
           record {
-            index = length copies + has.index;
+            number = length copies + has.number;
             within = omega (arith, within, length-append copies moved, long);
             is = λ d.
                 let here = has.is d in
-                let there = moved_at has.index d within in
-                ap (λ (c : Copied). c.place) (get_or-append-add copies moved has.index d) ∙ there ∙ omega (arith, here, past);
+                let there = moved_at has.number d within in
+                ap (λ (c : Copied). c.index) (get_or-append-add copies moved has.number d) ∙ there ∙ omega (arith, here, past);
           }
     ];
     rising = λ i j d before within. elim (cases_lt j (length copies)) [
       | inl low ↦
           let less = one.rising i j d before low in
-          omega (arith, less, place_left i d (omega arith), place_left j d low)
+          omega (arith, less, index_left i d (omega arith), index_left j d low)
       | inr high ↦
           let inside : j - length copies < length others = omega (arith, within, high, long, length-append copies moved) in
           elim (cases_lt i (length copies)) [
             | inl low ↦
-                let early = place_within records (get_or copies i d) (one.sound i d low) in
-                omega (arith, early, place_left i d low, place_right j d high inside)
+                let early = index_within records (get_or copies i d) (one.sound i d low) in
+                omega (arith, early, index_left i d low, index_right j d high inside)
             | inr later ↦
                 let less = other.rising (i - length copies) (j - length copies) d (omega arith) inside in
-                omega (arith, less, place_right i d later (omega (arith, inside)), place_right j d high inside)
+                omega (arith, less, index_right i d later (omega (arith, inside)), index_right j d high inside)
           ]
     ];
   }
     where
-      place_left : (k : ℕ) (d : Copied) → k < length copies → (get_or (copies ++ moved) k d).place ≡ (get_or copies k d).place
-      place_left k d low = ap (λ (c : Copied). c.place) (get_or_append_left copies moved d k low)
+      index_left : (k : ℕ) (d : Copied) → k < length copies → (get_or (copies ++ moved) k d).index ≡ (get_or copies k d).index
+      index_left k d low = ap (λ (c : Copied). c.index) (get_or_append_left copies moved d k low)
 
-      place_right : (k : ℕ) (d : Copied) → length copies ≤ k → k - length copies < length others → (get_or (copies ++ moved) k d).place ≡ (get_or others (k - length copies) d).place + length records
-      place_right k d high inside = ap (λ (c : Copied). c.place) (get_or-append_right copies moved k d high) ∙ moved_at (k - length copies) d inside
+      index_right : (k : ℕ) (d : Copied) → length copies ≤ k → k - length copies < length others → (get_or (copies ++ moved) k d).index ≡ (get_or others (k - length copies) d).index + length records
+      index_right k d high inside = ap (λ (c : Copied). c.index) (get_or-append_right copies moved k d high) ∙ moved_at (k - length copies) d inside
 
 -- ---- one record more
 
 module _ (each : NodeRecord) where
-  only : (place : ℕ) (other : NodeRecord) → slice_get (each ∷ []) place ≡ Some other → (place ≡ 0) × (other ≡ each)
-  only place other at =
-      let within = slice_get_within (each ∷ []) place other at in
-      let first : place ≡ 0 = omega (arith, within) in
+  only : (index : ℕ) (other : NodeRecord) → slice_get (each ∷ []) index ≡ Some other → (index ≡ 0) × (other ≡ each)
+  only index other at =
+      let within = slice_get_within (each ∷ []) index other at in
+      let first : index ≡ 0 = omega (arith, within) in
       (first, same_Some other each (sym at ∙ ap (slice_get (each ∷ [])) first))
 
-  AreCopies-one : (copied : Copied) → copied.place ≡ 0 → each.path ≡ copied.to → CopiesFrom copied.from copied.from_rev each.act → AreCopies (each ∷ []) (copied ∷ [])
+  AreCopies-one : (copied : Copied) → copied.index ≡ 0 → each.path ≡ copied.to → CopiesFrom copied.from copied.from_rev each.act → AreCopies (each ∷ []) (copied ∷ [])
   AreCopies-one copied first to from = record {
     sound = All-cons (IsCopied (each ∷ [])) copied [] (record { each = each; at = ap (slice_get (each ∷ [])) first; to = to; from = from }) (All-nil (IsCopied (each ∷ [])));
-    complete = λ place other at copy. record { index = 0; within = omega arith; is = λ d. first ∙ sym (only place other at).0 };
+    complete = λ index other at copy. record { number = 0; within = omega arith; is = λ d. first ∙ sym (only index other at).0 };
     rising = λ i j d before within. absurd (omega arith);
   }
 
   AreCopies-none : (IsCopy each.act → ⊥) → AreCopies (each ∷ []) []
   AreCopies-none no_copy = record {
     sound = All-nil (IsCopied (each ∷ []));
-    complete = λ place other at copy. absurd (no_copy (subst (λ (r : NodeRecord). IsCopy r.act) (only place other at).1 copy));
+    complete = λ index other at copy. absurd (no_copy (subst (λ (r : NodeRecord). IsCopy r.act) (only index other at).1 copy));
     rising = λ i j d before within. absurd (omega arith);
   }
 
-  pub AreCopies_push : (records : List NodeRecord) (copies : List Copied) (copied : Copied) → AreCopies records copies → length records ≡ copied.place → each.path ≡ copied.to → CopiesFrom copied.from copied.from_rev each.act
+  pub AreCopies_push : (records : List NodeRecord) (copies : List Copied) (copied : Copied) → AreCopies records copies → length records ≡ copied.index → each.path ≡ copied.to → CopiesFrom copied.from copied.from_rev each.act
       → AreCopies (records ++ each ∷ []) (copies ++ copied ∷ [])
-  AreCopies_push records copies copied so place to from =
-      let one : Copied = record { place = 0; to = copied.to; from = copied.from; from_rev = copied.from_rev } in
-      let is : 0 + length records ≡ copied.place = omega (arith, place) in
-      subst (λ n. AreCopies (records ++ each ∷ []) (copies ++ record { place = n; to = copied.to; from = copied.from; from_rev = copied.from_rev } ∷ [])) is
+  AreCopies_push records copies copied so index to from =
+      let one : Copied = record { index = 0; to = copied.to; from = copied.from; from_rev = copied.from_rev } in
+      let is : 0 + length records ≡ copied.index = omega (arith, index) in
+      subst (λ n. AreCopies (records ++ each ∷ []) (copies ++ record { index = n; to = copied.to; from = copied.from; from_rev = copied.from_rev } ∷ [])) is
       (AreCopies-append records (each ∷ []) copies (one ∷ []) so (AreCopies-one one refl to from))
 
   pub AreCopies-same : (records : List NodeRecord) (copies : List Copied) → AreCopies records copies → (IsCopy each.act → ⊥) → AreCopies (records ++ each ∷ []) copies
@@ -141,8 +141,8 @@ CopiesFrom-act each replace from from_rev mi is = subst (CopiesFrom from from_re
 moved_by-none : (copies : List Copied) → map (moved_by 0) copies ≡ copies
 moved_by-none [] = refl
 moved_by-none (copied ∷ copies) =
-    let is : copied.place + 0 ≡ copied.place = omega arith in
-    λ i. record { place = is i; to = copied.to; from = copied.from; from_rev = copied.from_rev } ∷ moved_by-none copies i
+    let is : copied.index + 0 ≡ copied.index = omega arith in
+    λ i. record { index = is i; to = copied.to; from = copied.from; from_rev = copied.from_rev } ∷ moved_by-none copies i
 
 pub AreKept-same : (records all : List NodeRecord) (revs revs' : List ℕ) (copies copies' : List Copied) → all ≡ records → revs' ≡ revs → copies' ≡ map (moved_by 0) copies → AreKept records revs copies → AreKept all revs' copies'
 AreKept-same records all revs revs' copies copies' all_is revs_is copies_is kept =
@@ -182,33 +182,33 @@ IsPartitionPoint-revs records rev count bound point = (
 )
 
 some_copied : Copied
-some_copied = record { place = 0; to = []; from = []; from_rev = 0 }
+some_copied = record { index = 0; to = []; from = []; from_rev = 0 }
 
-pub IsNonDecreasingBy-places : (records : List NodeRecord) (copies : List Copied) → AreCopies records copies → IsNonDecreasingBy (λ each. each.place) copies
-IsNonDecreasingBy-places records copies are i j d before within = elim (cases_lt i j) [
+pub IsNonDecreasingBy-indices : (records : List NodeRecord) (copies : List Copied) → AreCopies records copies → IsNonDecreasingBy (λ each. each.index) copies
+IsNonDecreasingBy-indices records copies are i j d before within = elim (cases_lt i j) [
   | inl less ↦ let rises = are.rising i j d less within in omega (arith, rises)
-  | inr same ↦ let e : i ≡ j = omega arith in let here = ap (λ k. (get_or copies k d).place) e in omega (arith, here)
+  | inr same ↦ let e : i ≡ j = omega arith in let here = ap (λ k. (get_or copies k d).index) e in omega (arith, here)
 ]
 
--- where no copy is of the place, its record does not copy
-pub no_copy_at : (records : List NodeRecord) (copies : List Copied) (place index : ℕ) → AreCopies records copies → index ≤ length copies
-    → IsPartitionPoint (λ each. ltb each.place place ≡ true) (λ each. ltb each.place place ≡ false) copies index → ((d : Copied) → index < length copies → (get_or copies index d).place ≢ place)
-    → (each : NodeRecord) → slice_get records place ≡ Some each → IsCopy each.act → ⊥
-no_copy_at records copies place index are bound point other each at copy =
-    let has = are.complete place each at copy in
-    let k = has.index in
+-- where no copy is of the index, its record does not copy
+pub no_copy_at : (records : List NodeRecord) (copies : List Copied) (index number : ℕ) → AreCopies records copies → number ≤ length copies
+    → IsPartitionPoint (λ each. ltb each.index index ≡ true) (λ each. ltb each.index index ≡ false) copies number → ((d : Copied) → number < length copies → (get_or copies number d).index ≢ index)
+    → (each : NodeRecord) → slice_get records index ≡ Some each → IsCopy each.act → ⊥
+no_copy_at records copies index number are bound point other each at copy =
+    let has = are.complete index each at copy in
+    let k = has.number in
     let within : k < length copies = has.within in
-    let here : (get_or copies k some_copied).place ≡ place = has.is some_copied in
-    elim (cases_lt k index) [
-      | inl before ↦ let less = ltb-true (get_or copies k some_copied).place place (point.0 k some_copied (omega arith) before) in omega (arith, less, here)
-      | inr after ↦ elim (cases_lt index k) [
+    let here : (get_or copies k some_copied).index ≡ index = has.is some_copied in
+    elim (cases_lt k number) [
+      | inl before ↦ let less = ltb-true (get_or copies k some_copied).index index (point.0 k some_copied (omega arith) before) in omega (arith, less, here)
+      | inr after ↦ elim (cases_lt number k) [
         | inl past ↦
-            let rises = are.rising index k some_copied past within in
-            let less : (get_or copies index some_copied).place < place = omega (arith, rises, here) in
-            true≢false (sym (lt-ltb (get_or copies index some_copied).place place less) ∙ point.1 index some_copied (omega arith) (omega (arith, within)))
+            let rises = are.rising number k some_copied past within in
+            let less : (get_or copies number some_copied).index < index = omega (arith, rises, here) in
+            true≢false (sym (lt-ltb (get_or copies number some_copied).index index less) ∙ point.1 number some_copied (omega arith) (omega (arith, within)))
         | inr not_past ↦
-            let is : k ≡ index = omega arith in
-            other some_copied (omega (arith, within)) (ap (λ n. (get_or copies n some_copied).place) (sym is) ∙ here)
+            let is : k ≡ number = omega arith in
+            other some_copied (omega (arith, within)) (ap (λ n. (get_or copies n some_copied).index) (sym is) ∙ here)
       ]
     ]
 
@@ -219,10 +219,10 @@ copied_act (act.Change mi) from from_rev so = absurd so
 copied_act (act.Add replace kind mi) from from_rev so = absurd so
 
 -- the origin by a copy
-pub SetsOrigin-copied : (records : List NodeRecord) (path : List NameId) (place : ℕ) (copied : Copied) (each : NodeRecord) → IsCopied records copied → copied.place ≡ place → slice_get records place ≡ Some each → SetsPath each path
+pub SetsOrigin-copied : (records : List NodeRecord) (path : List NameId) (index : ℕ) (copied : Copied) (each : NodeRecord) → IsCopied records copied → copied.index ≡ index → slice_get records index ≡ Some each → SetsPath each path
     → (source : List NameId) → source ≡ copied.from ++ drop (length copied.to) path → SetsOrigin same_name path (Some (source, copied.from_rev)) (record_view each)
-SetsOrigin-copied records path place copied each so place_is at sets source is =
-    let same : so.each ≡ each = same_Some so.each each (sym so.at ∙ ap (slice_get records) place_is ∙ at) in
+SetsOrigin-copied records path index copied each so index_is at sets source is =
+    let same : so.each ≡ each = same_Some so.each each (sym so.at ∙ ap (slice_get records) index_is ∙ at) in
     let from : CopiesFrom copied.from copied.from_rev each.act = subst (λ (r : NodeRecord). CopiesFrom copied.from copied.from_rev r.act) same so.from in
     let (replace, mi, copies) = copied_act each.act copied.from copied.from_rev from in
     let to : copied.to ≡ each.path = sym so.to ∙ ap (λ (r : NodeRecord). r.path) same in

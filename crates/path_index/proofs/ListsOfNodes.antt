@@ -8,7 +8,7 @@ use Rattle.std.proofs.lemmas.List.{get_or-set_same, get_or-set_other, length-set
 use Rattle.std.proofs.lemmas.List.Edits.{length-insert, get_or-insert_at, get_or-insert_below, get_or-insert_above}
 use Rattle.std.proofs.lemmas.List.Elements.{Contains-append_left, Contains-push, Contains-push_cases}
 use Rattle.std.proofs.lemmas.Option.{same_Some, slice_get-get_or, slice_get_past}
-use Rattle.path_index.specs.Numbers.{items_of, numbers_of, AddsNumbers, AreAllRising, ArePair, HasNumber, HaveSameNumbers, IsMoved, IsLocationOf, IsRising, IsShifted, IsWith}
+use Rattle.path_index.specs.Numbers.{items_of, numbers_of, AddsNumbers, AreAllRising, ArePair, HasNumber, HaveSameNumbers, IsMoved, IsFirstNotBelow, IsRising, IsShifted, IsWith}
 
 -- ---- the numbers of one node
 
@@ -35,8 +35,8 @@ AreAllRising-same old new same rising node = subst IsRising (sym (same node)) (r
 
 -- ---- a number more
 
-pub IsLocationOf-from_point : (number : ℕ) (numbers : List ℕ) (place : ℕ) → place ≤ length numbers → IsPartitionPoint (λ each. ltb each number ≡ true) (λ each. ltb each number ≡ false) numbers place → IsLocationOf number numbers place
-IsLocationOf-from_point number numbers place bound point = record {
+pub IsFirstNotBelow-from_point : (number : ℕ) (numbers : List ℕ) (index : ℕ) → index ≤ length numbers → IsPartitionPoint (λ each. ltb each number ≡ true) (λ each. ltb each number ≡ false) numbers index → IsFirstNotBelow number numbers index
+IsFirstNotBelow-from_point number numbers index bound point = record {
   bound = bound;
   before = λ k d below. ltb-true (get_or numbers k d) number (point.0 k d (omega arith) below);
   after = λ k d from within. elim (cases_lt (get_or numbers k d) number) [
@@ -45,41 +45,41 @@ IsLocationOf-from_point number numbers place bound point = record {
   ];
 }
 
-module _ (numbers : List ℕ) (number place : ℕ) (at : IsLocationOf number numbers place) where
+module _ (numbers : List ℕ) (number index : ℕ) (at : IsFirstNotBelow number numbers index) where
   abbrev after : List ℕ
-  after = insert numbers place number
+  after = insert numbers index number
 
   long : length after ≡ length numbers + 1
-  long = length-insert numbers place number at.bound
+  long = length-insert numbers index number at.bound
 
-  at_place : (k d : ℕ) → k ≡ place → get_or after k d ≡ number
-  at_place k d is = ap (λ n. get_or after n d) is ∙ get_or-insert_at numbers place number d at.bound
+  at_index : (k d : ℕ) → k ≡ index → get_or after k d ≡ number
+  at_index k d is = ap (λ n. get_or after n d) is ∙ get_or-insert_at numbers index number d at.bound
 
-  at_below : (k d : ℕ) → k < place → get_or after k d ≡ get_or numbers k d
-  at_below k d below = get_or-insert_below numbers place number d k below at.bound
+  at_below : (k d : ℕ) → k < index → get_or after k d ≡ get_or numbers k d
+  at_below k d below = get_or-insert_below numbers index number d k below at.bound
 
-  at_above : (k d : ℕ) → place < k → get_or after k d ≡ get_or numbers (k - 1) d
+  at_above : (k d : ℕ) → index < k → get_or after k d ≡ get_or numbers (k - 1) d
   at_above k d above =
       let is : k ≡ k - 1 + 1 = omega arith in
-      ap (λ n. get_or after n d) is ∙ get_or-insert_above numbers place number d (k - 1) (omega arith) at.bound
+      ap (λ n. get_or after n d) is ∙ get_or-insert_above numbers index number d (k - 1) (omega arith) at.bound
 
-  module _ (rising : IsRising numbers) (new : (d : ℕ) → place < length numbers → get_or numbers place d ≢ number) where
-    above_place : (k d : ℕ) → place ≤ k → k < length numbers → number < get_or numbers k d
-    above_place k d from within = elim (cases_eq place k) [
+  module _ (rising : IsRising numbers) (new : (d : ℕ) → index < length numbers → get_or numbers index d ≢ number) where
+    above_index : (k d : ℕ) → index ≤ k → k < length numbers → number < get_or numbers k d
+    above_index k d from within = elim (cases_eq index k) [
       | inl is ↦ let least = at.after k d from within in let other : get_or numbers k d ≢ number = subst (λ n. get_or numbers n d ≢ number) is (new d (omega arith)) in omega (arith, least, other)
-      | inr differs ↦ let least = at.after place d (omega arith) (omega arith) in let less = rising place k d (omega arith) within in omega (arith, least, less)
+      | inr differs ↦ let least = at.after index d (omega arith) (omega arith) in let less = rising index k d (omega arith) within in omega (arith, least, less)
     ]
 
     pub IsRising-insert : IsRising after
-    IsRising-insert i j d before within = elim (cases_lt j place) [
+    IsRising-insert i j d before within = elim (cases_lt j index) [
       | inl below ↦ let less = rising i j d before (omega (arith, at.bound)) in omega (arith, less, at_below i d (omega arith), at_below j d below)
-      | inr from ↦ elim (cases_lt place j) [
-        | inr to ↦ let less = at.before i d (omega arith) in omega (arith, less, at_below i d (omega arith), at_place j d (omega arith))
-        | inl past ↦ elim (cases_lt i place) [
+      | inr from ↦ elim (cases_lt index j) [
+        | inr to ↦ let less = at.before i d (omega arith) in omega (arith, less, at_below i d (omega arith), at_index j d (omega arith))
+        | inl past ↦ elim (cases_lt i index) [
           | inl low ↦ let less = rising i (j - 1) d (omega arith) (omega (arith, long)) in omega (arith, less, at_below i d low, at_above j d past)
-          | inr high ↦ elim (cases_lt place i) [
+          | inr high ↦ elim (cases_lt index i) [
             | inl higher ↦ let less = rising (i - 1) (j - 1) d (omega arith) (omega (arith, long)) in omega (arith, less, at_above i d higher, at_above j d past)
-            | inr here ↦ let less = above_place (j - 1) d (omega arith) (omega (arith, long)) in omega (arith, less, at_place i d (omega arith), at_above j d past)
+            | inr here ↦ let less = above_index (j - 1) d (omega arith) (omega (arith, long)) in omega (arith, less, at_index i d (omega arith), at_above j d past)
           ]
         ]
       ]
@@ -87,18 +87,18 @@ module _ (numbers : List ℕ) (number place : ℕ) (at : IsLocationOf number num
 
   pub IsWith-insert : IsWith number numbers after
   IsWith-insert = record {
-    kept = λ each (k, within, is). elim (cases_lt k place) [
+    kept = λ each (k, within, is). elim (cases_lt k index) [
       | inl below ↦ (k, omega (arith, long), at_below k each below ∙ is)
-      | inr from ↦ (k + 1, omega (arith, long), get_or-insert_above numbers place number each k from at.bound ∙ is)
+      | inr from ↦ (k + 1, omega (arith, long), get_or-insert_above numbers index number each k from at.bound ∙ is)
     ];
-    sound = λ each (k, within, is). elim (cases_lt k place) [
+    sound = λ each (k, within, is). elim (cases_lt k index) [
       | inl below ↦ inl (k, omega (arith, at.bound), sym (at_below k each below) ∙ is)
-      | inr from ↦ elim (cases_lt place k) [
+      | inr from ↦ elim (cases_lt index k) [
         | inl past ↦ inl (k - 1, omega (arith, long), sym (at_above k each past) ∙ is)
-        | inr here ↦ inr (sym is ∙ at_place k each (omega arith))
+        | inr here ↦ inr (sym is ∙ at_index k each (omega arith))
       ]
     ];
-    here = (place, omega (arith, long, at.bound), at_place place number refl);
+    here = (index, omega (arith, long, at.bound), at_index index number refl);
   }
 
 -- ---- the numbers that come

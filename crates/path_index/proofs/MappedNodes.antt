@@ -6,9 +6,9 @@ use Rattle.std.proofs.lemmas.List.{length_push, get_or_push, get_or_append_left}
 use Rattle.std.proofs.lemmas.List.Elements.{All-push, All-weaker}
 use Rattle.std.proofs.lemmas.Option.{same_Some, get_or_from_slice_get, slice_get-get_or}
 use Rattle.svn_path.specs.declared.names.NameId.{NameId}
-use Rattle.path_index.specs.Nodes.{same_child, child_of, node_of, AreNodesOf, AreOrdered, IsGrown}
+use Rattle.path_index.specs.Nodes.{same_child, child_of, node_of, AreNodesOf, HaveParentsBefore, Extends}
 use Rattle.path_index.specs.declared.nodes.Child.{Child}
-use Rattle.path_index.proofs.NodesOfPaths.{place_from_child, child_at, child_of-within, last_or_none, node_before, node_of_push, node_of-grown, node_of-one, node_of-within}
+use Rattle.path_index.proofs.NodesOfPaths.{index_from_child, child_at, child_of-within, last_or_none, node_before, node_of_push, node_of-grown, node_of-one, node_of-within}
 
 -- the first so many children, and the root, are mapped to nodes of their paths
 pub record AreMapped (later : List Child) (count : ℕ) (children : List Child) (nodes : List ℕ) : Type 0 where
@@ -28,8 +28,8 @@ AreMapped-root later children = record {
       ap (node_of children) none ∙ ap (slice_get (0 ∷ [])) (sym root);
 }
 
-module _ (later children children' : List Child) (nodes : List ℕ) (count node : ℕ) (child : Child) (so_far : AreMapped later count children nodes) (ordered : AreOrdered later) (at : slice_get later count ≡ Some child)
-    (grown : IsGrown children children') (added : child_of children' (get_or nodes child.parent 0) child.name ≡ Some node) where
+module _ (later children children' : List Child) (nodes : List ℕ) (count node : ℕ) (child : Child) (so_far : AreMapped later count children nodes) (ordered : HaveParentsBefore later) (at : slice_get later count ≡ Some child)
+    (grown : Extends children children') (added : child_of children' (get_or nodes child.parent 0) child.name ≡ Some node) where
   early : child.parent ≤ count
   early = ordered count child at
 
@@ -44,10 +44,10 @@ module _ (later children children' : List Child) (nodes : List ℕ) (count node 
     | inl none ↦ absurd (let root : n ≡ 0 = same_Some n 0 (sym found ∙ ap (node_of later) none) in omega arith)
     | inr (front, last, is) ↦
         let (above, front_at, below) = node_before later path front last n is found in
-        let (place, segment_path, place_is) = place_from_child (position (same_child (record { parent = above; name = last })) later) n below in
-        let here : place ≡ count = omega arith in
-        let (parent, name) = child_at later above last place child segment_path in
-        let same : get_or later place child ≡ child = ap (λ k. get_or later k child) here ∙ get_or_from_slice_get later count child child at in
+        let (index, segment_path, index_is) = index_from_child (position (same_child (record { parent = above; name = last })) later) n below in
+        let here : index ≡ count = omega arith in
+        let (parent, name) = child_at later above last index child segment_path in
+        let same : get_or later index child ≡ child = ap (λ k. get_or later k child) here ∙ get_or_from_slice_get later count child child at in
         let parent_is : above ≡ child.parent = parent ∙ ap (λ (c : Child). c.parent) same in
         let name_is : last ≡ child.name = name ∙ ap (λ (c : Child). c.name) same in
         let front_is = known front above front_at (omega (arith, early, parent_is)) in

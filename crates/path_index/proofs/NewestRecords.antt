@@ -12,18 +12,18 @@ use Rattle.path_index.proofs.NodesOfPaths.{node_of-take_none}
 use Rattle.path_index.proofs.NumbersOfNodes.{IsNewestBelow-newer, IsNewestBelow-same}
 
 module _ (by_path : RecordsByPath) (path : List NameId) (count : ℕ) where
-  -- by the numbers the record at the place copies to one of the first so many paths above the path
+  -- by the numbers the record of the index copies to one of the first so many paths above the path
   abbrev pub IsCopiedAt : ℕ → ℕ → Type 0
-  IsCopiedAt most place = (n : ℕ) × (n ≤ most) × HasEntryOf by_path.nodes (take n path) place by_path.copied
+  IsCopiedAt most index = (n : ℕ) × (n ≤ most) × HasEntryOf by_path.nodes (take n path) index by_path.copied
 
   -- at first
   pub IsNewestBelow-root : (newest : Option ℕ) → IsNewestBelow count (HasNumber by_path.copied 0) newest → IsNewestBelow count (IsCopiedAt 0) newest
   IsNewestBelow-root newest is =
       IsNewestBelow-same count (HasNumber by_path.copied 0) (IsCopiedAt 0)
-      (λ place below within. (0, omega arith, record { node = 0; found = refl; within = within }))
-      (λ place below (n, few, has).
+      (λ index below within. (0, omega arith, record { node = 0; found = refl; within = within }))
+      (λ index below (n, few, has).
       let none : n ≡ 0 = omega arith in
-      HasNumber-HasEntryOf by_path.nodes [] 0 place by_path.copied refl (subst (λ m. HasEntryOf by_path.nodes (take m path) place by_path.copied) none has))
+      HasNumber-HasEntryOf by_path.nodes [] 0 index by_path.copied refl (subst (λ m. HasEntryOf by_path.nodes (take m path) index by_path.copied) none has))
       newest is
 
   module _ (most : ℕ) (newest : Option ℕ) (so_far : IsNewestBelow count (IsCopiedAt most) newest) where
@@ -32,15 +32,15 @@ module _ (by_path : RecordsByPath) (path : List NameId) (count : ℕ) where
         → IsNewestBelow count (IsCopiedAt (most + 1)) (newer_of newest other)
     IsNewestBelow-next node other found is =
         let Here = HasNumber by_path.copied node in
-        IsNewestBelow-same count (λ place. IsCopiedAt most place ⊎ Here place) (IsCopiedAt (most + 1))
-        (λ place below either. elim either [
+        IsNewestBelow-same count (λ index. IsCopiedAt most index ⊎ Here index) (IsCopiedAt (most + 1))
+        (λ index below either. elim either [
           | inl (n, few, has) ↦ (n, omega arith, has)
           | inr within ↦ (most + 1, omega arith, record { node = node; found = found; within = within })
         ])
-        (λ place below (n, few, has). elim (cases_lt most n) [
+        (λ index below (n, few, has). elim (cases_lt most n) [
           | inl last ↦
               let same : n ≡ most + 1 = omega arith in
-              inr (HasNumber-HasEntryOf by_path.nodes (take (most + 1) path) node place by_path.copied found (subst (λ m. HasEntryOf by_path.nodes (take m path) place by_path.copied) same has))
+              inr (HasNumber-HasEntryOf by_path.nodes (take (most + 1) path) node index by_path.copied found (subst (λ m. HasEntryOf by_path.nodes (take m path) index by_path.copied) same has))
           | inr earlier ↦ inl (n, earlier, has)
         ])
         (newer_of newest other) (IsNewestBelow-newer count (IsCopiedAt most) Here newest other so_far is)
@@ -49,8 +49,8 @@ module _ (by_path : RecordsByPath) (path : List NameId) (count : ℕ) where
     pub IsNewestBelow-stop : most < length path → node_of by_path.nodes (take (most + 1) path) ≡ None → IsNewestBelow count (SetsAt by_path path) newest
     IsNewestBelow-stop short none =
         IsNewestBelow-same count (IsCopiedAt most) (SetsAt by_path path)
-        (λ place below (n, few, has). inl (n, has))
-        (λ place below sets. elim sets [
+        (λ index below (n, few, has). inl (n, has))
+        (λ index below sets. elim sets [
           | inl (n, has) ↦ elim (cases_lt most n) [
             | inl past ↦ absurd (let never : None ≡ Some has.node = sym (node_of-take_none by_path.nodes path (most + 1) n (omega arith) none) ∙ has.found in cc)
             | inr within ↦ (n, within, has)
@@ -66,18 +66,18 @@ module _ (by_path : RecordsByPath) (path : List NameId) (count : ℕ) where
         → IsNewestBelow count (SetsAt by_path path) (newer_of newest other)
     IsNewestBelow-end long node other found is =
         let Here = HasNumber by_path.added node in
-        IsNewestBelow-same count (λ place. IsCopiedAt most place ⊎ Here place) (SetsAt by_path path)
-        (λ place below either. elim either [
+        IsNewestBelow-same count (λ index. IsCopiedAt most index ⊎ Here index) (SetsAt by_path path)
+        (λ index below either. elim either [
           | inl (n, few, has) ↦ inl (n, has)
           | inr within ↦ inr (record { node = node; found = found; within = within })
         ])
-        (λ place below sets. elim sets [
+        (λ index below sets. elim sets [
           | inl (n, has) ↦ elim (cases_lt most n) [
             | inl past ↦
                 let same : take n path ≡ take most path = take_all n path (omega arith) ∙ sym (take_all most path long) in
-                inl (most, omega arith, subst (λ p. HasEntryOf by_path.nodes p place by_path.copied) same has)
+                inl (most, omega arith, subst (λ p. HasEntryOf by_path.nodes p index by_path.copied) same has)
             | inr within ↦ inl (n, within, has)
           ]
-          | inr has ↦ inr (HasNumber-HasEntryOf by_path.nodes path node place by_path.added found has)
+          | inr has ↦ inr (HasNumber-HasEntryOf by_path.nodes path node index by_path.added found has)
         ])
         (newer_of newest other) (IsNewestBelow-newer count (IsCopiedAt most) Here newest other so_far is)

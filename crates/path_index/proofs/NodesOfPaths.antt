@@ -9,7 +9,7 @@ use Rattle.std.proofs.lemmas.Option.{same_Some, option_and_then_some, cond_some}
 use Rattle.svn_path.specs.Path.{same_name}
 use Rattle.svn_path.specs.declared.names.NameId.{NameId}
 use Rattle.svn_path.proofs.Belows.{IsSame-same_name}
-use Rattle.path_index.specs.Nodes.{same_child, child_of, node_below, node_of, IsGrown}
+use Rattle.path_index.specs.Nodes.{same_child, child_of, node_below, node_of, Extends}
 use Rattle.path_index.specs.declared.nodes.Child.{Child}
 
 -- ---- one component
@@ -31,50 +31,50 @@ position-grown p xs more i found =
     let same : position_or_len p (xs ++ more) ≡ i = first-grown p xs more within ∙ is in
     cond-true _ _ _ (lt-ltb (position_or_len p (xs ++ more)) (length (xs ++ more)) (omega (arith, length-append xs more))) ∙ ap Some same
 
-pub place_from_child : (o : Option ℕ) (node : ℕ) → option_map suc o ≡ Some node → (place : ℕ) × (o ≡ Some place) × (suc place ≡ node)
-place_from_child None node found = cc
-place_from_child (Some place) node found = (place, refl, same_Some (suc place) node found)
+pub index_from_child : (o : Option ℕ) (node : ℕ) → option_map suc o ≡ Some node → (index : ℕ) × (o ≡ Some index) × (suc index ≡ node)
+index_from_child None node found = cc
+index_from_child (Some index) node found = (index, refl, same_Some (suc index) node found)
 
 same_child-is : (a b : Child) → same_child a b ≡ true → (a.parent ≡ b.parent) × (a.name ≡ b.name)
 same_child-is a b same =
     let (parents, names) = and_parts (a.parent == b.parent) (same_name a.name b.name) same in
     (eqb-true a.parent b.parent parents, IsSame-same_name.true_is a.name b.name names)
 
-pub child_at : (children : List Child) (parent : ℕ) (name : NameId) (place : ℕ) (d : Child) → position (same_child (record { parent = parent; name = name })) children ≡ Some place
-    → (parent ≡ (get_or children place d).parent) × (name ≡ (get_or children place d).name)
-child_at children parent name place d at =
+pub child_at : (children : List Child) (parent : ℕ) (name : NameId) (index : ℕ) (d : Child) → position (same_child (record { parent = parent; name = name })) children ≡ Some index
+    → (parent ≡ (get_or children index d).parent) × (name ≡ (get_or children index d).name)
+child_at children parent name index d at =
     let child : Child = record { parent = parent; name = name } in
-    same_child-is child (get_or children place d) (position-Some (same_child child) children place d at).1
+    same_child-is child (get_or children index d) (position-Some (same_child child) children index d at).1
 
 child_of-grown : (children more : List Child) (parent : ℕ) (name : NameId) (node : ℕ) → child_of children parent name ≡ Some node → child_of (children ++ more) parent name ≡ Some node
 child_of-grown children more parent name node found =
-    let (place, at, is) = place_from_child (position (same_child (record { parent = parent; name = name })) children) node found in
-    ap (option_map suc) (position-grown (same_child (record { parent = parent; name = name })) children more place at) ∙ ap Some is
+    let (index, at, is) = index_from_child (position (same_child (record { parent = parent; name = name })) children) node found in
+    ap (option_map suc) (position-grown (same_child (record { parent = parent; name = name })) children more index at) ∙ ap Some is
 
 -- a child is below one node alone, by one component
 child_of-one : (children : List Child) (parent parent' : ℕ) (name name' : NameId) (node : ℕ) → child_of children parent name ≡ Some node → child_of children parent' name' ≡ Some node
     → (parent ≡ parent') × (name ≡ name')
 child_of-one children parent parent' name name' node one other =
     let child : Child = record { parent = parent; name = name } in
-    let (place, at, is) = place_from_child (position (same_child child) children) node one in
-    let (place', at', is') = place_from_child (position (same_child (record { parent = parent'; name = name' })) children) node other in
-    let same : place' ≡ place = omega arith in
-    let (parents, names) = child_at children parent name place child at in
-    let (parents', names') = child_at children parent' name' place child (at' ∙ ap Some same) in
+    let (index, at, is) = index_from_child (position (same_child child) children) node one in
+    let (index', at', is') = index_from_child (position (same_child (record { parent = parent'; name = name' })) children) node other in
+    let same : index' ≡ index = omega arith in
+    let (parents, names) = child_at children parent name index child at in
+    let (parents', names') = child_at children parent' name' index child (at' ∙ ap Some same) in
     (parents ∙ sym parents', names ∙ sym names')
 
 -- no child is the root
 child_of-root : (children : List Child) (parent : ℕ) (name : NameId) → child_of children parent name ≡ Some 0 → ⊥
 child_of-root children parent name found =
-    let (place, at, is) = place_from_child (position (same_child (record { parent = parent; name = name })) children) 0 found in
+    let (index, at, is) = index_from_child (position (same_child (record { parent = parent; name = name })) children) 0 found in
     absurd (omega arith)
 
 -- it is among them
 pub child_of-within : (children : List Child) (parent : ℕ) (name : NameId) (node : ℕ) → child_of children parent name ≡ Some node → node ≤ length children
 child_of-within children parent name node found =
     let p = same_child (record { parent = parent; name = name }) in
-    let (place, at, is) = place_from_child (position p children) node found in
-    let (below, here) = cond_some (nat_lt (position_or_len p children) (length children)) (position_or_len p children) place at in
+    let (index, at, is) = index_from_child (position p children) node found in
+    let (below, here) = cond_some (nat_lt (position_or_len p children) (length children)) (position_or_len p children) index at in
     let within = ltb-true (position_or_len p children) (length children) below in
     omega (arith, within, here, is)
 
@@ -113,7 +113,7 @@ node_below-grown children more start (name ∷ path) node found =
     (λ child at below. ap (option_and_then (λ child. node_below (children ++ more) child path)) (child_of-grown children more start name child at) ∙ node_below-grown children more child path node below)
 
 -- as more are added it keeps its node
-pub node_of-grown : (old new : List Child) (path : List NameId) (node : ℕ) → IsGrown old new → node_of old path ≡ Some node → node_of new path ≡ Some node
+pub node_of-grown : (old new : List Child) (path : List NameId) (node : ℕ) → Extends old new → node_of old path ≡ Some node → node_of new path ≡ Some node
 node_of-grown old new path node grown found =
     subst (λ children. node_of children path ≡ Some node) (sym grown.grown) (node_below-grown old grown.more 0 path node found)
 

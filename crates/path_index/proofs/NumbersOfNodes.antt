@@ -139,7 +139,7 @@ filter_down-next p lo next (suc gap) top after is none here =
 
 -- ---- the hits of a node
 
-module _ (lists : List (Vec ℕ)) (place node lo hi : ℕ) (old : List Hit) where
+module _ (lists : List (Vec ℕ)) (segment node lo hi : ℕ) (old : List Hit) where
   abbrev has : ℕ → Bool
   has number = has_number lists node number
 
@@ -153,7 +153,7 @@ module _ (lists : List (Vec ℕ)) (place node lo hi : ℕ) (old : List Hit) wher
     pub within : (number : ℕ) → Contains rest number → number ≤ top
     pub among : (number : ℕ) → Contains rest number → HasNumber lists node number
     pub whole : (number : ℕ) → number ≤ top → has number ≡ true → Contains rest number
-    pub found : hits ++ map (hit_at place) (numbers_up_to top) ≡ old ++ map (hit_at place) (numbers_up_to hi)
+    pub found : hits ++ map (hit_at segment) (numbers_up_to top) ≡ old ++ map (hit_at segment) (numbers_up_to hi)
 
   -- at first
   pub IsPushed-start : (rest : List ℕ) → IsUpTo hi (numbers_of lists node) rest → IsPushed rest old
@@ -168,11 +168,11 @@ module _ (lists : List (Vec ℕ)) (place node lo hi : ℕ) (old : List Hit) wher
 
   module _ (rest : List ℕ) (hits : List Hit) (so_far : IsPushed rest hits) where
     -- where no number is left after `lo`, all are found
-    pub hits-IsPushed : ((number : ℕ) → Contains rest number → number ≤ lo) → hits ≡ old ++ map (hit_at place) (numbers_up_to hi)
+    pub hits-IsPushed : ((number : ℕ) → Contains rest number → number ≤ lo) → hits ≡ old ++ map (hit_at segment) (numbers_up_to hi)
     hits-IsPushed none =
         let ended : numbers_up_to so_far.top ≡ [] = filter_down-none has (so_far.top - lo) so_far.top (omega arith)
         (λ number to from. false_from_ne_true (has number) (λ is. let low = none number (so_far.whole number to is) in omega (arith, low))) in
-        sym (append-nil hits) ∙ ap (λ more. hits ++ map (hit_at place) more) (sym ended) ∙ so_far.found
+        sym (append-nil hits) ∙ ap (λ more. hits ++ map (hit_at segment) more) (sym ended) ∙ so_far.found
 
     module _ (before : List ℕ) (last : ℕ) (ends : rest ≡ before ++ last ∷ []) (after : lo < last) where
       rising_ends : IsRising (before ++ last ∷ [])
@@ -197,7 +197,7 @@ module _ (lists : List (Vec ℕ)) (place node lo hi : ℕ) (old : List Hit) wher
       ]
 
       -- the last number is the next hit
-      pub IsPushed_push : IsPushed before (hits ++ hit_at place last ∷ [])
+      pub IsPushed_push : IsPushed before (hits ++ hit_at segment last ∷ [])
       IsPushed_push = record {
         top = pred last;
         rising = rising_front before last rising_ends;
@@ -205,8 +205,8 @@ module _ (lists : List (Vec ℕ)) (place node lo hi : ℕ) (old : List Hit) wher
         among = λ number among. so_far.among number (subst (λ all. Contains all number) (sym ends) (Contains-append_left before (last ∷ []) number among));
         whole = λ k below has. in_before k (omega arith) (so_far.whole k (omega (arith, up)) has);
         found =
-            append_assoc hits (hit_at place last ∷ []) (map (hit_at place) (numbers_up_to (pred last)))
-            ∙ ap (λ revs. hits ++ map (hit_at place) revs)
+            append_assoc hits (hit_at segment last ∷ []) (map (hit_at segment) (numbers_up_to (pred last)))
+            ∙ ap (λ revs. hits ++ map (hit_at segment) revs)
             (sym (filter_down-next has lo last (so_far.top - last) so_far.top after (omega (arith, up))
             (λ k past within. false_from_ne_true (has k) (λ is. not_past k past (so_far.whole k within is)))
             (has_number-HasNumber lists node last (so_far.among last last_in))))

@@ -44,11 +44,11 @@ first_of lo = if nat_lt 0 lo then lo ∷ [] else []
 module _ {C M : Type 0} (same : C → C → Bool) (is : IsSame same) (history : History C M) (trees : List (Tree C M))
     (fall : OriginsFall same trees) (origins : OriginsAreThere same trees)
     (path : List C) (rev : ℕ) (there : is_there same (tree_of trees rev) path ≡ true) where
-  abbrev place : ℕ → Option (List C)
-  place k = location same trees path rev k
+  abbrev located : ℕ → Option (List C)
+  located k = location same trees path rev k
 
-  module _ (segment : Segment C) (q : List C) (so : IsSegment place segment) (at : segment.path ≡ Some q) where
-    stood : (k : ℕ) → segment.lo ≤ k → k ≤ segment.hi → place k ≡ Some q
+  module _ (segment : Segment C) (q : List C) (so : IsSegment located segment) (at : segment.path ≡ Some q) where
+    stood : (k : ℕ) → segment.lo ≤ k → k ≤ segment.hi → located k ≡ Some q
     stood k from to = so.stays k from to ∙ at
 
     there_in : (k : ℕ) → segment.lo ≤ k → k ≤ segment.hi → is_there same (tree_of trees k) q ≡ true
@@ -111,36 +111,36 @@ module _ {C M : Type 0} (same : C → C → Bool) (is : IsSame same) (history : 
 
 -- the revisions, as hits of a segment
 abbrev pub hits_at : ℕ → List ℕ → List Hit
-hits_at place revs = map (hit_at place) revs
+hits_at index revs = map (hit_at index) revs
 
 -- the hits in a segment, given its path
 abbrev pub hits_in : ℕ → List NodeRecord → Segment NameId → Option (List NameId) → List Hit
-hits_in place records segment None = []
-hits_in place records segment (Some path) = hits_at place (named_revisions path segment.lo segment.hi records ++ first_of segment.lo)
+hits_in located records segment None = []
+hits_in located records segment (Some path) = hits_at located (named_revisions path segment.lo segment.hi records ++ first_of segment.lo)
 
 -- the hits in the segments
 abbrev pub hits_from : ℕ → List NodeRecord → List (Segment NameId) → List Hit
-hits_from place records [] = []
-hits_from place records (segment ∷ segments) = hits_in place records segment segment.path ++ hits_from (place + 1) records segments
+hits_from located records [] = []
+hits_from located records (segment ∷ segments) = hits_in located records segment segment.path ++ hits_from (located + 1) records segments
 
 module _ (is : IsSame same_name) (history : History NameId ValueId) (trees : List (Tree NameId ValueId))
     (fall : OriginsFall same_name trees) (origins : OriginsAreThere same_name trees)
     (path : List NameId) (rev : ℕ) (there : is_there same_name (tree_of trees rev) path ≡ true) (records : List NodeRecord)
     (are : (k : ℕ) → k ≤ rev → records_in history k ≡ records_of records k) where
-  in_segment : (place : ℕ) (segment : Segment NameId) → IsSegment (λ k. location same_name trees path rev k) segment → segment.hi ≤ rev → (o : Option (List NameId)) → segment.path ≡ o
-      → hits_in place records segment o ≡ map (hit_at place) (operative_in same_name history trees segment o)
-  in_segment place segment so up None at = refl
-  in_segment place segment so up (Some q) at =
-      ap (hits_at place) (sym (operative_in-segment same_name is history trees fall origins path rev there segment q so at (is_named q records)
+  in_segment : (located : ℕ) (segment : Segment NameId) → IsSegment (λ k. location same_name trees path rev k) segment → segment.hi ≤ rev → (o : Option (List NameId)) → segment.path ≡ o
+      → hits_in located records segment o ≡ map (hit_at located) (operative_in same_name history trees segment o)
+  in_segment located segment so up None at = refl
+  in_segment located segment so up (Some q) at =
+      ap (hits_at located) (sym (operative_in-segment same_name is history trees fall origins path rev there segment q so at (is_named q records)
       (λ k to. ap (names_below same_name q) (sym (are k (omega arith))))))
 
-  from_segments : (place bound : ℕ) (segments : List (Segment NameId)) → AreSegments (λ k. location same_name trees path rev k) bound segments
-      → bound ≤ rev + 1 → hits_from place records segments ≡ operative_from same_name history trees place segments
+  from_segments : (located bound : ℕ) (segments : List (Segment NameId)) → AreSegments (λ k. location same_name trees path rev k) bound segments
+      → bound ≤ rev + 1 → hits_from located records segments ≡ operative_from same_name history trees located segments
   unfolding operative_from
-  from_segments place bound [] all few = refl
-  from_segments place bound (segment ∷ segments) all few =
-      let here = in_segment place segment all.1 (omega (arith, all.0)) segment.path refl in
-      let onward = from_segments (place + 1) segment.lo segments all.2 (omega (arith, all.0, all.1.ordered)) in
+  from_segments located bound [] all few = refl
+  from_segments located bound (segment ∷ segments) all few =
+      let here = in_segment located segment all.1 (omega (arith, all.0)) segment.path refl in
+      let onward = from_segments (located + 1) segment.lo segments all.2 (omega (arith, all.0, all.1.ordered)) in
       λ i. here i ++ onward i
 
 -- ---- at the trees of a list of records

@@ -19,23 +19,23 @@ records_in-rename name text (records ∷ history) (suc rev) = records_in-rename 
 module _ {C D : Type 0} (name : C → D) (sameC : C → C → Bool) (sameD : D → D → Bool) (alike : KeepsSame name sameC sameD) where
   -- ---- segments
 
-  -- renamed places are the same exactly where the places are
+  -- renamed locations are the same exactly where the locations are
   pub same_location-rename : (a b : Option (List C)) → same_location sameD (option_map (map name) a) (option_map (map name) b) ≡ same_location sameC a b
   same_location-rename None None = refl
   same_location-rename None (Some q) = refl
   same_location-rename (Some p) None = refl
   same_location-rename (Some p) (Some q) = same_path-rename name sameC sameD alike p q
 
-  joined-rename : (b : Bool) (rev : ℕ) (place : Option (List C)) (segment : Segment C) (segments : List (Segment C))
+  joined-rename : (b : Bool) (rev : ℕ) (located : Option (List C)) (segment : Segment C) (segments : List (Segment C))
       → (if b then record (rename_segment name segment) { hi = rev } ∷ map (rename_segment name) segments
-      else record { lo = rev; hi = rev; path = option_map (map name) place } ∷ rename_segment name segment ∷ map (rename_segment name) segments)
-      ≡ map (rename_segment name) (if b then record segment { hi = rev } ∷ segments else record { lo = rev; hi = rev; path = place } ∷ segment ∷ segments)
-  joined-rename true rev place segment segments = refl
-  joined-rename false rev place segment segments = refl
+      else record { lo = rev; hi = rev; path = option_map (map name) located } ∷ rename_segment name segment ∷ map (rename_segment name) segments)
+      ≡ map (rename_segment name) (if b then record segment { hi = rev } ∷ segments else record { lo = rev; hi = rev; path = located } ∷ segment ∷ segments)
+  joined-rename true rev located segment segments = refl
+  joined-rename false rev located segment segments = refl
 
   -- one more revision goes before or after renaming
-  pub with_location-rename : (rev : ℕ) (place : Option (List C)) (segments : List (Segment C))
-      → with_location sameD rev (option_map (map name) place) (map (rename_segment name) segments) ≡ map (rename_segment name) (with_location sameC rev place segments)
+  pub with_location-rename : (rev : ℕ) (located : Option (List C)) (segments : List (Segment C))
+      → with_location sameD rev (option_map (map name) located) (map (rename_segment name) segments) ≡ map (rename_segment name) (with_location sameC rev located segments)
   unfolding with_location
   with_location-rename rev None [] = refl
   with_location-rename rev (Some path) [] = refl
@@ -49,14 +49,14 @@ module _ {C D : Type 0} (name : C → D) (sameC : C → C → Bool) (sameD : D �
       ∙ joined-rename (same_location sameC (Some path) segment.path) rev (Some path) segment segments
 
   -- so do the revisions up to one
-  pub segments_up_to-rename : (placeC : ℕ → Option (List C)) (placeD : ℕ → Option (List D)) → ((rev : ℕ) → placeD rev ≡ option_map (map name) (placeC rev))
-      → (top : ℕ) → segments_up_to sameD placeD top ≡ map (rename_segment name) (segments_up_to sameC placeC top)
+  pub segments_up_to-rename : (locatedC : ℕ → Option (List C)) (locatedD : ℕ → Option (List D)) → ((rev : ℕ) → locatedD rev ≡ option_map (map name) (locatedC rev))
+      → (top : ℕ) → segments_up_to sameD locatedD top ≡ map (rename_segment name) (segments_up_to sameC locatedC top)
   unfolding segments_up_to
-  segments_up_to-rename placeC placeD renamed zero =
-      ap (λ place. with_location sameD zero place []) (renamed zero) ∙ with_location-rename zero (placeC zero) []
-  segments_up_to-rename placeC placeD renamed (suc rev) =
-      (λ i. with_location sameD (suc rev) (renamed (suc rev) i) (segments_up_to-rename placeC placeD renamed rev i))
-      ∙ with_location-rename (suc rev) (placeC (suc rev)) (segments_up_to sameC placeC rev)
+  segments_up_to-rename locatedC locatedD renamed zero =
+      ap (λ located. with_location sameD zero located []) (renamed zero) ∙ with_location-rename zero (locatedC zero) []
+  segments_up_to-rename locatedC locatedD renamed (suc rev) =
+      (λ i. with_location sameD (suc rev) (renamed (suc rev) i) (segments_up_to-rename locatedC locatedD renamed rev i))
+      ∙ with_location-rename (suc rev) (locatedC (suc rev)) (segments_up_to sameC locatedC rev)
 
   -- ---- records and origins
 

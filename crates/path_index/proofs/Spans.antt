@@ -1,4 +1,4 @@
--- The newest revisions through which a path stood at one place, and where it came from, by the records.
+-- The newest revisions through which a path stood at one location, and where it came from, by the records.
 use Rattle.std.proofs.Common.{◌≡◌, ℕ, zero, suc, ◌+◌, ◌<◌, leb, get_or, length, take, drop, length-drop, ◌≤◌, nat_lt, Bool, false, true, if◌then◌else◌, List, [], ◌∷◌, ◌++◌, All, IfSome, Option, None, Some, is_some, option_map, refl, sym, ap, subst, ◌∙◌, arith, inl, inr, append_assoc, true≢false}
 use Rattle.std.specs.List.Sorted.{IsPartitionPoint}
 use Rattle.std.proofs.lemmas.Bool.{cases_lt, leb-true, le-leb}
@@ -147,7 +147,7 @@ module _ (records : List NodeRecord) (path : List NameId) (peg lo : ℕ) (there 
       onward rev None is = refl
       onward rev (Some o) is =
           let lower = fell o is in
-          ap (λ place. if nat_lt o.rev rev then None else place)
+          ap (λ index. if nat_lt o.rev rev then None else index)
           (location_agree same_name (trees_to records peg) (trees_to records o.rev) (falls records peg) o.rev
           (λ r within. tree_of-earlier records r peg (omega arith) ∙ sym (tree_of-earlier records r o.rev within))
           o.path o.rev rev (omega arith))
@@ -192,30 +192,30 @@ module _ (records : List NodeRecord) (path : List NameId) (peg : ℕ) (there : I
 
 module _ (records : List NodeRecord) (by_path : RecordsByPath) (are : AreByPath records by_path) (path : List NameId) (peg count : ℕ) (there : IsThere records path peg) (rising : AreRising records)
     (within : count ≤ length records) (point : IsPartitionPoint (λ each. leb each.rev peg ≡ true) (λ each. leb each.rev peg ≡ false) records count) where
-  keep_from : (first : ℕ) → ((place : ℕ) → first ≤ place → place < count → SetsAt by_path path place → ⊥) → Keep path peg (drop first records)
+  keep_from : (first : ℕ) → ((index : ℕ) → first ≤ index → index < count → SetsAt by_path path index → ⊥) → Keep path peg (drop first records)
   keep_from first none k d inside up =
-      let place = first + k in
-      let same : get_or (drop first records) k d ≡ get_or records place d = get_or-drop first records k d in
-      let low : place < length records = omega (arith, length-drop first records) in
-      let each = get_or records place d in
+      let index = first + k in
+      let same : get_or (drop first records) k d ≡ get_or records index d = get_or-drop first records k d in
+      let low : index < length records = omega (arith, length-drop first records) in
+      let each = get_or records index d in
       let up_here : each.rev ≤ peg = subst (λ (r : NodeRecord). r.rev ≤ peg) same up in
-      subst (λ r. KeepsOrigin same_name path (record_view r)) (sym same) (elim (cases_lt place count) [
+      subst (λ r. KeepsOrigin same_name path (record_view r)) (sym same) (elim (cases_lt index count) [
         | inl early ↦
-            KeepsOrigin-unset each path (λ sets. none place (omega arith) early (SetsAt-SetsPath records by_path are path place each (slice_get-get_or records place d low) sets))
-        | inr late ↦ absurd (true≢false (sym (le-leb each.rev peg up_here) ∙ point.1 place d late low))
+            KeepsOrigin-unset each path (λ sets. none index (omega arith) early (SetsAt-SetsPath records by_path are path index each (slice_get-get_or records index d low) sets))
+        | inr late ↦ absurd (true≢false (sym (le-leb each.rev peg up_here) ∙ point.1 index d late low))
       ])
 
   -- where some record sets it
-  pub IsSpan-newest : (place : ℕ) (each : NodeRecord) (from : Option Origin) → IsNewestBelow count (SetsAt by_path path) (Some place) → get_or records place each ≡ each
+  pub IsSpan-newest : (index : ℕ) (each : NodeRecord) (from : Option Origin) → IsNewestBelow count (SetsAt by_path path) (Some index) → get_or records index each ≡ each
       → SetsOrigin same_name path (origin_view from) (record_view each) → IsSpan records path peg (record { lo = each.rev; origin = from })
-  IsSpan-newest place each from newest at sets =
-      let low : place < length records = let below = newest.0 in omega (arith, below) in
-      let split : records ≡ take place records ++ each ∷ drop (place + 1) records =
-      sym (take-append-drop place records) ∙ ap (λ rest. take place records ++ rest) (drop_more records place each low ∙ ap (λ e. e ∷ drop (place + 1) records) at) in
-      let up : each.rev ≤ peg = leb-true each.rev peg (ap (λ (e : NodeRecord). leb e.rev peg) (sym at) ∙ point.0 place each (omega arith) newest.0) in
-      IsSpan-set records path peg there (take place records) (drop (place + 1) records) each split
-      (keep_from (place + 1) (λ later past below. newest.2 later (omega arith) below)) rising up from sets
+  IsSpan-newest index each from newest at sets =
+      let low : index < length records = let below = newest.0 in omega (arith, below) in
+      let split : records ≡ take index records ++ each ∷ drop (index + 1) records =
+      sym (take-append-drop index records) ∙ ap (λ rest. take index records ++ rest) (drop_more records index each low ∙ ap (λ e. e ∷ drop (index + 1) records) at) in
+      let up : each.rev ≤ peg = leb-true each.rev peg (ap (λ (e : NodeRecord). leb e.rev peg) (sym at) ∙ point.0 index each (omega arith) newest.0) in
+      IsSpan-set records path peg there (take index records) (drop (index + 1) records) each split
+      (keep_from (index + 1) (λ later past below. newest.2 later (omega arith) below)) rising up from sets
 
   -- where none does
   pub IsSpan-none : IsNewestBelow count (SetsAt by_path path) None → IsSpan records path peg (record { lo = 0; origin = None })
-  IsSpan-none none = IsSpan-root records path peg there (keep_from 0 (λ place from below. none place below))
+  IsSpan-none none = IsSpan-root records path peg there (keep_from 0 (λ index from below. none index below))

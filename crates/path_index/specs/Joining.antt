@@ -4,8 +4,8 @@ use Rattle.svn_dump.specs.declared.record.NodeRecord.{NodeRecord}
 use Rattle.path_index.specs.Index.{IndexValue}
 
 -- an index puts its own records before others
-abbrev pub put_before : IndexValue → List NodeRecord → List NodeRecord
-put_before index records = index.records ++ records
+abbrev pub put_records_before : IndexValue → List NodeRecord → List NodeRecord
+put_records_before index records = index.records ++ records
 
 -- how many records precede those of the index
 abbrev pub records_before : IndexValue → ℕ

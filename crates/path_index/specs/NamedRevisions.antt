@@ -15,7 +15,7 @@ is_named path records rev = names_below same_name path (records_of records rev)
 abbrev pub named_revisions : List NameId → ℕ → ℕ → List NodeRecord → List ℕ
 named_revisions path lo hi records = filter (is_named path records) (down_from (hi - lo) hi)
 
--- to the hits come the revisions after `lo` and up to `hi`, in the segment at this place, whose records name the path
+-- to the hits come the revisions after `lo` and up to `hi`, in the segment of this index, whose records name the path
 -- or one below it
 abbrev pub AddsNamed : List Hit → List Hit → ℕ → List NameId → ℕ → ℕ → List NodeRecord → Type 0
-AddsNamed old new place path lo hi records = new ≡ old ++ map (hit_at place) (named_revisions path lo hi records)
+AddsNamed old new segment path lo hi records = new ≡ old ++ map (hit_at segment) (named_revisions path lo hi records)

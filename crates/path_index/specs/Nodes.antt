@@ -7,7 +7,7 @@ use Rattle.path_index.specs.declared.nodes.Child.{Child}
 abbrev pub same_child : Child → Child → Bool
 same_child a b = a.parent == b.parent && same_name a.name b.name
 
--- the node of a component below another node: the root is node 0, and the child at a place in the list has the number
+-- the node of a component below another node: the root is node 0, and the child of an index in the list has the number
 -- after it
 abbrev pub child_of : List Child → ℕ → NameId → Option ℕ
 child_of children parent name =
@@ -23,13 +23,13 @@ abbrev pub node_of : List Child → List NameId → Option ℕ
 node_of children path = node_below children 0 path
 
 -- children were added, and none removed
-pub record IsGrown (old new : List Child) : Type 0 where
+pub record Extends (old new : List Child) : Type 0 where
   pub more : List Child
   pub grown : new ≡ old ++ more
 
 -- each node stands after the one above it
-abbrev pub AreOrdered : List Child → Type 0
-AreOrdered children = (place : ℕ) (child : Child) → slice_get children place ≡ Some child → child.parent ≤ place
+abbrev pub HaveParentsBefore : List Child → Type 0
+HaveParentsBefore children = (index : ℕ) (child : Child) → slice_get children index ≡ Some child → child.parent ≤ index
 
 -- each path with a node among some children has the node to which that is mapped
 pub record AreNodesOf (later children : List Child) (nodes : List ℕ) : Type 0 where

@@ -70,11 +70,11 @@ pub record IsUpTo (last : ℕ) (numbers front : List ℕ) : Type 0 where
   pub among : (number : ℕ) → Contains front number → Contains numbers number
   pub whole : (number : ℕ) → Contains numbers number → number ≤ last → Contains front number
 
--- the numbers before the place are below the number, and the others are not
-pub record IsLocationOf (number : ℕ) (numbers : List ℕ) (place : ℕ) : Type 0 where
-  pub bound : place ≤ length numbers
-  pub before : (k d : ℕ) → k < place → slice_index_or numbers k d < number
-  pub after : (k d : ℕ) → place ≤ k → k < length numbers → number ≤ slice_index_or numbers k d
+-- the index of the first of the numbers that is not below this one
+pub record IsFirstNotBelow (number : ℕ) (numbers : List ℕ) (index : ℕ) : Type 0 where
+  pub bound : index ≤ length numbers
+  pub before : (k d : ℕ) → k < index → slice_index_or numbers k d < number
+  pub after : (k d : ℕ) → index ≤ k → k < length numbers → number ≤ slice_index_or numbers k d
 
 -- the greatest number below the limit of which this holds
 abbrev pub IsNewestBelow : ℕ → (ℕ → Type 0) → Option ℕ → Type 0

@@ -11,32 +11,32 @@ use Rattle.path_index.specs.declared.copied.Copied.{Copied}
 
 abbrev pub moved_by : ℕ → Copied → Copied
 moved_by shift copied =
-    record { place = copied.place + shift; to = copied.to; from = copied.from; from_rev = copied.from_rev }
+    record { index = copied.index + shift; to = copied.to; from = copied.from; from_rev = copied.from_rev }
 
 -- the act copies from there
 abbrev pub CopiesFrom : List NameId → ℕ → Act → Type 0
 CopiesFrom from from_rev (act.Copy replace source source_rev mi) = (source ≡ from) × (source_rev ≡ from_rev)
 CopiesFrom from from_rev _ = ⊥
 
--- the record at its place copies so
+-- the record of its index copies so
 pub record IsCopied (records : List NodeRecord) (copied : Copied) : Type 0 where
   pub each : NodeRecord
-  pub at : slice_get records copied.place ≡ Some each
+  pub at : slice_get records copied.index ≡ Some each
   pub to : each.path ≡ copied.to
   pub from : CopiesFrom copied.from copied.from_rev each.act
 
--- one of them stands for the record at the place
-pub record HasCopied (copies : List Copied) (place : ℕ) : Type 0 where
-  pub index : ℕ
-  pub within : index < length copies
-  pub is : (d : Copied) → (slice_index_or copies index d).place ≡ place
+-- one of them stands for the record of the index
+pub record HasCopied (copies : List Copied) (index : ℕ) : Type 0 where
+  pub number : ℕ
+  pub within : number < length copies
+  pub is : (d : Copied) → (slice_index_or copies number d).index ≡ index
 
 -- the copies among the records, in their order
 pub record AreCopies (records : List NodeRecord) (copies : List Copied) : Type 0 where
   pub sound : All (IsCopied records) copies
-  pub complete : (place : ℕ) (each : NodeRecord) → slice_get records place ≡ Some each → IsCopy each.act
-      → HasCopied copies place
-  pub rising : AllPairs (λ one later. one.place < later.place) copies
+  pub complete : (index : ℕ) (each : NodeRecord) → slice_get records index ≡ Some each → IsCopy each.act
+      → HasCopied copies index
+  pub rising : AllPairs (λ one later. one.index < later.index) copies
 
 abbrev pub revs_of : List NodeRecord → List ℕ
 revs_of records = map (λ each. each.rev) records
@@ -46,28 +46,28 @@ pub record AreKept (records : List NodeRecord) (revs : List ℕ) (copies : List 
   pub of_revs : revs ≡ revs_of records
   pub of_copies : AreCopies records copies
 
--- the record at the place adds the path without a copy, or copies to it or to a path above it
-pub record SetsPathAt (records : List NodeRecord) (place : ℕ) (path : List NameId) : Type 0 where
+-- the record of the index adds the path without a copy, or copies to it or to a path above it
+pub record SetsPathAt (records : List NodeRecord) (index : ℕ) (path : List NameId) : Type 0 where
   pub each : NodeRecord
-  pub at : slice_get records place ≡ Some each
+  pub at : slice_get records index ≡ Some each
   pub sets : SetsPath each path
 
--- one of them stands for the record at the place, or the record does not copy
+-- one of them stands for the record of the index, or the record does not copy
 abbrev pub IsCopyAt : List NodeRecord → ℕ → Option Copied → Type 0
-IsCopyAt records place (Some copied) = IsCopied records copied × (copied.place ≡ place)
-IsCopyAt records place None = (each : NodeRecord) → slice_get records place ≡ Some each → IsCopy each.act → ⊥
+IsCopyAt records index (Some copied) = IsCopied records copied × (copied.index ≡ index)
+IsCopyAt records index None = (each : NodeRecord) → slice_get records index ≡ Some each → IsCopy each.act → ⊥
 
 -- to the copies comes that of the record after some others
 abbrev pub AddsCopy : ℕ → NodeRecord → List Copied → List Copied → Type 0
-AddsCopy place each old new =
-    (records : List NodeRecord) → length records ≡ place → AreCopies records old → AreCopies (records ++ each ∷ []) new
+AddsCopy index each old new =
+    (records : List NodeRecord) → length records ≡ index → AreCopies records old → AreCopies (records ++ each ∷ []) new
 
 -- so many records are of revisions up to this one, and stand before the others
 pub record IsCountUpTo (rev : ℕ) (records : List NodeRecord) (count : ℕ) : Type 0 where
   pub bound : count ≤ length records
   pub point : IsPartitionPoint (λ each. leb each.rev rev ≡ true) (λ each. leb each.rev rev ≡ false) records count
 
--- the origin of the path after the record at the place
+-- the origin of the path after the record of the index
 abbrev pub IsOriginAt : List NodeRecord → ℕ → List NameId → Option Origin → Type 0
-IsOriginAt records place path from =
-    (each : NodeRecord) → slice_get records place ≡ Some each → IsOriginBy each path from
+IsOriginAt records index path from =
+    (each : NodeRecord) → slice_get records index ≡ Some each → IsOriginBy each path from

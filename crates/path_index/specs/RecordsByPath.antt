@@ -38,19 +38,19 @@ pub record AddsEntries (children : List Child) (Holds : List NameId → ℕ → 
 -- some of the first records is so related to the path and the number
 pub record IsOfSome (IsOf : NodeRecord → ℕ → List NameId → ℕ → Type 0) (records : List NodeRecord) (count : ℕ)
     (path : List NameId) (number : ℕ) : Type 0 where
-  pub place : ℕ
+  pub index : ℕ
   pub each : NodeRecord
-  pub early : place < count
-  pub at : slice_get records place ≡ Some each
-  pub so : IsOf each place path number
+  pub early : index < count
+  pub at : slice_get records index ≡ Some each
+  pub so : IsOf each index path number
 
--- the record adds the path without a copy, and the number is its place
+-- the record adds the path without a copy, and the number is its index
 abbrev pub AddsPath : NodeRecord → ℕ → List NameId → ℕ → Type 0
-AddsPath each place path number = IsAddition each.act × (each.path ≡ path) × (number ≡ place)
+AddsPath each index path number = IsAddition each.act × (each.path ≡ path) × (number ≡ index)
 
 -- the record copies to the path
 abbrev pub CopiesPath : NodeRecord → ℕ → List NameId → ℕ → Type 0
-CopiesPath each place path number = IsCopy each.act × (each.path ≡ path) × (number ≡ place)
+CopiesPath each index path number = IsCopy each.act × (each.path ≡ path) × (number ≡ index)
 
 -- the path is one of the first so many above another path, from the root on, and the number is the revision
 abbrev pub IsFrontAt : List NameId → ℕ → ℕ → List NameId → ℕ → Type 0
@@ -58,7 +58,7 @@ IsFrontAt whole most rev path number = ((n : ℕ) × (n ≤ most) × (path ≡ t
 
 -- the record names the path or a path below it, and the number is its revision
 abbrev pub NamesPath : NodeRecord → ℕ → List NameId → ℕ → Type 0
-NamesPath each place path number = IsFrontAt each.path (length each.path) each.rev path number
+NamesPath each index path number = IsFrontAt each.path (length each.path) each.rev path number
 
 -- the numbers are those of the first records
 pub record AreListed (records : List NodeRecord) (count : ℕ) (nodes : List Child) (added copied named : List (Vec ℕ))
@@ -72,11 +72,11 @@ pub record AreByPath (records : List NodeRecord) (by_path : RecordsByPath) : Typ
   pub few : length records < 2 ^ 32
   pub listed : AreListed records (length records) by_path.nodes by_path.added by_path.copied by_path.named
 
--- by the numbers, the record at this place adds the path without a copy, or copies to it or to a path above it
+-- by the numbers, the record of this index adds the path without a copy, or copies to it or to a path above it
 abbrev pub SetsAt : RecordsByPath → List NameId → ℕ → Type 0
-SetsAt by_path path place =
-    ((n : ℕ) × HasEntryOf by_path.nodes (take n path) place by_path.copied)
-    ⊎ HasEntryOf by_path.nodes path place by_path.added
+SetsAt by_path path index =
+    ((n : ℕ) × HasEntryOf by_path.nodes (take n path) index by_path.copied)
+    ⊎ HasEntryOf by_path.nodes path index by_path.added
 
 -- they are of the records of two neighbouring parts of a history, the first of which has so many records
 pub record AreNeighbours (one other : RecordsByPath) (count : ℕ) : Type 0 where

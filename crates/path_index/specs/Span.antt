@@ -1,4 +1,4 @@
--- The newest revisions through which a path stood at one place, and where it stood before.
+-- The newest revisions through which a path stood at one location, and where it stood before.
 use Rattle.std.specs.Prelude.{◌≡◌, ℕ, ◌<◌, ◌≤◌, nat_lt, if◌then◌else◌, IfSome, List, Option, None, Some, option_and_then}
 use Rattle.svn_path.specs.declared.names.NameId.{NameId}
 use Rattle.svn_dump.specs.declared.record.NodeRecord.{NodeRecord}

@@ -4,10 +4,10 @@ ghost use Rattle.std.specs.Prelude.{◌≡◌, ◌+◌, ◌^◌, ◌<◌, IfOk};
 use std::alloc::AllocError;
 use svn_path::Path;
 
-/// The place of a record that copies, where it copies to, and from where.
+/// The index of a record that copies, where it copies to, and from where.
 #[derive(Drop)]
 pub(crate) struct Copied {
-    pub place: u32,
+    pub index: u32,
     pub to: Path,
     pub from: Path,
     pub from_rev: u32,
@@ -16,13 +16,13 @@ pub(crate) struct Copied {
 impl Copied {
     ghost use Rattle.path_index.specs.Records.{moved_by};
 
-    /// The same copy at a later place.
+    /// The same copy with a greater index.
     pub(crate) fn moved(&self, shift: u32) -> Result<Self, AllocError>
-        requires { self.now.place + shift < 2 ^ 32 }
+        requires { self.now.index + shift < 2 ^ 32 }
         ensures { IfOk result (λ copied. copied ≡ moved_by shift self.now) }
     {
         Ok(Copied {
-            place: self.place + shift,
+            index: self.index + shift,
             to: self.to.dup()?,
             from: self.from.dup()?,
             from_rev: self.from_rev,

@@ -1,6 +1,6 @@
 //! An operative revision of a path.
 
-/// An operative revision of the path of a segment, and the segment's place in the list.
+/// An operative revision of the path of a segment, and the index of the segment.
 #[derive(Clone, Copy, Debug, PartialEq, Eq)]
 pub struct Hit {
     pub rev: u32,

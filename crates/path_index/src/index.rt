@@ -68,29 +68,29 @@ impl Index {
         ensures maximal { IfOk result (λ segments. AreMaximal self.now path.now rev segments.items) }
     {
         let mut segments = Vec::new(self.records.allocator());
-        let mut place = path.dup()?;
+        let mut here = path.dup()?;
         let mut at = rev;
         let mut hi = rev;
         loop {
-            let Span { lo, origin } = self.span_up_to(&place, at)?;
+            let Span { lo, origin } = self.span_up_to(&here, at)?;
             let Some(origin) = origin else {
                 segments.push(Segment {
                     lo,
                     hi,
-                    path: Some(place),
+                    path: Some(here),
                 })?;
                 return Ok(segments);
             };
             at = origin.rev;
             // A copy of the path from itself one revision earlier does not end a segment.
-            if origin.path != place || at + 1 < lo {
+            if origin.path != here || at + 1 < lo {
                 segments.push(Segment {
                     lo,
                     hi,
-                    path: Some(place),
+                    path: Some(here),
                 })?;
                 push_gap(&mut segments, at, lo)?;
-                place = origin.path;
+                here = origin.path;
                 hi = at;
             }
         }
@@ -103,17 +103,17 @@ impl Index {
         ensures exact { IfOk result (λ found. found ≡ location_in self.now.records path.now peg rev) }
         ensures above_peg { peg < rev → IfOk result (λ found. found ≡ None) }
     {
-        let mut place = path.dup()?;
+        let mut here = path.dup()?;
         let mut at = peg;
         while at >= rev {
-            let Span { lo, origin } = self.span_up_to(&place, at)?;
+            let Span { lo, origin } = self.span_up_to(&here, at)?;
             if lo <= rev {
-                return Ok(Some(place));
+                return Ok(Some(here));
             }
             let Some(origin) = origin else {
                 return Ok(None);
             };
-            place = origin.path;
+            here = origin.path;
             at = origin.rev;
         }
         Ok(None)
@@ -134,14 +134,14 @@ impl Index {
         ensures { IfOk result (λ hits. AreHitsOf self.now segments.now hits.items) }
     {
         let mut hits = Vec::with_capacity(self.records.allocator(), USUAL_HITS)?;
-        for (place, segment) in segments.iter().enumerate() {
+        for (index, segment) in segments.iter().enumerate() {
             if let Some(path) = &segment.path {
                 self.by_path
-                    .push_named(&mut hits, place, path, segment.lo, segment.hi)?;
+                    .push_named(&mut hits, index, path, segment.lo, segment.hi)?;
                 if segment.lo > 0 {
                     hits.push(Hit {
                         rev: segment.lo,
-                        segment: place,
+                        segment: index,
                     })?;
                 }
             }

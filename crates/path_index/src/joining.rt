@@ -8,11 +8,11 @@ impl Acts for Index {
     ghost use Rattle.std.specs.Prelude.{List};
     ghost use Rattle.svn_dump.specs.declared.record.NodeRecord.{NodeRecord};
     ghost use Rattle.par_scan.specs.Weightless.{no_weight};
-    ghost use Rattle.path_index.specs.Joining.{put_before, records_before, records_up_to_end};
+    ghost use Rattle.path_index.specs.Joining.{put_records_before, records_before, records_up_to_end};
 
     ghost Point = { List NodeRecord };
 
-    ghost act = { put_before };
+    ghost act = { put_records_before };
 
     ghost begin = { records_before };
 

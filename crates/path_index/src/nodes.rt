@@ -1,6 +1,6 @@
 //! The paths of records, each once, as a tree of components.
 ghost use Rattle.std.specs.Prelude.{◌≡◌, ◌≤◌, List, [], Some, length, IfOk, OnOk};
-ghost use Rattle.path_index.specs.Nodes.{child_of, node_of, AreNodesOf, IsGrown};
+ghost use Rattle.path_index.specs.Nodes.{child_of, node_of, AreNodesOf, Extends};
 
 use indexmap::IndexSet;
 use std::alloc::{AllocError, Global};
@@ -22,14 +22,14 @@ pub(crate) struct Nodes {
 
 impl Model for Nodes {
     ghost use Rattle.std.specs.Prelude.{List, length, ◌<◌, ◌^◌};
-    ghost use Rattle.path_index.specs.Nodes.{AreOrdered};
+    ghost use Rattle.path_index.specs.Nodes.{HaveParentsBefore};
     ghost use Rattle.path_index.specs.declared.nodes.Child.{Child};
 
     ghost Value = { List Child };
 
     ghost view = { λ n. n.children.keys };
 
-    ghost invariant = { λ n. (length n.children.keys < 2 ^ 32) × AreOrdered n.children.keys };
+    ghost invariant = { λ n. (length n.children.keys < 2 ^ 32) × HaveParentsBefore n.children.keys };
 }
 
 impl Nodes {
@@ -56,7 +56,7 @@ impl Nodes {
     pub(crate) fn add(&mut self, parent: u32, name: NameId) -> Result<u32, AllocError>
         requires { parent ≤ length self.old }
         ensures node { IfOk result (λ node. child_of self.new parent name ≡ Some node) }
-        ensures grown { OnOk result (IsGrown self.old self.new) }
+        ensures grown { OnOk result (Extends self.old self.new) }
     {
         if self.children.len() == u32::MAX as usize {
             return Err(AllocError);
@@ -68,7 +68,7 @@ impl Nodes {
     /// Adds the nodes of another tree. Returns the node of each, from the root on.
     pub(crate) fn add_all(&mut self, later: &Nodes) -> Result<Vec<u32>, AllocError>
         ensures nodes { IfOk result (λ nodes. AreNodesOf later.now self.new nodes.items) }
-        ensures grown { OnOk result (IsGrown self.old self.new) }
+        ensures grown { OnOk result (Extends self.old self.new) }
     {
         let mut nodes = Vec::with_capacity(*self.children.allocator(), later.children.len() + 1)?;
         nodes.push(0)?;

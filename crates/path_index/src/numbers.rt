@@ -1,7 +1,7 @@
 //! Rising lists of numbers, one for each node.
 ghost use Rattle.std.specs.Prelude.{◌≡◌, ℕ, ◌+◌, ◌-◌, ◌^◌, ◌<◌, ◌++◌, [], All, filter, length, map, IfOk, OnOk};
 ghost use Rattle.path_index.specs.Numbers.{has_number, newer_of, numbers_of, AddsNumbers, ArePair, FitShifted};
-ghost use Rattle.path_index.specs.Numbers.{HasNumber, HaveSameNumbers, IsMoved, IsNewestBelow, IsLocationOf, IsRising};
+ghost use Rattle.path_index.specs.Numbers.{HasNumber, HaveSameNumbers, IsMoved, IsNewestBelow, IsFirstNotBelow, IsRising};
 ghost use Rattle.path_index.specs.Numbers.{IsShifted, IsUpTo, IsWith};
 ghost use Rattle.path_index.specs.Operative.{down_from, hit_at};
 
@@ -27,7 +27,7 @@ impl Model for Numbers {
     ghost invariant = { λ n. AreAllRising n.lists.items };
 }
 
-/// The newer of two places of records.
+/// The newer of two indices of records.
 pub(crate) fn newer(one: Option<u32>, other: Option<u32>) -> Option<u32>
     ensures { result ≡ newer_of one other }
 {
@@ -38,10 +38,10 @@ pub(crate) fn newer(one: Option<u32>, other: Option<u32>) -> Option<u32>
     }
 }
 
-/// The place of the first of these numbers that is not below a number.
-fn place_of(numbers: &[u32], number: u32) -> usize
+/// The index of the first of these numbers that is not below a number.
+fn first_not_below(numbers: &[u32], number: u32) -> usize
     requires { IsRising numbers.now }
-    ensures { IsLocationOf number numbers.now result }
+    ensures { IsFirstNotBelow number numbers.now result }
 {
     match numbers.last() {
         Some(last) if *last < number => numbers.len(),
@@ -50,15 +50,15 @@ fn place_of(numbers: &[u32], number: u32) -> usize
     }
 }
 
-/// Inserts a number at its place, if it is not there.
+/// Inserts a number in its order, if it is not there.
 fn insert_number(numbers: &mut Vec<u32>, number: u32) -> Result<(), AllocError>
     requires { IsRising numbers.old.items }
     ensures rising { IsRising numbers.new.items }
     ensures with { OnOk result (IsWith number numbers.old.items numbers.new.items) }
 {
-    let place = place_of(numbers.as_slice(), number);
-    if place == numbers.len() || numbers[place] != number {
-        numbers.insert(place, number)?;
+    let first = first_not_below(numbers.as_slice(), number);
+    if first == numbers.len() || numbers[first] != number {
+        numbers.insert(first, number)?;
     }
     Ok(())
 }
@@ -180,13 +180,13 @@ impl Numbers {
     pub(crate) fn push_hits(
         &self,
         hits: &mut Vec<Hit>,
-        place: usize,
+        segment: usize,
         node: u32,
         lo: u32,
         hi: u32,
     ) -> Result<(), AllocError>
         ensures { OnOk result (hits.new.items ≡ hits.old.items
-            ++ map (hit_at place) (filter (has_number self.now node) (down_from (hi - lo) hi))) }
+            ++ map (hit_at segment) (filter (has_number self.now node) (down_from (hi - lo) hi))) }
     {
         let mut rest = self.up_to(node, hi);
         while let Some((last, before)) = rest.split_last() {
@@ -195,7 +195,7 @@ impl Numbers {
             }
             hits.push(Hit {
                 rev: *last,
-                segment: place,
+                segment,
             })?;
             rest = before;
         }

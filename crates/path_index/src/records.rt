@@ -33,13 +33,13 @@ impl Model for Records {
     ghost invariant = { λ r. AreKept r.all.records r.revs.items r.copies.items };
 }
 
-/// Appends the record at this place, if it is a copy.
-fn push_copy(copies: &mut Vec<Copied>, place: u32, each: &NodeRecord) -> Result<(), AllocError>
-    ensures { OnOk result (AddsCopy place each.now copies.old.items copies.new.items) }
+/// Appends the record of this index, if it is a copy.
+fn push_copy(copies: &mut Vec<Copied>, index: u32, each: &NodeRecord) -> Result<(), AllocError>
+    ensures { OnOk result (AddsCopy index each.now copies.old.items copies.new.items) }
 {
     if let Act::Copy { from, from_rev, .. } = &each.act {
         copies.push(Copied {
-            place,
+            index,
             to: each.path.dup()?,
             from: from.dup()?,
             from_rev: *from_rev,
@@ -48,9 +48,9 @@ fn push_copy(copies: &mut Vec<Copied>, place: u32, each: &NodeRecord) -> Result<
     Ok(())
 }
 
-/// Appends these copies at later places.
+/// Appends these copies with greater indices.
 fn push_moved(copies: &mut Vec<Copied>, more: &[Copied], shift: u32) -> Result<(), AllocError>
-    requires { All (λ each. each.place + shift < 2 ^ 32) more.now }
+    requires { All (λ each. each.index + shift < 2 ^ 32) more.now }
     ensures { OnOk result (copies.new.items ≡ copies.old.items ++ map (moved_by shift) more.now) }
 {
     for each in more {
@@ -68,9 +68,9 @@ impl Records {
         let mut revs = Vec::with_capacity(alloc, records.len())?;
         let mut copies = Vec::new(alloc);
         let mut all = GhostRecords::new();
-        for (place, each) in records.iter().enumerate() {
+        for (index, each) in records.iter().enumerate() {
             revs.push(each.rev)?;
-            push_copy(&mut copies, place as u32, each)?;
+            push_copy(&mut copies, index as u32, each)?;
             all.push(each);
         }
         Ok(Records { revs, copies, all })
@@ -130,31 +130,31 @@ impl Records {
         self.revs.partition_point(|each| *each <= rev)
     }
 
-    /// The revision of the record at this place.
-    pub(crate) fn rev(&self, place: u32) -> u32
-        requires { place < length self.now }
-        ensures { (each : Record) → slice_get self.now place ≡ Some each → result ≡ each.rev }
+    /// The revision of the record of this index.
+    pub(crate) fn rev(&self, index: u32) -> u32
+        requires { index < length self.now }
+        ensures { (each : Record) → slice_get self.now index ≡ Some each → result ≡ each.rev }
     {
-        self.revs[place as usize]
+        self.revs[index as usize]
     }
 
-    /// The copy of the record at this place.
-    fn copy_at(&self, place: u32) -> Option<&Copied>
-        ensures { IsCopyAt self.now place (option_copied result) }
+    /// The copy of the record of this index.
+    fn copy_at(&self, index: u32) -> Option<&Copied>
+        ensures { IsCopyAt self.now index (option_copied result) }
     {
-        let index = self.copies.partition_point(|each| each.place < place);
-        match self.copies.get(index) {
-            Some(copied) if copied.place == place => Some(copied),
+        let number = self.copies.partition_point(|each| each.index < index);
+        match self.copies.get(number) {
+            Some(copied) if copied.index == index => Some(copied),
             _ => None,
         }
     }
 
-    /// The origin of the path after the record at this place, which adds it, or copies to it or to a path above it.
-    pub(crate) fn origin(&self, place: u32, path: &Path) -> Result<Option<Origin>, AllocError>
-        requires { SetsPathAt self.now place path.now }
-        ensures { IfOk result (IsOriginAt self.now place path.now) }
+    /// The origin of the path after the record of this index, which adds it, or copies to it or to a path above it.
+    pub(crate) fn origin(&self, index: u32, path: &Path) -> Result<Option<Origin>, AllocError>
+        requires { SetsPathAt self.now index path.now }
+        ensures { IfOk result (IsOriginAt self.now index path.now) }
     {
-        match self.copy_at(place) {
+        match self.copy_at(index) {
             Some(copied) => Ok(Some(Origin {
                 path: path.rebase(&copied.to, &copied.from)?,
                 rev: copied.from_rev,

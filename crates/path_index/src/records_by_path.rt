@@ -2,7 +2,7 @@
 ghost use Rattle.std.specs.Prelude.{◌≡◌, ◌+◌, ◌^◌, ◌<◌, List, Some, length, slice_get, IfOk, OnOk};
 ghost use Rattle.svn_dump.specs.declared.record.NodeRecord.{NodeRecord as Record};
 ghost use Rattle.path_index.specs.NamedRevisions.{AddsNamed};
-ghost use Rattle.path_index.specs.Nodes.{node_of, IsGrown};
+ghost use Rattle.path_index.specs.Nodes.{node_of, Extends};
 ghost use Rattle.path_index.specs.Numbers.{IsNewestBelow};
 ghost use Rattle.path_index.specs.RecordsByPath.{AddsEntries, AreByPath, AreListed, AreNeighbours, IsFrontAt};
 ghost use Rattle.path_index.specs.RecordsByPath.{IsOfBoth, IsOfSameRecords, SetsAt};
@@ -19,9 +19,9 @@ use svn_path::Path;
 pub(crate) struct RecordsByPath {
     /// The paths that records name, and all paths above them.
     nodes: Nodes,
-    /// For each path the places of the records that add it without a copy.
+    /// For each path the indices of the records that add it without a copy.
     added: Numbers,
-    /// For each path the places of the records that copy to it.
+    /// For each path the indices of the records that copy to it.
     copied: Numbers,
     /// For each path the revisions that name it or a path below it.
     named: Numbers,
@@ -39,22 +39,22 @@ impl RecordsByPath {
             copied: Numbers::new(alloc),
             named: Numbers::new(alloc),
         };
-        for (place, each) in records.iter().enumerate() {
-            by_path.add(place as u32, each)?;
+        for (index, each) in records.iter().enumerate() {
+            by_path.add(index as u32, each)?;
         }
         Ok(by_path)
     }
 
-    /// Adds the record at this place.
-    fn add(&mut self, place: u32, each: &NodeRecord) -> Result<(), AllocError>
-        ensures { OnOk result ((records : List Record) → slice_get records place ≡ Some each.now
-            → AreListed records place self.old.nodes self.old.added self.old.copied self.old.named
-            → AreListed records (place + 1) self.new.nodes self.new.added self.new.copied self.new.named) }
+    /// Adds the record of this index.
+    fn add(&mut self, index: u32, each: &NodeRecord) -> Result<(), AllocError>
+        ensures { OnOk result ((records : List Record) → slice_get records index ≡ Some each.now
+            → AreListed records index self.old.nodes self.old.added self.old.copied self.old.named
+            → AreListed records (index + 1) self.new.nodes self.new.added self.new.copied self.new.named) }
     {
         let node = self.name(&each.path, each.rev)?;
         match &each.act {
-            Act::Add { .. } => self.added.insert(node, place)?,
-            Act::Copy { .. } => self.copied.insert(node, place)?,
+            Act::Add { .. } => self.added.insert(node, index)?,
+            Act::Copy { .. } => self.copied.insert(node, index)?,
             _ => {}
         }
         Ok(())
@@ -63,7 +63,7 @@ impl RecordsByPath {
     /// Adds the path and all paths above it, with the revision. Returns the path's node.
     fn name(&mut self, path: &Path, rev: u32) -> Result<u32, AllocError>
         ensures node { IfOk result (λ node. node_of self.new.nodes path.now ≡ Some node) }
-        ensures grown { OnOk result (IsGrown self.old.nodes self.new.nodes) }
+        ensures grown { OnOk result (Extends self.old.nodes self.new.nodes) }
         ensures named { OnOk result (AddsEntries self.new.nodes (IsFrontAt path.now (length path.now) rev)
             self.old.named self.new.named) }
         ensures added { self.new.added ≡ self.old.added }
@@ -107,7 +107,7 @@ impl RecordsByPath {
         Ok(joined)
     }
 
-    /// The place of the newest of the first `count` records that add the path without a copy, or copy to it or to a
+    /// The index of the newest of the first `count` records that add the path without a copy, or copy to it or to a
     /// path above it.
     pub(crate) fn newest(&self, path: &Path, count: u32) -> Option<u32>
         ensures { IsNewestBelow count (SetsAt self.now path.now) result }
@@ -129,16 +129,16 @@ impl RecordsByPath {
     pub(crate) fn push_named(
         &self,
         hits: &mut Vec<Hit>,
-        place: usize,
+        segment: usize,
         path: &Path,
         lo: u32,
         hi: u32,
     ) -> Result<(), AllocError>
         ensures { OnOk result ((records : List Record) → AreByPath records self.now
-            → AddsNamed hits.old.items hits.new.items place path.now lo hi records) }
+            → AddsNamed hits.old.items hits.new.items segment path.now lo hi records) }
     {
         match self.nodes.find(path) {
-            Some(node) => self.named.push_hits(hits, place, node, lo, hi),
+            Some(node) => self.named.push_hits(hits, segment, node, lo, hi),
             None => Ok(()),
         }
     }

@@ -2,7 +2,7 @@
 
 use svn_path::Path;
 
-/// The neighbouring revisions from `lo` to `hi`, in which a path stood at one place, or nowhere.
+/// The neighbouring revisions from `lo` to `hi`, in which a path stood at one location, or nowhere.
 #[derive(Drop)]
 pub struct Segment {
     pub lo: u32,

@@ -1,4 +1,4 @@
-//! The newest revisions through which a path stood at one place.
+//! The newest revisions through which a path stood at one location.
 ghost use Rattle.std.specs.Prelude.{IfOk};
 ghost use Rattle.path_index.specs.History.{AreRising};
 ghost use Rattle.path_index.specs.Index.{IsThere};
@@ -11,7 +11,7 @@ use std::alloc::AllocError;
 use svn_dump::Origin;
 use svn_path::Path;
 
-/// The revisions from `lo` up to a given one, through which a path stood at one place.
+/// The revisions from `lo` up to a given one, through which a path stood at one location.
 #[derive(Drop)]
 pub(crate) struct Span {
     pub lo: u32,
@@ -33,15 +33,15 @@ impl Span {
         ensures { IfOk result (IsSpan records.now path.now peg) }
     {
         let count = records.count_up_to(peg);
-        let Some(place) = by_path.newest(path, count as u32) else {
+        let Some(index) = by_path.newest(path, count as u32) else {
             return Ok(Span {
                 lo: 0,
                 origin: None,
             });
         };
         Ok(Span {
-            lo: records.rev(place),
-            origin: records.origin(place, path)?,
+            lo: records.rev(index),
+            origin: records.origin(index, path)?,
         })
     }
 }

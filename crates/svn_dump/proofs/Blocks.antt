@@ -8,8 +8,8 @@ use Rattle.std.proofs.lemmas.List.{take-append-drop, length-take-le}
 use Rattle.std.proofs.lemmas.List.Elements.{All-push}
 use Rattle.std.proofs.lemmas.List.Folds.{list_any-append}
 use Rattle.std.proofs.lemmas.List.Sums.{sum_by-append}
-use Rattle.svn_text.specs.Bytes.{is_not_empty}
-use Rattle.svn_dump.specs.Block.{IsHeader, body_length, header_name, is_colon, is_named, length_or_zero, listed_names, properties_length}
+use Rattle.svn_text.specs.Bytes.{is_colon, is_not_empty}
+use Rattle.svn_dump.specs.Block.{IsHeader, body_length, header_name, is_named, length_or_zero, listed_names, properties_length}
 use Rattle.svn_text.specs.Line.{is_newline, line_text}
 use Rattle.svn_dump.specs.Field.{fields_of}
 use Rattle.svn_dump.specs.FirstRefusal.{after_lines, begins_with_newline, body_length_at, front_refusals, has_twice, header_lines, is_cut, is_no_header}

@@ -9,7 +9,7 @@ use Rattle.std.proofs.lemmas.List.Elements.{All-push}
 use Rattle.std.proofs.lemmas.Option.{cond_some}
 use Rattle.svn_path.specs.Names.{IsTable, with_names}
 use Rattle.svn_path.proofs.Tables.{IsTable-nil}
-use Rattle.svn_dump.specs.Draft.{Extends, action_in_bytes, record_in_bytes, dump_of, is_full, only_tables, IsDraft, IsNamed, IsValued, IsWhole}
+use Rattle.svn_dump.specs.Draft.{Extends, action_in_bytes, record_in_bytes, dump_of, is_full, only_tables, IsDraft, IsNamed, IsValued, IsWholeHistory}
 use Rattle.svn_dump.specs.Dump.{DumpValue, IsDump, IsRecordOf, history_in_bytes}
 use Rattle.svn_dump.specs.DumpText.{IsSmall, all_records, names_of, values_of, most_numbered, parts_of_record, texts_of_action}
 use Rattle.svn_dump.specs.Node.{Node, node_block, revision_block}
@@ -97,8 +97,8 @@ module _ (names : List (List ℕ)) (records : List NodeRecord) (counts : List �
       let long = length-history_in_bytes names records (counts ++ 0 ∷ []) texts in
       cond-false _ _ _ (ap is_none at) ∙ cond-true _ _ _ (ap grows_large at ∙ large_by_length after (omega (arith, full, long, length_push counts 0)))
 
-  pub IsWhole-with_revision : length counts < most_numbered → IsWhole (dump_of names records counts texts) → IsWhole (dump_of names records (counts ++ 0 ∷ []) texts)
-  IsWhole-with_revision room whole =
+  pub IsWholeHistory-with_revision : length counts < most_numbered → IsWholeHistory (dump_of names records counts texts) → IsWholeHistory (dump_of names records (counts ++ 0 ∷ []) texts)
+  IsWholeHistory-with_revision room whole =
       let named = whole.named ∙ sym (names_of-with_revision (history_in_bytes (dump_of names records counts texts))) ∙ ap names_of (sym (history_in_bytes-with_revision names records counts texts)) in
       let valued = whole.valued ∙ sym (values_of-with_revision (history_in_bytes (dump_of names records counts texts))) ∙ ap values_of (sym (history_in_bytes-with_revision names records counts texts)) in record {
         named = named;
@@ -124,7 +124,7 @@ module _ (names : List (List ℕ)) (records : List NodeRecord) (counts : List �
   -- why there is none
   pub refused-record :
       (node : Node) (e : ReadError) → IsFirstReason (node_refusals (length counts) node (is_record_large names texts (record_of (pred (length counts)) node))) e →
-      IsWhole (dump_of names records counts texts) → IsFirstReason (sort_refusals (history_in_bytes (dump_of names records counts texts)) (node_block node)) e
+      IsWholeHistory (dump_of names records counts texts) → IsFirstReason (sort_refusals (history_in_bytes (dump_of names records counts texts)) (node_block node)) e
   refused-record node e is whole =
       let history = history_in_bytes (dump_of names records counts texts) in
       let large : Bool = is_record_large names texts (record_of (pred (length counts)) node) in
@@ -185,8 +185,8 @@ module _ (names : List (List ℕ)) (records : List NodeRecord) (counts : List �
         is_told.texts ∙ ap (λ old. with_names old (texts_of_action (action_in_bytes new new_texts each.act))) valued
         ∙ sym (values_of-with_record history (record_in_bytes new new_texts each) some_group) ∙ ap values_of (sym history_told)
 
-    pub IsWhole-with_record : is_full (dump_of new records counts new_texts) ≡ false → IsTable new → IsDistinct bytes_eq new_texts → IsWhole (dump_of names records counts texts) → IsWhole after
-    IsWhole-with_record room table distinct whole =
+    pub IsWholeHistory-with_record : is_full (dump_of new records counts new_texts) ≡ false → IsTable new → IsDistinct bytes_eq new_texts → IsWholeHistory (dump_of names records counts texts) → IsWholeHistory after
+    IsWholeHistory-with_record room table distinct whole =
         let (few, _) = or_parts _ (nat_le most_numbered (length records)) room in
         let (few_names, few_values) = or_parts (nat_lt most_numbered (length new)) (nat_lt most_numbered (length new_texts)) few in record {
           named = IsNamed-with_record whole.named;
@@ -198,7 +198,7 @@ module _ (names : List (List ℕ)) (records : List NodeRecord) (counts : List �
         }
 
     -- it is one too many, or its names or texts are
-    pub refused-full : (node : Node) → told ≡ record_of (pred (length (history_in_bytes (dump_of names records counts texts)))) node → is_full (dump_of new records counts new_texts) ≡ true → IsWhole (dump_of names records counts texts) → first_holding (sort_refusals (history_in_bytes (dump_of names records counts texts)) (node_block node)) ≡ Some TooLarge
+    pub refused-full : (node : Node) → told ≡ record_of (pred (length (history_in_bytes (dump_of names records counts texts)))) node → is_full (dump_of new records counts new_texts) ≡ true → IsWholeHistory (dump_of names records counts texts) → first_holding (sort_refusals (history_in_bytes (dump_of names records counts texts)) (node_block node)) ≡ Some TooLarge
     refused-full node said full whole =
         sort_refusals-large (history_in_bytes (dump_of names records counts texts)) node (record_in_bytes new new_texts each) (sym said ∙ is_told.same)
         (elim (cases_Bool (is_large (with_record (history_in_bytes (dump_of names records counts texts)) (record_in_bytes new new_texts each)))) [
@@ -217,12 +217,12 @@ module _ (names : List (List ℕ)) (records : List NodeRecord) (counts : List �
 -- ---- the whole dump
 
 -- a dump without revisions
-pub IsWhole-none : IsWhole (dump_of [] [] [] [])
+pub IsWholeHistory-none : IsWholeHistory (dump_of [] [] [] [])
 unfolding IsDistinct
-IsWhole-none = record { named = refl; valued = refl; names = IsTable-nil; texts = tt; small = small_nothing }
+IsWholeHistory-none = record { named = refl; valued = refl; names = IsTable-nil; texts = tt; small = small_nothing }
 
 -- a whole draft with a revision is a dump
-pub IsDump-whole : (dump : DumpValue) → IsDraft dump → IsWhole dump → dump.counts ≢ [] → IsDump dump
+pub IsDump-whole : (dump : DumpValue) → IsDraft dump → IsWholeHistory dump → dump.counts ≢ [] → IsDump dump
 IsDump-whole dump draft whole some = record {
   names = whole.names;
   texts = whole.texts;

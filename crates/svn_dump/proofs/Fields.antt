@@ -1,4 +1,4 @@
--- The headers that are read, by their places, and what one more line makes of them.
+-- The headers that are read, by their indices, and what one more line makes of them.
 use Rattle.std.proofs.Common.{◌≡◌, ℕ, zero, suc, ◌+◌, ◌<◌, ◌≤◌, Bool, true, false, cond, List, [], ◌∷◌, ◌++◌, map, length, get_or, set, refl, sym, ap, ap₂, ◌∙◌, subst, inl, inr, arith, rules, Bor}
 use Rattle.std.specs.Prelude.{Option, Some, None, option_map, option_copied, is_some, All, IsFalse, bytes_eq, count_by, slice_get}
 use Rattle.std.specs.List.{IsDistinct}
@@ -10,15 +10,15 @@ use Rattle.std.proofs.lemmas.List.Elements.{All-head, All-tail, All-from_recursi
 use Rattle.std.proofs.lemmas.List.Sums.{sum_by-cons, sum_by_push}
 use Rattle.std.proofs.lemmas.Slice.Eq.{bytes_eq-Decides}
 use Rattle.svn_dump.specs.Block.{field, is_named, header_name, header_value, listed_names}
-use Rattle.svn_dump.specs.Field.{place_of, fields_of}
+use Rattle.svn_dump.specs.Field.{index_of, fields_of}
 use Rattle.svn_dump.specs.Headers.{AreHeaders, AreOnce}
 use Rattle.svn_dump.specs.contracts.field.Field.{the_type}
 use Rattle.svn_dump.specs.declared.field.Field.{Field}
 use Rattle.svn_dump.specs.declared.field.Field.TheVariants.{Uuid, RevisionNumber, NodePath, NodeKind, NodeAction, CopyfromRevision, CopyfromPath, PropertiesLength, TextLength, ContentLength, PropertiesDelta, TextDelta}
 use denote.Enum.Declared.{tag_of}
 
--- the number of a variant is its place
-pub tag_of-field : (field : Field) → tag_of the_type field ≡ place_of field
+-- the number of a variant is its index
+pub tag_of-field : (field : Field) → tag_of the_type field ≡ index_of field
 tag_of-field Uuid = refl
 tag_of-field RevisionNumber = refl
 tag_of-field NodePath = refl
@@ -129,11 +129,11 @@ module _ {Y : Type 0} (F : List ℕ → Bool → Y) (name : List ℕ) where
 fields_of-push : (lines : List (List ℕ)) (line : List ℕ) → fields_of (lines ++ line ∷ []) ≡ map (λ name. with_line (bytes_eq (header_name line) name) (field name lines) line) listed_names
 fields_of-push lines line = same_maps (λ name. field name (lines ++ line ∷ [])) _ listed_names (λ name. field-push name lines line)
 
--- the value at a listed name's place
-pub fields_of-at : (lines : List (List ℕ)) (place : ℕ) (name : List ℕ) → slice_get listed_names place ≡ Some name → get_or (fields_of lines) place None ≡ field name lines
-fields_of-at lines place name listed =
-    get_or_from_slice_get (fields_of lines) place (field name lines) None
-    (slice_get-map (λ each. field each lines) listed_names place ∙ ap (option_map (λ each. field each lines)) listed)
+-- the value at a listed name's index
+pub fields_of-at : (lines : List (List ℕ)) (index : ℕ) (name : List ℕ) → slice_get listed_names index ≡ Some name → get_or (fields_of lines) index None ≡ field name lines
+fields_of-at lines index name listed =
+    get_or_from_slice_get (fields_of lines) index (field name lines) None
+    (slice_get-map (λ each. field each lines) listed_names index ∙ ap (option_map (λ each. field each lines)) listed)
 
 -- a name that stood at most once still does, if it isn't the line's or stood nowhere
 count_by-push-le : (name : List ℕ) (lines : List (List ℕ)) (line : List ℕ) → count_by (is_named name) lines ≤ 1 → (is_named name line ≡ true → field name lines ≡ None) → count_by (is_named name) (lines ++ line ∷ []) ≤ 1
@@ -159,25 +159,25 @@ module _ (lines : List (List ℕ)) (line name : List ℕ) (named : header_name l
       }
 
   -- of a listed name that has no value yet
-  pub AreHeaders-listed : (values : List (Option (List ℕ))) (place : ℕ) → slice_get listed_names place ≡ Some name → get_or values place None ≡ None → AreHeaders values lines → AreHeaders (set values place (Some (header_value line))) (lines ++ line ∷ [])
-  AreHeaders-listed values place listed none before =
-      let none_yet : field name lines ≡ None = sym (fields_of-at lines place name listed) ∙ ap (λ all. get_or all place None) (sym before.fields) ∙ none in record {
+  pub AreHeaders-listed : (values : List (Option (List ℕ))) (index : ℕ) → slice_get listed_names index ≡ Some name → get_or values index None ≡ None → AreHeaders values lines → AreHeaders (set values index (Some (header_value line))) (lines ++ line ∷ [])
+  AreHeaders-listed values index listed none before =
+      let none_yet : field name lines ≡ None = sym (fields_of-at lines index name listed) ∙ ap (λ all. get_or all index None) (sym before.fields) ∙ none in record {
         fields =
-            ap (λ all. set all place (Some (header_value line))) before.fields
-            ∙ ap (λ o. set (fields_of lines) place (option_or o (Some (header_value line)))) (sym none_yet)
-            ∙ sym (fields_of-named ∙ map_at (λ each is. with_line is (field each lines) line) name listed_names place listed_apart listed);
+            ap (λ all. set all index (Some (header_value line))) before.fields
+            ∙ ap (λ o. set (fields_of lines) index (option_or o (Some (header_value line)))) (sym none_yet)
+            ∙ sym (fields_of-named ∙ map_at (λ each is. with_line is (field each lines) line) name listed_names index listed_apart listed);
         once = λ k d h. count_by-push-le (get_or listed_names k d) lines line (before.once k d h) (λ is.
             let same = (bytes_eq-Decides name (get_or listed_names k d)).0 (sym (line_name (get_or listed_names k d)) ∙ is) in
             ap (λ each. field each lines) (sym same) ∙ none_yet);
       }
 
   -- of a listed name that has a value
-  pub AreHeaders-twice : (values : List (Option (List ℕ))) (place : ℕ) (value : List ℕ) → slice_get listed_names place ≡ Some name → get_or values place None ≡ Some value → AreHeaders values lines → AreOnce (lines ++ line ∷ []) → ⊥
-  AreHeaders-twice values place value listed some before once =
-      let valued : field name lines ≡ Some value = sym (fields_of-at lines place name listed) ∙ ap (λ all. get_or all place None) (sym before.fields) ∙ some in
+  pub AreHeaders-twice : (values : List (Option (List ℕ))) (index : ℕ) (value : List ℕ) → slice_get listed_names index ≡ Some name → get_or values index None ≡ Some value → AreHeaders values lines → AreOnce (lines ++ line ∷ []) → ⊥
+  AreHeaders-twice values index value listed some before once =
+      let valued : field name lines ≡ Some value = sym (fields_of-at lines index name listed) ∙ ap (λ all. get_or all index None) (sym before.fields) ∙ some in
       let here : is_named name line ≡ true = line_name name ∙ (bytes_eq-Decides name name).1 refl in
-      let most = once place name (slice_get_within listed_names place name listed) in
-      let at : get_or listed_names place name ≡ name = get_or_from_slice_get listed_names place name name listed in
+      let most = once index name (slice_get_within listed_names index name listed) in
+      let at : get_or listed_names index name ≡ name = get_or_from_slice_get listed_names index name name listed in
       let most' : count_by (is_named name) (lines ++ line ∷ []) ≤ 1 = subst (λ each. count_by (is_named each) (lines ++ line ∷ []) ≤ 1) at most in
       omega (arith, count_by-push name lines line, cond-true {A = ℕ} _ 1 0 here, count_by-Some name value lines valued)
 

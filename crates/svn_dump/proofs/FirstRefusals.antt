@@ -14,7 +14,7 @@ use Rattle.svn_text.specs.Bytes.{is_not_empty}
 use Rattle.svn_dump.specs.Block.{AreBlocks, Block, IsBlock, IsHeader, block_text}
 use Rattle.svn_text.specs.Line.{is_newline, line_text}
 use Rattle.svn_dump.specs.DumpText.{IsDumpText, IsSmall, first_line}
-use Rattle.svn_dump.specs.FirstRefusal.{PlacedRefusal, after_block, begins_with_newline, block_at, block_refusal, end_refusal, first_refusal, front_refusals, line_refusals, magic, refusal_from, refusal_or, without_empty_lines}
+use Rattle.svn_dump.specs.FirstRefusal.{RefusalAt, after_block, begins_with_newline, block_at, block_refusal, end_refusal, first_refusal, front_refusals, line_refusals, magic, refusal_from, refusal_or, without_empty_lines}
 use Rattle.svn_dump.specs.Record.{HistoryOfBytes, history_of, sort_of, with_block}
 use Rattle.svn_dump.specs.Refusal.{first_holding, sort_refusals}
 use Rattle.svn_dump.specs.declared.refusal.Refusal.{Refusal}
@@ -24,10 +24,10 @@ use Rattle.svn_dump.proofs.Refusals.{IsSmall-before, first_holding-append, no_re
 
 -- ---- one refusal or another
 
-pub no_first : (o : Option Refusal) (at : ℕ) (later : Option PlacedRefusal) → o ≡ None → refusal_or o at later ≡ later
+pub no_first : (o : Option Refusal) (at : ℕ) (later : Option RefusalAt) → o ≡ None → refusal_or o at later ≡ later
 no_first o at later e = ap (λ first. refusal_or first at later) e
 
-neither : (o : Option Refusal) (at : ℕ) (later : Option PlacedRefusal) → refusal_or o at later ≡ None → (o ≡ None) × (later ≡ None)
+neither : (o : Option Refusal) (at : ℕ) (later : Option RefusalAt) → refusal_or o at later ≡ None → (o ≡ None) × (later ≡ None)
 neither None at later e = (refl, e)
 neither (Some refusal) at later e = absurd (none-some _ (sym e))
 
@@ -106,10 +106,10 @@ length-block front block rest bytes whole =
 -- ---- one step
 
 -- what is told against the blocks after the first
-abbrev later_refusal : ℕ → ℕ → HistoryOfBytes → List ℕ → Option PlacedRefusal
+abbrev later_refusal : ℕ → ℕ → HistoryOfBytes → List ℕ → Option RefusalAt
 later_refusal most total history bytes = option_and_then (λ after. refusal_from most total after (after_block bytes)) (with_block history (block_at bytes))
 
-abbrev refusal_at : ℕ → ℕ → HistoryOfBytes → List ℕ → Option PlacedRefusal
+abbrev refusal_at : ℕ → ℕ → HistoryOfBytes → List ℕ → Option RefusalAt
 refusal_at most total history bytes =
     cond (is_not_empty bytes) (refusal_or (block_refusal history bytes) (total - length bytes) (later_refusal most total history bytes)) (end_refusal total history)
 

@@ -9,7 +9,7 @@ use Rattle.std.proofs.lemmas.List.{nil_from_length}
 use Rattle.svn_text.specs.Bytes.{is_not_empty}
 use Rattle.svn_dump.specs.Block.{AreBlocks, Block, block_text}
 use Rattle.svn_text.specs.Line.{is_newline}
-use Rattle.svn_dump.specs.Draft.{dump_of, IsWhole}
+use Rattle.svn_dump.specs.Draft.{dump_of, IsWholeHistory}
 use Rattle.svn_dump.specs.Dump.{DumpValue, IsDump, history_in_bytes}
 use Rattle.svn_dump.specs.DumpError.{IsRefusal}
 use Rattle.svn_dump.specs.DumpText.{IsDumpText, IsSmall, first_line, names_of, values_of}
@@ -27,7 +27,7 @@ use Rattle.svn_dump.specs.declared.read_error.ReadError.TheVariants as read
 use Rattle.svn_dump.specs.declared.refusal.Refusal.{Refusal}
 use Rattle.svn_dump.specs.declared.refusal.Refusal.TheVariants.{Revision}
 use Rattle.svn_dump.proofs.FirstRefusals.{after_first_line, first_line_taken, length-after_line, length-block, no_first, refusal_at-block, refusal_from-at}
-use Rattle.svn_dump.proofs.Drafts.{IsWhole-none}
+use Rattle.svn_dump.proofs.Drafts.{IsWholeHistory-none}
 use Rattle.svn_dump.proofs.Fronts.{front-block, without_empty_lines-front}
 use Rattle.svn_dump.proofs.Histories.{length-history_in_bytes}
 use Rattle.svn_dump.proofs.Refusals.{first_holding-append, first_holding-front}
@@ -72,7 +72,7 @@ pub record IsRead (bytes rest : List ℕ) (draft : DumpValue) : Type 0 where
   pub done : List Block
   pub begins : (more : List Block) → AreBlocks rest more → (after : List ℕ) × (bytes ≡ first_line ++ after) × AreBlocks after (done ++ more)
   pub tells : history_of done ≡ Some (history_in_bytes draft)
-  pub whole : IsWhole draft
+  pub whole : IsWholeHistory draft
   pub within : length rest ≤ length bytes
   pub most : ℕ
   pub enough : length rest < suc most
@@ -89,7 +89,7 @@ IsRead-none bytes rest begins = record {
   done = [];
   begins = λ more blocks. (rest, begins, blocks);
   tells = refl;
-  whole = IsWhole-none;
+  whole = IsWholeHistory-none;
   within = omega (arith, length-after_line bytes rest begins);
   most = length bytes - 1;
   enough = omega (arith, length-after_line bytes rest begins);
@@ -112,7 +112,7 @@ module _ (bytes rest block : List ℕ) (old : DumpValue) (before : IsRead bytes 
   from_block : first_refusal bytes ≡ cond (is_not_empty block) (refusal_or (block_refusal (history_in_bytes old) block) (length bytes - length block) (option_and_then (λ after. refusal_from before.most (length bytes) after (after_block block)) (with_block (history_in_bytes old) (block_at block)))) (end_refusal (length bytes) (history_in_bytes old))
   from_block = before.refusal ∙ refusal_from-at before.most (length bytes) (history_in_bytes old) rest block (sym front)
 
-  pub IsRead-more : (after : List ℕ) (new : DumpValue) → AddsBlock block after (history_in_bytes old) (history_in_bytes new) → (IsWhole old → IsWhole new) → IsRead bytes after new
+  pub IsRead-more : (after : List ℕ) (new : DumpValue) → AddsBlock block after (history_in_bytes old) (history_in_bytes new) → (IsWholeHistory old → IsWholeHistory new) → IsRead bytes after new
   IsRead-more after new added keeps =
       let whole = keeps before.whole in
       let skipped = without_empty_lines-front rest in
@@ -137,7 +137,7 @@ module _ (bytes rest block : List ℕ) (old : DumpValue) (before : IsRead bytes 
       }
 
   -- a refusal of the block is that of the bytes
-  pub IsRefusal-block : (e : ReadError) → is_not_empty block ≡ true → (IsWhole old → IsBlockRefusal (history_in_bytes old) block e) → IsRefusal bytes (dump_error_at (length bytes - length block) e)
+  pub IsRefusal-block : (e : ReadError) → is_not_empty block ≡ true → (IsWholeHistory old → IsBlockRefusal (history_in_bytes old) block e) → IsRefusal bytes (dump_error_at (length bytes - length block) e)
   IsRefusal-block (read.Refused refusal) some is = record {
     refusal = refusal;
     first = from_block ∙ cond-true _ _ _ some

@@ -7,7 +7,7 @@ use Rattle.svn_dump.specs.FrontBlock.{BeginsWithBlock}
 use Rattle.svn_dump.specs.History.{put}
 use Rattle.svn_dump.specs.Node.{Node, node_block, other_block, revision_block, sort_by_fields, uuid_block}
 use Rattle.svn_dump.specs.Property.{last_value, mergeinfo_name, section_of, setting_of}
-use Rattle.svn_dump.specs.Record.{is_delta, node_action_of, node_of, sort_of}
+use Rattle.svn_dump.specs.Record.{is_delta, node_action_of, node_of_block, sort_of}
 use Rattle.svn_dump.specs.HeaderValues.{node_from_headers, setting_from_section, sort_from_headers, value_of}
 use Rattle.svn_dump.specs.declared.field.Field.TheVariants.{RevisionNumber, NodePath, Uuid}
 
@@ -38,13 +38,13 @@ setting_of-front section [] body long front = ap (λ n. setting_of n body) (sym 
 setting_of-front section (byte ∷ properties) body long front =
     ap (λ all. option_map (λ given. put (last_value mergeinfo_name given)) (section_of all)) front ∙ ap (λ n. setting_of n body) (sym long)
 
-node_of-front : (block : Block) (properties path : List ℕ) → setting_from_section properties ≡ setting_of (properties_length block.lines) block.body → node_from_headers (fields_of block.lines) properties path ≡ node_of block path
-node_of-front block properties path settled =
+node_of_block-front : (block : Block) (properties path : List ℕ) → setting_from_section properties ≡ setting_of (properties_length block.lines) block.body → node_from_headers (fields_of block.lines) properties path ≡ node_of_block block path
+node_of_block-front block properties path settled =
     ap (λ setting. let node : Node = record { path = path; action = node_action_of block.lines; is_delta = is_delta block.lines; setting = setting } in node) settled
 
-nodes-front : (block : Block) (properties : List ℕ) (path : Option (List ℕ)) → setting_from_section properties ≡ setting_of (properties_length block.lines) block.body → option_map (node_from_headers (fields_of block.lines) properties) path ≡ option_map (node_of block) path
+nodes-front : (block : Block) (properties : List ℕ) (path : Option (List ℕ)) → setting_from_section properties ≡ setting_of (properties_length block.lines) block.body → option_map (node_from_headers (fields_of block.lines) properties) path ≡ option_map (node_of_block block) path
 nodes-front block properties None settled = refl
-nodes-front block properties (Some path) settled = ap Some (node_of-front block properties path settled)
+nodes-front block properties (Some path) settled = ap Some (node_of_block-front block properties path settled)
 
 -- the same that its headers say
 pub sort_from_headers-block : (bytes rest : List ℕ) (values : List (Option (List ℕ))) (properties : List ℕ) (found : BeginsWithBlock bytes values properties rest) → sort_from_headers values properties ≡ sort_of found.block

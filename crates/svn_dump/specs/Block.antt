@@ -1,14 +1,11 @@
 -- The blocks of a dump (Subversion's dump format notes, version 2): header lines, an empty line, and a body.
 use Rattle.std.specs.Prelude.{◌≡◌, ℕ, ◌+◌, ◌≤◌, ◌==◌, nat_lt, Bool, List, [], ◌∷◌, ◌++◌, Option, Some, None, All, length, replicate, flat_map, count_by, codes, bytes_eq, IsTrue, IsFalse, option_and_then, if◌then◌else◌}
 use Rattle.std.specs.List.{list_any, before_first, after_first}
-use Rattle.svn_text.specs.Bytes.{is_not_empty}
+use Rattle.svn_text.specs.Bytes.{is_colon, is_not_empty}
 use Rattle.svn_text.specs.Line.{is_newline, line_text}
 use Rattle.svn_text.specs.Number.{number_up_to, greatest_length}
 
 -- ---- header lines
-
-abbrev pub is_colon : ℕ → Bool
-is_colon byte = byte == 58
 
 -- the value without the one space that may stand before it
 abbrev pub without_space : List ℕ → List ℕ

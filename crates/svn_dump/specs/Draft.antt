@@ -47,7 +47,7 @@ abbrev pub IsValued : DumpValue → Type 0
 IsValued dump = dump.values ≡ values_of (history_in_bytes dump)
 
 -- nothing but that history is kept, and it isn't too large
-pub record IsWhole (dump : DumpValue) : Type 0 where
+pub record IsWholeHistory (dump : DumpValue) : Type 0 where
   pub named : IsNamed dump
   pub valued : IsValued dump
   pub names : IsTable dump.names

@@ -24,13 +24,13 @@ abbrev pub fault_if_missing : {C M : Type 0} → (C → C → Bool) → Tree C M
 fault_if_missing same tree path = if is_there same tree path then None else Some missing
 
 -- the path must not be there, and its parent has to be a directory
-abbrev pub fault_of_place : {C M : Type 0} → (C → C → Bool) → Tree C M → List C → Option Fault
-fault_of_place same tree path =
+abbrev pub fault_of_new_path : {C M : Type 0} → (C → C → Bool) → Tree C M → List C → Option Fault
+fault_of_new_path same tree path =
     if is_there same tree path then Some exists else (if has_parent same tree path then None else Some no_parent)
 
 -- what an addition needs of its path, a replacing one that it is there
 abbrev pub fault_of_target : {C M : Type 0} → (C → C → Bool) → Tree C M → Bool → List C → Option Fault
-fault_of_target same tree replace path = if replace then fault_if_missing same tree path else fault_of_place same tree path
+fault_of_target same tree replace path = if replace then fault_if_missing same tree path else fault_of_new_path same tree path
 
 -- the source of a copy has to be there in its revision
 abbrev pub fault_of_source : {C M : Type 0} → (C → C → Bool) → List (Tree C M) → List C → ℕ → Option Fault

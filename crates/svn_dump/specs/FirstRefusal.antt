@@ -1,8 +1,8 @@
 -- The first reason against bytes as a dump: of the first block against which there is one, the first in their order.
 use Rattle.std.specs.Prelude.{◌≡◌, ℕ, zero, suc, ◌-◌, ◌==◌, nat_eq, nat_lt, Bool, false, not, ◌&&◌, ◌||◌, List, [], ◌∷◌, ◌++◌, Option, Some, None, is_none, bytes_eq, codes, count_by, drop, flat_map, length, option_and_then, take, unwrap_or, if◌then◌else◌}
 use Rattle.std.specs.List.{after_first, before_first, list_any, slice_split, starts_with}
-use Rattle.svn_text.specs.Bytes.{is_not_empty}
-use Rattle.svn_dump.specs.Block.{Block, body_length, header_name, is_colon, is_named, listed_names}
+use Rattle.svn_text.specs.Bytes.{is_colon, is_not_empty}
+use Rattle.svn_dump.specs.Block.{Block, body_length, header_name, is_named, listed_names}
 use Rattle.svn_text.specs.Line.{is_newline, line_text}
 use Rattle.svn_dump.specs.Record.{HistoryOfBytes, sort_of, with_block}
 use Rattle.svn_dump.specs.Refusal.{Reason, first_holding, reason, sort_refusals}
@@ -10,7 +10,7 @@ use Rattle.svn_dump.specs.declared.refusal.Refusal.{Refusal}
 use Rattle.svn_dump.specs.declared.refusal.Refusal.TheVariants.{Magic, Version, Header, Length, Truncated, Revision}
 
 -- a reason, and where the block begins against which it holds
-pub record PlacedRefusal : Type 0 where
+pub record RefusalAt : Type 0 where
   pub refusal : Refusal
   pub at : ℕ
 
@@ -90,18 +90,18 @@ block_refusal history bytes = first_holding (front_refusals bytes ++ sort_refusa
 -- ---- the whole dump
 
 -- a dump has a revision
-abbrev pub end_refusal : ℕ → HistoryOfBytes → Option PlacedRefusal
+abbrev pub end_refusal : ℕ → HistoryOfBytes → Option RefusalAt
 end_refusal total [] = Some (record { refusal = Revision; at = total })
 end_refusal total (records ∷ history) = None
 
 -- a refusal there, if there is one, else a later one
-abbrev pub refusal_or : Option Refusal → ℕ → Option PlacedRefusal → Option PlacedRefusal
+abbrev pub refusal_or : Option Refusal → ℕ → Option RefusalAt → Option RefusalAt
 refusal_or None at later = later
 refusal_or (Some refusal) at later = Some (record { refusal = refusal; at = at })
 
 -- in the blocks that the rest of so many bytes begins with, after a history; each block takes bytes, so there are fewer
 -- blocks than bytes
-unfoldable pub refusal_from : ℕ → ℕ → HistoryOfBytes → List ℕ → Option PlacedRefusal
+unfoldable pub refusal_from : ℕ → ℕ → HistoryOfBytes → List ℕ → Option RefusalAt
 refusal_from zero total history rest = None
 refusal_from (suc most) total history rest =
     let bytes = without_empty_lines rest in
@@ -110,6 +110,6 @@ refusal_from (suc most) total history rest =
     (option_and_then (λ after. refusal_from most total after (after_block bytes)) (with_block history (block_at bytes)))
     else end_refusal total history
 
-unfoldable pub first_refusal : List ℕ → Option PlacedRefusal
+unfoldable pub first_refusal : List ℕ → Option RefusalAt
 first_refusal bytes =
     refusal_or (first_holding (line_refusals bytes)) 0 (refusal_from (length bytes) (length bytes) [] (after_first is_newline bytes))

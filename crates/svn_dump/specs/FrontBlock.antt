@@ -4,7 +4,7 @@ use Rattle.std.specs.Borrow.{Bor}
 use Rattle.std.specs.List.{list_any}
 use Rattle.svn_dump.specs.Block.{Block, IsBlock, IsHeader, block_text, properties_length}
 use Rattle.svn_text.specs.Line.{is_newline, line_text}
-use Rattle.svn_dump.specs.Draft.{IsWhole}
+use Rattle.svn_dump.specs.Draft.{IsWholeHistory}
 use Rattle.svn_dump.specs.Dump.{DumpValue, history_in_bytes}
 use Rattle.svn_dump.specs.Field.{fields_of}
 use Rattle.svn_dump.specs.FirstRefusal.{block_refusal}
@@ -67,4 +67,4 @@ AddsSort old sort new = with_sort (history_in_bytes old) sort ≡ Some (history_
 
 -- the error is the first reason against a block of that sort, or want of memory
 abbrev pub IsSortRefusal : DumpValue → BlockSort → ReadError → Type 0
-IsSortRefusal old sort error = IsWhole old → IsFirstReason (sort_refusals (history_in_bytes old) sort) error
+IsSortRefusal old sort error = IsWholeHistory old → IsFirstReason (sort_refusals (history_in_bytes old) sort) error

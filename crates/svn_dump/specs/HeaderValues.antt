@@ -1,8 +1,8 @@
--- What the values of the listed headers say, by their places, with the property section: what a block says that has
+-- What the values of the listed headers say, by their indices, with the property section: what a block says that has
 -- these.
 use Rattle.std.specs.Prelude.{ℕ, Bool, ◌||◌, List, [], ◌∷◌, Option, Some, None, slice_index_or, option_copied, option_map, option_and_then}
 use Rattle.svn_dump.specs.Block.{length_or_zero, whole_length}
-use Rattle.svn_dump.specs.Field.{place_of}
+use Rattle.svn_dump.specs.Field.{index_of}
 use Rattle.svn_dump.specs.History.{Setting, keep, put}
 use Rattle.svn_dump.specs.Node.{BlockSort, Node, NodeAction, action_named, addition, node_add, node_change, node_copy, node_delete, sort_by_fields}
 use Rattle.svn_dump.specs.Record.{says_true}
@@ -16,7 +16,7 @@ use Rattle.svn_dump.specs.declared.field.Field.{Field}
 use Rattle.svn_dump.specs.declared.field.Field.TheVariants as field
 
 abbrev pub value_of : List (Option (List ℕ)) → Field → Option (List ℕ)
-value_of values field = slice_index_or values (place_of field) None
+value_of values field = slice_index_or values (index_of field) None
 
 -- how long the body is
 abbrev pub body_length_from_headers : List (Option (List ℕ)) → Option ℕ

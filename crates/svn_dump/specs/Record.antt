@@ -95,8 +95,8 @@ node_action_of lines =
     (action_named (field (codes "Node-kind") lines) (field (codes "Node-copyfrom-rev") lines) (field (codes "Node-copyfrom-path") lines))
     (field (codes "Node-action") lines)
 
-abbrev pub node_of : Block → List ℕ → Node
-node_of block path = record {
+abbrev pub node_of_block : Block → List ℕ → Node
+node_of_block block path = record {
   path = path;
   action = node_action_of block.lines;
   is_delta = is_delta block.lines;
@@ -105,7 +105,7 @@ node_of block path = record {
 
 unfoldable pub sort_of : Block → BlockSort
 sort_of block =
-    sort_by_fields (field (codes "Revision-number") block.lines) (option_map (node_of block) (field (codes "Node-path") block.lines))
+    sort_by_fields (field (codes "Revision-number") block.lines) (option_map (node_of_block block) (field (codes "Node-path") block.lines))
     (field (codes "UUID") block.lines)
 
 -- ---- the history

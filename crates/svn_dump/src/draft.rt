@@ -3,7 +3,7 @@ ghost use Rattle.std.specs.Prelude.{◌≡◌, [], bytes_eq, IsFalse, OnOk, IfEr
 ghost use Rattle.std.specs.List.{IsDistinct};
 ghost use Rattle.svn_path.specs.Names.{IsTable};
 ghost use Rattle.svn_dump.specs.Dump.{IsDump};
-ghost use Rattle.svn_dump.specs.Draft.{dump_of, is_full, IsWhole};
+ghost use Rattle.svn_dump.specs.Draft.{dump_of, is_full, IsWholeHistory};
 ghost use Rattle.svn_dump.specs.Node.{node_block, revision_block};
 ghost use Rattle.svn_dump.specs.FrontBlock.{AddsSort, IsSortRefusal};
 ghost use Rattle.svn_dump.specs.HeaderValues.{node_of_front, sort_of_front};
@@ -62,7 +62,7 @@ impl Draft {
     /// Adds what a block says.
     pub(crate) fn add(&mut self, alloc: Global, found: &FrontBlock) -> Result<(), ReadError>
         ensures added { OnOk result (AddsSort self.old (sort_of_front found.now) self.new) }
-        ensures keeps { OnOk result (IsWhole self.old → IsWhole self.new) }
+        ensures keeps { OnOk result (IsWholeHistory self.old → IsWholeHistory self.new) }
         ensures refused { IfErr result (IsSortRefusal self.old (sort_of_front found.now)) }
     {
         if let Some(number) = found.headers.get(Field::RevisionNumber) {
@@ -79,7 +79,7 @@ impl Draft {
     /// Adds a revision, whose number is to be the next.
     fn add_revision(&mut self, number: &[u8]) -> Result<(), ReadError>
         ensures added { OnOk result (AddsSort self.old (revision_block number.now) self.new) }
-        ensures keeps { OnOk result (IsWhole self.old → IsWhole self.new) }
+        ensures keeps { OnOk result (IsWholeHistory self.old → IsWholeHistory self.new) }
         ensures refused { IfErr result (IsSortRefusal self.old (revision_block number.now)) }
     {
         let next = self.counts.len();
@@ -101,7 +101,7 @@ impl Draft {
         path: &[u8],
     ) -> Result<(), ReadError>
         ensures added { OnOk result (AddsSort self.old (node_block (node_of_front found.now path.now)) self.new) }
-        ensures keeps { OnOk result (IsWhole self.old → IsWhole self.new) }
+        ensures keeps { OnOk result (IsWholeHistory self.old → IsWholeHistory self.new) }
         ensures refused { IfErr result (IsSortRefusal self.old (node_block (node_of_front found.now path.now))) }
     {
         let revisions = self.counts.len();
@@ -134,7 +134,7 @@ impl Draft {
 
     /// The dump of so many bytes, if it has a revision.
     pub(crate) fn finish(self, end: u64) -> Result<Dump, DumpError>
-        requires { IsWhole self }
+        requires { IsWholeHistory self }
         ensures same { IfOk result (λ dump. dump ≡ self) }
         ensures kept { IfOk result IsDump }
         ensures refused { IfErr result (λ e. (e ≡ DumpError.Refused 8 end) × (self.counts ≡ [])) }

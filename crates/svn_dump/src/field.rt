@@ -1,6 +1,6 @@
 //! The header names that are read.
 ghost use Rattle.std.specs.Prelude.{◌≡◌, MatchOption};
-ghost use Rattle.svn_dump.specs.Field.{IsFieldOf, IsUnlisted, place_of};
+ghost use Rattle.svn_dump.specs.Field.{IsFieldOf, IsUnlisted, index_of};
 
 /// A header name that is read, in the order of the list of such names.
 #[derive(Clone, Copy, Debug, PartialEq, Eq)]
@@ -53,9 +53,9 @@ impl Field {
         }
     }
 
-    /// Its place in the list.
-    pub(crate) fn place(self) -> usize
-        ensures { result ≡ place_of self }
+    /// Its index in the list of names.
+    pub(crate) fn index(self) -> usize
+        ensures { result ≡ index_of self }
     {
         self as usize
     }

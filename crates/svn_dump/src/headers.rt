@@ -34,7 +34,7 @@ impl<'a> Headers<'a> {
     pub(crate) fn get(&self, field: Field) -> Option<&'a [u8]>
         ensures { option_copied result ≡ value_of self.now field }
     {
-        self.values[field.place()]
+        self.values[field.index()]
     }
 
     /// Adds a header line. Lines of other names are ignored, and a second one of a listed name is refused.
@@ -47,7 +47,7 @@ impl<'a> Headers<'a> {
             if self.get(field).is_some() {
                 return Err(Refusal::Header);
             }
-            self.values[field.place()] = Some(value);
+            self.values[field.index()] = Some(value);
         }
         Ok(())
     }

@@ -1,7 +1,7 @@
 //! Reading a dump.
 ghost use Rattle.std.specs.Prelude.{◌≡◌, ◌++◌, ◌↔◌, None, IsFalse, IsTrue, IfErr, IfOk, IsErrOf, OnOk, Some};
 ghost use Rattle.svn_text.specs.Bytes.{is_not_empty};
-ghost use Rattle.svn_dump.specs.Draft.{IsWhole};
+ghost use Rattle.svn_dump.specs.Draft.{IsWholeHistory};
 ghost use Rattle.svn_dump.specs.Dump.{history_in_bytes};
 ghost use Rattle.svn_dump.specs.DumpText.{IsDumpText, first_line, names_of, values_of};
 ghost use Rattle.svn_dump.specs.DumpError.{IsRefusal};
@@ -75,9 +75,9 @@ fn add_block<'a>(alloc: Global, draft: &mut Draft, bytes: &'a [u8]) -> Result<&'
     requires some { IsTrue (is_not_empty bytes.now) }
     requires not_empty_line { IsFalse (begins_with_newline bytes.now) }
     ensures added { IfOk result (λ rest. AddsBlockTo draft.old draft.new bytes.now rest.now) }
-    ensures keeps { OnOk result (IsWhole draft.old → IsWhole draft.new) }
+    ensures keeps { OnOk result (IsWholeHistory draft.old → IsWholeHistory draft.new) }
     ensures refused { IfErr result
-        (λ e. IsWhole draft.old → IsBlockRefusal (history_in_bytes draft.old) bytes.now e) }
+        (λ e. IsWholeHistory draft.old → IsBlockRefusal (history_in_bytes draft.old) bytes.now e) }
 {
     let found = first_block(bytes)?;
     draft.add(alloc, &found)?;

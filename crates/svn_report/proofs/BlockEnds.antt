@@ -7,19 +7,19 @@ use Rattle.std.proofs.lemmas.List.{length_push}
 use Rattle.std.proofs.lemmas.List.FromFn.{get_or-map-range_with_len, length-map-range_with_len, map-range_with_len_more, sum_by-map-range_with_len_more, take-map-range_with_len}
 use Rattle.std.proofs.lemmas.List.Sums.{sum_by-take-le}
 use Rattle.svn_report.specs.Blocks.{AreBorders}
-use Rattle.svn_report.specs.Cutting.{AreBlockEnds, block_length, end_of, every_end, neighbours}
+use Rattle.svn_report.specs.Cutting.{AreBlockEnds, block_length, end_of_blocks, every_end, neighbours}
 
 -- more blocks end no earlier
-end_of-le : (cuts : List ℕ) (last i j : ℕ) → i ≤ j → end_of cuts last i ≤ end_of cuts last j
-end_of-le cuts last i j h =
+end_of_blocks-le : (cuts : List ℕ) (last i j : ℕ) → i ≤ j → end_of_blocks cuts last i ≤ end_of_blocks cuts last j
+end_of_blocks-le cuts last i j h =
     let lengths : ℕ → ℕ = block_length cuts last in
     let short = sum_by-take-le (λ (x : ℕ). x) (map lengths (range_with_len 0 j)) i in
     let same = ap sum (take-map-range_with_len lengths 0 j i h) in
     omega (arith, short, same)
 
 -- one more block
-end_of-more : (cuts : List ℕ) (last blocks : ℕ) → end_of cuts last (blocks + 1) ≡ min last (end_of cuts last blocks + block_length cuts last blocks)
-end_of-more cuts last blocks =
+end_of_blocks-more : (cuts : List ℕ) (last blocks : ℕ) → end_of_blocks cuts last (blocks + 1) ≡ min last (end_of_blocks cuts last blocks + block_length cuts last blocks)
+end_of_blocks-more cuts last blocks =
     let more = sum_by-map-range_with_len_more (λ (x : ℕ). x) (block_length cuts last) 0 blocks blocks (omega arith) in
     omega (arith, more)
 
@@ -37,9 +37,9 @@ last-or-below n count h =
 -- the ends so far, the last of which is `end`
 pub record AreEndsUpTo (cuts : List ℕ) (last end : ℕ) (ends : List ℕ) : Type 0 where
   pub some : 0 < length ends
-  pub each : ends ≡ map (end_of cuts last) (range_with_len 0 (length ends))
-  pub at : end ≡ end_of cuts last (length ends - 1)
-  pub fewest : (blocks : ℕ) → blocks + 1 < length ends → end_of cuts last blocks < last
+  pub each : ends ≡ map (end_of_blocks cuts last) (range_with_len 0 (length ends))
+  pub at : end ≡ end_of_blocks cuts last (length ends - 1)
+  pub fewest : (blocks : ℕ) → blocks + 1 < length ends → end_of_blocks cuts last blocks < last
   pub few : length ends ≤ end + 1
 
 pub AreEndsUpTo-more : (cuts : List ℕ) (last end next : ℕ) (ends : List ℕ) → All (λ length. 0 < length) cuts → end < last → next ≡ end + min (block_length cuts last (length ends - 1)) (last - end)
@@ -48,19 +48,19 @@ AreEndsUpTo-more cuts last end next ends lengths before step are =
     let blocks = length ends - 1 in
     let one_more : blocks + 1 ≡ length ends = omega (arith, are.some) in
     let long = block_length-some cuts last blocks lengths (omega arith) in
-    let more = end_of-more cuts last blocks in
-    let at : next ≡ end_of cuts last (length ends) =
-    subst (λ n. next ≡ end_of cuts last n) one_more (omega (arith, more, step, are.at)) in
+    let more = end_of_blocks-more cuts last blocks in
+    let at : next ≡ end_of_blocks cuts last (length ends) =
+    subst (λ n. next ≡ end_of_blocks cuts last n) one_more (omega (arith, more, step, are.at)) in
     let len = length_push ends next in
     let place : length ends ≡ length (ends ++ next ∷ []) - 1 = omega arith in
     record {
       some = omega arith;
       each = ap₂ (λ l x. l ++ x ∷ []) are.each at
-          ∙ sym (map-range_with_len_more (end_of cuts last) 0 (length ends) (length ends) (omega arith))
-          ∙ ap (λ n. map (end_of cuts last) (range_with_len 0 n)) (sym len);
-      at = at ∙ ap (end_of cuts last) place;
+          ∙ sym (map-range_with_len_more (end_of_blocks cuts last) 0 (length ends) (length ends) (omega arith))
+          ∙ ap (λ n. map (end_of_blocks cuts last) (range_with_len 0 n)) (sym len);
+      at = at ∙ ap (end_of_blocks cuts last) place;
       fewest = λ n h. elim (last-or-below n (length ends) (omega (arith, len))) [
-        | inl same ↦ omega (arith, ap (end_of cuts last) same, are.at)
+        | inl same ↦ omega (arith, ap (end_of_blocks cuts last) same, are.at)
         | inr less ↦ are.fewest n less
       ];
       few = omega (arith, are.few, long);
@@ -92,14 +92,14 @@ every_end-few size most ends some covers =
     omega arith
 
 module _ (cuts : List ℕ) (last : ℕ) (ends : List ℕ) (are : AreBlockEnds cuts last ends) where
-  end_at : (i : ℕ) → i < length ends → get_or ends i 0 ≡ end_of cuts last i
+  end_at : (i : ℕ) → i < length ends → get_or ends i 0 ≡ end_of_blocks cuts last i
   end_at i below =
       ap (λ l. get_or l i 0) are.each
-      ∙ get_or-map-range_with_len (end_of cuts last) 0 (length ends) i i 0 below (omega arith)
+      ∙ get_or-map-range_with_len (end_of_blocks cuts last) 0 (length ends) i i 0 below (omega arith)
 
   module _ (size : ℕ) (some : 0 < size) where
     -- the end at a place of those that are kept
-    kept_at : (i : ℕ) → i < length (every_end size ends) → get_or (every_end size ends) i 0 ≡ end_of cuts last (min (length ends - 1) (i * size))
+    kept_at : (i : ℕ) → i < length (every_end size ends) → get_or (every_end size ends) i 0 ≡ end_of_blocks cuts last (min (length ends - 1) (i * size))
     kept_at i below =
         let blocks = length ends - 1 in
         let count = blocks / size + min 1 (blocks % size) + 1 in
@@ -118,15 +118,15 @@ module _ (cuts : List ℕ) (last : ℕ) (ends : List ℕ) (are : AreBlockEnds cu
         let at : length (every_end size ends) - 1 ≡ parts = omega arith in
         let whole : min blocks (parts * size) ≡ blocks = omega arith in
         let none : min blocks (0 * size) ≡ 0 = omega (arith, zero-mul size) in
-        let first : end_of cuts last 0 ≡ 0 = omega arith in
+        let first : end_of_blocks cuts last 0 ≡ 0 = omega arith in
         record {
           some = omega arith;
-          starts = kept_at 0 (omega arith) ∙ ap (end_of cuts last) none ∙ first;
+          starts = kept_at 0 (omega arith) ∙ ap (end_of_blocks cuts last) none ∙ first;
           rise = λ i j h below.
               let lower = kept_at i (omega arith) in
               let upper = kept_at j below in
               let up = mul-le-mul_right size h in
-              let ends_up = end_of-le cuts last (min blocks (i * size)) (min blocks (j * size)) (omega arith) in
+              let ends_up = end_of_blocks-le cuts last (min blocks (i * size)) (min blocks (j * size)) (omega arith) in
               omega (arith, lower, upper, ends_up);
-          ends = ap (λ i. get_or (every_end size ends) i 0) at ∙ kept_at parts (omega arith) ∙ ap (end_of cuts last) whole ∙ are.all;
+          ends = ap (λ i. get_or (every_end size ends) i 0) at ∙ kept_at parts (omega arith) ∙ ap (end_of_blocks cuts last) whole ∙ are.all;
         }

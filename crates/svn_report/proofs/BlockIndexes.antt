@@ -7,7 +7,7 @@ use Rattle.svn_dump.specs.declared.record.NodeRecord.{NodeRecord}
 use Rattle.par_scan.specs.Chain.{IsChain, IsJoined, Meet, act_all}
 use Rattle.par_scan.specs.Weightless.{no_weight}
 use Rattle.path_index.specs.Index.{IndexValue}
-use Rattle.path_index.specs.Joining.{put_before, records_before, records_up_to_end}
+use Rattle.path_index.specs.Joining.{put_records_before, records_before, records_up_to_end}
 use Rattle.svn_report.specs.Blocks.{AreBorders, IsIndexOfBlock}
 
 -- each index is of the records of the block of its number
@@ -47,7 +47,7 @@ first-records : (all : List NodeRecord) (b c : ℕ) (bs : List ℕ) (m : IndexVa
 first-records all b c bs m ms are = (are 0 m (omega arith)).records
 
 -- joined they put all records from the first border on before others
-act_all-blocks : (all : List NodeRecord) (first : ℕ) (borders : List ℕ) (indexes : List IndexValue) → AreBorders first (length all) borders → AreIndexesOfBlocks all borders indexes → length indexes + 1 ≡ length borders → act_all put_before indexes [] ≡ drop first all
+act_all-blocks : (all : List NodeRecord) (first : ℕ) (borders : List ℕ) (indexes : List IndexValue) → AreBorders first (length all) borders → AreIndexesOfBlocks all borders indexes → length indexes + 1 ≡ length borders → act_all put_records_before indexes [] ≡ drop first all
 act_all-blocks all first [] indexes is are len = absurd (omega (arith, is.some))
 act_all-blocks all first (b ∷ []) [] is are len =
     let starts : b ≡ first = is.starts in
@@ -58,7 +58,7 @@ act_all-blocks all first (b ∷ c ∷ bs) [] is are len = absurd (omega arith)
 act_all-blocks all first (b ∷ c ∷ bs) (m ∷ ms) is are len =
     let rise : b ≤ c = is.rise 0 1 (omega arith) (omega arith) in
     let starts : b ≡ first = is.starts in
-    ap (λ records. records ++ act_all put_before ms []) (first-records all b c bs m ms are)
+    ap (λ records. records ++ act_all put_records_before ms []) (first-records all b c bs m ms are)
     ∙ ap (λ rest. slice_range all b c ++ rest)
     (act_all-blocks all c (c ∷ bs) ms (AreBorders-tail first (length all) b c bs is) (AreIndexesOfBlocks-tail all b (c ∷ bs) m ms are) (omega arith))
     ∙ sym (drop_split all b c rise)
@@ -88,9 +88,9 @@ IsChain-blocks all first borders indexes is are len = record {
 }
 
 -- joined they are the index of all records
-pub joined-records : (all : List NodeRecord) (borders : List ℕ) (indexes : List IndexValue) (joined : IndexValue) → AreBorders 0 (length all) borders → AreIndexesOfBlocks all borders indexes → length indexes + 1 ≡ length borders → IsJoined put_before records_before records_up_to_end indexes joined → joined.records ≡ all
+pub joined-records : (all : List NodeRecord) (borders : List ℕ) (indexes : List IndexValue) (joined : IndexValue) → AreBorders 0 (length all) borders → AreIndexesOfBlocks all borders indexes → length indexes + 1 ≡ length borders → IsJoined put_records_before records_before records_up_to_end indexes joined → joined.records ≡ all
 joined-records all borders indexes joined is are len j =
     sym (append-nil joined.records) ∙ j.acts [] ∙ act_all-blocks all 0 borders indexes is are len
 
-pub joined-first : (all : List NodeRecord) (borders : List ℕ) (indexes : List IndexValue) (joined : IndexValue) → AreBorders 0 (length all) borders → AreIndexesOfBlocks all borders indexes → IsJoined put_before records_before records_up_to_end indexes joined → joined.first ≡ 0
+pub joined-first : (all : List NodeRecord) (borders : List ℕ) (indexes : List IndexValue) (joined : IndexValue) → AreBorders 0 (length all) borders → AreIndexesOfBlocks all borders indexes → IsJoined put_records_before records_before records_up_to_end indexes joined → joined.first ≡ 0
 joined-first all borders indexes joined is are j = j.begins joined ∙ (are 0 joined j.some).first ∙ is.starts

@@ -9,15 +9,15 @@ abbrev pub block_length : List ℕ → ℕ → ℕ → ℕ
 block_length cuts all block = slice_index_or cuts (min block (length cuts - 1)) all
 
 -- the revision at which so many blocks end
-abbrev pub end_of : List ℕ → ℕ → ℕ → ℕ
-end_of cuts last blocks = min last (sum (map (block_length cuts last) (range_with_len 0 blocks)))
+abbrev pub end_of_blocks : List ℕ → ℕ → ℕ → ℕ
+end_of_blocks cuts last blocks = min last (sum (map (block_length cuts last) (range_with_len 0 blocks)))
 
 -- the ends of no block, of one block and so on, up to the first one at the last revision
 pub record AreBlockEnds (cuts : List ℕ) (last : ℕ) (ends : List ℕ) : Type 0 where
   pub some : 0 < length ends
-  pub each : ends ≡ map (end_of cuts last) (range_with_len 0 (length ends))
-  pub all : end_of cuts last (length ends - 1) ≡ last
-  pub fewest : (blocks : ℕ) → blocks + 1 < length ends → end_of cuts last blocks < last
+  pub each : ends ≡ map (end_of_blocks cuts last) (range_with_len 0 (length ends))
+  pub all : end_of_blocks cuts last (length ends - 1) ≡ last
+  pub fewest : (blocks : ℕ) → blocks + 1 < length ends → end_of_blocks cuts last blocks < last
 
 -- the end of no block, of `size`, of twice `size` and so on, and the last one
 abbrev pub every_end : ℕ → List ℕ → List ℕ

@@ -3,7 +3,7 @@ use Rattle.std.proofs.Common.{◌≡◌, ℕ, ◌+◌, Bool, true, false, if◌t
 use Rattle.std.proofs.lemmas.List.{length-map}
 use Rattle.std.specs.Option.{option_or}
 use Rattle.svn_path.specs.Below.{parent_of}
-use Rattle.svn_dump.specs.Fault.{no_source, is_dir, has_parent, fault_if_missing, fault_of_place, fault_of_target, fault_of_source, fault_of, first_fault_in, first_fault_from, first_fault}
+use Rattle.svn_dump.specs.Fault.{no_source, is_dir, has_parent, fault_if_missing, fault_of_new_path, fault_of_target, fault_of_source, fault_of, first_fault_in, first_fault_from, first_fault}
 use Rattle.svn_dump.specs.History.{Action, delete, change, add, copy, Record, History, rename_action, rename_record, rename_history}
 use Rattle.svn_dump.specs.Tree.{Tree, Entry, entry_at, is_there, tree_of, tree_after_record, start_tree, with_revision}
 use Rattle.svn_dump.proofs.Renaming.Paths.{KeepsSame, parent_of-rename}
@@ -33,15 +33,15 @@ module _ {C D M N : Type 0} (name : C → D) (text : M → N) (sameC : C → C �
   fault_if_missing-rename tree path = grind (arith, is_there-rename name text sameC sameD alike tree path)
 
   -- a place has the fault that it had
-  pub fault_of_place-rename : (tree : Tree C M) (path : List C)
-      → fault_of_place sameD (rename_tree name text tree) (map name path) ≡ fault_of_place sameC tree path
-  fault_of_place-rename tree path = grind (arith, is_there-rename name text sameC sameD alike tree path, has_parent-rename tree path)
+  pub fault_of_new_path-rename : (tree : Tree C M) (path : List C)
+      → fault_of_new_path sameD (rename_tree name text tree) (map name path) ≡ fault_of_new_path sameC tree path
+  fault_of_new_path-rename tree path = grind (arith, is_there-rename name text sameC sameD alike tree path, has_parent-rename tree path)
 
   -- so has a target
   pub fault_of_target-rename : (tree : Tree C M) (replace : Bool) (path : List C)
       → fault_of_target sameD (rename_tree name text tree) replace (map name path) ≡ fault_of_target sameC tree replace path
   fault_of_target-rename tree true path = fault_if_missing-rename tree path
-  fault_of_target-rename tree false path = fault_of_place-rename tree path
+  fault_of_target-rename tree false path = fault_of_new_path-rename tree path
 
   -- and a source of a copy
   pub fault_of_source-rename : (trees : List (Tree C M)) (from : List C) (from_rev : ℕ)

@@ -4,7 +4,7 @@ use Rattle.std.proofs.lemmas.Option.{slice_get-get_or}
 use Rattle.svn_path.specs.Path.{same_name}
 use Rattle.svn_dump.specs.Dump.{DumpValue, IsDump}
 use Rattle.svn_dump.specs.declared.record.NodeRecord.{NodeRecord}
-use Rattle.block_map.specs.Block.{action_in}
+use Rattle.block_map.specs.Trees.{action_in}
 use Rattle.block_map.specs.FaultFound.{fault_found}
 use Rattle.block_map.specs.Ends.{HasSourceBefore, ends_of}
 use Rattle.block_map.specs.Map.{standings_in, state_in}
@@ -15,34 +15,34 @@ use Rattle.block_map.proofs.Sources.{HaveSources-dump}
 use Rattle.block_map.proofs.Standings.{standing-look}
 use Rattle.block_map.proofs.faults.fault_at.Goals as goal
 
--- the record at a place of a dump has its source before it
-source_before : (dump : DumpValue) → IsDump dump → (place : ℕ) (each : NodeRecord) → slice_get dump.records place ≡ Some each → HasSourceBefore (ends_of dump.counts) (place + 1) each.act
-source_before dump is place each at =
-    subst (λ tick. HasSourceBefore (ends_of dump.counts) tick each.act) (omega arith) (HaveSources-dump dump is place each at)
+-- the record of an index of a dump has its source before it
+source_before : (dump : DumpValue) → IsDump dump → (index : ℕ) (each : NodeRecord) → slice_get dump.records index ≡ Some each → HasSourceBefore (ends_of dump.counts) (index + 1) each.act
+source_before dump is index each at =
+    subst (λ tick. HasSourceBefore (ends_of dump.counts) tick each.act) (omega arith) (HaveSources-dump dump is index each at)
 
 -- the record of a number
-record_at : (dump : DumpValue) (records : List NodeRecord) (place : ℕ) (each : NodeRecord) → place < length dump.records → records ≡ dump.records → each ≡ get_or records place each
-    → slice_get dump.records place ≡ Some each
-record_at dump records place each within same is = slice_get-get_or dump.records place each within ∙ ap Some (sym (is ∙ ap (λ all. get_or all place each) same))
+record_at : (dump : DumpValue) (records : List NodeRecord) (index : ℕ) (each : NodeRecord) → index < length dump.records → records ≡ dump.records → each ≡ get_or records index each
+    → slice_get dump.records index ≡ Some each
+record_at dump records index each within same is = slice_get-get_or dump.records index each within ∙ ap Some (sym (is ∙ ap (λ all. get_or all index each) same))
 
 pub fault_of-requires-clause-source : goal.fault_of-requires-clause-source
 fault_of-requires-clause-source c =
     let dump = c.args.dump.now in
-    let place = c.args.number - 1 in
-    let each = c.index-records-place.result in
-    let at = record_at dump c.records.result.now place each (omega (arith, c.requires.some, c.requires.within)) c.records.ensures.value c.index-records-place.is in
-    rw c.requires.ends (source_before dump c.records.ensures.kept place each at)
+    let index = c.args.number - 1 in
+    let each = c.index-records-index.result in
+    let at = record_at dump c.records.result.now index each (omega (arith, c.requires.some, c.requires.within)) c.records.ensures.value c.index-records-index.is in
+    rw c.requires.ends (source_before dump c.records.ensures.kept index each at)
 
 pub returns : goal.returns
 returns c =
     let dump = c.args.dump.now in
     let map = c.args.map.now in
-    let place = c.args.number - 1 in
-    let each = c.index-records-place.result in
+    let index = c.args.number - 1 in
+    let each = c.index-records-index.result in
     let kept = c.records.ensures.kept in
-    let at = record_at dump c.records.result.now place each (omega (arith, c.requires.some, c.requires.within)) c.records.ensures.value c.index-records-place.is in
-    c.fault_of.ensures ∙ ap (λ ends. fault_found (standings_in map) place each.path (action_in ends each)) c.requires.ends
-    ∙ fault_found-same (standings_in map) (λ tick path. standing_at same_name (state_in dump tick) path) place
+    let at = record_at dump c.records.result.now index each (omega (arith, c.requires.some, c.requires.within)) c.records.ensures.value c.index-records-index.is in
+    c.fault_of.ensures ∙ ap (λ ends. fault_found (standings_in map) index each.path (action_in ends each)) c.requires.ends
+    ∙ fault_found-same (standings_in map) (λ tick path. standing_at same_name (state_in dump tick) path) index
     (λ earlier path upto. standing-look dump kept map c.requires.map.first earlier path (omega (arith, upto, c.requires.some, c.requires.within, c.requires.map.whole)))
-    (ends_of dump.counts) each.path each.act (source_before dump kept place each at)
-    ∙ sym (fault_of_next_record-found dump kept place each at)
+    (ends_of dump.counts) each.path each.act (source_before dump kept index each at)
+    ∙ sym (fault_of_next_record-found dump kept index each at)

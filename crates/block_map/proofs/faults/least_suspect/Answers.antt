@@ -14,9 +14,9 @@ use Rattle.block_map.specs.Ends.{ends_of}
 use Rattle.block_map.specs.Map.{IsMapOf}
 use Rattle.block_map.proofs.faults.least_suspect.Goals as goal
 
--- the record in a place has no fault
+-- the record of an index has no fault
 abbrev IsFine : DumpValue → ℕ → Type 0
-IsFine dump place = fault_of_next_record same_name (history_view dump) place ≡ None
+IsFine dump index = fault_of_next_record same_name (history_view dump) index ≡ None
 
 -- a record's number, or the largest number, which is answered only where the record has no fault
 abbrev IsAnswer : DumpValue → ℕ → ℕ → Type 0
@@ -27,35 +27,35 @@ module _ (dump : DumpValue) (count : ℕ) (answers : List ℕ) (each : AllZip (I
   answers_count : length answers ≡ count
   answers_count = omega (arith, AllZip-long (IsAnswer dump) (nat_range 1 (count + 1)) answers each, length-range_with_len 1 (count + 1 - 1))
 
-  -- the answer at a place is that of the number one more
-  answer_at : (place d : ℕ) → place < count → IsAnswer dump (place + 1) (get_or answers place d)
-  answer_at place d within =
+  -- the answer of an index is that of the number one more
+  answer_at : (index d : ℕ) → index < count → IsAnswer dump (index + 1) (get_or answers index d)
+  answer_at index d within =
       let long = length-range_with_len 1 (count + 1 - 1) in
-      let number : get_or (nat_range 1 (count + 1)) place 0 ≡ place + 1 =
-      omega (arith, get_or-range_with_len 1 (count + 1 - 1) place 0 (omega arith)) in
-      subst (λ number. IsAnswer dump number (get_or answers place d)) number
-      (AllZip-get_or (IsAnswer dump) (nat_range 1 (count + 1)) answers place 0 d each (omega (arith, long)))
+      let number : get_or (nat_range 1 (count + 1)) index 0 ≡ index + 1 =
+      omega (arith, get_or-range_with_len 1 (count + 1 - 1) index 0 (omega arith)) in
+      subst (λ number. IsAnswer dump number (get_or answers index d)) number
+      (AllZip-get_or (IsAnswer dump) (nat_range 1 (count + 1)) answers index 0 d each (omega (arith, long)))
 
   -- the least answer, where it isn't the largest number, is the number of a record
   least_within : (least : Option ℕ) → IsLeast nat_cmp answers least → unwrap_or least 4294967295 < 4294967295
       → (1 ≤ unwrap_or least 4294967295) × (unwrap_or least 4294967295 ≤ count)
   least_within None is small = absurd (omega arith)
   least_within (Some m) is small =
-      let place = is.0.0 in
-      let within : place < count = omega (arith, is.0.1, answers_count) in
-      elim (answer_at place m within).0 [
+      let index = is.0.0 in
+      let within : index < count = omega (arith, is.0.1, answers_count) in
+      elim (answer_at index m within).0 [
         | inl own ↦ (omega (arith, own, is.0.2), omega (arith, own, is.0.2))
         | inr largest ↦ absurd (omega (arith, largest, is.0.2))
       ]
 
   -- the records before it are fine
   fine_before : (least : Option ℕ) → IsLeast nat_cmp answers least
-      → (place : ℕ) → place < count → place + 1 < unwrap_or least 4294967295 → IsFine dump place
-  fine_before None is place within before = absurd (omega (arith, ap length is, answers_count))
-  fine_before (Some m) is place within before =
-      let above : m ≤ get_or answers place 0 = IsLeast-All answers (Some m) is place 0 (omega (arith, answers_count)) in
-      let here : place + 1 - 1 ≡ place = omega arith in
-      subst (IsFine dump) here ((answer_at place 0 within).1 (omega (arith, above)))
+      → (index : ℕ) → index < count → index + 1 < unwrap_or least 4294967295 → IsFine dump index
+  fine_before None is index within before = absurd (omega (arith, ap length is, answers_count))
+  fine_before (Some m) is index within before =
+      let above : m ≤ get_or answers index 0 = IsLeast-All answers (Some m) is index 0 (omega (arith, answers_count)) in
+      let here : index + 1 - 1 ≡ index = omega arith in
+      subst (IsFine dump) here ((answer_at index 0 within).1 (omega (arith, above)))
 
 pub min-requires-clause-ready : goal.min-requires-clause-ready
 min-requires-clause-ready g c κs within =

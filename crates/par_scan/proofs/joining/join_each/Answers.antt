@@ -11,10 +11,10 @@ loop-item-preserved g c =
     let items = c.args.items.now in
     let at = c.loop-item.item-index in
     let before = c.args.before.now in
-    let place : at ≡ 0 + at = omega arith in
+    let index : at ≡ 0 + at = omega arith in
     rw c.in_ok-push.ensures.items
     (IsFilled-push (IsAfter m.act m.begin m.end before items) 0 at _ _ c.loop-item.invariant
-    (λ d. subst (λ i. IsJoined m.act m.begin m.end (before ∷ get_or items i d ∷ []) c.in_ok-next.next) place
+    (λ d. subst (λ i. IsJoined m.act m.begin m.end (before ∷ get_or items i d ∷ []) c.in_ok-next.next) index
     (subst (λ x. IsJoined m.act m.begin m.end (before ∷ x ∷ []) c.in_ok-next.next)
     (get_or_read items at c.item-item.result c.loop-item-test.true c.item-item.is d) c.in_ok-next.ensures)))
 

@@ -28,7 +28,7 @@ loop-item-preserved g c =
     next-IsJoined m.act m.begin m.end (λ k. k) items joined at 1 item c.loop-item.invariant
     (IsJoined-at m.act m.begin m.end items at item c.loop-item-test.true c.item-item.is) next refl refl
     (rw list at c.in_ok-next.ensures.first) (rw list at c.in_ok-next.ensures.next) in
-    let place : at + 1 ≡ 0 + at + 1 = omega arith in
+    let index : at + 1 ≡ 0 + at + 1 = omega arith in
     rw c.in_ok-push.ensures.items
     (IsFilled-push (IsUpTo m.act m.begin m.end items) 0 at joined next c.loop-item.invariant
-    (subst (λ k. IsJoined m.act m.begin m.end (take k items) next) place made))
+    (subst (λ k. IsJoined m.act m.begin m.end (take k items) next) index made))

@@ -40,7 +40,7 @@ loop-part-preserved g c =
     let made : IsJoined m.act m.begin m.end (take ((at + 1) * size) items) next =
     next-IsJoined m.act m.begin m.end (λ k. k * size) items before at size end c.loop-part.invariant run next (zero-mul size) step
     (rw list at c.in_ok-next.ensures.first) (rw list at c.in_ok-next.ensures.next) in
-    let place : at + 1 ≡ 0 + at + 1 = omega arith in
+    let index : at + 1 ≡ 0 + at + 1 = omega arith in
     rw c.in_ok-push.ensures.items
     (IsFilled-push (IsUpToPart m.act m.begin m.end items size) 0 at before next c.loop-part.invariant
-    (subst (λ k. IsJoined m.act m.begin m.end (take (k * size) items) next) place made))
+    (subst (λ k. IsJoined m.act m.begin m.end (take (k * size) items) next) index made))

@@ -4,7 +4,7 @@ use Rattle.par_scan.specs.declared.sum.Sum.{Sum}
 use Rattle.block_map.specs.Ends.{ends_view}
 use Rattle.block_map.proofs.ends.Ends.at.Goals as goal
 
--- the end of the revision is the number at its place
+-- the end of the revision is the number of its index
 end_at : (sums : List Sum) (rev : ℕ) (d : Sum) → rev < length (ends_view sums) → get_or (ends_view sums) rev 0 ≡ (get_or sums rev d).0
 end_at sums rev d within = get_or-map (λ each. each.0) sums rev d 0 (omega (arith, within, length-map sums (λ each. each.0)))
 

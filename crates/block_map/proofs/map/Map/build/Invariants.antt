@@ -3,4 +3,4 @@ use Rattle.block_map.proofs.MapsBuilt.{IsBuiltOf}
 use Rattle.block_map.proofs.map.Map.build.Given as goal
 
 abbrev pub invariant-loop-record : goal.invariant-loop-record
-invariant-loop-record l = IsBuiltOf l.fn.start l.fn.ends (take l.record-index l.fn.records) l.block
+invariant-loop-record l = IsBuiltOf l.fn.start l.fn.ends (take l.record-index l.fn.records) l.trees

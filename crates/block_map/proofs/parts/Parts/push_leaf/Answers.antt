@@ -1,12 +1,12 @@
 use Rattle.std.proofs.Common.{◌≡◌, ◌+◌, ◌++◌, ◌∷◌, [], length}
 use Rattle.block_map.specs.Parts.{HasOne, HaveNodesBelow}
 use Rattle.block_map.specs.declared.part.Part.TheVariants.{Leaf}
-use Rattle.block_map.proofs.PartLookups.{AreMore-push, HasOne-push, HaveNodesBelow-leaf, IfOk-both, push-cases}
+use Rattle.block_map.proofs.PartLookups.{Extends-push, HasOne-push, HaveNodesBelow-leaf, IfOk-both, push-cases}
 use Rattle.block_map.proofs.parts.Parts.push_leaf.Goals as goal
 
 pub returns-clause-more : goal.returns-clause-more
 returns-clause-more c =
-    AreMore-push c.push.result c.args.self.now c.push.new.self (Leaf c.args.bits c.args.node) c.push.ensures.added c.push.ensures.failed
+    Extends-push c.push.result c.args.self.now c.push.new.self (Leaf c.args.bits c.args.node) c.push.ensures.added c.push.ensures.failed
 
 pub returns-clause-exact : goal.returns-clause-exact
 returns-clause-exact c =

@@ -1,12 +1,12 @@
 use Rattle.std.proofs.Common.{◌≡◌, ◌+◌, ◌%◌, ◌==◌, if◌then◌else◌, ◌++◌, ◌∷◌, [], length, ap, ◌∙◌}
 use Rattle.block_map.specs.Parts.{HasSides, HaveNodesBelow}
 use Rattle.block_map.specs.declared.part.Part.TheVariants.{Branch}
-use Rattle.block_map.proofs.PartLookups.{AreMore-push, HasSides-push, HaveNodesBelow-branch, IfOk-both, push-cases}
+use Rattle.block_map.proofs.PartLookups.{Extends-push, HasSides-push, HaveNodesBelow-branch, IfOk-both, push-cases}
 use Rattle.block_map.proofs.parts.Parts.push_sides.Goals as goal
 
 pub returns-clause-more : goal.returns-clause-more
 returns-clause-more c =
-    AreMore-push c.push.result c.args.self.now c.push.new.self (Branch c.by_bit-even.result c.by_bit-odd.result)
+    Extends-push c.push.result c.args.self.now c.push.new.self (Branch c.by_bit-even.result c.by_bit-odd.result)
     c.push.ensures.added c.push.ensures.failed
 
 pub returns-clause-exact : goal.returns-clause-exact

@@ -11,8 +11,8 @@ use Rattle.path_index.proofs.index.Index.locate.Goals as goal
 pub loop-at-init : goal.loop-at-init
 loop-at-init c =
     let records = c.args.self.now.records in
-    subst (λ place. IsTraced c.args.rev (location same_name (trees_to records c.args.peg) c.args.path.now c.args.peg c.args.rev) records place c.args.peg)
-    (sym c.in_ok-place.ensures) (record { there = c.requires.there; finds = refl })
+    subst (λ here. IsTraced c.args.rev (location same_name (trees_to records c.args.peg) c.args.path.now c.args.peg c.args.rev) records here c.args.peg)
+    (sym c.in_ok-here.ensures) (record { there = c.requires.there; finds = refl })
 
 pub span_up_to-requires-clause-there : goal.span_up_to-requires-clause-there
 span_up_to-requires-clause-there c = c.loop-at.invariant.there
@@ -35,7 +35,7 @@ loop-at-preserved c =
 
 pub returns-clause-exact : goal.returns-clause-exact
 returns-clause-exact c =
-    sym (location_past c.args.self.now.records c.loop-at.place c.loop-at.at c.args.rev c.loop-at-test.false) ∙ c.loop-at.invariant.finds
+    sym (location_past c.args.self.now.records c.loop-at.here c.loop-at.at c.args.rev c.loop-at-test.false) ∙ c.loop-at.invariant.finds
 
 pub returns-then-lo-rev-clause-above_peg : goal.returns-then-lo-rev-clause-above_peg
 returns-then-lo-rev-clause-above_peg c =

@@ -3,5 +3,5 @@ use Rattle.path_index.proofs.HitsOfSegments.{AreHitsTo}
 use Rattle.path_index.specs.Index.{segment_view}
 use Rattle.path_index.proofs.index.Index.operative.Given as goal
 
-abbrev pub invariant-loop-place : goal.invariant-loop-place
-invariant-loop-place l = AreHitsTo l.self.records (map segment_view l.segments) l.place l.hits.items
+abbrev pub invariant-loop-index : goal.invariant-loop-index
+invariant-loop-index l = AreHitsTo l.self.records (map segment_view l.segments) l.index l.hits.items

@@ -26,26 +26,26 @@ same_by_ne p q e = (paths_eq-Decides p q).0 (by (pointwise same_name p q) e)
     by true e = refl
     by false e = absurd (true≢false (sym e))
 
-pub loop-place-init : goal.loop-place-init
-loop-place-init c =
+pub loop-here-init : goal.loop-here-init
+loop-here-init c =
     let all = c.args.self.now.records in
-    let place_in = λ (rev : ℕ). location same_name (trees_to all c.args.rev) c.args.path.now c.args.rev rev in
-    subst (λ items. IsGathered place_in c.args.rev (map segment_view items) c.args.rev all c.in_ok-place.place c.args.rev) (sym c.new-segments.ensures.items)
-    (subst (λ place. IsGathered place_in c.args.rev [] c.args.rev all place c.args.rev) (sym c.in_ok-place.ensures)
+    let location_at = λ (rev : ℕ). location same_name (trees_to all c.args.rev) c.args.path.now c.args.rev rev in
+    subst (λ items. IsGathered location_at c.args.rev (map segment_view items) c.args.rev all c.in_ok-here.here c.args.rev) (sym c.new-segments.ensures.items)
+    (subst (λ here. IsGathered location_at c.args.rev [] c.args.rev all here c.args.rev) (sym c.in_ok-here.ensures)
     (IsGathered-none all c.args.path.now c.args.rev c.requires.there))
 
 pub span_up_to-requires-clause-there : goal.span_up_to-requires-clause-there
-span_up_to-requires-clause-there c = c.loop-place.invariant.there
+span_up_to-requires-clause-there c = c.loop-here.invariant.there
 
 all_gathered : (c : goal.In_ok-push) → map segment_view c.push.new.self.items ≡ segments_of same_name (trees_to c.args.self.now.records c.args.rev) c.args.path.now c.args.rev
 all_gathered c =
     let all = c.args.self.now.records in
-    let place_in = λ (rev : ℕ). location same_name (trees_to all c.args.rev) c.args.path.now c.args.rev rev in
+    let location_at = λ (rev : ℕ). location same_name (trees_to all c.args.rev) c.args.path.now c.args.rev rev in
     let lo = c.in_ok-lo.field-0.lo in
     ap (map segment_view) c.in_ok-push.ensures.items
-    ∙ map-append segment_view c.loop-place.segments.items (record { lo = lo; hi = c.loop-place.hi; path = Some c.loop-place.place } ∷ [])
-    ∙ IsGathered-all place_in c.args.rev (map segment_view c.loop-place.segments.items) c.loop-place.hi c.args.self.now.records c.loop-place.place c.loop-place.at
-    c.loop-place.invariant lo c.in_ok-lo.ensures.within c.in_ok-lo.ensures.stays
+    ∙ map-append segment_view c.loop-here.segments.items (record { lo = lo; hi = c.loop-here.hi; path = Some c.loop-here.here } ∷ [])
+    ∙ IsGathered-all location_at c.args.rev (map segment_view c.loop-here.segments.items) c.loop-here.hi c.args.self.now.records c.loop-here.here c.loop-here.at
+    c.loop-here.invariant lo c.in_ok-lo.ensures.within c.in_ok-lo.ensures.stays
     (λ rev past. c.in_ok-lo.ensures.back rev past ∙ ap (location_before c.args.self.now.records rev) c.in_default.is)
 
 pub returns-in_default-clause-exact : goal.returns-in_default-clause-exact
@@ -54,44 +54,44 @@ returns-in_default-clause-exact c = all_gathered c
 pub returns-in_default-clause-maximal : goal.returns-in_default-clause-maximal
 returns-in_default-clause-maximal c = AreSegments-segments_of c.args.self.now.records c.args.path.now c.args.rev (map segment_view c.push.new.self.items) (all_gathered c)
 
-pub loop-place-smaller-in-loop-place : goal.loop-place-smaller-in-loop-place
-loop-place-smaller-in-loop-place c =
+pub loop-here-smaller-in-loop-here : goal.loop-here-smaller-in-loop-here
+loop-here-smaller-in-loop-here c =
     let earlier = subst (λ o. IfSome o (λ (origin : Origin). origin.rev < c.in_ok-lo.field-0.lo)) c.in-Some.is c.in_ok-lo.ensures.earlier in
     omega (arith, earlier, c.in_ok-lo.ensures.within)
 
-pub loop-place-preserved-in-loop-place : goal.loop-place-preserved-in-loop-place
-loop-place-preserved-in-loop-place c =
+pub loop-here-preserved-in-loop-here : goal.loop-here-preserved-in-loop-here
+loop-here-preserved-in-loop-here c =
     let all = c.args.self.now.records in
-    let place_in = λ (rev : ℕ). location same_name (trees_to all c.args.rev) c.args.path.now c.args.rev rev in
+    let location_at = λ (rev : ℕ). location same_name (trees_to all c.args.rev) c.args.path.now c.args.rev rev in
     let lo = c.in_ok-lo.field-0.lo in
     let origin = c.in-Some.origin in
     let there = subst (λ o. IfSome o (λ (o : Origin). IsThere all o.path o.rev)) c.in-Some.is c.in_ok-lo.ensures.there in
     let earlier = subst (λ o. IfSome o (λ (o : Origin). o.rev < lo)) c.in-Some.is c.in_ok-lo.ensures.earlier in
-    let ends : (origin.path ≢ c.loop-place.place) ⊎ (origin.rev + 1 < lo) = elim c.then-ne.branch [
-      | then-ne-via-then-ne w ↦ inl (other_by_ne origin.path c.loop-place.place w.if-ne.ensures)
+    let ends : (origin.path ≢ c.loop-here.here) ⊎ (origin.rev + 1 < lo) = elim c.then-ne.branch [
+      | then-ne-via-then-ne w ↦ inl (other_by_ne origin.path c.loop-here.here w.if-ne.ensures)
       | then-ne-via-else-ne+then-at-lo w ↦ inr w.if-at-lo.true
     ] in
     let pushed = ap (map segment_view) c.in_ok-push-2.ensures.items
-    ∙ map-append segment_view c.loop-place.segments.items (record { lo = lo; hi = c.loop-place.hi; path = Some c.loop-place.place } ∷ []) in
+    ∙ map-append segment_view c.loop-here.segments.items (record { lo = lo; hi = c.loop-here.hi; path = Some c.loop-here.here } ∷ []) in
     let gap = gap_between origin.rev lo in
-    subst (λ segments. IsGathered place_in c.args.rev segments origin.rev all origin.path origin.rev) (sym (ap (map segment_view) c.in_ok-push_gap.ensures ∙ map-append segment_view c.push-then-ne.new.self.items gap ∙ ap (λ front. front ++ map segment_view gap) pushed))
-    (IsGathered_push place_in c.args.rev (map segment_view c.loop-place.segments.items) c.loop-place.hi c.args.self.now.records c.loop-place.place c.loop-place.at
-    c.loop-place.invariant lo c.in_ok-lo.ensures.within c.in_ok-lo.ensures.stays origin there earlier
+    subst (λ segments. IsGathered location_at c.args.rev segments origin.rev all origin.path origin.rev) (sym (ap (map segment_view) c.in_ok-push_gap.ensures ∙ map-append segment_view c.push-then-ne.new.self.items gap ∙ ap (λ front. front ++ map segment_view gap) pushed))
+    (IsGathered_push location_at c.args.rev (map segment_view c.loop-here.segments.items) c.loop-here.hi c.args.self.now.records c.loop-here.here c.loop-here.at
+    c.loop-here.invariant lo c.in_ok-lo.ensures.within c.in_ok-lo.ensures.stays origin there earlier
     (λ rev past. c.in_ok-lo.ensures.back rev past ∙ ap (location_before all rev) c.in-Some.is) ends)
 
-pub loop-place-smaller : goal.loop-place-smaller
-loop-place-smaller c =
+pub loop-here-smaller : goal.loop-here-smaller
+loop-here-smaller c =
     let earlier = subst (λ o. IfSome o (λ (origin : Origin). origin.rev < c.in_ok-lo.field-0.lo)) c.in-Some.is c.in_ok-lo.ensures.earlier in
     omega (arith, earlier, c.in_ok-lo.ensures.within)
 
-pub loop-place-preserved : goal.loop-place-preserved
-loop-place-preserved c =
+pub loop-here-preserved : goal.loop-here-preserved
+loop-here-preserved c =
     let all = c.args.self.now.records in
-    let place_in = λ (rev : ℕ). location same_name (trees_to all c.args.rev) c.args.path.now c.args.rev rev in
+    let location_at = λ (rev : ℕ). location same_name (trees_to all c.args.rev) c.args.path.now c.args.rev rev in
     let lo = c.in_ok-lo.field-0.lo in
     let origin = c.in-Some.origin in
     let there = subst (λ o. IfSome o (λ (o : Origin). IsThere all o.path o.rev)) c.in-Some.is c.in_ok-lo.ensures.there in
     let earlier = subst (λ o. IfSome o (λ (o : Origin). o.rev < lo)) c.in-Some.is c.in_ok-lo.ensures.earlier in
-    IsGathered-on place_in c.args.rev (map segment_view c.loop-place.segments.items) c.loop-place.hi c.args.self.now.records c.loop-place.place c.loop-place.at
-    c.loop-place.invariant lo c.in_ok-lo.ensures.within c.in_ok-lo.ensures.stays origin there earlier
-    (λ rev past. c.in_ok-lo.ensures.back rev past ∙ ap (location_before all rev) c.in-Some.is) (same_by_ne origin.path c.loop-place.place c.if-ne.ensures) c.if-at-lo.false
+    IsGathered-on location_at c.args.rev (map segment_view c.loop-here.segments.items) c.loop-here.hi c.args.self.now.records c.loop-here.here c.loop-here.at
+    c.loop-here.invariant lo c.in_ok-lo.ensures.within c.in_ok-lo.ensures.stays origin there earlier
+    (λ rev past. c.in_ok-lo.ensures.back rev past ∙ ap (location_before all rev) c.in-Some.is) (same_by_ne origin.path c.loop-here.here c.if-ne.ensures) c.if-at-lo.false

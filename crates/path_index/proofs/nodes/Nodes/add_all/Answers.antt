@@ -1,35 +1,35 @@
 use Rattle.std.proofs.Common.{◌≡◌, ◌+◌, ◌<◌, ◌≤◌, ◌++◌, ◌∷◌, [], ℕ, List, Some, get_or, length, slice_get, sym, ap, subst, ◌∙◌, arith}
 use Rattle.std.proofs.lemmas.List.{get_or_default}
 use Rattle.std.proofs.lemmas.Option.{slice_get-get_or}
-use Rattle.path_index.specs.Nodes.{child_of, AreNodesOf, AreOrdered}
+use Rattle.path_index.specs.Nodes.{child_of, AreNodesOf, HaveParentsBefore}
 use Rattle.path_index.specs.declared.nodes.Child.{Child}
-use Rattle.path_index.proofs.EntriesOfPaths.{IsGrown-none, IsGrown-again}
+use Rattle.path_index.proofs.EntriesOfPaths.{Extends-none, Extends-again}
 use Rattle.path_index.proofs.MappedNodes.{AreMapped, AreMapped-root, AreMapped-next, AreNodesOf-mapped}
 use Rattle.path_index.proofs.nodes.Nodes.add_all.Goals as goal
 
 abbrev some_child : Child
 some_child = record { parent = 0; name = record { 0 = 0 } }
 
-parent_before : (all : List Child) (k : ℕ) → AreOrdered all → k < length all → (get_or all k some_child).parent ≤ k
+parent_before : (all : List Child) (k : ℕ) → HaveParentsBefore all → k < length all → (get_or all k some_child).parent ≤ k
 parent_before all k ordered within = ordered k (get_or all k some_child) (slice_get-get_or all k some_child within)
 
 pub loop-child-init : goal.loop-child-init
 loop-child-init c = record {
   mapped = subst (AreMapped c.as_slice-child-items.result.now 0 c.args.self.now) (sym (c.in_ok-push.ensures.items ∙ ap (λ items. items ++ 0 ∷ []) c.in_ok-nodes.ensures.items)) (AreMapped-root c.as_slice-child-items.result.now c.args.self.now);
-  grown = IsGrown-none c.args.self.now;
+  grown = Extends-none c.args.self.now;
 }
 
 pub index-requires : goal.index-requires
 index-requires c =
     let all = c.as_slice-child-items.result.now in
-    let ordered : AreOrdered all = subst AreOrdered (sym c.as_slice-child-items.ensures.keys) c.later.invariant.1 in
+    let ordered : HaveParentsBefore all = subst HaveParentsBefore (sym c.as_slice-child-items.ensures.keys) c.later.invariant.1 in
     omega (arith, parent_before all c.loop-child.child-index ordered c.loop-child-test.true, c.loop-child.invariant.mapped.all)
 
 pub add-requires : goal.add-requires
 add-requires c =
     let all = c.as_slice-child-items.result.now in
     let nodes = c.loop-child.nodes.items in
-    let ordered : AreOrdered all = subst AreOrdered (sym c.as_slice-child-items.ensures.keys) c.later.invariant.1 in
+    let ordered : HaveParentsBefore all = subst HaveParentsBefore (sym c.as_slice-child-items.ensures.keys) c.later.invariant.1 in
     let parent = (get_or all c.loop-child.child-index some_child).parent in
     let low : parent < length nodes = omega (arith, parent_before all c.loop-child.child-index ordered c.loop-child-test.true, c.loop-child.invariant.mapped.all) in
     subst (λ n. n ≤ length c.loop-child.self) (sym c.index.ensures) (c.loop-child.invariant.mapped.within parent c.index.result.now low)
@@ -43,14 +43,14 @@ loop-child-preserved c =
     let before = c.loop-child.self in
     let after = c.add.new.self in
     let node = c.in_ok-node.node in
-    let ordered : AreOrdered all = subst AreOrdered (sym c.as_slice-child-items.ensures.keys) c.later.invariant.1 in
+    let ordered : HaveParentsBefore all = subst HaveParentsBefore (sym c.as_slice-child-items.ensures.keys) c.later.invariant.1 in
     let at : slice_get all k ≡ Some child = slice_get-get_or all k some_child c.loop-child-test.true in
     let low : child.parent < length nodes = omega (arith, parent_before all k ordered c.loop-child-test.true, c.loop-child.invariant.mapped.all) in
     let parent : c.index.result.now ≡ get_or nodes child.parent 0 = c.index.ensures ∙ get_or_default nodes child.parent c.index.result.now 0 low in
     let added : child_of after (get_or nodes child.parent 0) child.name ≡ Some node = subst (λ n. child_of after n child.name ≡ Some node) parent c.in_ok-node.ensures.node in
     record {
       mapped = subst (AreMapped all (k + 1) after) (sym c.in_ok-push-2.ensures.items) (AreMapped-next all before after nodes k node child c.loop-child.invariant.mapped ordered at c.in_ok-node.ensures.grown added);
-      grown = IsGrown-again c.args.self.now before after c.loop-child.invariant.grown c.in_ok-node.ensures.grown;
+      grown = Extends-again c.args.self.now before after c.loop-child.invariant.grown c.in_ok-node.ensures.grown;
     }
 
 pub returns-clause-nodes : goal.returns-clause-nodes

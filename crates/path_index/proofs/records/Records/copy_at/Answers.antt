@@ -5,9 +5,9 @@ use Rattle.std.proofs.lemmas.List.{get_or_default}
 use Rattle.std.proofs.lemmas.List.Sorted.{IsPartitionedBy-ltb, IsPartitionPoint-from_clause}
 use Rattle.path_index.specs.Records.{AreCopies}
 use Rattle.path_index.specs.declared.copied.Copied.{Copied}
-use Rattle.path_index.proofs.KeptRecords.{IsNonDecreasingBy-places, no_copy_at}
+use Rattle.path_index.proofs.KeptRecords.{IsNonDecreasingBy-indices, no_copy_at}
 use Rattle.path_index.proofs.records.Records.copy_at.Goals as goal
-use Rattle.path_index.proofs.records.Records.copy_at.Goals.{in_default-via-in-Some+else-copied-place, in_default-via-in_default}
+use Rattle.path_index.proofs.records.Records.copy_at.Goals.{in_default-via-in-Some+else-copied-index, in_default-via-in_default}
 
 not_none : {X : Type 0} (o : Option X) → is_some o ≡ true → ((x : X) → o ≡ Some x → ⊥) → ⊥
 not_none None some never = absurd (true≢false (sym some))
@@ -16,19 +16,19 @@ not_none (Some x) some never = never x refl
 pub returns-in_default : goal.returns-in_default
 returns-in_default c =
     let records = c.args.self.now in
-    let place = c.args.place in
+    let index = c.args.index in
     let copies = c.deref.result.now in
-    let index = c.partition_point-index.result in
+    let number = c.partition_point-number.result in
     let are : AreCopies records copies = subst (λ all. AreCopies all copies) c.self.view_is (subst (AreCopies c.self.inside.all.records) (sym c.deref.ensures.value) c.self.invariant.of_copies) in
-    let point : IsPartitionPoint (λ each. ltb each.place place ≡ true) (λ each. ltb each.place place ≡ false) copies index =
-    IsPartitionPoint-from_clause (λ each. ltb each.place place) copies index c.partition_point-index.ensures.partitioned
-    (IsPartitionedBy-ltb (λ each. each.place) copies place (IsNonDecreasingBy-places records copies are)) (λ a r f' k. search rules) in
+    let point : IsPartitionPoint (λ each. ltb each.index index ≡ true) (λ each. ltb each.index index ≡ false) copies number =
+    IsPartitionPoint-from_clause (λ each. ltb each.index index) copies number c.partition_point-number.ensures.partitioned
+    (IsPartitionedBy-ltb (λ each. each.index) copies index (IsNonDecreasingBy-indices records copies are)) (λ a r f' k. search rules) in
     let same : c.deref-2.result.now ≡ copies = c.deref-2.ensures.value ∙ sym c.deref.ensures.value in
-    let other : (d : Copied) → index < length copies → (get_or copies index d).place ≢ place = λ d within.
+    let other : (d : Copied) → number < length copies → (get_or copies number d).index ≢ index = λ d within.
     elim c.in_default.branch [
-      | in_default-via-in-Some+else-copied-place w ↦
-          λ is. w.if-copied-place.false (ap (λ (each : Copied). each.place) (w.in-Some.ensures.lookup.1 ∙ ap (λ all. get_or all index w.in-Some.copied.now) same ∙ get_or_default copies index w.in-Some.copied.now d within) ∙ is)
+      | in_default-via-in-Some+else-copied-index w ↦
+          λ is. w.if-copied-index.false (ap (λ (each : Copied). each.index) (w.in-Some.ensures.lookup.1 ∙ ap (λ all. get_or all number w.in-Some.copied.now) same ∙ get_or_default copies number w.in-Some.copied.now d within) ∙ is)
       | in_default-via-in_default w ↦
-          λ is. not_none c.get.result (c.get.ensures.lookup.0 ∙ lt-ltb index (length c.deref-2.result.now) (omega (arith, within, ap length same))) w.in_default.not-Some
+          λ is. not_none c.get.result (c.get.ensures.lookup.0 ∙ lt-ltb number (length c.deref-2.result.now) (omega (arith, within, ap length same))) w.in_default.not-Some
     ] in
-    no_copy_at records copies place index are c.partition_point-index.ensures.bound point other
+    no_copy_at records copies index number are c.partition_point-number.ensures.bound point other

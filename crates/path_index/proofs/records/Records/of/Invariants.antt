@@ -2,8 +2,8 @@ use Rattle.std.proofs.Common.{◌≡◌, take}
 use Rattle.path_index.specs.Records.{AreKept}
 use Rattle.path_index.proofs.records.Records.of.Given as goal
 
-abbrev pub invariant-loop-place : goal.invariant-loop-place
-invariant-loop-place l = record {
-  all : l.all.records ≡ take l.place l.records;
+abbrev pub invariant-loop-index : goal.invariant-loop-index
+invariant-loop-index l = record {
+  all : l.all.records ≡ take l.index l.records;
   kept : AreKept l.all.records l.revs.items l.copies.items;
 }

@@ -8,7 +8,7 @@ use Rattle.path_index.proofs.records.Records.origin.Goals as goal
 
 pub returns-in_ok-rebase-in-Some : goal.returns-in_ok-rebase-in-Some
 returns-in_ok-rebase-in-Some c = λ each at.
-    SetsOrigin-copied c.args.self.now c.args.path.now c.args.place c.in-Some.copied.now each c.in-Some.ensures.0 c.in-Some.ensures.1 at
+    SetsOrigin-copied c.args.self.now c.args.path.now c.args.index c.in-Some.copied.now each c.in-Some.ensures.0 c.in-Some.ensures.1 at
     (subst (λ r. SetsPath r c.args.path.now) (same_Some c.requires.each each (sym c.requires.at ∙ at)) c.requires.sets)
     c.in_ok-rebase-in-Some.field-0 c.in_ok-rebase-in-Some.ensures
 

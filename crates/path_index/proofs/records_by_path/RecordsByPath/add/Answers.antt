@@ -13,12 +13,12 @@ returns-in_ok-insert-in-Add c = λ records at so.
     let each = c.args.each.now in
     let ensures = c.in_ok-node.ensures in
     let own = act.Add c.in-Add.replace c.in-Add.kind c.in-Add.mi in
-    let inserted = subst (λ before. AddsNumbers (ArePair c.in_ok-node.node c.args.place) before c.insert.new.self) ensures.added c.in_ok-insert-in-Add.ensures in
-    AreListed-more old.nodes named.nodes records c.args.place each old.added old.copied old.named c.insert.new.self named.copied named.named
+    let inserted = subst (λ before. AddsNumbers (ArePair c.in_ok-node.node c.args.index) before c.insert.new.self) ensures.added c.in_ok-insert-in-Add.ensures in
+    AreListed-more old.nodes named.nodes records c.args.index each old.added old.copied old.named c.insert.new.self named.copied named.named
     ensures.grown at so
-    (AddsEntries-own IsAddition named.nodes each c.args.place old.added own c.in-Add.is tt c.in_ok-node.node c.insert.new.self ensures.node (omega (arith, c.ranges.place.fits)) inserted)
-    (subst (AddsEntries named.nodes (CopiesPath each c.args.place) old.copied) (sym ensures.copied)
-    (AddsEntries-other IsCopy named.nodes each c.args.place old.copied (other_from_act IsCopy each own c.in-Add.is (λ never. never))))
+    (AddsEntries-own IsAddition named.nodes each c.args.index old.added own c.in-Add.is tt c.in_ok-node.node c.insert.new.self ensures.node (omega (arith, c.ranges.index.fits)) inserted)
+    (subst (AddsEntries named.nodes (CopiesPath each c.args.index) old.copied) (sym ensures.copied)
+    (AddsEntries-other IsCopy named.nodes each c.args.index old.copied (other_from_act IsCopy each own c.in-Add.is (λ never. never))))
     ensures.named
 
 pub returns-in_ok-insert-in-Copy : goal.returns-in_ok-insert-in-Copy
@@ -28,12 +28,12 @@ returns-in_ok-insert-in-Copy c = λ records at so.
     let each = c.args.each.now in
     let ensures = c.in_ok-node.ensures in
     let own = act.Copy c.in-Copy.replace c.in-Copy.from c.in-Copy.from_rev c.in-Copy.mi in
-    let inserted = subst (λ before. AddsNumbers (ArePair c.in_ok-node.node c.args.place) before c.insert-in-Copy.new.self) ensures.copied c.in_ok-insert-in-Copy.ensures in
-    AreListed-more old.nodes named.nodes records c.args.place each old.added old.copied old.named named.added c.insert-in-Copy.new.self named.named
+    let inserted = subst (λ before. AddsNumbers (ArePair c.in_ok-node.node c.args.index) before c.insert-in-Copy.new.self) ensures.copied c.in_ok-insert-in-Copy.ensures in
+    AreListed-more old.nodes named.nodes records c.args.index each old.added old.copied old.named named.added c.insert-in-Copy.new.self named.named
     ensures.grown at so
-    (subst (AddsEntries named.nodes (AddsPath each c.args.place) old.added) (sym ensures.added)
-    (AddsEntries-other IsAddition named.nodes each c.args.place old.added (other_from_act IsAddition each own c.in-Copy.is (λ never. never))))
-    (AddsEntries-own IsCopy named.nodes each c.args.place old.copied own c.in-Copy.is tt c.in_ok-node.node c.insert-in-Copy.new.self ensures.node (omega (arith, c.ranges.place.fits)) inserted)
+    (subst (AddsEntries named.nodes (AddsPath each c.args.index) old.added) (sym ensures.added)
+    (AddsEntries-other IsAddition named.nodes each c.args.index old.added (other_from_act IsAddition each own c.in-Copy.is (λ never. never))))
+    (AddsEntries-own IsCopy named.nodes each c.args.index old.copied own c.in-Copy.is tt c.in_ok-node.node c.insert-in-Copy.new.self ensures.node (omega (arith, c.ranges.index.fits)) inserted)
     ensures.named
 
 pub returns-in_default : goal.returns-in_default
@@ -42,10 +42,10 @@ returns-in_default c = λ records at so.
     let named = c.name.new.self in
     let each = c.args.each.now in
     let ensures = c.in_ok-node.ensures in
-    AreListed-more old.nodes named.nodes records c.args.place each old.added old.copied old.named named.added named.copied named.named
+    AreListed-more old.nodes named.nodes records c.args.index each old.added old.copied old.named named.added named.copied named.named
     ensures.grown at so
-    (subst (AddsEntries named.nodes (AddsPath each c.args.place) old.added) (sym ensures.added)
-    (AddsEntries-other IsAddition named.nodes each c.args.place old.added (not_IsAddition each c.in_default.not-Add)))
-    (subst (AddsEntries named.nodes (CopiesPath each c.args.place) old.copied) (sym ensures.copied)
-    (AddsEntries-other IsCopy named.nodes each c.args.place old.copied (not_IsCopy each c.in_default.not-Copy)))
+    (subst (AddsEntries named.nodes (AddsPath each c.args.index) old.added) (sym ensures.added)
+    (AddsEntries-other IsAddition named.nodes each c.args.index old.added (not_IsAddition each c.in_default.not-Add)))
+    (subst (AddsEntries named.nodes (CopiesPath each c.args.index) old.copied) (sym ensures.copied)
+    (AddsEntries-other IsCopy named.nodes each c.args.index old.copied (not_IsCopy each c.in_default.not-Copy)))
     ensures.named

@@ -7,12 +7,12 @@ use Rattle.path_index.proofs.records_by_path.RecordsByPath.push_named.Goals as g
 pub returns-in-Some : goal.returns-in-Some
 returns-in-Some c =
     on_ok_weaker c.push_hits.result
-    (λ pushed records are. pushed ∙ ap (λ revs. c.args.hits.now.items ++ map (hit_at c.args.place) revs)
+    (λ pushed records are. pushed ∙ ap (λ revs. c.args.hits.now.items ++ map (hit_at c.args.segment) revs)
     (named_revisions-numbers records c.args.self.now are c.args.path.now c.in-Some.node c.args.lo c.args.hi (sym c.find.ensures ∙ c.in-Some.is)))
     c.push_hits.ensures
 
 pub returns-in-None : goal.returns-in-None
 returns-in-None c = λ records are.
     sym (append-nil c.args.hits.now.items)
-    ∙ ap (λ revs. c.args.hits.now.items ++ map (hit_at c.args.place) revs)
+    ∙ ap (λ revs. c.args.hits.now.items ++ map (hit_at c.args.segment) revs)
     (sym (named_revisions-none records c.args.self.now are c.args.path.now c.args.lo c.args.hi (sym c.find.ensures ∙ c.in-None.is)))

@@ -8,12 +8,12 @@ use Rattle.path_index.proofs.span.Span.up_to.Goals as goal
 pub returns : goal.returns
 returns c =
     let records = c.args.records.now in
-    let place = c.in-Some.place in
+    let index = c.in-Some.index in
     let from = c.in_ok-origin.field-0 in
-    let (each, at, sets) = SetsPath-SetsAt records c.args.by_path.now c.requires.by_path c.args.path.now place c.in-Some.ensures.1 in
+    let (each, at, sets) = SetsPath-SetsAt records c.args.by_path.now c.requires.by_path c.args.path.now index c.in-Some.ensures.1 in
     subst (λ lo. IsSpan records c.args.path.now c.args.peg (record { lo = lo; origin = from })) (sym (c.rev.ensures each at))
     (IsSpan-newest records c.args.by_path.now c.requires.by_path c.args.path.now c.args.peg c.count_up_to-count.result c.requires.there c.requires.rising c.count_up_to-count.ensures.bound c.count_up_to-count.ensures.point
-    place each from c.in-Some.ensures (get_or_from_slice_get records place each each at) (c.in_ok-origin.ensures each at))
+    index each from c.in-Some.ensures (get_or_from_slice_get records index each each at) (c.in_ok-origin.ensures each at))
 
 pub returns-in_default : goal.returns-in_default
 returns-in_default c =
@@ -22,5 +22,5 @@ returns-in_default c =
 
 pub origin-requires : goal.origin-requires
 origin-requires c =
-    let (each, at, sets) = SetsPath-SetsAt c.args.records.now c.args.by_path.now c.requires.by_path c.args.path.now c.in-Some.place c.in-Some.ensures.1 in
+    let (each, at, sets) = SetsPath-SetsAt c.args.records.now c.args.by_path.now c.requires.by_path c.args.path.now c.in-Some.index c.in-Some.ensures.1 in
     record { each = each; at = at; sets = sets }

@@ -7,7 +7,7 @@ use Rattle.svn_dump.specs.Record.{record_of, with_sort}
 use Rattle.svn_dump.specs.Refusal.{node_refusals}
 use Rattle.svn_dump.specs.HeaderValues.{node_from_headers}
 use Rattle.svn_dump.specs.NumberedRecord.{IsFirstReason, is_record_large}
-use Rattle.svn_dump.proofs.Drafts.{room_left, IsDraft-grows, count-le, IsDraft-with_record, with_record-told, IsWhole-with_record, refused-full, refused-record}
+use Rattle.svn_dump.proofs.Drafts.{room_left, IsDraft-grows, count-le, IsDraft-with_record, with_record-told, IsWholeHistory-with_record, refused-full, refused-record}
 use Rattle.svn_dump.proofs.Grouped.{with_more, set_last_read}
 use Rattle.svn_dump.proofs.Histories.{length-history_in_bytes}
 use Rattle.svn_dump.proofs.draft.Draft.add_record.Goals as goal
@@ -93,4 +93,4 @@ returns-clause-keeps c =
     (omega (arith, long, told.of_table.above_zero, told.revision, sub-one c.len-revisions.result)) c.index_mut.ensures.value in
     let room = sym c.is_full.ensures.full ∙ c.if-is_full.false in
     rw (c.in_ok-push.ensures.items, counts_are, ← c.self.view_is)
-    (IsWhole-with_record inside.names inside.records.items inside.counts.items inside.texts c.self.invariant c.record_of.new.names c.record_of.new.texts _ (pred c.len-revisions.result) c.in_ok-record.record c.in_ok-record.ensures.record last room (c.is_full.ensures.names c.if-is_full.false) (c.is_full.ensures.texts c.if-is_full.false))
+    (IsWholeHistory-with_record inside.names inside.records.items inside.counts.items inside.texts c.self.invariant c.record_of.new.names c.record_of.new.texts _ (pred c.len-revisions.result) c.in_ok-record.record c.in_ok-record.ensures.record last room (c.is_full.ensures.names c.if-is_full.false) (c.is_full.ensures.texts c.if-is_full.false))

@@ -2,7 +2,7 @@ use Rattle.std.proofs.Common.{◌≡◌, length, sym, ap, ◌∙◌, arith, rule
 use Rattle.std.specs.Prelude.{Some}
 use Rattle.svn_text.specs.Number.{number_up_to}
 use Rattle.svn_dump.specs.Record.{with_sort}
-use Rattle.svn_dump.proofs.Drafts.{not_same, IsDraft-with_revision, with_numbered-told, IsWhole-with_revision, refused-number, refused-revision}
+use Rattle.svn_dump.proofs.Drafts.{not_same, IsDraft-with_revision, with_numbered-told, IsWholeHistory-with_revision, refused-number, refused-revision}
 use Rattle.svn_dump.proofs.draft.Draft.add_revision.Goals as goal
 
 pub invariant_of-self-2 : goal.invariant_of-self-2
@@ -19,7 +19,7 @@ returns-clause-added c =
 pub returns-clause-keeps : goal.returns-clause-keeps
 returns-clause-keeps c =
     let inside = c.self.inside in
-    rw (c.in_ok-push.ensures.items, ← c.self.view_is) (IsWhole-with_revision inside.names inside.records.items inside.counts.items inside.texts c.self.invariant (omega arith))
+    rw (c.in_ok-push.ensures.items, ← c.self.view_is) (IsWholeHistory-with_revision inside.names inside.records.items inside.counts.items inside.texts c.self.invariant (omega arith))
 
 pub returns-then-ne-clause-refused : goal.returns-then-ne-clause-refused
 returns-then-ne-clause-refused c = λ whole.

@@ -1,19 +1,19 @@
 use Rattle.std.proofs.Common.{◌≡◌, ◌-◌, Some, length, sym, ap, subst, ◌∙◌}
 use Rattle.std.specs.Prelude.{option_copied, slice_get}
-use Rattle.block_map.specs.Block.{end_of_block}
-use Rattle.block_map.proofs.BlockLooks.{IfOk-kept, IsRootAt-last, IsRootAt-pushed}
-use Rattle.block_map.proofs.block.Block.same_root.Goals as goal
+use Rattle.block_map.specs.Trees.{end_of_trees}
+use Rattle.block_map.proofs.TreesLooks.{IfOk-kept, IsRootAt-last, IsRootAt-pushed}
+use Rattle.block_map.proofs.trees.Trees.same_root.Goals as goal
 
 pub returns-in-Some-clause-shows : goal.returns-in-Some-clause-shows
 returns-in-Some-clause-shows c =
-    let block = c.args.self.now in
-    let at : slice_get block.roots.items (length block.roots.items - 1) ≡ Some c.in-Some.id.now =
+    let trees = c.args.self.now in
+    let at : slice_get trees.roots.items (length trees.roots.items - 1) ≡ Some c.in-Some.id.now =
     subst (λ roots. slice_get roots (length roots - 1) ≡ Some c.in-Some.id.now) c.deref.ensures.value (sym c.last.ensures.value ∙ ap option_copied c.in-Some.is) in
-    IsRootAt-last block c.in-Some.id.now c.requires.block at
+    IsRootAt-last trees c.in-Some.id.now c.requires.trees at
 
 pub returns-in-None-clause-shows : goal.returns-in-None-clause-shows
 returns-in-None-clause-shows c =
-    let block = c.args.self.now in
+    let trees = c.args.self.now in
     IfOk-kept c.push.result _ _ _
-    (λ id at added. IsRootAt-pushed block c.push.new.self (end_of_block block) c.args.root id c.push.ensures.trie c.requires.sound c.requires.shows at added)
+    (λ id at added. IsRootAt-pushed trees c.push.new.self (end_of_trees trees) c.args.root id c.push.ensures.trie c.requires.sound c.requires.shows at added)
     c.push.ensures.id c.push.ensures.added

@@ -1,9 +1,9 @@
 use Rattle.std.proofs.Common.{rules, ◌≡◌, ltb, true, false}
 use Rattle.std.specs.List.Sorted.{IsPartitionPoint}
 use Rattle.std.proofs.lemmas.List.Sorted.{IsPartitionedBy-ltb, IsPartitionPoint-from_clause}
-use Rattle.path_index.proofs.ListsOfNodes.{IsLocationOf-from_point}
+use Rattle.path_index.proofs.ListsOfNodes.{IsFirstNotBelow-from_point}
 use Rattle.path_index.proofs.NumbersOfNodes.{IsNonDecreasing-rising}
-use Rattle.path_index.proofs.numbers.place_of.Goals as goal
+use Rattle.path_index.proofs.numbers.first_not_below.Goals as goal
 
 pub returns-in_default : goal.returns-in_default
 returns-in_default c =
@@ -13,4 +13,4 @@ returns-in_default c =
     let point : IsPartitionPoint (λ each. ltb each number ≡ true) (λ each. ltb each number ≡ false) all count =
     IsPartitionPoint-from_clause (λ each. ltb each number) all count c.partition_point.ensures.partitioned (IsPartitionedBy-ltb (λ x. x) all number (IsNonDecreasing-rising all c.requires))
     (λ a r f' k. search rules) in
-    IsLocationOf-from_point number all count c.partition_point.ensures.bound point
+    IsFirstNotBelow-from_point number all count c.partition_point.ensures.bound point

@@ -1,10 +1,10 @@
-//! The trees of a block of records.
+//! The trees after each of some records.
 ghost use Rattle.std.specs.Prelude.{◌≡◌, ◌+◌, ◌^◌, ◌<◌, ◌≤◌, ◌++◌, ◌∷◌, [], length, option_map, IfOk, OnOk};
 ghost use Rattle.std.specs.Prelude.{None};
 ghost use Rattle.svn_dump.specs.Dump.{record_view, setting_view};
 ghost use Rattle.svn_dump.specs.Tree.{mergeinfo_after};
 ghost use Rattle.svn_dump.specs.Record.{most_components};
-ghost use Rattle.block_map.specs.Block.{IsBlock, IsNodeAfter, IsRootAfter, IsRootAt, SameBlock, ShowsPath, ShowsTick, action_in, end_of_block, look_in_block};
+ghost use Rattle.block_map.specs.Trees.{AreTrees, IsNodeAfter, IsRootAfter, IsRootAt, SameTrees, ShowsPath, ShowsTick, action_in, end_of_trees, look_in_trees};
 ghost use Rattle.block_map.specs.Ends.{HasSourceBefore, record_at_tick};
 ghost use Rattle.block_map.specs.Map.{IsNearestOrNone, found_view};
 ghost use Rattle.block_map.specs.Standing.{entry_view, mergeinfo_of, standing_of};
@@ -14,10 +14,10 @@ use crate::ends::Ends;
 use crate::entry::Entry;
 use crate::found::Found;
 use crate::ghost_records::GhostRecords;
+use crate::location::Location;
 use crate::nearest::Nearest;
 use crate::node::Node;
 use crate::part::NodeId;
-use crate::place::Place;
 use crate::trie::Trie;
 use std::alloc::{AllocError, Global};
 use svn_dump::{Act, Kind, Mi, NodeRecord, ValueId};
@@ -25,22 +25,22 @@ use svn_path::{NameId, Path};
 
 /// The roots of the trees after each of some records, which follow the first `start` of their history.
 #[derive(Drop)]
-pub(crate) struct Block {
+pub(crate) struct Trees {
     pub(crate) start: u32,
     pub(crate) roots: Vec<NodeId>,
     pub(crate) trie: Trie,
     pub(crate) records: GhostRecords,
 }
 
-impl Block {
-    /// A block of no records. It takes no memory.
+impl Trees {
+    /// The trees of no records, which take no memory.
     pub(crate) fn new(alloc: Global, start: u32) -> Self
-        ensures block { IsBlock result }
+        ensures trees { AreTrees result }
         ensures start { result.start ≡ start }
         ensures records { result.records.records ≡ [] }
         ensures nodes { result.trie.nodes ≡ [] }
     {
-        Block {
+        Trees {
             start,
             roots: Vec::new(alloc),
             trie: Trie::new(alloc),
@@ -50,11 +50,11 @@ impl Block {
 
     /// Adds a record.
     pub(crate) fn add(&mut self, each: &NodeRecord, ends: &Ends) -> Result<(), AllocError>
-        requires block { IsBlock self.old }
-        requires few { end_of_block self.old + 1 < 2 ^ 32 }
+        requires trees { AreTrees self.old }
+        requires few { end_of_trees self.old + 1 < 2 ^ 32 }
         requires short { length each.now.path ≤ most_components }
-        requires source { HasSourceBefore ends.now (end_of_block self.old + 1) each.now.act }
-        ensures block { OnOk result (IsBlock self.new) }
+        requires source { HasSourceBefore ends.now (end_of_trees self.old + 1) each.now.act }
+        ensures trees { OnOk result (AreTrees self.new) }
         ensures start { OnOk result (self.new.start ≡ self.old.start) }
         ensures records { OnOk result (self.new.records.records
             ≡ self.old.records.records ++ record_at_tick ends.now (record_view each.now) ∷ []) }
@@ -68,9 +68,9 @@ impl Block {
 
     /// The root of the tree after a record.
     fn next_root(&mut self, each: &NodeRecord, ends: &Ends) -> Result<NodeId, AllocError>
-        requires block { IsBlock self.old }
-        requires source { HasSourceBefore ends.now (end_of_block self.old + 1) each.now.act }
-        ensures same { OnOk result (SameBlock self.old self.new) }
+        requires trees { AreTrees self.old }
+        requires source { HasSourceBefore ends.now (end_of_trees self.old + 1) each.now.act }
+        ensures same { OnOk result (SameTrees self.old self.new) }
         ensures shows { IfOk result (IsRootAfter self.new (record_at_tick ends.now (record_view each.now))) }
         ensures nodes { OnOk result
             (length self.new.trie.nodes ≤ length self.old.trie.nodes + length each.now.path + 1) }
@@ -88,11 +88,11 @@ impl Block {
 
     /// The root of the newest tree again.
     fn same_root(&mut self, root: Node) -> Result<NodeId, AllocError>
-        requires block { IsBlock self.old }
+        requires trees { AreTrees self.old }
         requires sound { IsNodeOf self.old.trie root }
-        requires shows { ShowsTick self.old (end_of_block self.old) root }
-        ensures same { OnOk result (SameBlock self.old self.new) }
-        ensures shows { IfOk result (IsRootAt self.new (end_of_block self.new)) }
+        requires shows { ShowsTick self.old (end_of_trees self.old) root }
+        ensures same { OnOk result (SameTrees self.old self.new) }
+        ensures shows { IfOk result (IsRootAt self.new (end_of_trees self.new)) }
         ensures nodes { OnOk result (length self.new.trie.nodes ≤ length self.old.trie.nodes + 1) }
         ensures sound { OnOk result (IsSound self.new.trie) }
     {
@@ -104,11 +104,11 @@ impl Block {
 
     /// The root of the newest tree.
     fn newest(&mut self) -> Result<Node, AllocError>
-        requires { IsBlock self.old }
-        ensures same { OnOk result (SameBlock self.old self.new) }
+        requires { AreTrees self.old }
+        ensures same { OnOk result (SameTrees self.old self.new) }
         ensures nodes { OnOk result (self.new.trie.nodes ≡ self.old.trie.nodes) }
         ensures sound { IfOk result (IsNodeOf self.new.trie) }
-        ensures shows { IfOk result (ShowsTick self.new (end_of_block self.new)) }
+        ensures shows { IfOk result (ShowsTick self.new (end_of_trees self.new)) }
     {
         if self.roots.is_empty() {
             return self.outside(&[], self.start);
@@ -116,11 +116,11 @@ impl Block {
         Ok(self.root(self.start + self.roots.len() as u32))
     }
 
-    /// The node of what stood at a path at a tick that is not after the first one of the block.
+    /// The node of what stood at a path at a tick that is not after `start`.
     fn outside(&mut self, path: &[NameId], tick: u32) -> Result<Node, AllocError>
-        requires block { IsBlock self.old }
+        requires trees { AreTrees self.old }
         requires before { tick ≤ self.old.start }
-        ensures same { OnOk result (SameBlock self.old self.new) }
+        ensures same { OnOk result (SameTrees self.old self.new) }
         ensures nodes { OnOk result (self.new.trie.nodes ≡ self.old.trie.nodes) }
         ensures sound { IfOk result (IsNodeOf self.new.trie) }
         ensures shows { IfOk result (ShowsPath self.new tick path.now) }
@@ -133,15 +133,15 @@ impl Block {
             });
         }
         let path = Path::of(*self.roots.allocator(), path)?;
-        let place = self.trie.push_place(Place { path, tick })?;
-        Ok(Node::at(place))
+        let location = self.trie.push_location(Location { path, tick })?;
+        Ok(Node::at(location))
     }
 
     /// The node of what stood at a path at a tick.
     fn node_at(&mut self, tick: u32, path: &[NameId]) -> Result<Node, AllocError>
-        requires block { IsBlock self.old }
-        requires within { tick ≤ end_of_block self.old }
-        ensures same { OnOk result (SameBlock self.old self.new) }
+        requires trees { AreTrees self.old }
+        requires within { tick ≤ end_of_trees self.old }
+        ensures same { OnOk result (SameTrees self.old self.new) }
         ensures nodes { OnOk result (self.new.trie.nodes ≡ self.old.trie.nodes) }
         ensures sound { IfOk result (IsNodeOf self.new.trie) }
         ensures shows { IfOk result (ShowsPath self.new tick path.now) }
@@ -154,11 +154,11 @@ impl Block {
         self.trie.copied(position, path)
     }
 
-    /// The root of the tree at a tick after the first one of the block.
+    /// The root of the tree at a tick after `start`.
     pub(crate) fn root(&self, tick: u32) -> Node
-        requires block { IsBlock self.now }
+        requires trees { AreTrees self.now }
         requires after { self.now.start < tick }
-        requires within { tick ≤ end_of_block self.now }
+        requires within { tick ≤ end_of_trees self.now }
         ensures sound { IsNodeOf self.now.trie result }
         ensures shows { ShowsTick self.now tick result }
     {
@@ -172,11 +172,11 @@ impl Block {
         each: &NodeRecord,
         ends: &Ends,
     ) -> Result<Option<Node>, AllocError>
-        requires block { IsBlock self.old }
+        requires trees { AreTrees self.old }
         requires sound { IsNodeOf self.old.trie root }
-        requires shows { ShowsTick self.old (end_of_block self.old) root }
-        requires source { HasSourceBefore ends.now (end_of_block self.old + 1) each.now.act }
-        ensures same { OnOk result (SameBlock self.old self.new) }
+        requires shows { ShowsTick self.old (end_of_trees self.old) root }
+        requires source { HasSourceBefore ends.now (end_of_trees self.old + 1) each.now.act }
+        ensures same { OnOk result (SameTrees self.old self.new) }
         ensures nodes { OnOk result (self.new.trie.nodes ≡ self.old.trie.nodes) }
         ensures after { IfOk result (IsNodeAfter self.new root each.now.path (action_in ends.now each.now)) }
     {
@@ -204,10 +204,10 @@ impl Block {
 
     /// What the records say of a path at a tick.
     pub(crate) fn look(&self, tick: u32, path: &Path) -> Result<Found, AllocError>
-        requires block { IsBlock self.now }
+        requires trees { AreTrees self.now }
         requires after { self.now.start ≤ tick }
-        requires within { tick ≤ end_of_block self.now }
-        ensures { IfOk result (λ found. found_view found ≡ look_in_block self.now tick path.now) }
+        requires within { tick ≤ end_of_trees self.now }
+        ensures { IfOk result (λ found. found_view found ≡ look_in_trees self.now tick path.now) }
     {
         if tick == self.start {
             return self.found_at_start(path);
@@ -219,7 +219,7 @@ impl Block {
 
     /// What is found before the first record.
     fn found_at_start(&self, path: &Path) -> Result<Found, AllocError>
-        ensures { IfOk result (λ found. found_view found ≡ look_in_block self.now self.now.start path.now) }
+        ensures { IfOk result (λ found. found_view found ≡ look_in_trees self.now self.now.start path.now) }
     {
         if self.start > 0 {
             return Ok(Found::At {
@@ -237,12 +237,12 @@ impl Block {
         })
     }
 
-    /// What stands at a path at a tick, in a block from the beginning of a history.
+    /// What stands at a path at a tick, in trees from the beginning of a history.
     pub(crate) fn standing(&self, tick: u32, path: &[NameId]) -> Option<Entry>
-        requires block { IsBlock self.now }
+        requires trees { AreTrees self.now }
         requires whole { self.now.start ≡ 0 }
-        requires within { tick ≤ end_of_block self.now }
-        ensures { option_map entry_view result ≡ standing_of (look_in_block self.now tick path.now) }
+        requires within { tick ≤ end_of_trees self.now }
+        ensures { option_map entry_view result ≡ standing_of (look_in_trees self.now tick path.now) }
     {
         if tick > 0 {
             let root = self.root(tick);
@@ -257,12 +257,12 @@ impl Block {
         None
     }
 
-    /// The nearest mergeinfo of a path at a tick, in a block from the beginning of a history.
+    /// The nearest mergeinfo of a path at a tick, in trees from the beginning of a history.
     pub(crate) fn nearest(&self, tick: u32, path: &[NameId]) -> Option<Nearest>
-        requires block { IsBlock self.now }
+        requires trees { AreTrees self.now }
         requires whole { self.now.start ≡ 0 }
-        requires within { tick ≤ end_of_block self.now }
-        ensures { IsNearestOrNone (λ above. mergeinfo_of (look_in_block self.now tick above)) path.now result }
+        requires within { tick ≤ end_of_trees self.now }
+        ensures { IsNearestOrNone (λ above. mergeinfo_of (look_in_trees self.now tick above)) path.now result }
     {
         if tick == 0 {
             return None;

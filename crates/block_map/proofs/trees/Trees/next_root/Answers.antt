@@ -1,45 +1,45 @@
 use Rattle.std.proofs.Common.{List, Some, None, subst, sym}
 use Rattle.svn_path.specs.declared.names.NameId.{NameId}
 use Rattle.svn_dump.specs.Dump.{record_view}
-use Rattle.block_map.specs.Block.{IsBlock, IsNodeAfter, SameBlock, ShowsTick, action_in, end_of_block}
+use Rattle.block_map.specs.Trees.{AreTrees, IsNodeAfter, SameTrees, ShowsTick, action_in, end_of_trees}
 use Rattle.block_map.specs.Ends.{record_at_tick}
 use Rattle.block_map.specs.Trie.{IsNodeOf, PutsNode}
-use Rattle.block_map.specs.declared.block.Block.{Block}
+use Rattle.block_map.specs.declared.trees.Trees.{Trees}
 use Rattle.block_map.specs.declared.node.Node.{Node}
-use Rattle.block_map.proofs.BlockLooks.{IfOk-kept, IsBlock-same, IsRootAfter-kept, IsRootAfter-put, ShowsTick-same, end_of_block-same}
+use Rattle.block_map.proofs.TreesLooks.{IfOk-kept, AreTrees-same, IsRootAfter-kept, IsRootAfter-put, ShowsTick-same, end_of_trees-same}
 use Rattle.block_map.proofs.GrownTries.{IsNodeOf-grown}
-use Rattle.block_map.proofs.block.Block.next_root.Goals as goal
+use Rattle.block_map.proofs.trees.Trees.next_root.Goals as goal
 
--- the root is one of the same block with more places
-root_of_same : (one two : Block) (root : Node) → SameBlock one two → IsBlock one → IsNodeOf one.trie root → IsNodeOf two.trie root
+-- the root is one of the same trees with more locations
+root_of_same : (one two : Trees) (root : Node) → SameTrees one two → AreTrees one → IsNodeOf one.trie root → IsNodeOf two.trie root
 root_of_same one two root same is sound = IsNodeOf-grown one.trie two.trie is.sound same.trie root sound
 
 -- and shows the same
-shows_of_same : (one two : Block) (root : Node) → SameBlock one two → IsBlock one → IsNodeOf one.trie root → ShowsTick one (end_of_block one) root → ShowsTick two (end_of_block two) root
+shows_of_same : (one two : Trees) (root : Node) → SameTrees one two → AreTrees one → IsNodeOf one.trie root → ShowsTick one (end_of_trees one) root → ShowsTick two (end_of_trees two) root
 shows_of_same one two root same is sound shows =
-    subst (λ tick. ShowsTick two tick root) (sym (end_of_block-same one two same)) (ShowsTick-same one two (end_of_block one) root is.sound same sound shows)
+    subst (λ tick. ShowsTick two tick root) (sym (end_of_trees-same one two same)) (ShowsTick-same one two (end_of_trees one) root is.sound same sound shows)
 
-pub node_after-requires-clause-block : goal.node_after-requires-clause-block
-node_after-requires-clause-block c = IsBlock-same c.args.self.now c.newest.new.self c.requires.block c.in_ok-root.ensures.same
+pub node_after-requires-clause-trees : goal.node_after-requires-clause-trees
+node_after-requires-clause-trees c = AreTrees-same c.args.self.now c.newest.new.self c.requires.trees c.in_ok-root.ensures.same
 
 pub put-requires-clause-before : goal.put-requires-clause-before
 put-requires-clause-before c =
-    let is = IsBlock-same c.args.self.now c.newest.new.self c.requires.block c.in_ok-root.ensures.same in
+    let is = AreTrees-same c.args.self.now c.newest.new.self c.requires.trees c.in_ok-root.ensures.same in
     root_of_same c.newest.new.self c.node_after.new.self c.in_ok-root.root c.in_ok-node.ensures.same is c.in_ok-root.ensures.sound
 
-pub same_root-requires-clause-block : goal.same_root-requires-clause-block
-same_root-requires-clause-block c =
-    let is = IsBlock-same c.args.self.now c.newest.new.self c.requires.block c.in_ok-root.ensures.same in
-    IsBlock-same c.newest.new.self c.node_after.new.self is c.in_ok-node.ensures.same
+pub same_root-requires-clause-trees : goal.same_root-requires-clause-trees
+same_root-requires-clause-trees c =
+    let is = AreTrees-same c.args.self.now c.newest.new.self c.requires.trees c.in_ok-root.ensures.same in
+    AreTrees-same c.newest.new.self c.node_after.new.self is c.in_ok-node.ensures.same
 
 pub same_root-requires-clause-sound : goal.same_root-requires-clause-sound
 same_root-requires-clause-sound c =
-    let is = IsBlock-same c.args.self.now c.newest.new.self c.requires.block c.in_ok-root.ensures.same in
+    let is = AreTrees-same c.args.self.now c.newest.new.self c.requires.trees c.in_ok-root.ensures.same in
     root_of_same c.newest.new.self c.node_after.new.self c.in_ok-root.root c.in_ok-node.ensures.same is c.in_ok-root.ensures.sound
 
 pub same_root-requires-clause-shows : goal.same_root-requires-clause-shows
 same_root-requires-clause-shows c =
-    let is = IsBlock-same c.args.self.now c.newest.new.self c.requires.block c.in_ok-root.ensures.same in
+    let is = AreTrees-same c.args.self.now c.newest.new.self c.requires.trees c.in_ok-root.ensures.same in
     shows_of_same c.newest.new.self c.node_after.new.self c.in_ok-root.root c.in_ok-node.ensures.same is c.in_ok-root.ensures.sound c.in_ok-root.ensures.shows
 
 pub returns-in_ok-node-in-Some-clause-shows : goal.returns-in_ok-node-in-Some-clause-shows
@@ -49,7 +49,7 @@ returns-in_ok-node-in-Some-clause-shows c =
     let root = c.in_ok-root.root in
     let path = c.args.each.now.path in
     let each = record_at_tick c.args.ends.now (record_view c.args.each.now) in
-    let is = IsBlock-same c.args.self.now one c.requires.block c.in_ok-root.ensures.same in
+    let is = AreTrees-same c.args.self.now one c.requires.trees c.in_ok-root.ensures.same in
     let shows = shows_of_same one two root c.in_ok-node.ensures.same is c.in_ok-root.ensures.sound c.in_ok-root.ensures.shows in
     let after : IsNodeAfter two root path (action_in c.args.ends.now c.args.each.now) (Some c.in-Some.node) =
     subst (IsNodeAfter two root path (action_in c.args.ends.now c.args.each.now)) c.in-Some.is c.in_ok-node.ensures.after in

@@ -3,11 +3,11 @@ use Rattle.std.specs.Prelude.{slice_get}
 use Rattle.std.proofs.lemmas.Bool.{eq-eqb, eqb-true}
 use Rattle.std.proofs.lemmas.List.{nil_from_length}
 use Rattle.svn_path.specs.declared.names.NameId.{NameId}
-use Rattle.block_map.specs.Block.{ShowsPath}
+use Rattle.block_map.specs.Trees.{ShowsPath}
 use Rattle.block_map.specs.Node.{absent_node}
-use Rattle.block_map.specs.declared.block.Block.{Block}
-use Rattle.block_map.proofs.BlockNodes.{ShowsPath-absent, ShowsPath-place, ShowsPath-root, slice_get_last}
-use Rattle.block_map.proofs.block.Block.outside.Goals as goal
+use Rattle.block_map.specs.declared.trees.Trees.{Trees}
+use Rattle.block_map.proofs.TreesNodes.{ShowsPath-absent, ShowsPath-location, ShowsPath-root, slice_get_last}
+use Rattle.block_map.proofs.trees.Trees.outside.Goals as goal
 
 pub returns-then-is_empty-clause-shows : goal.returns-then-is_empty-clause-shows
 returns-then-is_empty-clause-shows c =
@@ -23,10 +23,10 @@ returns-else-is_empty-clause-shows c = rw c.absent.ensures (by c.args.path.now (
 
 pub returns-clause-shows : goal.returns-clause-shows
 returns-clause-shows c =
-    let block : Block = record c.args.self.now { trie = c.push_place.new.self } in
+    let trees : Trees = record c.args.self.now { trie = c.push_location.new.self } in
     let path = c.in_ok-path.ensures in
-    let kept : slice_get c.push_place.new.self.places c.in_ok-place.place.0 ≡ Some (record { path = c.args.path.now; tick = c.args.tick }) =
-    ap (λ trie. slice_get trie.places c.in_ok-place.place.0) c.in_ok-place.ensures.added
-    ∙ slice_get_last c.args.self.now.trie.places _ c.in_ok-place.place.0 c.in_ok-place.ensures.id
+    let kept : slice_get c.push_location.new.self.locations c.in_ok-location.location.0 ≡ Some (record { path = c.args.path.now; tick = c.args.tick }) =
+    ap (λ trie. slice_get trie.locations c.in_ok-location.location.0) c.in_ok-location.ensures.added
+    ∙ slice_get_last c.args.self.now.trie.locations _ c.in_ok-location.location.0 c.in_ok-location.ensures.id
     ∙ ap (λ front. Some (record { path = front; tick = c.args.tick })) path in
-    rw c.at.ensures (ShowsPath-place block c.args.tick c.args.path.now c.in_ok-place.place c.if-self-eq0.false c.requires.before kept)
+    rw c.at.ensures (ShowsPath-location trees c.args.tick c.args.path.now c.in_ok-location.location c.if-self-eq0.false c.requires.before kept)

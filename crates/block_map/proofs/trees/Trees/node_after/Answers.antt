@@ -2,12 +2,12 @@ use Rattle.std.proofs.Common.{◌≡◌, unwrap_or, get_or, subst, ap, ◌∙◌
 use Rattle.svn_dump.specs.Dump.{setting_view}
 use Rattle.svn_dump.specs.declared.record.Act.TheVariants as act
 use Rattle.svn_dump.specs.declared.record.Mi.TheVariants as mi
-use Rattle.block_map.specs.Block.{ShowsPath}
+use Rattle.block_map.specs.Trees.{ShowsPath}
 use Rattle.block_map.specs.Node.{untouched}
 use Rattle.block_map.specs.Trie.{IsNodeOf, IsPositionOf, at_path, at_root}
 use Rattle.block_map.proofs.CopiedNodes.{IsNodeOf-untouched}
 use Rattle.block_map.proofs.RecordNodes.{IsNodeOf-with_setting, ShowsAction-add, ShowsAction-change, ShowsAction-copy, ShowsAction-delete}
-use Rattle.block_map.proofs.block.Block.node_after.Goals as goal
+use Rattle.block_map.proofs.trees.Trees.node_after.Goals as goal
 
 pub returns-in-Delete-clause-after : goal.returns-in-Delete-clause-after
 returns-in-Delete-clause-after c =
@@ -20,26 +20,26 @@ returns-in-Add-clause-after c =
 
 pub returns-in-Put-clause-after : goal.returns-in-Put-clause-after
 returns-in-Put-clause-after c =
-    let block = c.args.self.now in
+    let trees = c.args.self.now in
     let path = c.args.each.now.path in
-    let from = at_path block.trie (at_root c.args.root) path in
+    let from = at_path trees.trie (at_root c.args.root) path in
     let position = c.find-position.result in
-    let found : IsPositionOf block.trie c.args.root path position = subst (λ whole. IsPositionOf block.trie c.args.root whole position) c.parts.ensures c.find-position.ensures in
+    let found : IsPositionOf trees.trie c.args.root path position = subst (λ whole. IsPositionOf trees.trie c.args.root whole position) c.parts.ensures c.find-position.ensures in
     let untouched_is : c.or_untouched.result ≡ unwrap_or from.node untouched = c.or_untouched.ensures ∙ ap (λ at. unwrap_or at.node untouched) found.is in
-    let sound : IsNodeOf block.trie c.or_untouched.result = rw c.or_untouched.ensures (IsNodeOf-untouched block.trie position.node found.node) in
+    let sound : IsNodeOf trees.trie c.or_untouched.result = rw c.or_untouched.ensures (IsNodeOf-untouched trees.trie position.node found.node) in
     let act : c.args.each.now.act ≡ act.Change (mi.Put c.in-Put.mi) = c.in-Change.is ∙ ap act.Change c.in-Put.is in
     rw (c.with_mergeinfo.ensures, untouched_is, act)
-    (rw (← untouched_is) sound, ShowsAction-change block c.args.root path c.in-Put.mi c.requires.shows)
+    (rw (← untouched_is) sound, ShowsAction-change trees c.args.root path c.in-Put.mi c.requires.shows)
 
 pub returns-in_ok-node-in-Copy-clause-after : goal.returns-in_ok-node-in-Copy-clause-after
 returns-in_ok-node-in-Copy-clause-after c =
-    let block = c.node_at.new.self in
+    let trees = c.node_at.new.self in
     let path = c.args.each.now.path in
     let node = c.in_ok-node-in-Copy.node in
     let tick : c.at.result ≡ get_or c.args.ends.now c.in-Copy.from_rev 0 = c.at.ensures in
-    let shows : ShowsPath block (get_or c.args.ends.now c.in-Copy.from_rev 0) c.in-Copy.from node =
+    let shows : ShowsPath trees (get_or c.args.ends.now c.in-Copy.from_rev 0) c.in-Copy.from node =
     rw (← tick, ← c.parts-in-Copy.ensures) c.in_ok-node-in-Copy.ensures.shows in
     rw (c.with_setting.ensures, c.in-Copy.is) (
-      IsNodeOf-with_setting block.trie (setting_view c.in-Copy.mi) node c.in_ok-node-in-Copy.ensures.sound,
-      ShowsAction-copy block c.args.root path c.in-Copy.replace c.in-Copy.from (get_or c.args.ends.now c.in-Copy.from_rev 0) (setting_view c.in-Copy.mi) node shows,
+      IsNodeOf-with_setting trees.trie (setting_view c.in-Copy.mi) node c.in_ok-node-in-Copy.ensures.sound,
+      ShowsAction-copy trees c.args.root path c.in-Copy.replace c.in-Copy.from (get_or c.args.ends.now c.in-Copy.from_rev 0) (setting_view c.in-Copy.mi) node shows,
     )
