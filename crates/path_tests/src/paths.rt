@@ -1,5 +1,5 @@
 //! Paths at small examples.
-ghost use Rattle.std.specs.Prelude.{IfOk};
+ghost use Rattle.std.specs.Prelude.{◌≤◌, IfOk, length};
 ghost use Rattle.svn_path.specs.Path.{IsPathOf};
 
 use crate::names::table;
@@ -284,5 +284,43 @@ fn size_of(alloc: Global, text: &str) -> Result<Option<u32>, Fail> {
 fn paths_are_keys_of_a_map(rt: HostRuntime) -> Result<(), Fail> {
     assert!(rt; size_of(rt.alloc(), "/a/c/")? == Some(5));
     assert!(rt; size_of(rt.alloc(), "")?.is_none());
+    Ok(())
+}
+
+fn write_below(names: &Names, path: &Path, depth: usize, out: &mut Vec<u8>) -> Result<(), Fail>
+    requires names { IsPathOf names.now path.now }
+    requires depth { depth ≤ length path.now }
+{
+    Ok(path.write_below(depth, names, out)?)
+}
+
+fn is_written_below(
+    alloc: Global,
+    names: &Names,
+    path: &Path,
+    depth: usize,
+    wanted: &[u8],
+) -> Result<bool, Fail>
+    requires { IsPathOf names.now path.now }
+{
+    let mut out = Vec::new(alloc);
+    if depth <= path.len() {
+        write_below(names, path, depth, &mut out)?;
+    }
+    Ok(out.as_slice() == wanted)
+}
+
+// Whether what follows the first components of a path is written like this.
+fn rest_is_written(alloc: Global, depth: usize, wanted: &[u8]) -> Result<bool, Fail> {
+    let names = table(alloc)?;
+    let path = known(alloc, &names, "a/c")?;
+    is_written_below(alloc, &names, &path, depth, wanted)
+}
+
+#[test]
+fn the_rest_of_a_path_is_written_as_a_path(rt: HostRuntime) -> Result<(), Fail> {
+    assert!(rt; rest_is_written(rt.alloc(), 0, b"/a/c")?);
+    assert!(rt; rest_is_written(rt.alloc(), 1, b"/c")?);
+    assert!(rt; rest_is_written(rt.alloc(), 2, b"/")?);
     Ok(())
 }

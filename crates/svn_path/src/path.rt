@@ -1,5 +1,5 @@
 //! A path as the list of the numbers of its components.
-ghost use Rattle.std.specs.Prelude.{◌≡◌, ℕ, ◌<◌, ◌↔◌, List, [], ◌++◌, Some, drop, take, length, IsTrue, IfOk, OnOk, OnErr, IsErrOf, refl};
+ghost use Rattle.std.specs.Prelude.{◌≡◌, ℕ, ◌<◌, ◌≤◌, ◌↔◌, List, [], ◌++◌, Some, drop, take, length, IsTrue, IfOk, OnOk, OnErr, IsErrOf, refl};
 ghost use Rattle.std.specs.Cmp.{partial_equiv_from_equiv, partial_order_from_agreeing_total};
 ghost use Rattle.std.specs.Cmp.Lexicographic.{pointwise, slice_cmp};
 ghost use Rattle.std.specs.Ordering.{as_partial_cmp};
@@ -261,28 +261,54 @@ impl Path {
         ensures ok { OnOk result (out.new.items ≡ out.old.items ++ path_text (components_of names.now self.now)) }
         ensures err { OnErr result (out.new.items ≡ out.old.items) }
     {
-        if self.is_empty() {
-            out.push(b'/')?;
-            return Ok(());
-        }
-        let before = out.len();
-        let written = self.append(names, out);
-        if written.is_err() {
-            out.truncate(before);
-        }
-        written
+        write_parts(self.parts(), names, out)
     }
 
-    /// Appends a slash and the name for each component.
-    fn append(&self, names: &Names, out: &mut Vec<u8>) -> Result<(), AllocError>
-        requires { IsPathOf names.now self.now }
-        ensures ok { OnOk result (out.new.items ≡ out.old.items ++ parts_text (components_of names.now self.now)) }
-        ensures err { OnErr result ((more : List ℕ) × (out.new.items ≡ out.old.items ++ more)) }
+    /// Appends what follows the first `depth` components, printed as a path of its own.
+    pub fn write_below(
+        &self,
+        depth: usize,
+        names: &Names,
+        out: &mut Vec<u8>,
+    ) -> Result<(), AllocError>
+        requires names { IsPathOf names.now self.now }
+        requires depth { depth ≤ length self.now }
+        ensures ok { OnOk result
+            (out.new.items ≡ out.old.items ++ path_text (drop depth (components_of names.now self.now))) }
+        ensures err { OnErr result (out.new.items ≡ out.old.items) }
     {
-        for id in self.parts() {
-            out.push(b'/')?;
-            out.extend_from_slice(names.text(*id))?;
-        }
-        Ok(())
+        let (_, below) = self.parts().split_at(depth);
+        write_parts(below, names, out)
     }
+}
+
+/// Appends the components as a path is printed.
+fn write_parts(parts: &[NameId], names: &Names, out: &mut Vec<u8>) -> Result<(), AllocError>
+    requires { IsPathOf names.now parts.now }
+    ensures ok { OnOk result (out.new.items ≡ out.old.items ++ path_text (components_of names.now parts.now)) }
+    ensures err { OnErr result (out.new.items ≡ out.old.items) }
+{
+    if parts.is_empty() {
+        out.push(b'/')?;
+        return Ok(());
+    }
+    let before = out.len();
+    let written = append_parts(parts, names, out);
+    if written.is_err() {
+        out.truncate(before);
+    }
+    written
+}
+
+/// Appends a slash and the name for each component.
+fn append_parts(parts: &[NameId], names: &Names, out: &mut Vec<u8>) -> Result<(), AllocError>
+    requires { IsPathOf names.now parts.now }
+    ensures ok { OnOk result (out.new.items ≡ out.old.items ++ parts_text (components_of names.now parts.now)) }
+    ensures err { OnErr result ((more : List ℕ) × (out.new.items ≡ out.old.items ++ more)) }
+{
+    for id in parts {
+        out.push(b'/')?;
+        out.extend_from_slice(names.text(*id))?;
+    }
+    Ok(())
 }

@@ -4,12 +4,11 @@ use Rattle.svn_path.specs.Components.{parts_text}
 use Rattle.svn_path.specs.Path.{components_of}
 use Rattle.svn_path.proofs.Exits.{OnErr-from}
 use Rattle.svn_path.proofs.Printed.{below_root_more}
-use Rattle.svn_path.proofs.path.Path.append.Goals as goal
+use Rattle.svn_path.proofs.path.append_parts.Goals as goal
 
 pub loop-id-preserved : goal.loop-id-preserved
 loop-id-preserved c = record {
-  parts = c.loop-id.invariant.parts;
-  written = let more = below_root_more c.args.out.now.items c.args.names.now c.parts-id-items.result.now c.loop-id.id-index (record { 0 = 0 }) c.text.result.now c.loop-id-test.true c.text.ensures in
+  written = let more = below_root_more c.args.out.now.items c.args.names.now c.args.parts.now c.loop-id.id-index (record { 0 = 0 }) c.text.result.now c.loop-id-test.true c.text.ensures in
       c.in_ok-extend_from_slice.ensures.items
       ∙ ap (λ bytes. bytes ++ c.text.result.now) c.in_ok-push.ensures.items
       ∙ ap (λ bytes. (bytes ++ 47 ∷ []) ++ c.text.result.now) c.loop-id.invariant.written
@@ -18,7 +17,7 @@ loop-id-preserved c = record {
 
 pub returns-in_err-extend_from_slice-clause-err : goal.returns-in_err-extend_from_slice-clause-err
 returns-in_err-extend_from_slice-clause-err c =
-    let parts = parts_text (components_of c.args.names.now (take c.loop-id.id-index c.parts-id-items.result.now)) in
+    let parts = parts_text (components_of c.args.names.now (take c.loop-id.id-index c.args.parts.now)) in
     let more : (rest : List ℕ) × (c.extend_from_slice.new.self.items ≡ c.args.out.now.items ++ rest) = (
       parts ++ 47 ∷ [],
       c.in_err-extend_from_slice.ensures.items
@@ -30,6 +29,6 @@ returns-in_err-extend_from_slice-clause-err c =
 
 pub returns-in_err-push-clause-err : goal.returns-in_err-push-clause-err
 returns-in_err-push-clause-err c =
-    let parts = parts_text (components_of c.args.names.now (take c.loop-id.id-index c.parts-id-items.result.now)) in
+    let parts = parts_text (components_of c.args.names.now (take c.loop-id.id-index c.args.parts.now)) in
     let more : (rest : List ℕ) × (c.push.new.self.items ≡ c.args.out.now.items ++ rest) = (parts, c.in_err-push.ensures.items ∙ c.loop-id.invariant.written) in
     OnErr-from _ more
