@@ -15,7 +15,7 @@ fn write_answer(
     place: u32,
     out: &mut Vec<u8>,
 ) -> Result<(), Fail> {
-    let answer = answer(alloc, repo, Query::read(line.as_bytes()))?;
+    let answer = answer(alloc, repo, &Query::read(line.as_bytes()))?;
     let written = answer.write(repo, place, out);
     drop(answer);
     Ok(written?)

@@ -14,7 +14,7 @@ use Rattle.range_list.specs.Canonical.{canonical_runs}
 use Rattle.range_list.specs.Rangelist.{HasSameNumbers, IsCanonical, IsRun}
 use Rattle.range_list.specs.declared.run.Run.{Run}
 use Rattle.range_list.proofs.Maximal.{canonical_runs-HasSameNumbers, canonical_runs-IsCanonical}
-use Rattle.merge_info.specs.CanonicalValue.{canonical_value, has_runs, insert_path, is_some_run, line_at, paths_of}
+use Rattle.merge_info.specs.CanonicalValue.{canonical_value, has_runs, insert_path, is_some_run, entry_at, paths_of}
 use Rattle.merge_info.specs.Line.{IsLine, IsPrintedPath, Line}
 use Rattle.merge_info.specs.Value.{AreRising, HasSameRevisions, IsEntry, IsMergeInfo, runs_at}
 use Rattle.merge_info.proofs.OnlyValues.{IsPathBefore, same_values}
@@ -121,11 +121,11 @@ AreRuns-runs_at (line ∷ lines) path all =
 
 module _ (lines : List Line) where
   abbrev kept : List (List ℕ) → List Line
-  kept paths = filter has_runs (map (line_at lines) paths)
+  kept paths = filter has_runs (map (entry_at lines) paths)
 
   runs_at-kept : (paths : List (List ℕ)) (path : List ℕ) → ArePathsRising paths → runs_at (kept paths) path ≡ cond (has_path path paths) (canonical_runs (runs_at lines path)) []
   runs_at-kept [] path rising = refl
-  runs_at-kept (first ∷ paths) path rising = by (has_runs (line_at lines first)) refl (bytes_eq first path) refl (runs_at-kept paths path rising.1)
+  runs_at-kept (first ∷ paths) path rising = by (has_runs (entry_at lines first)) refl (bytes_eq first path) refl (runs_at-kept paths path rising.1)
     where
       others : bytes_eq first path ≡ true → has_path path paths ≡ false
       others same = ap (λ each. has_path each paths) (sym ((bytes_eq-Decides first path).0 same)) ∙ has_path-others first paths rising.0
@@ -133,16 +133,16 @@ module _ (lines : List Line) where
       first_runs : bytes_eq first path ≡ true → canonical_runs (runs_at lines first) ≡ canonical_runs (runs_at lines path)
       first_runs same = ap (λ each. canonical_runs (runs_at lines each)) ((bytes_eq-Decides first path).0 same)
 
-      by : (some : Bool) → has_runs (line_at lines first) ≡ some → (same : Bool) → bytes_eq first path ≡ same
+      by : (some : Bool) → has_runs (entry_at lines first) ≡ some → (same : Bool) → bytes_eq first path ≡ same
           → runs_at (kept paths) path ≡ cond (has_path path paths) (canonical_runs (runs_at lines path)) []
-          → runs_at (cond some (line_at lines first ∷ kept paths) (kept paths)) path ≡ cond (same || has_path path paths) (canonical_runs (runs_at lines path)) []
+          → runs_at (cond some (entry_at lines first ∷ kept paths) (kept paths)) path ≡ cond (same || has_path path paths) (canonical_runs (runs_at lines path)) []
       by true some true same rest =
-          runs_at-cons (line_at lines first) (kept paths) path
+          runs_at-cons (entry_at lines first) (kept paths) path
           ∙ ap (λ b. cond b (canonical_runs (runs_at lines first)) [] ++ runs_at (kept paths) path) same
           ∙ ap (λ more. canonical_runs (runs_at lines first) ++ more) (rest ∙ ap (λ b. cond b (canonical_runs (runs_at lines path)) []) (others same))
           ∙ append-nil (canonical_runs (runs_at lines first)) ∙ first_runs same
       by true some false same rest =
-          runs_at-cons (line_at lines first) (kept paths) path
+          runs_at-cons (entry_at lines first) (kept paths) path
           ∙ ap (λ b. cond b (canonical_runs (runs_at lines first)) [] ++ runs_at (kept paths) path) same ∙ rest
       by false none true same rest =
           rest ∙ ap (λ b. cond b (canonical_runs (runs_at lines path)) []) (others same) ∙ sym (is_some_run-none (canonical_runs (runs_at lines first)) none) ∙ first_runs same
@@ -155,13 +155,13 @@ module _ (lines : List Line) where
 
   AreRising-kept : (paths : List (List ℕ)) → ArePathsRising paths → AreRising (kept paths)
   AreRising-kept [] rising = tt
-  AreRising-kept (first ∷ paths) rising = by (has_runs (line_at lines first)) (AreRising-kept paths rising.1)
+  AreRising-kept (first ∷ paths) rising = by (has_runs (entry_at lines first)) (AreRising-kept paths rising.1)
     where
       before : All (IsPathBefore first) (kept paths)
-      before = All-filter has_runs (IsPathBefore first) (map (line_at lines) paths) (All-map (IsPathBefore first) (line_at lines) paths rising.0)
+      before = All-filter has_runs (IsPathBefore first) (map (entry_at lines) paths) (All-map (IsPathBefore first) (entry_at lines) paths rising.0)
 
-      by : (some : Bool) → AreRising (kept paths) → AreRising (cond some (line_at lines first ∷ kept paths) (kept paths))
-      by true rest = AreRising-cons (line_at lines first) (kept paths) before rest
+      by : (some : Bool) → AreRising (kept paths) → AreRising (cond some (entry_at lines first ∷ kept paths) (kept paths))
+      by true rest = AreRising-cons (entry_at lines first) (kept paths) before rest
       by false rest = rest
 
   module _ (all : All IsLine lines) where
@@ -170,10 +170,10 @@ module _ (lines : List Line) where
     AreEntries-canonical = λ k d below.
         let paths = paths_of-All IsPrintedPath lines (All-weaker IsLine (λ line. IsPrintedPath line.path) (λ line is. is.path) lines all) in
         record {
-          path = All-filter has_runs (λ line. IsPrintedPath line.path) (map (line_at lines) (paths_of lines)) (All-map (λ line. IsPrintedPath line.path) (line_at lines) (paths_of lines) paths) k d below;
-          canonical = All-filter has_runs (λ line. IsCanonical line.runs) (map (line_at lines) (paths_of lines))
-              (All-map (λ line. IsCanonical line.runs) (line_at lines) (paths_of lines) (λ n e within. canonical_runs-IsCanonical (runs_at lines (get_or (paths_of lines) n e)))) k d below;
-          some = is_some_run-some (get_or (kept (paths_of lines)) k d).runs (filter_passes has_runs (map (line_at lines) (paths_of lines)) k d below);
+          path = All-filter has_runs (λ line. IsPrintedPath line.path) (map (entry_at lines) (paths_of lines)) (All-map (λ line. IsPrintedPath line.path) (entry_at lines) (paths_of lines) paths) k d below;
+          canonical = All-filter has_runs (λ line. IsCanonical line.runs) (map (entry_at lines) (paths_of lines))
+              (All-map (λ line. IsCanonical line.runs) (entry_at lines) (paths_of lines) (λ n e within. canonical_runs-IsCanonical (runs_at lines (get_or (paths_of lines) n e)))) k d below;
+          some = is_some_run-some (get_or (kept (paths_of lines)) k d).runs (filter_passes has_runs (map (entry_at lines) (paths_of lines)) k d below);
         }
 
     pub IsMergeInfo-canonical_value : IsMergeInfo (canonical_value lines)

@@ -186,10 +186,10 @@ IsRisingByFirst-sorted (run ∷ runs) sorted = (
 
 -- an earlier run of a sort ends where the runs of that sort end
 record EndsThere (inheritable : Bool) (runs : List Run) (i : ℕ) (d : Run) (last : ℕ) : Type 0 where
-  place : ℕ
-  before : place < i
-  sort : (get_or runs place d).inheritable ≡ inheritable
-  end : (get_or runs place d).hi ≡ last
+  index : ℕ
+  before : index < i
+  sort : (get_or runs index d).inheritable ≡ inheritable
+  end : (get_or runs index d).hi ≡ last
 
 -- since the numbers of runs are above 0
 EndsThere-from : (inheritable : Bool) (runs : List Run) (i : ℕ) (d : Run) (last : ℕ) → i < length runs → 1 ≤ last → EndsAt inheritable (take i runs) last → EndsThere inheritable runs i d last
@@ -200,7 +200,7 @@ EndsThere-from inheritable runs i d last within some ends =
     get_or_default runs found.0 d found.1 (omega arith) ∙ sym (get_or-take i runs found.0 found.1 before)
     ∙ found.3 in
     record {
-      place = found.0;
+      index = found.0;
       before = before;
       sort = ap (λ (run : Run). run.inheritable) same ∙ found.4.0;
       end = ap (λ (run : Run). run.hi) same ∙ found.4.1;
@@ -212,9 +212,9 @@ module _ (runs : List Run) (i : ℕ) (d : Run) (inheritable_to non_inheritable_t
   has_clash-inheritable sort reaches =
       let is_run = all i d within in
       let there = EndsThere-from false runs i d non_inheritable_to within (omega (arith, is_run.first)) scan.non_inheritable in
-      let order = rising-at runs rising there.place i d there.before within in
-      has_clash-pair runs i there.place d within (omega (arith, there.before))
-      (clashes-shared (get_or runs i d) (get_or runs there.place d) sort there.sort (omega (arith, there.end))
+      let order = rising-at runs rising there.index i d there.before within in
+      has_clash-pair runs i there.index d within (omega (arith, there.before))
+      (clashes-shared (get_or runs i d) (get_or runs there.index d) sort there.sort (omega (arith, there.end))
       (omega (arith, is_run.ordered, order)))
 
   -- a run that is not inheritable and begins at or before the end of one that is
@@ -222,7 +222,7 @@ module _ (runs : List Run) (i : ℕ) (d : Run) (inheritable_to non_inheritable_t
   has_clash-non_inheritable sort reaches =
       let is_run = all i d within in
       let there = EndsThere-from true runs i d inheritable_to within (omega (arith, is_run.first)) scan.inheritable in
-      let order = rising-at runs rising there.place i d there.before within in
-      has_clash-pair runs there.place i d (omega (arith, there.before)) within
-      (clashes-shared (get_or runs there.place d) (get_or runs i d) there.sort sort
+      let order = rising-at runs rising there.index i d there.before within in
+      has_clash-pair runs there.index i d (omega (arith, there.before)) within
+      (clashes-shared (get_or runs there.index d) (get_or runs i d) there.sort sort
       (omega (arith, is_run.ordered, order)) (omega (arith, there.end)))

@@ -39,7 +39,7 @@ all_of-missing (Some first ∷ each) zero within missing = absurd (none-some fir
 all_of-missing (Some first ∷ each) (suc n) within missing =
     ap (option_map (λ rest. first ∷ rest)) (all_of-missing each n (omega arith) missing)
 
--- ---- the results of a function, as in a loop that has come to the place n
+-- ---- the results of a function, as in a loop that has come to the index n
 
 -- the result there is another
 pub all_of-more : {X Y : Type 0} (f : X → Option Y) (xs : List X) (n : ℕ) (x : X) (all : List Y) (y : Y) → (n < length xs) × (x ≡ get_or xs n x) → f x ≡ Some y → all_of (map f (take n xs)) ≡ Some all → all_of (map f (take (n + 1) xs)) ≡ Some (all ++ y ∷ [])

@@ -152,7 +152,7 @@ IsSoFar-push lines entries rest line runs so_far same canonical some =
 
 -- ---- the entry of a path
 
--- the entry at a place
+-- the entry of an index
 pub IsEntry-at : (entries : List Entry) (i : ℕ) (entry : Entry) → All IsEntry (map entry_view entries)
     → i < length entries → entry ≡ get_or entries i entry → IsEntry (entry_view entry)
 IsEntry-at entries i entry are_entries below is =
@@ -189,7 +189,7 @@ pub AreRising-tail : (line : Line) (lines : List Line) → AreRising (line ∷ l
 AreRising-tail line [] rising = tt
 AreRising-tail line (next ∷ lines) rising = rising.1
 
--- the path at a place is before those at later places
+-- the path of an index is before those of greater ones
 before_later : (entries : List Entry) → AreRising (map entry_view entries) → (i k : ℕ) (d : Entry) → i < k
     → k < length entries
     → slice_cmp nat_cmp (get_or entries i d).path.items (get_or entries k d).path.items ≡ Less
@@ -230,7 +230,7 @@ runs_at-no_entry (entry ∷ entries) path apart =
     (All-head (λ entry. bytes_eq entry.path.items path ≡ false) entry entries apart)
     ∙ runs_at-no_entry entries path (All-tail (λ entry. bytes_eq entry.path.items path ≡ false) entry entries apart)
 
--- the path of the entry at a place
+-- the path of the entry of an index
 runs_at-entry : (entries : List Entry) (i : ℕ) (entry : Entry) → AreRising (map entry_view entries)
     → i < length entries → entry ≡ get_or entries i entry
     → runs_at (map entry_view entries) entry.path.items ≡ entry.ranges
@@ -293,7 +293,7 @@ ranges_of-found entries i entry path value below is same =
     ∙ ap some_runs (runs_at-entry entries i entry value.rising below is)
     ∙ some_runs-some entry.ranges (IsEntry-at entries i entry value.entries below is).some
 
--- or the place where it would stand
+-- or the index at which it would stand
 pub ranges_of-not_found : (entries : List Entry) (i : ℕ) (path : List ℕ) → IsMergeInfo (map entry_view entries)
     → IsPartitionPoint (λ entry. is_before path entry ≡ true) (λ entry. is_before path entry ≡ false) entries i
     → ((d : Entry) → i < length entries → bytes_eq (get_or entries i d).path.items path ≡ false)

@@ -5,7 +5,8 @@ use Rattle.std.proofs.lemmas.List.Elements.{All-push}
 use Rattle.std.specs.Io.BufRead.{strip_last}
 use Rattle.std.specs.List.{slice_split}
 use Rattle.merge_info.specs.Line.{IsLine, Line, all_of, line_of}
-use Rattle.merge_info.specs.Value.{is_newline, lines_between, lines_of}
+use Rattle.svn_text.specs.Line.{is_newline}
+use Rattle.merge_info.specs.Value.{lines_between, lines_of}
 use Rattle.merge_info.proofs.Collected.{all_of-Some, all_of-missing_at}
 
 -- the lines were read

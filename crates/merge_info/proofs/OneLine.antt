@@ -7,12 +7,13 @@ use Rattle.std.proofs.lemmas.Slice.Eq.{bytes_eq-Decides}
 use Rattle.std.specs.Io.BufRead.{strip_last}
 use Rattle.std.specs.List.{after_last, before_last, list_any, onto_first, slice_split}
 use Rattle.svn_path.specs.Components.{is_dot, is_slash, parts_of, parts_text, path_text}
-use Rattle.svn_text.specs.Bytes.{is_not_empty}
+use Rattle.svn_text.specs.Bytes.{is_colon, is_not_empty}
 use Rattle.range_list.proofs.Same.{covers-within, is_in-append}
 use Rattle.range_list.specs.Rangelist.{IsCanonical, is_in}
 use Rattle.range_list.specs.declared.run.Run.{Run}
-use Rattle.merge_info.specs.Line.{Line, all_of, elements_of, has_clash, is_colon, line_from, line_of, without_blanks}
-use Rattle.merge_info.specs.Value.{HasSameRevisions, IsEntry, IsMergeInfo, IsOnOneLine, is_newline, lines_between, lines_of, runs_at, text_lines}
+use Rattle.merge_info.specs.Line.{Line, all_of, elements_of, has_clash, line_from, line_of, without_blanks}
+use Rattle.svn_text.specs.Line.{is_newline}
+use Rattle.merge_info.specs.Value.{HasSameRevisions, IsEntry, IsMergeInfo, IsOnOneLine, lines_between, lines_of, runs_at, text_lines}
 
 -- ---- what holds of each byte
 

@@ -15,8 +15,9 @@ use Rattle.svn_text.proofs.Cuts.{after_last-whole, before_last-whole}
 use Rattle.range_list.specs.Rangelist.{IsCanonical}
 use Rattle.range_list.specs.Text.{rangelist_text}
 use Rattle.range_list.specs.declared.run.Run.{Run}
-use Rattle.merge_info.specs.Line.{IsPrintedPath, Line, all_of, elements_of, is_colon, line_from, line_of, without_blanks}
-use Rattle.merge_info.specs.Text.{printed_line, value_text}
+use Rattle.merge_info.specs.Line.{IsPrintedPath, Line, all_of, elements_of, line_from, line_of, without_blanks}
+use Rattle.svn_text.specs.Bytes.{is_colon}
+use Rattle.merge_info.specs.Text.{printed_entry, value_text}
 use Rattle.merge_info.specs.Value.{IsEntry, IsMergeInfo, IsOnOneLine, lines_between, lines_of, text_lines}
 use Rattle.range_list.proofs.Canonical.{AreRuns-from_canonical}
 use Rattle.merge_info.proofs.CanonicalRuns.{has_clash-canonical}
@@ -50,22 +51,22 @@ line_of-joined path runs is_path canonical some =
     ∙ line_from-entry path runs is_path canonical
 
 -- a printed line is read as the entry
-pub line_of-printed_line : (line : Line) → IsEntry line → line_of (printed_line line) ≡ Some line
-line_of-printed_line line is_entry =
+pub line_of-printed_entry : (line : Line) → IsEntry line → line_of (printed_entry line) ≡ Some line
+line_of-printed_entry line is_entry =
     ap line_of (append_assoc line.path (58 ∷ []) (rangelist_text line.runs))
     ∙ line_of-joined line.path line.runs is_entry.path is_entry.canonical is_entry.some
 
 -- it has no newline, if its path has none
-Lacks-printed_line : (line : Line) → IsEntry line → IsOnOneLine line → Lacks 10 (printed_line line)
-Lacks-printed_line line is_entry one_line =
+Lacks-printed_entry : (line : Line) → IsEntry line → IsOnOneLine line → Lacks 10 (printed_entry line)
+Lacks-printed_entry line is_entry one_line =
     let colon = Lacks-cons 10 58 [] refl (Lacks-nil 10) in
     let are_runs = AreRuns-from_canonical line.runs is_entry.canonical in
     let runs = Lacks-rangelist_text 10 line.runs (refl, refl, refl) refl are_runs in
     let path = Lacks-append 10 line.path (58 ∷ []) one_line colon in
     Lacks-append 10 (line.path ++ 58 ∷ []) (rangelist_text line.runs) path runs
 
-length-printed_line : (line : Line) → 0 < length (printed_line line)
-length-printed_line line =
+length-printed_entry : (line : Line) → 0 < length (printed_entry line)
+length-printed_entry line =
     omega (arith, length-append line.path (58 ∷ []), length-append (line.path ++ 58 ∷ []) (rangelist_text line.runs))
 
 -- ---- the lines
@@ -82,27 +83,27 @@ strip_last-push byte bytes =
 
 -- newlines join the lines, and one more follows
 value_text-joined : (line : Line) (lines : List Line)
-    → value_text (line ∷ lines) ≡ join_with_byte 10 (map printed_line (line ∷ lines)) ++ 10 ∷ []
-value_text-joined line [] = append-nil (printed_line line ++ 10 ∷ [])
+    → value_text (line ∷ lines) ≡ join_with_byte 10 (map printed_entry (line ∷ lines)) ++ 10 ∷ []
+value_text-joined line [] = append-nil (printed_entry line ++ 10 ∷ [])
 value_text-joined line (next ∷ lines) =
-    let rest = join_with_byte 10 (map printed_line (next ∷ lines)) in
-    ap (λ text. line_text (printed_line line) ++ text) (value_text-joined next lines)
-    ∙ append_assoc (printed_line line) (10 ∷ []) (rest ++ 10 ∷ [])
-    ∙ sym (append_assoc (printed_line line) (10 ∷ rest) (10 ∷ []))
+    let rest = join_with_byte 10 (map printed_entry (next ∷ lines)) in
+    ap (λ text. line_text (printed_entry line) ++ text) (value_text-joined next lines)
+    ∙ append_assoc (printed_entry line) (10 ∷ []) (rest ++ 10 ∷ [])
+    ∙ sym (append_assoc (printed_entry line) (10 ∷ rest) (10 ∷ []))
 
 -- the lines of a printed value are those of its entries
 pub text_lines-value_text : (value : List Line) → All IsEntry value → All IsOnOneLine value
-    → text_lines (value_text value) ≡ map printed_line value
+    → text_lines (value_text value) ≡ map printed_entry value
 text_lines-value_text [] entries one_line = refl
 text_lines-value_text (line ∷ lines) entries one_line =
-    let joined = join_with_byte 10 (map printed_line (line ∷ lines)) in
-    let some = length-join 10 (printed_line line) (map printed_line lines) (length-printed_line line) in
-    let none = All-map (Lacks 10) printed_line (line ∷ lines)
-    (λ k d below. Lacks-printed_line (get_or (line ∷ lines) k d) (entries k d below) (one_line k d below)) in
+    let joined = join_with_byte 10 (map printed_entry (line ∷ lines)) in
+    let some = length-join 10 (printed_entry line) (map printed_entry lines) (length-printed_entry line) in
+    let none = All-map (Lacks 10) printed_entry (line ∷ lines)
+    (λ k d below. Lacks-printed_entry (get_or (line ∷ lines) k d) (entries k d below) (one_line k d below)) in
     ap text_lines (value_text-joined line lines)
     ∙ ap lines_between (strip_last-push 10 joined)
     ∙ lines_between-some joined (ne_eqb (length joined) 0 (λ none. omega arith))
-    ∙ slice_split-join 10 (printed_line line) (map printed_line lines) none
+    ∙ slice_split-join 10 (printed_entry line) (map printed_entry lines) none
 
 -- a printed value is read as the value
 pub lines_of-value_text : (value : List Line) → IsMergeInfo value → All IsOnOneLine value
@@ -110,5 +111,5 @@ pub lines_of-value_text : (value : List Line) → IsMergeInfo value → All IsOn
 unfolding lines_of
 lines_of-value_text value is_value one_line =
     ap (λ lines. all_of (map line_of lines)) (text_lines-value_text value is_value.entries one_line)
-    ∙ all_of-map line_of printed_line value
-    (λ k d below. line_of-printed_line (get_or value k d) (is_value.entries k d below))
+    ∙ all_of-map line_of printed_entry value
+    (λ k d below. line_of-printed_entry (get_or value k d) (is_value.entries k d below))

@@ -18,7 +18,7 @@ use Rattle.range_list.specs.declared.run.Run.{Run}
 use Rattle.merge_info.specs.Element.{element_of, is_dash, is_star, revision_of, run_between, run_of}
 use Rattle.merge_info.specs.Line.{all_of, elements_of, is_blank, without_blanks}
 use Rattle.merge_info.proofs.Decimals.{Lacks-decimal, revision_of-decimal}
-use Rattle.merge_info.proofs.Elements.{elements_of-some}
+use Rattle.merge_info.proofs.Elements.{element_of-no_star, elements_of-some}
 use Rattle.merge_info.proofs.JoinedBytes.{Lacks-append, Lacks-cons, Lacks-join, Lacks-nil, after_first-whole, all_of-map}
 use Rattle.merge_info.proofs.JoinedBytes.{before_first-whole, length-join, list_any-whole, slice_split-join}
 
@@ -123,11 +123,7 @@ run_of-range_text run is_run =
           ∙ run_of-range run.inheritable run.lo run.hi is_run.first (omega (arith, is_run.ordered)) is_run.last
     ]
 
--- no star follows, or one does
-element_of-inheritable : (bytes : List ℕ) → Lacks 42 bytes → element_of bytes ≡ run_of true bytes
-unfolding element_of
-element_of-inheritable bytes none = cond-false _ _ _ (list_any_none is_star bytes none)
-
+-- a star follows
 element_of-append_star : (bytes : List ℕ) → Lacks 42 bytes → element_of (bytes ++ 42 ∷ []) ≡ run_of false bytes
 unfolding element_of
 element_of-append_star bytes none =
@@ -145,7 +141,7 @@ element_of-run_text run is_run =
     elim (cases_Bool run.inheritable) [
       | inl inherits ↦
           ap (λ inheritable. element_of (text ++ star_unless inheritable)) inherits
-          ∙ ap element_of (append-nil text) ∙ element_of-inheritable text none
+          ∙ ap element_of (append-nil text) ∙ element_of-no_star text none
           ∙ ap (λ inheritable. run_of inheritable text) (sym inherits) ∙ read
       | inr non_inheritable ↦
           ap (λ inheritable. element_of (text ++ star_unless inheritable)) non_inheritable

@@ -4,6 +4,7 @@ use Rattle.std.specs.Prelude.{ℕ, List, ◌++◌, filter, map}
 use Rattle.svn_path.specs.Components.{parts_of, path_text}
 use Rattle.range_list.specs.declared.run.Run.{Run}
 use Rattle.merge_info.specs.Line.{Line}
+use Rattle.merge_info.specs.Value.{Entry, MergeInfoValue}
 
 -- a source path followed by the rest of a path
 abbrev pub path_below : List ℕ → List ℕ → List ℕ
@@ -13,8 +14,8 @@ abbrev pub inheritable_runs : List Run → List Run
 inheritable_runs runs = filter (λ run. run.inheritable) runs
 
 -- the inheritable revisions of each source path, for the path below it
-abbrev pub inherited_line : List ℕ → Line → Line
-inherited_line rest line = record { path = path_below line.path rest; runs = inheritable_runs line.runs }
+abbrev pub inherited_line : List ℕ → Entry → Line
+inherited_line rest entry = record { path = path_below entry.path rest; runs = inheritable_runs entry.runs }
 
-abbrev pub inherited_lines : List ℕ → List Line → List Line
+abbrev pub inherited_lines : List ℕ → MergeInfoValue → List Line
 inherited_lines rest value = map (inherited_line rest) value

@@ -3,6 +3,7 @@
 use Rattle.std.specs.Prelude.{◌≡◌, ℕ, ◌==◌, nat_le, Bool, false, ◌&&◌, ◌||◌, not, List, [], ◌∷◌, Option, Some, None, All, drop, map, option_and_then, option_map, if◌then◌else◌}
 use Rattle.std.specs.List.{list_any, before_last, after_last, prefix_len, slice_split}
 use Rattle.svn_path.specs.Components.{is_dot, parts_of, path_text}
+use Rattle.svn_text.specs.Bytes.{is_colon}
 use Rattle.range_list.specs.Rangelist.{IsRun}
 use Rattle.range_list.specs.declared.run.Run.{Run}
 use Rattle.merge_info.specs.Element.{element_of}
@@ -10,9 +11,6 @@ use Rattle.merge_info.specs.declared.line.Line.{Line as KeptLine}
 
 abbrev pub is_comma : ℕ → Bool
 is_comma byte = byte == 44
-
-abbrev pub is_colon : ℕ → Bool
-is_colon byte = byte == 58
 
 -- a space or a tab
 abbrev pub is_blank : ℕ → Bool

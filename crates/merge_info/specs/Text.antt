@@ -3,11 +3,11 @@
 use Rattle.std.specs.Prelude.{ℕ, List, ◌++◌, codes, flat_map}
 use Rattle.svn_text.specs.Line.{line_text}
 use Rattle.range_list.specs.Text.{rangelist_text}
-use Rattle.merge_info.specs.Line.{Line}
+use Rattle.merge_info.specs.Value.{Entry, MergeInfoValue}
 
-abbrev pub printed_line : Line → List ℕ
-printed_line line = line.path ++ codes ":" ++ rangelist_text line.runs
+abbrev pub printed_entry : Entry → List ℕ
+printed_entry entry = entry.path ++ codes ":" ++ rangelist_text entry.runs
 
 -- each line ends with a newline
-abbrev pub value_text : List Line → List ℕ
-value_text value = flat_map (λ line. line_text (printed_line line)) value
+abbrev pub value_text : MergeInfoValue → List ℕ
+value_text value = flat_map (λ entry. line_text (printed_entry entry)) value

@@ -1,6 +1,6 @@
 -- The value of `svn:mergeinfo`: for each source path the revisions that were merged from it (Subversion book,
 -- "Branching and Merging", "Mergeinfo and Previews").
-use Rattle.std.specs.Prelude.{◌≡◌, ◌≢◌, ℕ, ◌==◌, Bool, false, List, [], ◌∷◌, Option, Some, None, All, bytes_eq, filter, flat_map, map}
+use Rattle.std.specs.Prelude.{◌≡◌, ◌≢◌, ℕ, false, List, [], ◌∷◌, Option, Some, None, All, bytes_eq, filter, flat_map, map}
 use Rattle.std.specs.Cmp.Lexicographic.{slice_cmp}
 use Rattle.std.specs.Io.BufRead.{strip_last}
 use Rattle.std.specs.List.{slice_split}
@@ -8,11 +8,19 @@ use Rattle.std.specs.Ordering.{nat_cmp}
 use Rattle.std.specs.declared.cmp.Ordering.TheVariants.{Less}
 use Rattle.range_list.specs.Rangelist.{IsCanonical, HasSameNumbers}
 use Rattle.range_list.specs.declared.run.Run.{Run}
+use Rattle.svn_text.specs.Line.{is_newline}
 use Rattle.merge_info.specs.Line.{IsPrintedPath, Line, all_of, line_of}
-use Rattle.merge_info.specs.declared.entry.Entry.{Entry}
+use Rattle.merge_info.specs.declared.entry.Entry.{Entry as KeptEntry}
 
-abbrev pub is_newline : ℕ → Bool
-is_newline byte = byte == 10
+-- a source path and the revisions that were merged from it; a line of a text has the same form
+abbrev pub Entry : Type 0
+Entry = Line
+
+-- a value has an entry for each of its paths
+abbrev pub MergeInfoValue : Type 0
+MergeInfoValue = List Entry
+
+-- ---- of a text
 
 -- the lines that newlines separate
 abbrev pub lines_between : List ℕ → List (List ℕ)
@@ -36,7 +44,7 @@ abbrev pub some_runs : List Run → Option (List Run)
 some_runs [] = None
 some_runs (run ∷ runs) = Some (run ∷ runs)
 
-abbrev pub ranges_of : List Line → List ℕ → Option (List Run)
+abbrev pub ranges_of : MergeInfoValue → List ℕ → Option (List Run)
 ranges_of value path = some_runs (runs_at value path)
 
 -- the two give each path the same revisions
@@ -44,37 +52,37 @@ abbrev pub HasSameRevisions : List Line → List Line → Type 0
 HasSameRevisions a b = (path : List ℕ) → HasSameNumbers (runs_at a path) (runs_at b path)
 
 -- a path with a rangelist that is not empty
-pub record IsEntry (line : Line) : Type 0 where
-  pub path : IsPrintedPath line.path
-  pub canonical : IsCanonical line.runs
-  pub some : line.runs ≢ []
+pub record IsEntry (entry : Entry) : Type 0 where
+  pub path : IsPrintedPath entry.path
+  pub canonical : IsCanonical entry.runs
+  pub some : entry.runs ≢ []
 
-abbrev pub IsBefore : Line → Line → Type 0
+abbrev pub IsBefore : Entry → Entry → Type 0
 IsBefore a b = slice_cmp nat_cmp a.path b.path ≡ Less
 
 -- each path is before the next, so that no path stands twice
-abbrev pub AreRising : List Line → Type 0
+abbrev pub AreRising : List Entry → Type 0
 AreRising [] = Unit {0}
-AreRising (line ∷ []) = Unit {0}
-AreRising (line ∷ next ∷ lines) = IsBefore line next × AreRising (next ∷ lines)
+AreRising (entry ∷ []) = Unit {0}
+AreRising (entry ∷ next ∷ entries) = IsBefore entry next × AreRising (next ∷ entries)
 
-pub record IsMergeInfo (lines : List Line) : Type 0 where
-  pub entries : All IsEntry lines
-  pub rising : AreRising lines
+pub record IsMergeInfo (value : MergeInfoValue) : Type 0 where
+  pub entries : All IsEntry value
+  pub rising : AreRising value
 
 -- no other value gives each path the same revisions
-abbrev pub IsOnlyMergeInfo : List Line → Type 0
-IsOnlyMergeInfo value = (other : List Line) → IsMergeInfo other → HasSameRevisions other value → other ≡ value
+abbrev pub IsOnlyMergeInfo : MergeInfoValue → Type 0
+IsOnlyMergeInfo value = (other : MergeInfoValue) → IsMergeInfo other → HasSameRevisions other value → other ≡ value
 
 -- a text can give the path, since no newline stands in it
-abbrev pub IsOnOneLine : Line → Type 0
-IsOnOneLine line = All (λ byte. is_newline byte ≡ false) line.path
+abbrev pub IsOnOneLine : Entry → Type 0
+IsOnOneLine entry = All (λ byte. is_newline byte ≡ false) entry.path
 
 -- the text is one of this value
-pub record IsTextOf (text : List ℕ) (value : List Line) : Type 0 where
+pub record IsTextOf (text : List ℕ) (value : MergeInfoValue) : Type 0 where
   pub lines : List Line
   pub read : lines_of text ≡ Some lines
   pub same : HasSameRevisions value lines
 
-abbrev pub entry_view : Entry → Line
+abbrev pub entry_view : KeptEntry → Entry
 entry_view entry = record { path = entry.path.items; runs = entry.ranges }

@@ -3,7 +3,7 @@ ghost use Rattle.std.specs.Prelude.{◌≡◌, ◌++◌, IfOk, OnOk};
 ghost use Rattle.svn_text.specs.Line.{line_text};
 ghost use Rattle.merge_info.specs.Inherited.{inherited_line};
 ghost use Rattle.merge_info.specs.Line.{IsPrintedPath, line_view};
-ghost use Rattle.merge_info.specs.Text.{printed_line};
+ghost use Rattle.merge_info.specs.Text.{printed_entry};
 ghost use Rattle.merge_info.specs.Value.{entry_view};
 
 use crate::line::Line;
@@ -39,7 +39,7 @@ impl Entry {
 
     /// Appends the line of the entry.
     pub(crate) fn write(&self, out: &mut Vec<u8>) -> Result<(), AllocError>
-        ensures { OnOk result (out.new.items ≡ out.old.items ++ line_text (printed_line (entry_view self.now))) }
+        ensures { OnOk result (out.new.items ≡ out.old.items ++ line_text (printed_entry (entry_view self.now))) }
     {
         out.extend_from_slice(&self.path)?;
         out.push(b':')?;

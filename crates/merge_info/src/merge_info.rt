@@ -24,12 +24,10 @@ pub struct MergeInfo {
 }
 
 impl Model for MergeInfo {
-    ghost use Rattle.std.specs.Prelude.{List, map};
-    ghost use Rattle.merge_info.specs.Line.{Line};
+    ghost use Rattle.std.specs.Prelude.{map};
+    ghost use Rattle.merge_info.specs.Value.{IsMergeInfo, MergeInfoValue, entry_view};
 
-    ghost Value = { List Line };
-
-    ghost use Rattle.merge_info.specs.Value.{IsMergeInfo, entry_view};
+    ghost Value = { MergeInfoValue };
 
     ghost view = { λ m. map entry_view m.entries.items };
 
@@ -60,10 +58,10 @@ impl MergeInfo {
     pub fn ranges(&self, path: &[u8]) -> Option<&Ranges>
         ensures { option_map (λ ranges. ranges.now) result ≡ ranges_of self.now path.now }
     {
-        let place = self
+        let index = self
             .entries
             .partition_point(|entry| entry.path.as_slice() < path);
-        match self.entries.get(place) {
+        match self.entries.get(index) {
             Some(entry) if entry.path.as_slice() == path => Some(&entry.ranges),
             _ => None,
         }

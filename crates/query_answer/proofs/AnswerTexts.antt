@@ -4,7 +4,7 @@ use Rattle.std.specs.Prelude.{◌++◌, All, Err, Vec, codes, decimal, filter_ma
 use Rattle.std.specs.declared.alloc.Global.{Global}
 use Rattle.std.proofs.lemmas.List.{reverse-reverse}
 use Rattle.std.proofs.lemmas.List.Elements.{All-cons, All-head, All-nil, All-tail}
-use Rattle.std.proofs.lemmas.Bool.{le-leb, lt-leb, false_from_ne_true}
+use Rattle.std.proofs.lemmas.Bool.{le-leb, lt-leb}
 use Rattle.std.specs.Borrow.{Bor}
 use Rattle.path_index.specs.History.{history_to, trees_to}
 use Rattle.path_index.specs.Index.{AreMaximal, IndexValue, IsThere, IsWhole, segment_view}
@@ -12,25 +12,24 @@ use Rattle.path_index.specs.Operative.{operative_of}
 use Rattle.path_index.specs.Segment.{rename_segment, segments_of}
 use Rattle.path_index.specs.declared.hit.Hit.{Hit}
 use Rattle.path_index.specs.declared.segment.Segment.{Segment as KeptSegment}
-use Rattle.svn_path.specs.Components.{parts_of, HasDot}
 use Rattle.svn_path.specs.Names.{name_of}
 use Rattle.svn_path.specs.Path.{same_name, components_of}
 use Rattle.svn_path.specs.declared.names.NameId.{NameId}
-use Rattle.merge_info.specs.Line.{Line}
-use Rattle.merge_info.specs.Text.{printed_line, value_text}
+use Rattle.merge_info.specs.Value.{MergeInfoValue}
+use Rattle.merge_info.specs.Text.{printed_entry, value_text}
 use Rattle.svn_text.specs.Line.{line_text}
 use Rattle.svn_dump.specs.Dump.{DumpValue, history_in_bytes}
 use Rattle.svn_dump.specs.Location.{location}
 use Rattle.svn_dump.specs.Record.{HistoryOfBytes}
 use Rattle.svn_dump.specs.Tree.{is_there, tree_of}
 use Rattle.svn_dump.specs.declared.record.NodeRecord.{NodeRecord}
-use Rattle.query_answer.specs.Answer.{Answer, IsAnswer, IsLocationOf, HasPathOf, TreesOfBytes, with_peg, with_pegs, if_peg_exists, with_effective_mergeinfo, with_value, answer_of, eligible_line, eligible_lines, hit_line, locate_lines, location_line, log_line, log_lines, merged_line, merged_lines, mergeinfo_lines, ok_answer, refused_answer, segment_in_bytes, segment_line, segments_in_bytes, segments_lines}
-use Rattle.query_answer.specs.Query.{Peg, bad, eligible, locate, log, merged, mergeinfo, peg_at, peg_view, query_about, query_or_bad, segments}
+use Rattle.query_answer.specs.Answer.{Answer, IsAnswer, IsLocationOf, HasPathOf, TreesOfBytes, if_both_exist, if_peg_exists, with_effective_mergeinfo, with_value, answer_of, eligible_line, eligible_lines, hit_line, locate_lines, location_line, log_line, log_lines, merged_line, merged_lines, mergeinfo_lines, ok_answer, refused_answer, segment_in_bytes, segment_line, segments_in_bytes, segments_lines}
+use Rattle.query_answer.specs.Peg.{Peg, PegValue, peg_view}
+use Rattle.query_answer.specs.Query.{bad, eligible, locate, log, merged, mergeinfo, segments}
 use Rattle.query_answer.specs.Repo.{IsPair, IsPathFound, IsPegFound, IsRepo, with_peg_in, with_pair_in, effective_in, eligible_answer, eligible_by, index_of, locate_answer, log_answer, merged_answer, merged_by, mergeinfo_answer, peg_found, segments_answer, trees_in_bytes}
 use Rattle.query_answer.specs.declared.answers.Answer.TheVariants as kept
 use Rattle.query_answer.specs.declared.merged_revision.MergedRevision.{MergedRevision}
 use Rattle.query_answer.specs.declared.verbs.pair.Pair.{Pair}
-use Rattle.query_answer.specs.declared.query.Peg.{Peg as KeptPeg}
 use Rattle.block_map.specs.Map.{MapValue}
 use Rattle.query_answer.specs.declared.status.Status.{Status}
 use Rattle.query_answer.specs.declared.status.Status.TheVariants as status
@@ -40,16 +39,15 @@ use Rattle.query_answer.proofs.InBytes.{IsWhole-index_of, location-in_bytes, loc
 
 -- ---- by what was found of the peg
 
-module _ (trees : TreesOfBytes) (path : List ℕ) (peg : ℕ) (answer : Peg → Answer) where
-  pub with_peg-late : (HasDot path → ⊥) → length trees ≤ peg → with_peg trees (peg_at path peg) answer ≡ refused_answer status.NoSuchRevision
-  with_peg-late fine late = rw (false_from_ne_true _ fine, le-leb _ _ late) refl
+module _ (trees : TreesOfBytes) (peg : Peg) (answer : Answer) where
+  pub if_peg_exists-late : length trees ≤ peg.rev → if_peg_exists trees peg answer ≡ refused_answer status.NoSuchRevision
+  if_peg_exists-late late = rw (le-leb _ _ late) refl
 
-  pub with_peg-absent : (HasDot path → ⊥) → peg < length trees → is_there bytes_eq (tree_of trees peg) (parts_of path) ≡ false → with_peg trees (peg_at path peg) answer ≡ refused_answer status.NoSuchPath
-  with_peg-absent fine within absent = rw (false_from_ne_true _ fine, lt-leb _ _ within, absent) refl
+  pub if_peg_exists-absent : peg.rev < length trees → is_there bytes_eq (tree_of trees peg.rev) peg.path ≡ false → if_peg_exists trees peg answer ≡ refused_answer status.NoSuchPath
+  if_peg_exists-absent within absent = rw (lt-leb _ _ within, absent) refl
 
-  pub with_peg-present : (HasDot path → ⊥) → peg < length trees → is_there bytes_eq (tree_of trees peg) (parts_of path) ≡ true
-      → with_peg trees (peg_at path peg) answer ≡ answer (record { path = parts_of path; rev = peg })
-  with_peg-present fine within there = rw (false_from_ne_true _ fine, lt-leb _ _ within, there) refl
+  pub if_peg_exists-present : peg.rev < length trees → is_there bytes_eq (tree_of trees peg.rev) peg.path ≡ true → if_peg_exists trees peg answer ≡ answer
+  if_peg_exists-present within there = rw (lt-leb _ _ within, there) refl
 
 -- ---- by what is asked
 
@@ -58,39 +56,31 @@ module _ (history : HistoryOfBytes) (trees : TreesOfBytes) where
   unfolding answer_of
   answer_of-bad = refl
 
-  pub answer_of-locate : (peg : Option Peg) (rev : ℕ) → answer_of history trees (query_or_bad (option_map (λ one. locate one rev) peg)) ≡ with_peg trees peg (λ found. ok_answer (locate_lines trees rev found))
+  pub answer_of-locate : (peg : Peg) (rev : ℕ) → answer_of history trees (locate peg rev) ≡ if_peg_exists trees peg (ok_answer (locate_lines trees rev peg))
   unfolding answer_of
-  answer_of-locate None rev = refl
-  answer_of-locate (Some peg) rev = refl
+  answer_of-locate peg rev = refl
 
-  pub answer_of-segments : (peg : Option Peg) → answer_of history trees (query_or_bad (option_map segments peg)) ≡ with_peg trees peg (λ found. ok_answer (segments_lines trees found))
+  pub answer_of-segments : (peg : Peg) → answer_of history trees (segments peg) ≡ if_peg_exists trees peg (ok_answer (segments_lines trees peg))
   unfolding answer_of
-  answer_of-segments None = refl
-  answer_of-segments (Some peg) = refl
+  answer_of-segments peg = refl
 
-  pub answer_of-log : (peg : Option Peg) → answer_of history trees (query_or_bad (option_map log peg)) ≡ with_peg trees peg (λ found. ok_answer (log_lines history trees found))
+  pub answer_of-log : (peg : Peg) → answer_of history trees (log peg) ≡ if_peg_exists trees peg (ok_answer (log_lines history trees peg))
   unfolding answer_of
-  answer_of-log None = refl
-  answer_of-log (Some peg) = refl
+  answer_of-log peg = refl
 
-  pub answer_of-mergeinfo : (peg : Option Peg) → answer_of history trees (query_or_bad (option_map mergeinfo peg)) ≡ with_peg trees peg (λ found. with_effective_mergeinfo trees found (λ value. ok_answer (mergeinfo_lines value)))
+  pub answer_of-mergeinfo : (peg : Peg) → answer_of history trees (mergeinfo peg) ≡ if_peg_exists trees peg (with_effective_mergeinfo trees peg (λ value. ok_answer (mergeinfo_lines value)))
   unfolding answer_of
-  answer_of-mergeinfo None = refl
-  answer_of-mergeinfo (Some peg) = refl
+  answer_of-mergeinfo peg = refl
 
-  pub answer_of-merged : (source target : Option Peg) → answer_of history trees (query_about merged source target)
-      ≡ with_pegs trees source target (λ from to. with_effective_mergeinfo trees to (λ value. ok_answer (merged_lines history trees from value)))
+  pub answer_of-merged : (source target : Peg) → answer_of history trees (merged source target)
+      ≡ if_both_exist trees source target (λ value. ok_answer (merged_lines history trees source value))
   unfolding answer_of
-  answer_of-merged None target = refl
-  answer_of-merged (Some source) None = refl
-  answer_of-merged (Some source) (Some target) = refl
+  answer_of-merged source target = refl
 
-  pub answer_of-eligible : (source target : Option Peg) → answer_of history trees (query_about eligible source target)
-      ≡ with_pegs trees source target (λ from to. with_effective_mergeinfo trees to (λ value. ok_answer (eligible_lines history trees from to value)))
+  pub answer_of-eligible : (source target : Peg) → answer_of history trees (eligible source target)
+      ≡ if_both_exist trees source target (λ value. ok_answer (eligible_lines history trees source target value))
   unfolding answer_of
-  answer_of-eligible None target = refl
-  answer_of-eligible (Some source) None = refl
-  answer_of-eligible (Some source) (Some target) = refl
+  answer_of-eligible source target = refl
 
 -- ---- by what was found of the path
 
@@ -117,7 +107,7 @@ hit_line-found : (names : List (List ℕ)) (kept : List KeptSegment) (hit : Hit)
     → option_and_then (λ segment. segment.path) (slice_get (map segment_view kept) hit.segment) ≡ Some path
     → Some (log_line (components_of names path) hit.rev) ≡ Some (hit_line (segments_in_bytes names kept) hit)
 hit_line-found names kept hit path at =
-    ap (λ place. Some (codes "r" ++ decimal hit.rev ++ codes " " ++ location_line place))
+    ap (λ located. Some (codes "r" ++ decimal hit.rev ++ codes " " ++ location_line located))
     (sym (path_at-in_bytes names kept hit.segment ∙ ap (option_map (components_of names)) (sym (path_at-view kept hit.segment) ∙ at)))
   where
     path_at-view : (some : List KeptSegment) (n : ℕ)
@@ -126,10 +116,10 @@ hit_line-found names kept hit path at =
     path_at-view (segment ∷ some) zero = refl
     path_at-view (segment ∷ some) (suc n) = path_at-view some n
 
-module _ (dump : DumpValue) (peg : KeptPeg) (path : List NameId) (found : IsPathFound dump peg path) where
-  pub IsAnswer-Location : (rev : ℕ) (place : Option (List NameId)) → place ≡ location same_name (trees_to dump.records peg.rev) path peg.rev rev
-      → IsAnswer dump.names (locate_answer dump peg rev) (kept.Location place)
-  IsAnswer-Location rev place is = record {
+module _ (dump : DumpValue) (peg : PegValue) (path : List NameId) (found : IsPathFound dump peg path) where
+  pub IsAnswer-Location : (rev : ℕ) (located : Option (List NameId)) → located ≡ location same_name (trees_to dump.records peg.rev) path peg.rev rev
+      → IsAnswer dump.names (locate_answer dump peg rev) (kept.Location located)
+  IsAnswer-Location rev located is = record {
     names_of = subst (IsLocationOf dump.names) (sym is) (location-of_names dump found.kept peg.rev found.within path rev found.of_names);
     same = ap (λ line. ok_answer (location_line line ∷ []))
         (ap (option_map (components_of dump.names)) is ∙ sym (location-in_bytes dump found.kept peg.rev found.within path rev))
@@ -164,28 +154,28 @@ module _ (dump : DumpValue) (peg : KeptPeg) (path : List NameId) (found : IsPath
         find here rev = Some (log_line here rev)
 
         each_line : map (hit_line (segments_in_bytes dump.names kept_segments.items)) hits.items
-            ≡ filter_map (found_of_hit (λ place. find (components_of dump.names place)) (map segment_view kept_segments.items)) hits.items
+            ≡ filter_map (found_of_hit (λ located. find (components_of dump.names located)) (map segment_view kept_segments.items)) hits.items
         each_line =
             rw hits_are
             (sym (found-map same_name (history_to dump.records peg.rev) (trees_to dump.records peg.rev) (map segment_view kept_segments.items)
-            (hit_line (segments_in_bytes dump.names kept_segments.items)) (λ place. find (components_of dump.names place))
+            (hit_line (segments_in_bytes dump.names kept_segments.items)) (λ located. find (components_of dump.names located))
             (hit_line-found dump.names kept_segments.items)))
 
         lines : map (hit_line (segments_in_bytes dump.names kept_segments.items)) hits.items
             ≡ log_lines (history_in_bytes dump) (trees_in_bytes dump) (peg_found dump peg path)
         lines =
             each_line
-            ∙ sym (reverse-reverse (filter_map (found_of_hit (λ place. find (components_of dump.names place)) (map segment_view kept_segments.items)) hits.items))
+            ∙ sym (reverse-reverse (filter_map (found_of_hit (λ located. find (components_of dump.names located)) (map segment_view kept_segments.items)) hits.items))
             ∙ ap reverse (found-found_by dump found.kept path peg.rev found.within kept_segments.items hits.items is maximal hits_are find)
 
 -- the mergeinfo that holds for the path
-module _ (dump : DumpValue) (peg : KeptPeg) (path : List NameId) (found : IsPathFound dump peg path) (value : Option (List Line)) (is : value ≡ effective_in dump path peg.rev) where
+module _ (dump : DumpValue) (peg : PegValue) (path : List NameId) (found : IsPathFound dump peg path) (value : Option MergeInfoValue) (is : value ≡ effective_in dump path peg.rev) where
   effective_answered : mergeinfo_answer dump peg ≡ with_value value (λ each. ok_answer (mergeinfo_lines each))
   effective_answered =
       found.answered (λ each. with_effective_mergeinfo (trees_in_bytes dump) each (λ lines. ok_answer (mergeinfo_lines lines)))
       ∙ ap (λ each. with_value each (λ lines. ok_answer (mergeinfo_lines lines))) (sym is)
 
-  pub IsAnswer-Mergeinfo : (lines : List Line) → value ≡ Some lines → IsAnswer dump.names (mergeinfo_answer dump peg) (kept.Mergeinfo lines)
+  pub IsAnswer-Mergeinfo : (lines : MergeInfoValue) → value ≡ Some lines → IsAnswer dump.names (mergeinfo_answer dump peg) (kept.Mergeinfo lines)
   IsAnswer-Mergeinfo lines some = record { names_of = tt; same = ap (λ each. with_value each (λ all. ok_answer (mergeinfo_lines all))) (sym some) ∙ sym effective_answered }
 
   pub IsAnswer-Malformed : value ≡ None → IsAnswer dump.names (mergeinfo_answer dump peg) (kept.Refused status.MalformedMergeinfo)
@@ -193,40 +183,28 @@ module _ (dump : DumpValue) (peg : KeptPeg) (path : List NameId) (found : IsPath
 
 -- ---- a source and a target
 
-module _ (dump : DumpValue) (source target : KeptPeg) (answer : Peg → Peg → List Line → Answer) where
-  -- what is found of the source comes first, if the target has a path
-  with_pair_in-each : (HasDot target.path.now → ⊥)
-      → with_pair_in dump source target answer
-      ≡ with_peg_in dump source (λ from. with_peg_in dump target (λ to. with_effective_mergeinfo (trees_in_bytes dump) to (answer from to)))
-  with_pair_in-each fine = rw (false_from_ne_true _ fine) (by_source (peg_view source))
-    where
-      by_source : (peg : Option Peg)
-          → with_pegs (trees_in_bytes dump) peg (Some (record { path = parts_of target.path.now; rev = target.rev })) (λ from to. with_effective_mergeinfo (trees_in_bytes dump) to (answer from to))
-          ≡ with_peg (trees_in_bytes dump) peg (λ from. if_peg_exists (trees_in_bytes dump) (record { path = parts_of target.path.now; rev = target.rev })
-          (with_effective_mergeinfo (trees_in_bytes dump) (record { path = parts_of target.path.now; rev = target.rev }) (answer from (record { path = parts_of target.path.now; rev = target.rev }))))
-      by_source None = refl
-      by_source (Some peg) = refl
+module _ (dump : DumpValue) (source target : PegValue) (answer : Peg → Peg → MergeInfoValue → Answer) where
+  pub with_pair_in-source : (status : Status) → IsPegFound dump source (Err status) → with_pair_in dump source target answer ≡ refused_answer status
+  with_pair_in-source status found =
+      found (with_peg_in dump target (λ to. with_effective_mergeinfo (trees_in_bytes dump) to (answer (peg_view source) to)))
 
-  pub with_pair_in-source : (HasDot target.path.now → ⊥) → (status : Status) → IsPegFound dump source (Err status) → with_pair_in dump source target answer ≡ refused_answer status
-  with_pair_in-source fine status found =
-      with_pair_in-each fine ∙ found (λ from. with_peg_in dump target (λ to. with_effective_mergeinfo (trees_in_bytes dump) to (answer from to)))
-
-  module _ (fine : HasDot target.path.now → ⊥) (path : List NameId) (found : IsPathFound dump source path) where
+  module _ (path : List NameId) (found : IsPathFound dump source path) where
     with_pair_in-target : with_pair_in dump source target answer
         ≡ with_peg_in dump target (λ to. with_effective_mergeinfo (trees_in_bytes dump) to (answer (peg_found dump source path) to))
-    with_pair_in-target = with_pair_in-each fine ∙ found.answered (λ from. with_peg_in dump target (λ to. with_effective_mergeinfo (trees_in_bytes dump) to (answer from to)))
+    with_pair_in-target = found.answered (λ from. with_peg_in dump target (λ to. with_effective_mergeinfo (trees_in_bytes dump) to (answer from to)))
 
     pub with_pair_in-refused : (status : Status) → IsPegFound dump target (Err status) → with_pair_in dump source target answer ≡ refused_answer status
-    with_pair_in-refused status other = with_pair_in-target ∙ other (λ to. with_effective_mergeinfo (trees_in_bytes dump) to (answer (peg_found dump source path) to))
+    with_pair_in-refused status other =
+        with_pair_in-target ∙ other (with_effective_mergeinfo (trees_in_bytes dump) (peg_view target) (answer (peg_found dump source path) (peg_view target)))
 
-    pub with_pair_in-value : (to : List NameId) → IsPathFound dump target to → (value : Option (List Line)) → value ≡ effective_in dump to target.rev
+    pub with_pair_in-value : (to : List NameId) → IsPathFound dump target to → (value : Option MergeInfoValue) → value ≡ effective_in dump to target.rev
         → with_pair_in dump source target answer ≡ with_value value (answer (peg_found dump source path) (peg_found dump target to))
     with_pair_in-value to other value is =
         with_pair_in-target ∙ other.answered (λ each. with_effective_mergeinfo (trees_in_bytes dump) each (answer (peg_found dump source path) each))
         ∙ ap (λ each. with_value each (answer (peg_found dump source path) (peg_found dump target to))) (sym is)
 
 -- the revisions of a pair
-module _ (dump : DumpValue) (source target : KeptPeg) (pair : Pair) (found : IsPair dump source target pair) where
+module _ (dump : DumpValue) (source target : PegValue) (pair : Pair) (found : IsPair dump source target pair) where
   pub IsAnswer-Merged : (revisions : Vec MergedRevision Global) → revisions.items ≡ merged_by dump pair.source source.rev pair.mergeinfo → IsAnswer dump.names (merged_answer dump source target) (kept.Merged revisions)
   IsAnswer-Merged revisions are = record {
     names_of = tt;
@@ -242,18 +220,18 @@ module _ (dump : DumpValue) (source target : KeptPeg) (pair : Pair) (found : IsP
 -- ---- what is written
 
 -- the lines of a value, each ended by a newline
-pub value_text-lines : (value : List Line) → flat_map line_text (map printed_line value) ≡ value_text value
+pub value_text-lines : (value : MergeInfoValue) → flat_map line_text (map printed_entry value) ≡ value_text value
 value_text-lines [] = refl
-value_text-lines (line ∷ value) = ap (λ rest. line_text (printed_line line) ++ rest) (value_text-lines value)
+value_text-lines (line ∷ value) = ap (λ rest. line_text (printed_entry line) ++ rest) (value_text-lines value)
 
 pub components_of-lent : (names : List (List ℕ)) (found : Option (Bor (List NameId))) → option_map (λ path. components_of names path.now) found ≡ option_map (components_of names) (option_map (λ path. path.now) found)
 components_of-lent names None = refl
 components_of-lent names (Some path) = refl
 
--- the line of a place is that of the place in bytes
-pub location_line-lent : (names : List (List ℕ)) (found : Option (Bor (List NameId))) (place : Option (List NameId)) → option_map (λ path. path.now) found ≡ place
-    → location_line (option_map (λ path. components_of names path.now) found) ≡ location_line (option_map (components_of names) place)
-location_line-lent names found place is = ap location_line (components_of-lent names found ∙ ap (option_map (components_of names)) is)
+-- the line of a location is that of the location in bytes
+pub location_line-lent : (names : List (List ℕ)) (found : Option (Bor (List NameId))) (located : Option (List NameId)) → option_map (λ path. path.now) found ≡ located
+    → location_line (option_map (λ path. components_of names path.now) found) ≡ location_line (option_map (components_of names) located)
+location_line-lent names found located is = ap location_line (components_of-lent names found ∙ ap (option_map (components_of names)) is)
 
 -- ---- by the kept repository
 

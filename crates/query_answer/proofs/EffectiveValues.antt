@@ -10,42 +10,41 @@ use Rattle.svn_path.specs.Names.{name_of}
 use Rattle.svn_path.specs.Path.{components_of, same_name}
 use Rattle.svn_path.specs.declared.names.NameId.{NameId}
 use Rattle.merge_info.specs.CanonicalValue.{inherited_value, value_of}
-use Rattle.merge_info.specs.Line.{Line}
-use Rattle.query_answer.specs.Effective.{effective_by, nearest, value_for}
-use Rattle.query_answer.specs.Repo.{effective_by_number, effective_in}
-use Rattle.block_map.specs.Map.{nearest_view}
+use Rattle.merge_info.specs.Value.{MergeInfoValue}
+use Rattle.query_answer.specs.Effective.{NearestMergeinfo, effective_of, nearest, own_or_inherited}
+use Rattle.query_answer.specs.Repo.{effective_in, effective_of_found, nearest_view}
 use Rattle.block_map.specs.Map.{revision_in}
 use Rattle.block_map.specs.declared.nearest.Nearest.{Nearest}
 use Rattle.query_answer.proofs.InBytes.{nearest-in_bytes}
-use Rattle.query_answer.proofs.NearestMergeinfo.{own-nearest_from}
+use Rattle.query_answer.proofs.NearestMergeinfo.{own-nearest_from, with_mergeinfo_by}
 use Rattle.query_answer.proofs.TreeValues.{mergeinfo-within}
 
 module _ (names : List (List ℕ)) (path : List NameId) (depth : ℕ) where
-  value_for-inherited : (value : List Line) → depth ≢ length path → value_for (components_of names path) depth value ≡ inherited_value (path_text (drop depth (components_of names path))) value
-  value_for-inherited value other =
+  own_or_inherited-inherited : (value : MergeInfoValue) → depth ≢ length path → own_or_inherited (components_of names path) depth value ≡ inherited_value (path_text (drop depth (components_of names path))) value
+  own_or_inherited-inherited value other =
       let apart : (depth == length (components_of names path)) ≡ false =
       false_from_ne_true _ (λ same. other (eqb-true depth (length (components_of names path)) same ∙ length-map path (λ name. name_of names name.0))) in
       rw apart refl
 
-  pub effective_by-inherited : (text : List ℕ) (value below : List Line) → depth ≢ length path → value_of text ≡ Some value → below ≡ inherited_value (path_text (drop depth (components_of names path))) value
-      → Some below ≡ effective_by (components_of names path) (Some (text, depth))
-  effective_by-inherited text value below other read is =
-      ap Some (is ∙ sym (value_for-inherited value other)) ∙ ap (option_map (value_for (components_of names path) depth)) (sym read)
+  pub effective_of-inherited : (text : List ℕ) (value below : MergeInfoValue) → depth ≢ length path → value_of text ≡ Some value → below ≡ inherited_value (path_text (drop depth (components_of names path))) value
+      → Some below ≡ effective_of (components_of names path) (Some (record { mergeinfo = text; depth = depth }))
+  effective_of-inherited text value below other read is =
+      ap Some (is ∙ sym (own_or_inherited-inherited value other)) ∙ ap (option_map (own_or_inherited (components_of names path) depth)) (sym read)
 
 -- ---- by the trees of the dump
 
 module _ (dump : DumpValue) (kept : IsDump dump) (path : List NameId) (rev : ℕ) where
-  effective_in-found : (found : Option (ValueId × ℕ)) → found ≡ nearest same_name (revision_in dump rev) path
-      → effective_in dump path rev ≡ effective_by (components_of dump.names path) (option_map (λ each. (text_of dump.values each.0.0, each.1)) found)
+  effective_in-found : (found : Option (NearestMergeinfo ValueId)) → found ≡ nearest same_name (revision_in dump rev) path
+      → effective_in dump path rev ≡ effective_of (components_of dump.names path) (option_map (with_mergeinfo_by (λ id. text_of dump.values id.0)) found)
   effective_in-found found is =
-      ap (effective_by (components_of dump.names path))
-      (nearest-in_bytes dump kept path rev ∙ ap (option_map (λ each. (text_of dump.values each.0.0, each.1))) (sym is))
+      ap (effective_of (components_of dump.names path))
+      (nearest-in_bytes dump kept path rev ∙ ap (option_map (with_mergeinfo_by (λ id. text_of dump.values id.0))) (sym is))
 
   pub effective_in-none : None ≡ nearest same_name (revision_in dump rev) path → effective_in dump path rev ≡ Some []
   effective_in-none is = effective_in-found None is
 
   module _ (found : Nearest) (is : Some (nearest_view found) ≡ nearest same_name (revision_in dump rev) path) where
-    pub effective_in-some : effective_in dump path rev ≡ effective_by_number dump path found
+    pub effective_in-some : effective_in dump path rev ≡ effective_of_found dump path found
     effective_in-some = effective_in-found (Some (nearest_view found)) is
 
     -- the text is one of the dump

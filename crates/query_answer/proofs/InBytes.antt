@@ -27,28 +27,28 @@ use Rattle.svn_dump.proofs.Renaming.Locations.{location-rename}
 use Rattle.query_answer.specs.Answer.{IsLocationOf}
 use Rattle.query_answer.specs.Effective.{nearest, nearest_from}
 use Rattle.query_answer.specs.Repo.{index_of, trees_in_bytes}
-use Rattle.query_answer.proofs.NearestMergeinfo.{nearest_from-rename}
+use Rattle.query_answer.proofs.NearestMergeinfo.{nearest_from-rename, with_mergeinfo_by}
 use Rattle.query_answer.proofs.TreePaths.{IsOf-location}
 
--- what holds of each place, and of none, holds of the path of each segment
+-- what holds of each located, and of none, holds of the path of each segment
 module _ {C : Type 0} (same : C → C → Bool) (P : Option (List C) → Type 0) (nowhere : P None) where
-  by_test : (b : Bool) (rev : ℕ) (place : Option (List C)) (segment : Segment C) (segments : List (Segment C)) → P place → All (λ one. P one.path) (segment ∷ segments)
-      → All (λ one. P one.path) (if b then record segment { hi = rev } ∷ segments else record { lo = rev; hi = rev; path = place } ∷ segment ∷ segments)
-  by_test true rev place segment segments here all =
+  by_test : (b : Bool) (rev : ℕ) (located : Option (List C)) (segment : Segment C) (segments : List (Segment C)) → P located → All (λ one. P one.path) (segment ∷ segments)
+      → All (λ one. P one.path) (if b then record segment { hi = rev } ∷ segments else record { lo = rev; hi = rev; path = located } ∷ segment ∷ segments)
+  by_test true rev located segment segments here all =
       All-cons (λ one. P one.path) (record segment { hi = rev }) segments (All-head (λ one. P one.path) segment segments all) (All-tail (λ one. P one.path) segment segments all)
-  by_test false rev place segment segments here all = All-cons (λ one. P one.path) (record { lo = rev; hi = rev; path = place }) (segment ∷ segments) here all
+  by_test false rev located segment segments here all = All-cons (λ one. P one.path) (record { lo = rev; hi = rev; path = located }) (segment ∷ segments) here all
 
-  with_location-All : (rev : ℕ) (place : Option (List C)) (segments : List (Segment C)) → P place → All (λ one. P one.path) segments → All (λ one. P one.path) (with_location same rev place segments)
+  with_location-All : (rev : ℕ) (located : Option (List C)) (segments : List (Segment C)) → P located → All (λ one. P one.path) segments → All (λ one. P one.path) (with_location same rev located segments)
   unfolding with_location
   with_location-All rev None [] here all = all
   with_location-All rev (Some path) [] here all = All-cons (λ one. P one.path) (record { lo = rev; hi = rev; path = Some path }) [] here all
   with_location-All rev None (segment ∷ segments) here all = by_test (same_location same None segment.path) rev None segment segments here all
   with_location-All rev (Some path) (segment ∷ segments) here all = by_test (same_location same (Some path) segment.path) rev (Some path) segment segments here all
 
-  segments_up_to-All : (place : ℕ → Option (List C)) → ((rev : ℕ) → P (place rev)) → (rev : ℕ) → All (λ one. P one.path) (segments_up_to same place rev)
+  segments_up_to-All : (located : ℕ → Option (List C)) → ((rev : ℕ) → P (located rev)) → (rev : ℕ) → All (λ one. P one.path) (segments_up_to same located rev)
   unfolding segments_up_to
-  segments_up_to-All place each zero = with_location-All 0 (place 0) [] (each 0) (All-nil (λ one. P one.path))
-  segments_up_to-All place each (suc rev) = with_location-All (suc rev) (place (suc rev)) (segments_up_to same place rev) (each (suc rev)) (segments_up_to-All place each rev)
+  segments_up_to-All located each zero = with_location-All 0 (located 0) [] (each 0) (All-nil (λ one. P one.path))
+  segments_up_to-All located each (suc rev) = with_location-All (suc rev) (located (suc rev)) (segments_up_to same located rev) (each (suc rev)) (segments_up_to-All located each rev)
 
 module _ (dump : DumpValue) (kept : IsDump dump) where
   abbrev pub name : NameId → List ℕ
@@ -127,11 +127,11 @@ module _ (dump : DumpValue) (kept : IsDump dump) where
 
     -- and what is found is of the dump's names
     pub location-of_names : (path : List NameId) (rev : ℕ) → IsPathOf dump.names path → IsLocationOf dump.names (location same_name (trees_to dump.records peg) path peg rev)
-    location-of_names path rev of = by_place (location same_name (trees_to dump.records peg) path peg rev) refl
+    location-of_names path rev of = by_location (location same_name (trees_to dump.records peg) path peg rev) refl
       where
-        by_place : (found : Option (List NameId)) → location same_name (trees_to dump.records peg) path peg rev ≡ found → IsLocationOf dump.names found
-        by_place None at = tt
-        by_place (Some place) at = IsOf-location dump kept path peg rev place of (sym (location-index path rev) ∙ at)
+        by_location : (found : Option (List NameId)) → location same_name (trees_to dump.records peg) path peg rev ≡ found → IsLocationOf dump.names found
+        by_location None at = tt
+        by_location (Some located) at = IsOf-location dump kept path peg rev located of (sym (location-index path rev) ∙ at)
 
     pub segments-of_names : (path : List NameId) → IsPathOf dump.names path → All (λ segment. IsLocationOf dump.names segment.path) (segments_of same_name (trees_to dump.records peg) path peg)
     segments-of_names path of =
@@ -159,7 +159,7 @@ module _ (dump : DumpValue) (kept : IsDump dump) where
 
   -- the nearest mergeinfo of a path
   pub nearest-in_bytes : (path : List NameId) (rev : ℕ) → nearest bytes_eq (tree_of (trees_in_bytes dump) rev) (components_of dump.names path)
-      ≡ option_map (λ found. (text found.0, found.1)) (nearest same_name (tree_of trees_by_number rev) path)
+      ≡ option_map (with_mergeinfo_by text) (nearest same_name (tree_of trees_by_number rev) path)
   nearest-in_bytes path rev =
       ap (λ all. nearest bytes_eq (tree_of all rev) (map name path)) trees-renamed
       ∙ ap (λ tree. nearest bytes_eq tree (map name path)) (tree_of-rename name text trees_by_number rev)

@@ -11,9 +11,10 @@ use Rattle.svn_dump.specs.Tree.{Tree, Entry, entry_at}
 use Rattle.svn_dump.proofs.Trees.{entry_at-nil}
 use Rattle.svn_dump.proofs.Renaming.Paths.{KeepsSame}
 use Rattle.svn_dump.proofs.Renaming.Trees.{rename_entry, rename_tree, entry_at-rename}
-use Rattle.query_answer.specs.Effective.{nearest, own_mergeinfo, nearest_or, nearest_from}
+use Rattle.query_answer.specs.Effective.{NearestMergeinfo, nearest, nearest_from, own_mergeinfo, own_or}
+use Rattle.query_answer.specs.Repo.{nearest_view}
 use Rattle.svn_dump.specs.declared.record.ValueId.{ValueId}
-use Rattle.block_map.specs.Map.{HasNoneFrom, IsNearest, IsNearestOrNone, nearest_view}
+use Rattle.block_map.specs.Map.{HasNoneFrom, IsNearest, IsNearestOrNone}
 use Rattle.block_map.specs.Standing.{Standing, own_mergeinfo_at}
 use Rattle.block_map.specs.declared.nearest.Nearest.{Nearest}
 
@@ -25,11 +26,18 @@ mergeinfo-rename : {C D M N : Type 0} (name : C → D) (text : M → N) (found :
 mergeinfo-rename name text None = refl
 mergeinfo-rename name text (Some entry) = refl
 
-nearest_or-rename : {M N : Type 0} (text : M → N) (own : Option M) (depth : ℕ) (above : Option (M × ℕ))
-    → nearest_or (option_map text own) depth (option_map (λ found. (text found.0, found.1)) above)
-    ≡ option_map (λ found. (text found.0, found.1)) (nearest_or own depth above)
-nearest_or-rename text None depth above = refl
-nearest_or-rename text (Some mergeinfo) depth above = refl
+-- the mergeinfo as another one
+abbrev pub with_mergeinfo_by : {M N : Type 0} → (M → N) → NearestMergeinfo M → NearestMergeinfo N
+with_mergeinfo_by text found = record { mergeinfo = text found.mergeinfo; depth = found.depth }
+
+abbrev at_depth : {M : Type 0} → M → ℕ → NearestMergeinfo M
+at_depth mergeinfo depth = record { mergeinfo = mergeinfo; depth = depth }
+
+own_or-rename : {M N : Type 0} (text : M → N) (own : Option M) (depth : ℕ) (above : Option (NearestMergeinfo M))
+    → own_or (option_map text own) depth (option_map (with_mergeinfo_by text) above)
+    ≡ option_map (with_mergeinfo_by text) (own_or own depth above)
+own_or-rename text None depth above = refl
+own_or-rename text (Some mergeinfo) depth above = refl
 
 module _ {C D M N : Type 0} (name : C → D) (text : M → N) (sameC : C → C → Bool) (sameD : D → D → Bool)
     (alike : KeepsSame name sameC sameD) where
@@ -49,14 +57,14 @@ module _ {C D M N : Type 0} (name : C → D) (text : M → N) (sameC : C → C �
   -- the nearest mergeinfo is renamed, and its path is as long
   pub nearest_from-rename : (tree : Tree C M) (path : List C) (depth : ℕ)
       → nearest_from sameD (rename_tree name text tree) (map name path) depth
-      ≡ option_map (λ found. (text found.0, found.1)) (nearest_from sameC tree path depth)
+      ≡ option_map (with_mergeinfo_by text) (nearest_from sameC tree path depth)
   unfolding nearest_from
   nearest_from-rename tree path zero =
-      ap (λ own. nearest_or own 0 None) (front_mergeinfo-rename tree path 0)
-      ∙ nearest_or-rename text (own_mergeinfo sameC tree (take 0 path)) 0 None
+      ap (λ own. own_or own 0 None) (front_mergeinfo-rename tree path 0)
+      ∙ own_or-rename text (own_mergeinfo sameC tree (take 0 path)) 0 None
   nearest_from-rename tree path (suc depth) =
-      (λ i. nearest_or (front_mergeinfo-rename tree path (suc depth) i) (suc depth) (nearest_from-rename tree path depth i))
-      ∙ nearest_or-rename text (own_mergeinfo sameC tree (take (suc depth) path)) (suc depth) (nearest_from sameC tree path depth)
+      (λ i. own_or (front_mergeinfo-rename tree path (suc depth) i) (suc depth) (nearest_from-rename tree path depth i))
+      ∙ own_or-rename text (own_mergeinfo sameC tree (take (suc depth) path)) (suc depth) (nearest_from sameC tree path depth)
 
 -- ---- the steps of a walk along a path
 
@@ -64,25 +72,25 @@ module _ {C M : Type 0} (same : C → C → Bool) (tree : Tree C M) (path : List
   -- the root has none
   pub nearest_from-none_at_root : own_mergeinfo same tree [] ≡ None → nearest_from same tree path 0 ≡ None
   unfolding nearest_from
-  nearest_from-none_at_root none = ap (λ own. nearest_or own 0 None) none
+  nearest_from-none_at_root none = ap (λ own. own_or own 0 None) none
 
   -- the root has some
   pub nearest_from-some_at_root : (mergeinfo : M) → own_mergeinfo same tree [] ≡ Some mergeinfo
-      → nearest_from same tree path 0 ≡ Some (mergeinfo, 0)
+      → nearest_from same tree path 0 ≡ Some (at_depth mergeinfo 0)
   unfolding nearest_from
-  nearest_from-some_at_root mergeinfo own = ap (λ own. nearest_or own 0 None) own
+  nearest_from-some_at_root mergeinfo own = ap (λ own. own_or own 0 None) own
 
   -- so many components of the path have none: it is that of the path above
   pub nearest_from-none : (depth : ℕ) → own_mergeinfo same tree (take (suc depth) path) ≡ None
       → nearest_from same tree path (suc depth) ≡ nearest_from same tree path depth
   unfolding nearest_from
-  nearest_from-none depth none = ap (λ own. nearest_or own (suc depth) (nearest_from same tree path depth)) none
+  nearest_from-none depth none = ap (λ own. own_or own (suc depth) (nearest_from same tree path depth)) none
 
   -- they have some: it is that
   pub nearest_from-some : (depth : ℕ) (mergeinfo : M) → own_mergeinfo same tree (take (suc depth) path) ≡ Some mergeinfo
-      → nearest_from same tree path (suc depth) ≡ Some (mergeinfo, suc depth)
+      → nearest_from same tree path (suc depth) ≡ Some (at_depth mergeinfo (suc depth))
   unfolding nearest_from
-  nearest_from-some depth mergeinfo own = ap (λ own. nearest_or own (suc depth) (nearest_from same tree path depth)) own
+  nearest_from-some depth mergeinfo own = ap (λ own. own_or own (suc depth) (nearest_from same tree path depth)) own
 
 -- ---- as a map finds it
 
@@ -112,12 +120,12 @@ module _ (tree : Tree NameId ValueId) (path : List NameId) where
     nearest_from-found zero more few =
         let here : found.depth ≡ 0 = omega (arith, more) in
         nearest_from-some_at_root same_name tree path found.mi (ap (λ depth. own_mergeinfo same_name tree (take depth path)) (sym here) ∙ is.1)
-        ∙ ap (λ depth. Some (found.mi, depth)) (sym here)
+        ∙ ap (λ depth. Some (at_depth found.mi depth)) (sym here)
     nearest_from-found (suc n) more few = elim (cases_lt n found.depth) [
       | inl under ↦
           let here : found.depth ≡ suc n = omega (arith, more, under) in
           nearest_from-some same_name tree path n found.mi (ap (λ depth. own_mergeinfo same_name tree (take depth path)) (sym here) ∙ is.1)
-          ∙ ap (λ depth. Some (found.mi, depth)) (sym here)
+          ∙ ap (λ depth. Some (at_depth found.mi depth)) (sym here)
       | inr above ↦
           nearest_from-none same_name tree path n (none (suc n) (omega (arith, above)) few) ∙ nearest_from-found n above (omega (arith, few))
     ]
@@ -149,20 +157,20 @@ nearest-no_entries path = from (length path)
 -- ---- what was found
 
 module _ {C M : Type 0} (same : C → C → Bool) (tree : Tree C M) (path : List C) (mergeinfo : M) (depth : ℕ) where
-  own-nearest_or : (own : Option M) (n : ℕ) (rest : Option (M × ℕ)) → nearest_or own n rest ≡ Some (mergeinfo, depth) → ((own ≡ Some mergeinfo) × (n ≡ depth)) ⊎ (rest ≡ Some (mergeinfo, depth))
-  own-nearest_or None n rest is = inr is
-  own-nearest_or (Some found) n rest is =
-      let pair = same_Some (found, n) (mergeinfo, depth) is in
-      inl (ap (λ (each : M × ℕ). Some each.0) pair, ap (λ (each : M × ℕ). each.1) pair)
+  own-own_or : (own : Option M) (n : ℕ) (rest : Option (NearestMergeinfo M)) → own_or own n rest ≡ Some (at_depth mergeinfo depth) → ((own ≡ Some mergeinfo) × (n ≡ depth)) ⊎ (rest ≡ Some (at_depth mergeinfo depth))
+  own-own_or None n rest is = inr is
+  own-own_or (Some found) n rest is =
+      let both = same_Some (at_depth found n) (at_depth mergeinfo depth) is in
+      inl (ap (λ (each : NearestMergeinfo M). Some each.mergeinfo) both, ap (λ (each : NearestMergeinfo M). each.depth) both)
 
   -- it is the mergeinfo of so many components of the path
-  pub own-nearest_from : (n : ℕ) → nearest_from same tree path n ≡ Some (mergeinfo, depth) → own_mergeinfo same tree (take depth path) ≡ Some mergeinfo
+  pub own-nearest_from : (n : ℕ) → nearest_from same tree path n ≡ Some (at_depth mergeinfo depth) → own_mergeinfo same tree (take depth path) ≡ Some mergeinfo
   unfolding nearest_from
-  own-nearest_from zero is = elim (own-nearest_or (own_mergeinfo same tree (take 0 path)) 0 None is) [
+  own-nearest_from zero is = elim (own-own_or (own_mergeinfo same tree (take 0 path)) 0 None is) [
     | inl (own, at) ↦ ap (λ each. own_mergeinfo same tree (take each path)) (sym at) ∙ own
     | inr none ↦ cc
   ]
-  own-nearest_from (suc n) is = elim (own-nearest_or (own_mergeinfo same tree (take (suc n) path)) (suc n) (nearest_from same tree path n) is) [
+  own-nearest_from (suc n) is = elim (own-own_or (own_mergeinfo same tree (take (suc n) path)) (suc n) (nearest_from same tree path n) is) [
     | inl (own, at) ↦ ap (λ each. own_mergeinfo same tree (take each path)) (sym at) ∙ own
     | inr above ↦ own-nearest_from n above
   ]

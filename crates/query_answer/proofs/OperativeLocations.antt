@@ -1,4 +1,4 @@
--- The places of a path in its operative revisions, by its segments and their operative revisions.
+-- The locations of a path in its operative revisions, by its segments and their operative revisions.
 use Rattle.std.proofs.Common.{◌≡◌, ℕ, zero, suc, pred, ◌+◌, ◌-◌, ◌<◌, ◌≤◌, Bool, true, false, if◌then◌else◌, List, [], ◌∷◌, ◌++◌, Option, Some, None, drop, filter, get_or, length, map, reverse, option_map, slice_get, take, refl, sym, ap, ap₂, ◌∙◌, append-nil, arith}
 use Rattle.std.specs.Prelude.{filter_map, option_and_then}
 use Rattle.std.specs.List.{cons_option, range_with_len}
@@ -76,31 +76,31 @@ drop_rest (y ∷ all) (suc n) x xs so = drop_rest all n x xs so
 abbrev pub found_of_hit : {C X : Type 0} → (List C → ℕ → Option X) → List (Segment C) → Hit → Option X
 found_of_hit find all hit = option_and_then (λ path. find path hit.rev) (option_and_then (λ segment. segment.path) (slice_get all hit.segment))
 
-module _ {C M X : Type 0} (same : C → C → Bool) (history : History C M) (trees : List (Tree C M)) (place : ℕ → Option (List C)) (find : List C → ℕ → Option X) where
+module _ {C M X : Type 0} (same : C → C → Bool) (history : History C M) (trees : List (Tree C M)) (located : ℕ → Option (List C)) (find : List C → ℕ → Option X) where
   -- what is found in a revision
   abbrev pub found_at : ℕ → Option X
-  found_at rev = option_and_then (λ path. find path rev) (option_and_then (λ path. if is_operative same history trees path rev then Some path else None) (place rev))
+  found_at rev = option_and_then (λ path. find path rev) (option_and_then (λ path. if is_operative same history trees path rev then Some path else None) (located rev))
 
   -- nothing, where the path was nowhere
-  none_down : (n top : ℕ) → n ≤ top + 1 → ((rev : ℕ) → rev ≤ top → top < rev + n → place rev ≡ None) → filter_map found_at (down_from n top) ≡ []
+  none_down : (n top : ℕ) → n ≤ top + 1 → ((rev : ℕ) → rev ≤ top → top < rev + n → located rev ≡ None) → filter_map found_at (down_from n top) ≡ []
   none_down zero top few nowhere = refl
   none_down (suc zero) top few nowhere = rw (nowhere top (omega arith) (omega arith)) refl
   none_down (suc (suc n)) zero few nowhere = absurd (omega arith)
   none_down (suc (suc n)) (suc top) few nowhere =
       rw (nowhere (suc top) (omega arith) (omega arith)) (none_down (suc n) top (omega arith) (λ rev up within. nowhere rev (omega arith) (omega arith)))
 
-  -- what is found where the path was at one place
+  -- what is found where the path was at one located
   module _ (all : List (Segment C)) (number : ℕ) (segment : Segment C) (path : List C) (is : slice_get all number ≡ Some segment) (at : segment.path ≡ Some path) where
     here_at : (rev : ℕ) → found_of_hit find all (hit_at number rev) ≡ find path rev
     here_at rev = rw (is, at) refl
 
     by_test : (rev : ℕ) (revs others : List ℕ) → filter_map (found_of_hit find all) (map (hit_at number) (filter (is_operative same history trees path) revs)) ≡ filter_map found_at others
-        → place rev ≡ Some path → (b : Bool) → is_operative same history trees path rev ≡ b
+        → located rev ≡ Some path → (b : Bool) → is_operative same history trees path rev ≡ b
         → filter_map (found_of_hit find all) (map (hit_at number) (filter (is_operative same history trees path) (rev ∷ revs))) ≡ filter_map found_at (rev ∷ others)
     by_test rev revs others rest there true operative = rw (there, operative, here_at rev, rest) refl
     by_test rev revs others rest there false not_operative = rw (there, not_operative, rest) refl
 
-    here_down : (n top : ℕ) → n ≤ top + 1 → ((rev : ℕ) → rev ≤ top → top < rev + n → place rev ≡ Some path)
+    here_down : (n top : ℕ) → n ≤ top + 1 → ((rev : ℕ) → rev ≤ top → top < rev + n → located rev ≡ Some path)
         → filter_map (found_of_hit find all) (map (hit_at number) (filter (is_operative same history trees path) (down_from n top))) ≡ filter_map found_at (down_from n top)
     here_down zero top few stays = refl
     here_down (suc zero) top few stays = by_test top [] [] refl (stays top (omega arith) (omega arith)) (is_operative same history trees path top) refl
@@ -110,7 +110,7 @@ module _ {C M X : Type 0} (same : C → C → Bool) (history : History C M) (tre
         (stays (suc top) (omega arith) (omega arith)) (is_operative same history trees path (suc top)) refl
 
   -- in one segment
-  in_segment : (all : List (Segment C)) (number : ℕ) (segment : Segment C) → slice_get all number ≡ Some segment → IsSegment place segment → (path : Option (List C)) → segment.path ≡ path
+  in_segment : (all : List (Segment C)) (number : ℕ) (segment : Segment C) → slice_get all number ≡ Some segment → IsSegment located segment → (path : Option (List C)) → segment.path ≡ path
       → filter_map (found_of_hit find all) (map (hit_at number) (operative_in same history trees segment path)) ≡ filter_map found_at (down_from (segment.hi + 1 - segment.lo) segment.hi)
   in_segment all number segment is so None at =
       sym (none_down (segment.hi + 1 - segment.lo) segment.hi (omega arith) (λ rev up within. so.stays rev (omega (arith, so.ordered)) up ∙ at))
@@ -118,7 +118,7 @@ module _ {C M X : Type 0} (same : C → C → Bool) (history : History C M) (tre
       here_down all number segment path is at (segment.hi + 1 - segment.lo) segment.hi (omega arith) (λ rev up within. so.stays rev (omega (arith, so.ordered)) up ∙ at)
 
   -- from the first of these segments on
-  from_segments : (all : List (Segment C)) (number bound top : ℕ) (segments : List (Segment C)) → drop number all ≡ segments → AreSegments place bound segments
+  from_segments : (all : List (Segment C)) (number bound top : ℕ) (segments : List (Segment C)) → drop number all ≡ segments → AreSegments located bound segments
       → (0 < bound → top + 1 ≡ bound) → filter_map (found_of_hit find all) (operative_from same history trees number segments) ≡ filter_map found_at (down_from bound top)
   unfolding operative_from
   from_segments all number zero top [] so are last = refl
@@ -138,7 +138,7 @@ module _ {C M X : Type 0} (same : C → C → Bool) (history : History C M) (tre
       ∙ filter_map-append found_at (down_from (segment.hi + 1 - segment.lo) top) (down_from segment.lo (top - (segment.hi + 1 - segment.lo))))
 
   -- what is found at the operative revisions of a path's segments is what is found in each revision, the newest first
-  pub found-operative_of : (top : ℕ) (segments : List (Segment C)) → AreSegments place (top + 1) segments
+  pub found-operative_of : (top : ℕ) (segments : List (Segment C)) → AreSegments located (top + 1) segments
       → reverse (filter_map (found_of_hit find segments) (operative_of same history trees segments)) ≡ filter_map found_at (range_with_len 0 (top + 1))
   found-operative_of top segments are =
       let e : top + 1 ≡ suc top = omega arith in
@@ -186,27 +186,27 @@ module _ {C M X : Type 0} (same : C → C → Bool) (history : History C M) (tre
 
 module _ {C D M N X : Type 0} (name : C → D) (text : M → N) (sameC : C → C → Bool) (sameD : D → D → Bool) (alike : KeepsSame name sameC sameD)
     (history : History C M) (trees : List (Tree C M)) (path : List C) (peg : ℕ) (find : List D → ℕ → Option X) where
-  -- a revision that is operative on a renamed place
-  by_place : (rev : ℕ) (place : Option (List C))
-      → option_and_then (λ each. find each rev) (option_and_then (λ each. if is_operative sameD (rename_history name text history) (map (rename_tree name text) trees) each rev then Some each else None) (option_map (map name) place))
-      ≡ option_and_then (λ each. find (map name each) rev) (option_and_then (λ each. if is_operative sameC history trees each rev then Some each else None) place)
-  by_place rev None = refl
-  by_place rev (Some place) =
-      ap (λ b. option_and_then (λ each. find each rev) (if b then Some (map name place) else None)) (is_operative-rename name text sameC sameD alike history trees place rev)
-      ∙ by_test (is_operative sameC history trees place rev)
+  -- a revision that is operative on a renamed located
+  by_location : (rev : ℕ) (located : Option (List C))
+      → option_and_then (λ each. find each rev) (option_and_then (λ each. if is_operative sameD (rename_history name text history) (map (rename_tree name text) trees) each rev then Some each else None) (option_map (map name) located))
+      ≡ option_and_then (λ each. find (map name each) rev) (option_and_then (λ each. if is_operative sameC history trees each rev then Some each else None) located)
+  by_location rev None = refl
+  by_location rev (Some located) =
+      ap (λ b. option_and_then (λ each. find each rev) (if b then Some (map name located) else None)) (is_operative-rename name text sameC sameD alike history trees located rev)
+      ∙ by_test (is_operative sameC history trees located rev)
     where
-      by_test : (b : Bool) → option_and_then (λ each. find each rev) (if b then Some (map name place) else None) ≡ option_and_then (λ each. find (map name each) rev) (if b then Some place else None)
+      by_test : (b : Bool) → option_and_then (λ each. find each rev) (if b then Some (map name located) else None) ≡ option_and_then (λ each. find (map name each) rev) (if b then Some located else None)
       by_test true = refl
       by_test false = refl
 
-  -- what is found at the places of a renamed path is what is found at the renamed places
+  -- what is found at the locations of a renamed path is what is found at the renamed locations
   pub found_in-rename : found_in sameD (rename_history name text history) (map (rename_tree name text) trees) (map name path) peg find
-      ≡ found_in sameC history trees path peg (λ place. find (map name place))
+      ≡ found_in sameC history trees path peg (λ located. find (map name located))
   found_in-rename = λ i. filter_map (λ rev. renamed rev i) (range_with_len 0 (peg + 1))
     where
       renamed : (rev : ℕ) → option_and_then (λ each. find each rev) (operative_location sameD (rename_history name text history) (map (rename_tree name text) trees) (map name path) peg rev)
           ≡ option_and_then (λ each. find (map name each) rev) (operative_location sameC history trees path peg rev)
       renamed rev =
-          ap (λ place. option_and_then (λ each. find each rev) (option_and_then (λ each. if is_operative sameD (rename_history name text history) (map (rename_tree name text) trees) each rev then Some each else None) place))
+          ap (λ located. option_and_then (λ each. find each rev) (option_and_then (λ each. if is_operative sameD (rename_history name text history) (map (rename_tree name text) trees) each rev then Some each else None) located))
           (location-rename name text sameC sameD alike trees path peg rev)
-          ∙ by_place rev (location sameC trees path peg rev)
+          ∙ by_location rev (location sameC trees path peg rev)

@@ -55,15 +55,15 @@ TellsLocations-AreSegmentsIn dump path rev segments so = record {
 
 -- ---- the segment of a revision
 
-module _ (place : ℕ → Option (List NameId)) (rev : ℕ) where
+module _ (located : ℕ → Option (List NameId)) (rev : ℕ) where
   -- each segment begins below the bound
-  begins_below : (segments : List Segment) (bound k : ℕ) (d : Segment) → AreSegments place bound (map segment_view segments) → k < length segments → (get_or segments k d).lo < bound
+  begins_below : (segments : List Segment) (bound k : ℕ) (d : Segment) → AreSegments located bound (map segment_view segments) → k < length segments → (get_or segments k d).lo < bound
   begins_below [] bound k d are within = absurd (omega arith)
   begins_below (first ∷ segments) bound zero d are within = omega (arith, are.0, are.1.ordered)
   begins_below (first ∷ segments) bound (suc k) d are within = omega (arith, are.0, are.1.ordered, begins_below segments first.lo k d are.2 (omega arith))
 
   -- no segment that begins above the revision comes after one that does not
-  pub begins_above : (segments : List Segment) (bound : ℕ) → AreSegments place bound (map segment_view segments) → IsPartitionedBy (λ (each : Segment). ltb rev each.lo) segments
+  pub begins_above : (segments : List Segment) (bound : ℕ) → AreSegments located bound (map segment_view segments) → IsPartitionedBy (λ (each : Segment). ltb rev each.lo) segments
   begins_above [] bound are i j d order within = absurd (omega arith)
   begins_above (first ∷ segments) bound are zero zero d order within = λ above. above
   begins_above (first ∷ segments) bound are zero (suc j) d order within =
@@ -72,15 +72,15 @@ module _ (place : ℕ → Option (List NameId)) (rev : ℕ) where
   begins_above (first ∷ segments) bound are (suc i) (suc j) d order within = begins_above segments first.lo are.2 i j d (omega arith) (omega arith)
 
   -- the path of a segment that has the revision
-  pub path-segment : (segments : List Segment) (bound n : ℕ) (segment : Segment) → AreSegments place bound (map segment_view segments) → n < length segments → segment ≡ get_or segments n segment
-      → segment.lo ≤ rev → rev ≤ segment.hi → place rev ≡ segment.path
+  pub path-segment : (segments : List Segment) (bound n : ℕ) (segment : Segment) → AreSegments located bound (map segment_view segments) → n < length segments → segment ≡ get_or segments n segment
+      → segment.lo ≤ rev → rev ≤ segment.hi → located rev ≡ segment.path
   path-segment [] bound n segment are within at from to = absurd (omega arith)
   path-segment (first ∷ segments) bound zero segment are within at from to =
       are.1.stays rev (omega (arith, from, ap (λ (each : Segment). each.lo) at)) (omega (arith, to, ap (λ (each : Segment). each.hi) at)) ∙ sym (ap (λ (each : Segment). each.path) at)
   path-segment (first ∷ segments) bound (suc n) segment are within at from to = path-segment segments first.lo n segment are.2 (omega arith) at from to
 
   -- the first segment that does not begin above the revision ends below it only if all segments do
-  pub above-segments : (segments : List Segment) (bound n : ℕ) (segment : Segment) → AreSegments place bound (map segment_view segments) → ((k : ℕ) (d : Segment) → k < n → rev < (get_or segments k d).lo)
+  pub above-segments : (segments : List Segment) (bound n : ℕ) (segment : Segment) → AreSegments located bound (map segment_view segments) → ((k : ℕ) (d : Segment) → k < n → rev < (get_or segments k d).lo)
       → n < length segments → segment ≡ get_or segments n segment → segment.hi < rev → bound ≤ rev
   above-segments [] bound n segment are before within at ends = absurd (omega arith)
   above-segments (first ∷ segments) bound zero segment are before within at ends = omega (arith, are.0, ends, ap (λ (each : Segment). each.hi) at)
@@ -88,8 +88,8 @@ module _ (place : ℕ → Option (List NameId)) (rev : ℕ) where
       absurd (omega (arith, before 0 first (omega arith), above-segments segments first.lo n segment are.2 (λ k d less. before (suc k) d (omega (arith, less))) (omega arith) at ends))
 
   -- where all segments begin above the revision the path was nowhere
-  pub below-segments : (segments : List Segment) (bound : ℕ) → AreSegments place bound (map segment_view segments) → ((k : ℕ) (d : Segment) → k < length segments → rev < (get_or segments k d).lo)
-      → rev < bound → place rev ≡ None
+  pub below-segments : (segments : List Segment) (bound : ℕ) → AreSegments located bound (map segment_view segments) → ((k : ℕ) (d : Segment) → k < length segments → rev < (get_or segments k d).lo)
+      → rev < bound → located rev ≡ None
   below-segments [] bound are before within = are rev within
   below-segments (first ∷ segments) bound are before within =
       below-segments segments first.lo are.2 (λ k d less. before (suc k) d (omega (arith, less))) (before 0 first (omega arith))

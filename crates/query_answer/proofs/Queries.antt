@@ -6,7 +6,8 @@ use Rattle.svn_path.specs.Components.{HasDot}
 use Rattle.svn_text.specs.Number.{number_up_to, greatest_revision}
 use Rattle.svn_text.proofs.Lines.{list_any-Lacks}
 use Rattle.svn_text.specs.Cut.{IsCutAtLast, Lacks}
-use Rattle.query_answer.specs.Query.{bad, peg_field, query_of, query_of_fields, query_of_pair, query_of_peg, read_peg, third_field}
+use Rattle.query_answer.specs.Peg.{PegValue, peg_value_of}
+use Rattle.query_answer.specs.Query.{bad, peg_field, query_of, query_of_fields, query_of_pair, query_of_peg, third_field}
 use Rattle.svn_text.proofs.Cuts.{CutsFirst, slice_split-cut, slice_split-uncut, list_any-cut, before_last-cut, after_last-cut}
 
 -- the parts of bytes are never none
@@ -18,16 +19,19 @@ slice_split-some p (byte ∷ bytes) = elim (cases_Bool (p byte)) [
 ]
 
 -- the peg of a field, by the number that stands behind its last `@`
-pub read_peg-cut : (field path rev : List ℕ) → IsCutAtLast 64 field path rev → (HasDot path → ⊥) → (found : Option ℕ) → found ≡ number_up_to greatest_revision rev → option_map (λ n. (path, n)) found ≡ read_peg field
-read_peg-cut field path rev cut fine found number =
+abbrev pub peg_with : List ℕ → ℕ → PegValue
+peg_with path rev = record { path = path; rev = rev }
+
+pub peg_value_of-cut : (field path rev : List ℕ) → IsCutAtLast 64 field path rev → (HasDot path → ⊥) → (found : Option ℕ) → found ≡ number_up_to greatest_revision rev → option_map (peg_with path) found ≡ peg_value_of field
+peg_value_of-cut field path rev cut fine found number =
     sym (rw (list_any-cut 64 field path rev cut, after_last-cut 64 field path rev cut, before_last-cut 64 field path rev cut, false_from_ne_true _ fine)
-    (ap (option_map (λ n. (path, n))) (sym number)))
+    (ap (option_map (peg_with path)) (sym number)))
 
-pub read_peg-dot : (field path rev : List ℕ) → IsCutAtLast 64 field path rev → HasDot path → None ≡ read_peg field
-read_peg-dot field path rev cut dot = sym (rw (list_any-cut 64 field path rev cut, before_last-cut 64 field path rev cut, dot) refl)
+pub peg_value_of-dot : (field path rev : List ℕ) → IsCutAtLast 64 field path rev → HasDot path → None ≡ peg_value_of field
+peg_value_of-dot field path rev cut dot = sym (rw (list_any-cut 64 field path rev cut, before_last-cut 64 field path rev cut, dot) refl)
 
-pub read_peg-uncut : (field : List ℕ) → Lacks 64 field → None ≡ read_peg field
-read_peg-uncut field none = sym (rw (list_any-Lacks 64 field none) refl)
+pub peg_value_of-uncut : (field : List ℕ) → Lacks 64 field → None ≡ peg_value_of field
+peg_value_of-uncut field none = sym (rw (list_any-Lacks 64 field none) refl)
 
 -- ---- fields
 

@@ -9,8 +9,8 @@ use Rattle.svn_path.specs.Components.{path_text}
 use Rattle.svn_path.specs.Names.{name_of}
 use Rattle.svn_path.specs.Path.{IsPathOf, components_of}
 use Rattle.svn_path.specs.declared.names.NameId.{NameId}
-use Rattle.merge_info.specs.Line.{Line}
-use Rattle.merge_info.specs.Text.{printed_line}
+use Rattle.merge_info.specs.Value.{MergeInfoValue}
+use Rattle.merge_info.specs.Text.{printed_entry}
 use Rattle.svn_text.specs.Line.{line_text}
 use Rattle.svn_dump.specs.Location.{location}
 use Rattle.svn_dump.specs.Record.{HistoryOfBytes}
@@ -18,7 +18,8 @@ use Rattle.svn_dump.specs.Tree.{Tree, tree_of, is_there}
 use Rattle.query_answer.specs.Effective.{effective_value}
 use Rattle.query_answer.specs.Merged.{eligible_revisions, found_in, merged_revisions, value_has}
 use Rattle.query_answer.specs.Query as query
-use Rattle.query_answer.specs.Query.{Peg, Query}
+use Rattle.query_answer.specs.Peg.{Peg}
+use Rattle.query_answer.specs.Query.{Query}
 use Rattle.query_answer.specs.declared.answers.Answer.{Answer as KeptAnswer}
 use Rattle.query_answer.specs.declared.answers.Answer.TheVariants as kept
 use Rattle.query_answer.specs.declared.merged_revision.MergedRevision.{MergedRevision}
@@ -65,17 +66,6 @@ refuse_or status.MalformedMergeinfo answer = refused_answer status.MalformedMerg
 abbrev pub if_peg_exists : TreesOfBytes → Peg → Answer → Answer
 if_peg_exists trees peg answer = refuse_or (peg_status trees peg) answer
 
--- the answer about a peg, if there is one and it exists; none is a path with a component `.` or `..`
-abbrev pub with_peg : TreesOfBytes → Option Peg → (Peg → Answer) → Answer
-with_peg trees None answer = refused_answer status.BadQuery
-with_peg trees (Some peg) answer = if_peg_exists trees peg (answer peg)
-
--- the same for two pegs; a refusal of the first comes before one of the second
-abbrev pub with_pegs : TreesOfBytes → Option Peg → Option Peg → (Peg → Peg → Answer) → Answer
-with_pegs trees None target answer = refused_answer status.BadQuery
-with_pegs trees (Some source) None answer = refused_answer status.BadQuery
-with_pegs trees (Some source) (Some target) answer = if_peg_exists trees source (if_peg_exists trees target (answer source target))
-
 -- ---- result lines
 
 abbrev pub location_line : Option (List (List ℕ)) → List ℕ
@@ -102,15 +92,15 @@ abbrev pub log_lines : HistoryOfBytes → TreesOfBytes → Peg → List (List �
 log_lines history trees peg = reverse (found_in bytes_eq history trees peg.path peg.rev (λ here rev. Some (log_line here rev)))
 
 -- the answer by the effective mergeinfo, unless its text is malformed
-abbrev pub with_value : Option (List Line) → (List Line → Answer) → Answer
+abbrev pub with_value : Option MergeInfoValue → (MergeInfoValue → Answer) → Answer
 with_value None answer = refused_answer status.MalformedMergeinfo
 with_value (Some value) answer = answer value
 
-abbrev pub with_effective_mergeinfo : TreesOfBytes → Peg → (List Line → Answer) → Answer
+abbrev pub with_effective_mergeinfo : TreesOfBytes → Peg → (MergeInfoValue → Answer) → Answer
 with_effective_mergeinfo trees peg answer = with_value (effective_value (tree_of trees peg.rev) peg.path) answer
 
-abbrev pub mergeinfo_lines : List Line → List (List ℕ)
-mergeinfo_lines value = map printed_line value
+abbrev pub mergeinfo_lines : MergeInfoValue → List (List ℕ)
+mergeinfo_lines value = map printed_entry value
 
 -- a star follows a revision that is not inheritable
 abbrev pub merged_line : MergedRevision → List ℕ
@@ -120,12 +110,12 @@ abbrev pub eligible_line : ℕ → List ℕ
 eligible_line rev = codes "r" ++ decimal rev
 
 -- the operative revisions of the source that the mergeinfo of the target has for the path that the source had then
-abbrev pub merged_lines : HistoryOfBytes → TreesOfBytes → Peg → List Line → List (List ℕ)
+abbrev pub merged_lines : HistoryOfBytes → TreesOfBytes → Peg → MergeInfoValue → List (List ℕ)
 merged_lines history trees source value =
     map merged_line (merged_revisions bytes_eq history trees source.path source.rev (value_has value))
 
 -- those that it lacks, where the target had another path then, or none
-abbrev pub eligible_lines : HistoryOfBytes → TreesOfBytes → Peg → Peg → List Line → List (List ℕ)
+abbrev pub eligible_lines : HistoryOfBytes → TreesOfBytes → Peg → Peg → MergeInfoValue → List (List ℕ)
 eligible_lines history trees source target value =
     map eligible_line
     (eligible_revisions bytes_eq history trees source.path source.rev (value_has value) (location bytes_eq trees target.path target.rev))
@@ -133,7 +123,7 @@ eligible_lines history trees source target value =
 -- ---- the answer
 
 -- first the source, then the target, and then the mergeinfo of the target; otherwise this answer
-abbrev pub if_both_exist : TreesOfBytes → Peg → Peg → (List Line → Answer) → Answer
+abbrev pub if_both_exist : TreesOfBytes → Peg → Peg → (MergeInfoValue → Answer) → Answer
 if_both_exist trees source target answer =
     if_peg_exists trees source (if_peg_exists trees target (with_effective_mergeinfo trees target answer))
 
@@ -211,7 +201,7 @@ hit_text names segments hit = line_text (hit_line (segments_in_bytes names segme
 abbrev pub log_text : List (List ℕ) → List KeptSegment → List Hit → List ℕ
 log_text names segments hits = flat_map line_text (map (hit_line (segments_in_bytes names segments)) hits)
 
-abbrev pub mergeinfo_text : List Line → List ℕ
+abbrev pub mergeinfo_text : MergeInfoValue → List ℕ
 mergeinfo_text value = flat_map line_text (mergeinfo_lines value)
 
 abbrev pub merged_text : List MergedRevision → List ℕ

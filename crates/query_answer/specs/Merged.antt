@@ -4,8 +4,7 @@ use Rattle.std.specs.Prelude.{ℕ, ◌+◌, Bool, not, ◌&&◌, List, Option, N
 use Rattle.std.specs.List.{range_with_len}
 use Rattle.svn_path.specs.Components.{path_text}
 use Rattle.range_list.specs.Rangelist.{inheritability_of}
-use Rattle.merge_info.specs.Line.{Line}
-use Rattle.merge_info.specs.Value.{runs_at}
+use Rattle.merge_info.specs.Value.{MergeInfoValue, runs_at}
 use Rattle.svn_dump.specs.History.{History}
 use Rattle.svn_dump.specs.Location.{location}
 use Rattle.svn_dump.specs.Tree.{Tree}
@@ -53,5 +52,5 @@ eligible_revisions same history trees path peg_rev has target = found_in same hi
 -- ---- of a history in bytes
 
 -- whether a value has a revision for a path
-abbrev pub value_has : List Line → RevisionsByPath (List ℕ)
+abbrev pub value_has : MergeInfoValue → RevisionsByPath (List ℕ)
 value_has value path rev = inheritability_of (runs_at value (path_text path)) rev

@@ -1,23 +1,13 @@
--- What a query line asks. A peg revision follows the last `@` of a path (Subversion book, "Peg and operative revisions");
--- here it is required, and a number.
+-- What a query line asks.
 use Rattle.std.specs.Prelude.{◌≡◌, ℕ, ◌==◌, Bool, List, [], ◌∷◌, Option, Some, None, codes, bytes_eq, option_map, option_and_then, slice_index_or, if◌then◌else◌}
-use Rattle.std.specs.List.{list_any, before_last, after_last, slice_split}
-use Rattle.svn_path.specs.Components.{parts_of, is_dot}
+use Rattle.std.specs.List.{slice_split}
 use Rattle.svn_text.specs.Number.{number_up_to, greatest_revision}
-use Rattle.query_answer.specs.declared.query.Peg.{Peg as KeptPeg}
+use Rattle.query_answer.specs.Peg.{Peg, peg_of, peg_value_of, peg_view}
 use Rattle.query_answer.specs.declared.query.Query.{Query as KeptQuery}
 use Rattle.query_answer.specs.declared.query.Query.TheVariants.{Bad, Eligible, Locate, Log, Merged, Mergeinfo, Segments}
 
 abbrev pub is_tab : ℕ → Bool
 is_tab byte = byte == 9
-
-abbrev pub is_at_sign : ℕ → Bool
-is_at_sign byte = byte == 64
-
--- a path in a revision, which follows the last `@` of the field
-pub record Peg : Type 0 where
-  pub path : List (List ℕ)
-  pub rev : ℕ
 
 pub data Query : Type 0 where
   bad : Query
@@ -27,22 +17,6 @@ pub data Query : Type 0 where
   mergeinfo : Peg → Query
   merged : Peg → Peg → Query
   eligible : Peg → Peg → Query
-
--- the components of a queried path, none of them `.` or `..`
-abbrev pub queried_path : List ℕ → Option (List (List ℕ))
-queried_path bytes = if list_any is_dot (parts_of bytes) then None else Some (parts_of bytes)
-
--- the peg of a path's bytes and a revision
-abbrev pub peg_at : List ℕ → ℕ → Option Peg
-peg_at path rev = option_map (λ parts. let peg : Peg = record { path = parts; rev = rev } in peg) (queried_path path)
-
-abbrev pub peg_of : List ℕ → Option Peg
-peg_of field =
-    if list_any is_at_sign field
-    then option_and_then
-    (λ path. option_map (λ rev. record { path = path; rev = rev }) (number_up_to greatest_revision (after_last is_at_sign field)))
-    (queried_path (before_last is_at_sign field))
-    else None
 
 abbrev pub query_or_bad : Option Query → Query
 query_or_bad None = bad
@@ -58,11 +32,11 @@ query_of_peg verb peg =
 
 -- a peg and a revision
 abbrev pub locate_of : List ℕ → List ℕ → Option Query
-locate_of peg rev = option_and_then (λ of. option_map (locate of) (number_up_to greatest_revision rev)) (peg_of peg)
+locate_of field rev = option_and_then (λ peg. option_map (locate peg) (number_up_to greatest_revision rev)) (peg_of field)
 
 -- a source and a target
 abbrev pub query_about : (Peg → Peg → Query) → Option Peg → Option Peg → Query
-query_about query source target = query_or_bad (option_and_then (λ of. option_map (query of) target) source)
+query_about query source target = query_or_bad (option_and_then (λ from. option_map (query from) target) source)
 
 -- a verb, a peg and another field
 abbrev pub query_of_pair : List ℕ → List ℕ → List ℕ → Query
@@ -84,52 +58,36 @@ query_of_fields (verb ∷ peg ∷ field ∷ more ∷ fields) = bad
 abbrev pub query_of : List ℕ → Query
 query_of line = query_of_fields (slice_split is_tab line)
 
--- ---- what is kept of a query, whose paths are still bytes
-
--- the peg that the bytes name, if none of their components is `.` or `..`
-abbrev pub peg_view : KeptPeg → Option Peg
-peg_view peg = peg_at peg.path.now peg.rev
+-- ---- what is kept of a query
 
 abbrev pub query_view : KeptQuery → Query
 query_view Bad = bad
-query_view (Locate of rev) = query_or_bad (option_map (λ peg. locate peg rev) (peg_view of))
-query_view (Segments of) = query_or_bad (option_map segments (peg_view of))
-query_view (Log of) = query_or_bad (option_map log (peg_view of))
-query_view (Mergeinfo of) = query_or_bad (option_map mergeinfo (peg_view of))
-query_view (Merged of target) = query_about merged (peg_view of) (peg_view target)
-query_view (Eligible of target) = query_about eligible (peg_view of) (peg_view target)
-
--- the bytes of a path and its revision
-abbrev pub raw_peg : KeptPeg → List ℕ × ℕ
-raw_peg peg = (peg.path.now, peg.rev)
-
--- the path's bytes and the revision of a field that is a peg
-abbrev pub read_peg : List ℕ → Option (List ℕ × ℕ)
-read_peg field =
-    if list_any is_at_sign field
-    then (if list_any is_dot (parts_of (before_last is_at_sign field)) then None
-    else option_map (λ rev. (before_last is_at_sign field, rev)) (number_up_to greatest_revision (after_last is_at_sign field)))
-    else None
+query_view (Locate peg rev) = locate (peg_view peg) rev
+query_view (Segments peg) = segments (peg_view peg)
+query_view (Log peg) = log (peg_view peg)
+query_view (Mergeinfo peg) = mergeinfo (peg_view peg)
+query_view (Merged source target) = merged (peg_view source) (peg_view target)
+query_view (Eligible source target) = eligible (peg_view source) (peg_view target)
 
 -- the query's peg, if it has one, is read from the field
 abbrev pub HasPegOf : List ℕ → KeptQuery → Type 0
 HasPegOf field Bad = Unit {0}
-HasPegOf field (Locate of rev) = Some (raw_peg of) ≡ read_peg field
-HasPegOf field (Segments of) = Some (raw_peg of) ≡ read_peg field
-HasPegOf field (Log of) = Some (raw_peg of) ≡ read_peg field
-HasPegOf field (Mergeinfo of) = Some (raw_peg of) ≡ read_peg field
-HasPegOf field (Merged of target) = Some (raw_peg of) ≡ read_peg field
-HasPegOf field (Eligible of target) = Some (raw_peg of) ≡ read_peg field
+HasPegOf field (Locate peg rev) = Some peg ≡ peg_value_of field
+HasPegOf field (Segments peg) = Some peg ≡ peg_value_of field
+HasPegOf field (Log peg) = Some peg ≡ peg_value_of field
+HasPegOf field (Mergeinfo peg) = Some peg ≡ peg_value_of field
+HasPegOf field (Merged source target) = Some source ≡ peg_value_of field
+HasPegOf field (Eligible source target) = Some source ≡ peg_value_of field
 
 -- the query's target, if it has one, is read from the field
 abbrev pub HasTargetOf : List ℕ → KeptQuery → Type 0
 HasTargetOf field Bad = Unit {0}
-HasTargetOf field (Locate of rev) = Unit {0}
-HasTargetOf field (Segments of) = Unit {0}
-HasTargetOf field (Log of) = Unit {0}
-HasTargetOf field (Mergeinfo of) = Unit {0}
-HasTargetOf field (Merged of target) = Some (raw_peg target) ≡ read_peg field
-HasTargetOf field (Eligible of target) = Some (raw_peg target) ≡ read_peg field
+HasTargetOf field (Locate peg rev) = Unit {0}
+HasTargetOf field (Segments peg) = Unit {0}
+HasTargetOf field (Log peg) = Unit {0}
+HasTargetOf field (Mergeinfo peg) = Unit {0}
+HasTargetOf field (Merged source target) = Some target ≡ peg_value_of field
+HasTargetOf field (Eligible source target) = Some target ≡ peg_value_of field
 
 -- the fields of a line after its verb
 abbrev pub peg_field : List ℕ → List ℕ

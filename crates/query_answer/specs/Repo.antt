@@ -11,19 +11,20 @@ use Rattle.svn_dump.specs.Dump.{DumpValue, IsDump, history_in_bytes, history_vie
 use Rattle.svn_dump.specs.Fault.{first_fault}
 use Rattle.svn_dump.specs.Location.{location}
 use Rattle.svn_dump.specs.Tree.{tree_of, trees_of}
+use Rattle.svn_dump.specs.declared.record.ValueId.{ValueId}
 use Rattle.block_map.specs.Ends.{ends_of}
 use Rattle.block_map.specs.Map.{IsMapOf, MapValue}
 use Rattle.block_map.specs.declared.nearest.Nearest.{Nearest}
-use Rattle.query_answer.specs.Answer.{Answer, HasPathOf, TreesOfBytes, with_peg, with_pegs, with_effective_mergeinfo, answer_of, eligible_lines, locate_lines, log_lines, merged_lines, mergeinfo_lines, ok_answer, refused_answer, segments_lines}
-use Rattle.query_answer.specs.Effective.{effective_by, effective_value}
+use Rattle.query_answer.specs.Answer.{Answer, HasPathOf, TreesOfBytes, if_both_exist, if_peg_exists, with_effective_mergeinfo, answer_of, eligible_lines, locate_lines, log_lines, merged_lines, mergeinfo_lines, ok_answer, refused_answer, segments_lines}
+use Rattle.query_answer.specs.Effective.{NearestMergeinfo, effective_of, effective_value}
 use Rattle.query_answer.specs.Merged.{eligible_revisions, found_in, merged_revisions, value_has}
-use Rattle.query_answer.specs.Query.{Peg, Query, peg_view}
-use Rattle.merge_info.specs.Line.{Line}
+use Rattle.query_answer.specs.Peg.{Peg, PegValue, peg_view}
+use Rattle.query_answer.specs.Query.{Query}
+use Rattle.merge_info.specs.Value.{MergeInfoValue}
 use Rattle.query_answer.specs.declared.effective_mergeinfo.Effective.{Effective}
 use Rattle.query_answer.specs.declared.effective_mergeinfo.Effective.TheVariants.{Malformed, Value}
 use Rattle.query_answer.specs.declared.merged_revision.MergedRevision.{MergedRevision}
 use Rattle.query_answer.specs.declared.verbs.pair.Pair.{Pair}
-use Rattle.query_answer.specs.declared.query.Peg.{Peg as KeptPeg}
 use Rattle.query_answer.specs.declared.status.Status.{Status}
 
 -- the index of a dump's records
@@ -48,45 +49,44 @@ abbrev pub answer_in : DumpValue → Query → Answer
 answer_in dump query = answer_of (history_in_bytes dump) (trees_in_bytes dump) query
 
 -- the refusal, if the peg is not there; otherwise the answer about its path and its revision
-abbrev pub with_peg_in : DumpValue → KeptPeg → (Peg → Answer) → Answer
-with_peg_in dump peg answer = with_peg (trees_in_bytes dump) (peg_view peg) answer
+abbrev pub with_peg_in : DumpValue → PegValue → (Peg → Answer) → Answer
+with_peg_in dump peg answer = if_peg_exists (trees_in_bytes dump) (peg_view peg) (answer (peg_view peg))
 
-abbrev pub locate_answer : DumpValue → KeptPeg → ℕ → Answer
+abbrev pub locate_answer : DumpValue → PegValue → ℕ → Answer
 locate_answer dump peg rev = with_peg_in dump peg (λ found. ok_answer (locate_lines (trees_in_bytes dump) rev found))
 
-abbrev pub segments_answer : DumpValue → KeptPeg → Answer
+abbrev pub segments_answer : DumpValue → PegValue → Answer
 segments_answer dump peg = with_peg_in dump peg (λ found. ok_answer (segments_lines (trees_in_bytes dump) found))
 
-abbrev pub log_answer : DumpValue → KeptPeg → Answer
+abbrev pub log_answer : DumpValue → PegValue → Answer
 log_answer dump peg =
     with_peg_in dump peg (λ found. ok_answer (log_lines (history_in_bytes dump) (trees_in_bytes dump) found))
 
-abbrev pub mergeinfo_answer : DumpValue → KeptPeg → Answer
+abbrev pub mergeinfo_answer : DumpValue → PegValue → Answer
 mergeinfo_answer dump peg =
     with_peg_in dump peg (λ found. with_effective_mergeinfo (trees_in_bytes dump) found (λ value. ok_answer (mergeinfo_lines value)))
 
 -- the same for a source, a target and the mergeinfo of the target
-abbrev pub with_pair_in : DumpValue → KeptPeg → KeptPeg → (Peg → Peg → List Line → Answer) → Answer
+abbrev pub with_pair_in : DumpValue → PegValue → PegValue → (Peg → Peg → MergeInfoValue → Answer) → Answer
 with_pair_in dump source target answer =
-    with_pegs (trees_in_bytes dump) (peg_view source) (peg_view target)
-    (λ from to. with_effective_mergeinfo (trees_in_bytes dump) to (answer from to))
+    if_both_exist (trees_in_bytes dump) (peg_view source) (peg_view target) (answer (peg_view source) (peg_view target))
 
-abbrev pub merged_answer : DumpValue → KeptPeg → KeptPeg → Answer
+abbrev pub merged_answer : DumpValue → PegValue → PegValue → Answer
 merged_answer dump source target =
     with_pair_in dump source target (λ from to value. ok_answer (merged_lines (history_in_bytes dump) (trees_in_bytes dump) from value))
 
-abbrev pub eligible_answer : DumpValue → KeptPeg → KeptPeg → Answer
+abbrev pub eligible_answer : DumpValue → PegValue → PegValue → Answer
 eligible_answer dump source target =
     with_pair_in dump source target (λ from to value. ok_answer (eligible_lines (history_in_bytes dump) (trees_in_bytes dump) from to value))
 
 -- ---- its paths
 
 -- the peg of a path of the dump
-abbrev pub peg_found : DumpValue → KeptPeg → List NameId → Peg
+abbrev pub peg_found : DumpValue → PegValue → List NameId → Peg
 peg_found dump peg path = record { path = components_of dump.names path; rev = peg.rev }
 
 -- the path of a peg is in the tree of its revision, so each answer about the peg has its result lines
-pub record IsPathFound (dump : DumpValue) (peg : KeptPeg) (path : List NameId) : Type 0 where
+pub record IsPathFound (dump : DumpValue) (peg : PegValue) (path : List NameId) : Type 0 where
   pub kept : IsDump dump
   pub of_names : IsPathOf dump.names path
   pub within : peg.rev < length dump.counts
@@ -95,9 +95,10 @@ pub record IsPathFound (dump : DumpValue) (peg : KeptPeg) (path : List NameId) :
       with_peg_in dump peg answer ≡ answer (peg_found dump peg path)
 
 -- the path of a peg; or there is none, and this is the status of each answer about the peg
-abbrev pub IsPegFound : DumpValue → KeptPeg → Result (List NameId) Status → Type 0
+abbrev pub IsPegFound : DumpValue → PegValue → Result (List NameId) Status → Type 0
 IsPegFound dump peg (Ok path) = IsPathFound dump peg path
-IsPegFound dump peg (Err status) = (answer : Peg → Answer) → with_peg_in dump peg answer ≡ refused_answer status
+IsPegFound dump peg (Err status) =
+    (answer : Answer) → if_peg_exists (trees_in_bytes dump) (peg_view peg) answer ≡ refused_answer status
 
 -- these are the segments of a path of the dump in a revision
 pub record AreSegmentsIn (dump : DumpValue) (path : List NameId) (rev : ℕ) (segments : List KeptSegment) : Type 0 where
@@ -113,54 +114,58 @@ AreHitsIn dump segments hits =
 
 -- ---- effective mergeinfo
 
+abbrev pub nearest_view : Nearest → NearestMergeinfo ValueId
+nearest_view found = record { mergeinfo = found.mi; depth = found.depth }
+
 -- the value, or none if it is malformed
-abbrev pub effective_view : Effective → Option (List Line)
+abbrev pub effective_view : Effective → Option MergeInfoValue
 effective_view (Value value) = Some value
 effective_view Malformed = None
 
 -- the value that holds for a path of the dump in a revision
-abbrev pub effective_in : DumpValue → List NameId → ℕ → Option (List Line)
+abbrev pub effective_in : DumpValue → List NameId → ℕ → Option MergeInfoValue
 effective_in dump path rev = effective_value (tree_of (trees_in_bytes dump) rev) (components_of dump.names path)
 
--- the value that holds for a path, given the text that was found for it
-abbrev pub effective_by_number : DumpValue → List NameId → Nearest → Option (List Line)
-effective_by_number dump path found =
-    effective_by (components_of dump.names path) (Some (text_of dump.values found.mi.0, found.depth))
+-- the value that holds for a path, given the nearest text
+abbrev pub effective_of_found : DumpValue → List NameId → Nearest → Option MergeInfoValue
+effective_of_found dump path found =
+    effective_of (components_of dump.names path) (Some (record { mergeinfo = text_of dump.values found.mi.0; depth = found.depth }))
 
 -- ---- a source and a target
 
 -- both paths are found, and the value is that of the target, so each answer about the two has its result lines
-pub record IsPair (dump : DumpValue) (source target : KeptPeg) (pair : Pair) : Type 0 where
+pub record IsPair (dump : DumpValue) (source target : PegValue) (pair : Pair) : Type 0 where
   pub source_is : IsPathFound dump source pair.source
   pub target_is : IsPathFound dump target pair.target
-  pub answered : (answer : Peg → Peg → List Line → Answer) → with_pair_in dump source target answer
+  pub answered : (answer : Peg → Peg → MergeInfoValue → Answer) → with_pair_in dump source target answer
       ≡ answer (peg_found dump source pair.source) (peg_found dump target pair.target) pair.mergeinfo
 
 -- the pair of two pegs; or there is none, and this is the status of each answer about them
-abbrev pub IsPairFound : DumpValue → KeptPeg → KeptPeg → Result Pair Status → Type 0
+abbrev pub IsPairFound : DumpValue → PegValue → PegValue → Result Pair Status → Type 0
 IsPairFound dump source target (Ok pair) = IsPair dump source target pair
 IsPairFound dump source target (Err status) =
-    (answer : Peg → Peg → List Line → Answer) → with_pair_in dump source target answer ≡ refused_answer status
+    (answer : MergeInfoValue → Answer)
+    → if_both_exist (trees_in_bytes dump) (peg_view source) (peg_view target) answer ≡ refused_answer status
 
 -- what is found at the locations of a path of the dump in its operative revisions
 abbrev pub found_by : {X : Type 0} → DumpValue → List NameId → ℕ → (List (List ℕ) → ℕ → Option X) → List X
 found_by dump path rev find = found_in bytes_eq (history_in_bytes dump) (trees_in_bytes dump) (components_of dump.names path) rev find
 
-abbrev pub merged_by : DumpValue → List NameId → ℕ → List Line → List MergedRevision
+abbrev pub merged_by : DumpValue → List NameId → ℕ → MergeInfoValue → List MergedRevision
 merged_by dump path rev value =
     merged_revisions bytes_eq (history_in_bytes dump) (trees_in_bytes dump) (components_of dump.names path) rev (value_has value)
 
 -- the merged revisions of a pair
-abbrev pub merged_in : DumpValue → KeptPeg → Pair → List MergedRevision
+abbrev pub merged_in : DumpValue → PegValue → Pair → List MergedRevision
 merged_in dump source pair = merged_by dump pair.source source.rev pair.mergeinfo
 
 -- where a path of the dump was in another revision
 abbrev pub location_by : DumpValue → List NameId → ℕ → ℕ → Option (List (List ℕ))
 location_by dump path rev other = location bytes_eq (trees_in_bytes dump) (components_of dump.names path) rev other
 
-abbrev pub eligible_by : DumpValue → List NameId → ℕ → List NameId → ℕ → List Line → List ℕ
+abbrev pub eligible_by : DumpValue → List NameId → ℕ → List NameId → ℕ → MergeInfoValue → List ℕ
 eligible_by dump path rev target target_rev value =
     eligible_revisions bytes_eq (history_in_bytes dump) (trees_in_bytes dump) (components_of dump.names path) rev (value_has value) (location_by dump target target_rev)
 
-abbrev pub eligible_in : DumpValue → KeptPeg → KeptPeg → Pair → List ℕ
+abbrev pub eligible_in : DumpValue → PegValue → PegValue → Pair → List ℕ
 eligible_in dump source target pair = eligible_by dump pair.source source.rev pair.target target.rev pair.mergeinfo

@@ -6,8 +6,7 @@ use Rattle.svn_path.specs.Path.{components_of, same_name}
 use Rattle.svn_path.specs.declared.names.NameId.{NameId}
 use Rattle.range_list.specs.Rangelist.{inheritability_of}
 use Rattle.range_list.specs.declared.run.Run.{Run}
-use Rattle.merge_info.specs.Line.{Line}
-use Rattle.merge_info.specs.Value.{ranges_of}
+use Rattle.merge_info.specs.Value.{MergeInfoValue, ranges_of}
 use Rattle.path_index.specs.Index.{segment_view}
 use Rattle.path_index.specs.Segment.{AreSegments}
 use Rattle.path_index.specs.declared.hit.Hit.{Hit}
@@ -20,10 +19,10 @@ abbrev pub segment_path : List KeptSegment → ℕ → Option (List NameId)
 segment_path segments n = option_and_then (λ segment. segment.path) (slice_get segments n)
 
 -- the revisions of a path that a value has, if it has any
-abbrev pub ranges_at : List (List ℕ) → List Line → List NameId → Option (List Run)
+abbrev pub ranges_at : List (List ℕ) → MergeInfoValue → List NameId → Option (List Run)
 ranges_at names value path = ranges_of value (path_text (components_of names path))
 
-abbrev pub ranges_in : List (List ℕ) → List Line → KeptSegment → Option (List Run)
+abbrev pub ranges_in : List (List ℕ) → MergeInfoValue → KeptSegment → Option (List Run)
 ranges_in names value segment = option_and_then (ranges_at names value) segment.path
 
 -- the runs of a reference

@@ -1,19 +1,12 @@
 //! Query lines.
-ghost use Rattle.std.specs.Prelude.{◌≡◌, option_map};
-ghost use Rattle.query_answer.specs.Query.{HasPegOf, HasTargetOf, locate_of, peg_field, query_of, query_of_pair, query_of_peg, query_or_bad, query_view, raw_peg, read_peg, third_field};
+ghost use Rattle.std.specs.Prelude.{◌≡◌};
+ghost use Rattle.query_answer.specs.Query.{HasPegOf, HasTargetOf, locate_of, peg_field, query_of, query_of_pair, query_of_peg, query_or_bad, query_view, third_field};
 
-use svn_path::has_dot;
-use svn_text::{GREATEST_REVISION, number_up_to, split_at_byte, split_at_last};
-
-/// A path in a revision, borrowed from a query's field.
-#[derive(Clone, Copy, Debug)]
-pub struct Peg<'a> {
-    pub path: &'a [u8],
-    pub rev: u32,
-}
+use crate::peg::Peg;
+use svn_text::{GREATEST_REVISION, number_up_to, split_at_byte};
 
 /// What a line asks, borrowed from the line.
-#[derive(Clone, Copy, Debug)]
+#[derive(Debug, Drop)]
 pub enum Query<'a> {
     /// No query of the other forms.
     Bad,
@@ -29,20 +22,6 @@ pub enum Query<'a> {
     Merged { of: Peg<'a>, target: Peg<'a> },
     /// Which of its operative revisions are still to be merged into the target.
     Eligible { of: Peg<'a>, target: Peg<'a> },
-}
-
-impl<'a> Peg<'a> {
-    /// The path before the last `@` of a field, and the revision after it.
-    fn read(field: &'a [u8]) -> Option<Self>
-        ensures { option_map raw_peg result ≡ read_peg field.now }
-    {
-        let (path, rev) = split_at_last(b'@', field)?;
-        if has_dot(path) {
-            return None;
-        }
-        let rev = number_up_to(GREATEST_REVISION, rev)? as u32;
-        Some(Peg { path, rev })
-    }
 }
 
 impl<'a> Query<'a> {

@@ -4,17 +4,17 @@ ghost use Rattle.svn_path.specs.Path.{same_name};
 ghost use Rattle.svn_dump.specs.Dump.{IsDump, history_view};
 ghost use Rattle.svn_dump.specs.Fault.{first_fault};
 ghost use Rattle.block_map.specs.Ends.{ends_of};
-ghost use Rattle.block_map.specs.Map.{IsMapOf, nearest_view, revision_in};
+ghost use Rattle.block_map.specs.Map.{IsMapOf, revision_in};
 ghost use Rattle.path_index.specs.Index.{location_in};
 
-use crate::query::Peg;
+use crate::peg::Peg;
 use crate::status::Status;
 use block_map::{Ends, Map, Nearest};
 use path_index::{Hit, Index, Segment};
 use std::alloc::{AllocError, Global};
 use std::marker::Model;
 use svn_dump::{Dump, ValueId};
-use svn_path::{Lookup, Names, Path, PathError};
+use svn_path::{Lookup, Names, Path};
 
 /// A dump of a lawful history, with the index and the map of its records and the ends of its revisions, seen as the
 /// dump.
@@ -39,7 +39,7 @@ impl Model for Repo {
 
 impl Repo {
     ghost use Rattle.query_answer.specs.Effective.{nearest};
-    ghost use Rattle.query_answer.specs.Repo.{AreHitsIn, AreSegmentsIn, IsPathFound, IsPegFound};
+    ghost use Rattle.query_answer.specs.Repo.{AreHitsIn, AreSegmentsIn, IsPathFound, IsPegFound, nearest_view};
 
     /// The repository of a dump. The index, the map and the ends are those of the dump.
     pub fn new(dump: Dump, index: Index, map: Map, ends: Ends) -> Self
@@ -72,20 +72,20 @@ impl Repo {
     pub(crate) fn find(
         &self,
         alloc: Global,
-        peg: Peg<'_>,
+        peg: &Peg<'_>,
     ) -> Result<Result<Path, Status>, AllocError>
-        ensures { IfOk result (IsPegFound self.now peg.entry) }
+        ensures { IfOk result (IsPegFound self.now peg.now) }
     {
-        let lookup = match Path::find(alloc, self.dump.names(), peg.path) {
-            Ok(lookup) => lookup,
-            Err(PathError::Dot) => return Ok(Err(Status::BadQuery)),
-            Err(_) => return Err(AllocError),
+        // No peg has a component `.` or `..`, so this is want of memory.
+        let Ok(lookup) = Path::find(alloc, self.dump.names(), peg.path()) else {
+            return Err(AllocError);
         };
-        if peg.rev as usize >= self.dump.counts().len() {
+        let rev = peg.rev();
+        if rev as usize >= self.dump.counts().len() {
             return Ok(Err(Status::NoSuchRevision));
         }
         match lookup {
-            Lookup::Known(path) => match self.map.entry(self.ends.at(peg.rev), &path)? {
+            Lookup::Known(path) => match self.map.entry(self.ends.at(rev), &path)? {
                 Some(_) => Ok(Ok(path)),
                 None => Ok(Err(Status::NoSuchPath)),
             },
@@ -118,22 +118,22 @@ impl Repo {
     /// Where the path of a peg was located in a revision: nowhere in one above the peg revision.
     pub(crate) fn locate(
         &self,
-        peg: Peg<'_>,
+        peg: &Peg<'_>,
         path: &Path,
         rev: u32,
     ) -> Result<Option<Path>, AllocError>
-        requires { IsPathFound self.now peg path.now }
-        ensures { IfOk result (λ found. found ≡ location_in self.now.records path.now peg.entry.rev rev) }
+        requires { IsPathFound self.now peg.now path.now }
+        ensures { IfOk result (λ found. found ≡ location_in self.now.records path.now peg.now.rev rev) }
     {
-        self.index.locate(path, peg.rev, rev)
+        self.index.locate(path, peg.rev(), rev)
     }
 
     /// The location segments of the path of a peg.
-    pub(crate) fn segments(&self, peg: Peg<'_>, path: &Path) -> Result<Vec<Segment>, AllocError>
-        requires { IsPathFound self.now peg path.now }
-        ensures { IfOk result (λ segments. AreSegmentsIn self.now path.now peg.entry.rev segments.items) }
+    pub(crate) fn segments(&self, peg: &Peg<'_>, path: &Path) -> Result<Vec<Segment>, AllocError>
+        requires { IsPathFound self.now peg.now path.now }
+        ensures { IfOk result (λ segments. AreSegmentsIn self.now path.now peg.now.rev segments.items) }
     {
-        self.index.segments(path, peg.rev)
+        self.index.segments(path, peg.rev())
     }
 
     /// The operative revisions of the segments of a path, each in its segment.

@@ -20,12 +20,12 @@ use crate::status::Status;
 use std::alloc::{AllocError, Global};
 
 /// The answer to a query.
-pub fn answer(alloc: Global, repo: &Repo, query: Query<'_>) -> Result<Answer, AllocError>
-    ensures { IfOk result (IsAnswer repo.now.names (answer_in repo.now (query_view query.entry))) }
+pub fn answer(alloc: Global, repo: &Repo, query: &Query<'_>) -> Result<Answer, AllocError>
+    ensures { IfOk result (IsAnswer repo.now.names (answer_in repo.now (query_view query.now))) }
 {
     match query {
         Query::Bad => Ok(Answer::Refused(Status::BadQuery)),
-        Query::Locate { of, rev } => locate::answer_locate(alloc, repo, of, rev),
+        Query::Locate { of, rev } => locate::answer_locate(alloc, repo, of, *rev),
         Query::Segments { of } => segments::answer_segments(alloc, repo, of),
         Query::Log { of } => log::answer_log(alloc, repo, of),
         Query::Mergeinfo { of } => mergeinfo::answer_mergeinfo(alloc, repo, of),

@@ -98,7 +98,7 @@ fn answer_line(
     ensures { OnOk result
         (out.new.items ≡ out.old.items ++ answer_text (place + 1) (answer_in repo.now (query_of line.now))) }
 {
-    answer(alloc, repo, Query::read(line))?.write(repo, place, out)
+    answer(alloc, repo, &Query::read(line))?.write(repo, place, out)
 }
 
 /// How many bytes all texts have.

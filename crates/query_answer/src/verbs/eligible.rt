@@ -8,7 +8,7 @@ use super::pair::Pair;
 use super::source::{has_hit, ranges_by_segment};
 use crate::answers::Answer;
 use crate::locations::{is_at, path_at, path_in};
-use crate::query::Peg;
+use crate::peg::Peg;
 use crate::repo::Repo;
 use path_index::{Hit, Segment};
 use range_list::Ranges;
@@ -18,10 +18,10 @@ use std::alloc::{AllocError, Global};
 pub(crate) fn answer_eligible(
     alloc: Global,
     repo: &Repo,
-    source: Peg<'_>,
-    target: Peg<'_>,
+    source: &Peg<'_>,
+    target: &Peg<'_>,
 ) -> Result<Answer, AllocError>
-    ensures { IfOk result (IsAnswer repo.now.names (eligible_answer repo.now source.entry target.entry)) }
+    ensures { IfOk result (IsAnswer repo.now.names (eligible_answer repo.now source.now target.now)) }
 {
     match Pair::find(alloc, repo, source, target)? {
         Err(status) => Ok(Answer::Refused(status)),
@@ -33,13 +33,13 @@ pub(crate) fn answer_eligible(
 fn eligible_of(
     alloc: Global,
     repo: &Repo,
-    source: Peg<'_>,
-    target: Peg<'_>,
+    source: &Peg<'_>,
+    target: &Peg<'_>,
     pair: &Pair,
 ) -> Result<Vec<u32>, AllocError>
-    requires source { IsPathFound repo.now source pair.now.source }
-    requires target { IsPathFound repo.now target pair.now.target }
-    ensures { IfOk result (λ found. found.items ≡ eligible_in repo.now source.entry target.entry pair.now) }
+    requires source { IsPathFound repo.now source.now pair.now.source }
+    requires target { IsPathFound repo.now target.now pair.now.target }
+    ensures { IfOk result (λ found. found.items ≡ eligible_in repo.now source.now target.now pair.now) }
 {
     let segments = repo.segments(source, &pair.source)?;
     let hits = repo.operative(segments.as_slice())?;

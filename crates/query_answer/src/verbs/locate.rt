@@ -4,7 +4,7 @@ ghost use Rattle.query_answer.specs.Answer.{IsAnswer};
 ghost use Rattle.query_answer.specs.Repo.{locate_answer};
 
 use crate::answers::Answer;
-use crate::query::Peg;
+use crate::peg::Peg;
 use crate::repo::Repo;
 use std::alloc::{AllocError, Global};
 
@@ -12,10 +12,10 @@ use std::alloc::{AllocError, Global};
 pub(crate) fn answer_locate(
     alloc: Global,
     repo: &Repo,
-    peg: Peg<'_>,
+    peg: &Peg<'_>,
     rev: u32,
 ) -> Result<Answer, AllocError>
-    ensures { IfOk result (IsAnswer repo.now.names (locate_answer repo.now peg.entry rev)) }
+    ensures { IfOk result (IsAnswer repo.now.names (locate_answer repo.now peg.now rev)) }
 {
     match repo.find(alloc, peg)? {
         Err(status) => Ok(Answer::Refused(status)),

@@ -4,13 +4,13 @@ ghost use Rattle.query_answer.specs.Answer.{IsAnswer};
 ghost use Rattle.query_answer.specs.Repo.{log_answer};
 
 use crate::answers::Answer;
-use crate::query::Peg;
+use crate::peg::Peg;
 use crate::repo::Repo;
 use std::alloc::{AllocError, Global};
 
 /// The operative revisions of a peg.
-pub(crate) fn answer_log(alloc: Global, repo: &Repo, peg: Peg<'_>) -> Result<Answer, AllocError>
-    ensures { IfOk result (IsAnswer repo.now.names (log_answer repo.now peg.entry)) }
+pub(crate) fn answer_log(alloc: Global, repo: &Repo, peg: &Peg<'_>) -> Result<Answer, AllocError>
+    ensures { IfOk result (IsAnswer repo.now.names (log_answer repo.now peg.now)) }
 {
     match repo.find(alloc, peg)? {
         Err(status) => Ok(Answer::Refused(status)),

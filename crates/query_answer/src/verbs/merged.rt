@@ -8,7 +8,7 @@ use super::pair::Pair;
 use super::source::{has_hit, ranges_by_segment};
 use crate::answers::Answer;
 use crate::merged_revision::MergedRevision;
-use crate::query::Peg;
+use crate::peg::Peg;
 use crate::repo::Repo;
 use path_index::Hit;
 use range_list::Ranges;
@@ -18,10 +18,10 @@ use std::alloc::{AllocError, Global};
 pub(crate) fn answer_merged(
     alloc: Global,
     repo: &Repo,
-    source: Peg<'_>,
-    target: Peg<'_>,
+    source: &Peg<'_>,
+    target: &Peg<'_>,
 ) -> Result<Answer, AllocError>
-    ensures { IfOk result (IsAnswer repo.now.names (merged_answer repo.now source.entry target.entry)) }
+    ensures { IfOk result (IsAnswer repo.now.names (merged_answer repo.now source.now target.now)) }
 {
     match Pair::find(alloc, repo, source, target)? {
         Err(status) => Ok(Answer::Refused(status)),
@@ -33,11 +33,11 @@ pub(crate) fn answer_merged(
 fn merged_of(
     alloc: Global,
     repo: &Repo,
-    source: Peg<'_>,
+    source: &Peg<'_>,
     pair: &Pair,
 ) -> Result<Vec<MergedRevision>, AllocError>
-    requires { IsPathFound repo.now source pair.now.source }
-    ensures { IfOk result (λ found. found.items ≡ merged_in repo.now source.entry pair.now) }
+    requires { IsPathFound repo.now source.now pair.now.source }
+    ensures { IfOk result (λ found. found.items ≡ merged_in repo.now source.now pair.now) }
 {
     if pair.mergeinfo.is_empty() {
         return Ok(Vec::new(alloc));

@@ -6,7 +6,7 @@ ghost use Rattle.query_answer.specs.Repo.{mergeinfo_answer};
 use crate::answers::Answer;
 use crate::effective_mergeinfo::Effective;
 use crate::inheritance::effective;
-use crate::query::Peg;
+use crate::peg::Peg;
 use crate::repo::Repo;
 use crate::status::Status;
 use std::alloc::{AllocError, Global};
@@ -15,13 +15,13 @@ use std::alloc::{AllocError, Global};
 pub(crate) fn answer_mergeinfo(
     alloc: Global,
     repo: &Repo,
-    peg: Peg<'_>,
+    peg: &Peg<'_>,
 ) -> Result<Answer, AllocError>
-    ensures { IfOk result (IsAnswer repo.now.names (mergeinfo_answer repo.now peg.entry)) }
+    ensures { IfOk result (IsAnswer repo.now.names (mergeinfo_answer repo.now peg.now)) }
 {
     match repo.find(alloc, peg)? {
         Err(status) => Ok(Answer::Refused(status)),
-        Ok(path) => match effective(alloc, repo, &path, peg.rev)? {
+        Ok(path) => match effective(alloc, repo, &path, peg.rev())? {
             Effective::Value(value) => Ok(Answer::Mergeinfo(value)),
             Effective::Malformed => Ok(Answer::Refused(Status::MalformedMergeinfo)),
         },

@@ -4,12 +4,12 @@ ghost use Rattle.query_answer.specs.Repo.{IsPairFound};
 
 use crate::effective_mergeinfo::Effective;
 use crate::inheritance::effective;
-use crate::query::Peg;
+use crate::peg::Peg;
 use crate::repo::Repo;
 use crate::status::Status;
 use merge_info::MergeInfo;
 use std::alloc::{AllocError, Global};
-use svn_path::{Path, has_dot};
+use svn_path::Path;
 
 /// What two pegs name, and the effective mergeinfo of the second.
 #[derive(Drop)]
@@ -24,14 +24,11 @@ impl Pair {
     pub(crate) fn find(
         alloc: Global,
         repo: &Repo,
-        source: Peg<'_>,
-        target: Peg<'_>,
+        source: &Peg<'_>,
+        target: &Peg<'_>,
     ) -> Result<Result<Self, Status>, AllocError>
-        ensures { IfOk result (IsPairFound repo.now source.entry target.entry) }
+        ensures { IfOk result (IsPairFound repo.now source.now target.now) }
     {
-        if has_dot(target.path) {
-            return Ok(Err(Status::BadQuery));
-        }
         let source = match repo.find(alloc, source)? {
             Ok(path) => path,
             Err(status) => return Ok(Err(status)),
@@ -40,7 +37,7 @@ impl Pair {
             Ok(path) => path,
             Err(status) => return Ok(Err(status)),
         };
-        match effective(alloc, repo, &path, target.rev)? {
+        match effective(alloc, repo, &path, target.rev())? {
             Effective::Value(mergeinfo) => Ok(Ok(Pair {
                 source,
                 target: path,

@@ -4,7 +4,7 @@ ghost use Rattle.query_answer.specs.Answer.{IsAnswer};
 ghost use Rattle.query_answer.specs.Repo.{segments_answer};
 
 use crate::answers::Answer;
-use crate::query::Peg;
+use crate::peg::Peg;
 use crate::repo::Repo;
 use std::alloc::{AllocError, Global};
 
@@ -12,9 +12,9 @@ use std::alloc::{AllocError, Global};
 pub(crate) fn answer_segments(
     alloc: Global,
     repo: &Repo,
-    peg: Peg<'_>,
+    peg: &Peg<'_>,
 ) -> Result<Answer, AllocError>
-    ensures { IfOk result (IsAnswer repo.now.names (segments_answer repo.now peg.entry)) }
+    ensures { IfOk result (IsAnswer repo.now.names (segments_answer repo.now peg.now)) }
 {
     match repo.find(alloc, peg)? {
         Err(status) => Ok(Answer::Refused(status)),

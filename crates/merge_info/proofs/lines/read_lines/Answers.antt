@@ -5,7 +5,7 @@ use Rattle.std.proofs.lemmas.List.{map_push}
 use Rattle.std.proofs.lemmas.Result.{err_from_is_err_and}
 use Rattle.std.specs.Io.BufRead.{strip_last}
 use Rattle.merge_info.specs.Line.{line_view}
-use Rattle.merge_info.specs.Value.{is_newline}
+use Rattle.svn_text.specs.Line.{is_newline}
 use Rattle.merge_info.specs.declared.error.MergeError.TheVariants.{Malformed}
 use Rattle.merge_info.proofs.LinesRead.{AreRead-push, lines_of-malformed, lines_of-none, lines_of-read}
 use Rattle.merge_info.proofs.lines.read_lines.Goals as goal

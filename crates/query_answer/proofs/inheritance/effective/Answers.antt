@@ -2,13 +2,12 @@ use Rattle.std.proofs.Common.{◌≡◌, None, Some, IfOk, option_map, sym, ap, 
 use Rattle.block_map.specs.Map.{revision_in}
 use Rattle.svn_path.specs.Path.{same_name}
 use Rattle.query_answer.specs.Effective.{nearest}
-use Rattle.query_answer.specs.Repo.{effective_view}
-use Rattle.block_map.specs.Map.{nearest_view}
+use Rattle.query_answer.specs.Repo.{effective_view, nearest_view}
 use Rattle.query_answer.proofs.EffectiveValues.{effective_in-none, effective_in-some, mergeinfo-found}
 use Rattle.query_answer.proofs.inheritance.effective.Goals as goal
 
-pub value_for-requires-clause-value : goal.value_for-requires-clause-value
-value_for-requires-clause-value c =
+pub effective_of-requires-clause-value : goal.effective_of-requires-clause-value
+effective_of-requires-clause-value c =
     let found : Some (nearest_view c.in-Some.found) ≡ nearest same_name (revision_in c.args.repo.now c.args.rev) c.args.path.now =
     ap (option_map nearest_view) (sym c.in-Some.is) ∙ c.in_ok-nearest.ensures.found in
     mergeinfo-found c.args.repo.now c.in_ok-nearest.ensures.kept c.args.path.now c.args.rev c.in-Some.found found
@@ -23,6 +22,6 @@ pub returns-in-Some : goal.returns-in-Some
 returns-in-Some c =
     let found : Some (nearest_view c.in-Some.found) ≡ nearest same_name (revision_in c.args.repo.now c.args.rev) c.args.path.now =
     ap (option_map nearest_view) (sym c.in-Some.is) ∙ c.in_ok-nearest.ensures.found in
-    subst (λ all. IfOk c.value_for.result (λ value. effective_view value ≡ all))
+    subst (λ all. IfOk c.effective_of.result (λ value. effective_view value ≡ all))
     (sym (effective_in-some c.args.repo.now c.in_ok-nearest.ensures.kept c.args.path.now c.args.rev c.in-Some.found found))
-    c.value_for.ensures
+    c.effective_of.ensures

@@ -8,4 +8,4 @@ use Rattle.query_answer.proofs.locations.is_at.Goals as goal
 pub returns-in-Some : goal.returns-in-Some
 returns-in-Some c =
     c.eq.ensures ∙ pointwise-same_path same_name c.in-Some.other.now c.args.path.now
-    ∙ ap (λ place. same_location same_name (lent_path place) (Some c.args.path.now)) (sym c.in-Some.is)
+    ∙ ap (λ located. same_location same_name (lent_path located) (Some c.args.path.now)) (sym c.in-Some.is)

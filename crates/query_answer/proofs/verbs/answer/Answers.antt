@@ -1,4 +1,4 @@
-use Rattle.query_answer.specs.Query.{peg_view}
+use Rattle.query_answer.specs.Peg.{peg_view}
 use Rattle.query_answer.specs.Repo.{trees_in_bytes}
 use Rattle.query_answer.specs.declared.status.Status.TheVariants as status
 use Rattle.svn_dump.specs.Dump.{history_in_bytes}

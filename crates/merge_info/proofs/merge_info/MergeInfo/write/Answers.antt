@@ -1,7 +1,7 @@
 use Rattle.std.proofs.Common.{◌≡◌, ℕ, ◌+◌, ◌<◌, List, ◌∷◌, [], ◌++◌, length, get_or, map, take, sym, ap, subst, ◌∙◌, arith}
 use Rattle.std.proofs.lemmas.List.{flat_map_more, get_or-map, length-map, take_more}
 use Rattle.svn_text.specs.Line.{line_text}
-use Rattle.merge_info.specs.Text.{printed_line, value_text}
+use Rattle.merge_info.specs.Text.{printed_entry, value_text}
 use Rattle.merge_info.specs.Value.{IsMergeInfo, entry_view}
 use Rattle.merge_info.specs.Line.{Line}
 use Rattle.merge_info.specs.declared.entry.Entry.{Entry}
@@ -12,15 +12,15 @@ use Rattle.merge_info.proofs.merge_info.MergeInfo.write.Goals as goal
 -- one more line of a value
 value_text-more : (value : List Line) (i : ℕ) (line : Line) (old before after : List ℕ)
     → i < length value → get_or value i line ≡ line → before ≡ old ++ value_text (take i value)
-    → after ≡ before ++ line_text (printed_line line) → after ≡ old ++ value_text (take (i + 1) value)
+    → after ≡ before ++ line_text (printed_entry line) → after ≡ old ++ value_text (take (i + 1) value)
 value_text-more value i line old before after within at so_far written =
     written
-    ∙ ap (λ text. text ++ line_text (printed_line line)) so_far
-    ∙ flat_map_more (λ each. line_text (printed_line each)) old (take i value) line
+    ∙ ap (λ text. text ++ line_text (printed_entry line)) so_far
+    ∙ flat_map_more (λ each. line_text (printed_entry each)) old (take i value) line
     ∙ ap (λ lines. old ++ value_text lines)
     (sym (take_more value i line within ∙ ap (λ last. take i value ++ last ∷ []) at))
 
--- the line of an entry is that of its place in the value
+-- the line of an entry is that of its index in the value
 entry_view-at : (entries : List Entry) (value : List Line) (i : ℕ) (entry : Entry) → map entry_view entries ≡ value
     → i < length entries → entry ≡ get_or entries i entry → get_or value i (entry_view entry) ≡ entry_view entry
 entry_view-at entries value i entry view within is =

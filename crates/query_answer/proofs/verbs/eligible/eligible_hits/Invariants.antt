@@ -6,5 +6,5 @@ use Rattle.query_answer.proofs.verbs.eligible.eligible_hits.Given as goal
 
 abbrev pub invariant-loop-hit : goal.invariant-loop-hit
 invariant-loop-hit l =
-    (place : ℕ → Option (List NameId)) → TellsLocations place l.target
-    → l.found.items ≡ filter_map (eligible_hit (map lent_ranges l.ranges) l.segments place) (take l.hit-index l.hits)
+    (located : ℕ → Option (List NameId)) → TellsLocations located l.target
+    → l.found.items ≡ filter_map (eligible_hit (map lent_ranges l.ranges) l.segments located) (take l.hit-index l.hits)

@@ -13,7 +13,7 @@ pub returns : goal.returns
 returns c =
     let dump = c.args.repo.now in
     let source = c.args.pair.now.source in
-    let rev = c.args.source.rev in
+    let rev = c.args.source.now.rev in
     let value = c.args.pair.now.mergeinfo in
     let segments = c.in_ok-segments.segments.items in
     let hits = c.in_ok-hits.hits.items in
@@ -29,4 +29,4 @@ returns c =
 
 pub returns-then-is_empty : goal.returns-then-is_empty
 returns-then-is_empty c =
-    c.new.ensures.items ∙ sym (ap (merged_by c.args.repo.now c.args.pair.now.source c.args.source.rev) (c.is_empty.ensures.0 c.if-is_empty.true) ∙ merged_by-empty c.args.repo.now c.args.pair.now.source c.args.source.rev)
+    c.new.ensures.items ∙ sym (ap (merged_by c.args.repo.now c.args.pair.now.source c.args.source.now.rev) (c.is_empty.ensures.0 c.if-is_empty.true) ∙ merged_by-empty c.args.repo.now c.args.pair.now.source c.args.source.now.rev)

@@ -5,14 +5,14 @@ use Rattle.query_answer.proofs.verbs.segments.answer_segments.Goals as goal
 
 pub segments-requires : goal.segments-requires
 segments-requires c =
-    let found : IsPegFound c.args.repo.now c.args.peg (Ok c.in-Ok.path) = rw c.in-Ok.is at c.in_ok-status.ensures in found
+    let found : IsPegFound c.args.repo.now c.args.peg.now (Ok c.in-Ok.path) = rw c.in-Ok.is at c.in_ok-status.ensures in found
 
 pub returns-in-Err : goal.returns-in-Err
 returns-in-Err c =
-    let found : IsPegFound c.args.repo.now c.args.peg (Err c.in-Err.status) = rw c.in-Err.is at c.in_ok-status.ensures in
+    let found : IsPegFound c.args.repo.now c.args.peg.now (Err c.in-Err.status) = rw c.in-Err.is at c.in_ok-status.ensures in
     IsAnswer-Refused c.args.repo.now.names _ c.in-Err.status (found _)
 
 pub returns-in_ok-segments-in-Ok : goal.returns-in_ok-segments-in-Ok
 returns-in_ok-segments-in-Ok c =
-    let found : IsPegFound c.args.repo.now c.args.peg (Ok c.in-Ok.path) = rw c.in-Ok.is at c.in_ok-status.ensures in
-    IsAnswer-Segments c.args.repo.now c.args.peg c.in-Ok.path found c.in_ok-segments-in-Ok.field-0 c.in_ok-segments-in-Ok.ensures.exact
+    let found : IsPegFound c.args.repo.now c.args.peg.now (Ok c.in-Ok.path) = rw c.in-Ok.is at c.in_ok-status.ensures in
+    IsAnswer-Segments c.args.repo.now c.args.peg.now c.in-Ok.path found c.in_ok-segments-in-Ok.field-0 c.in_ok-segments-in-Ok.ensures.exact
