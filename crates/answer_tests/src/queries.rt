@@ -98,3 +98,18 @@ fn merges_are_compared_by_location(rt: HostRuntime) -> Result<(), Fail> {
     let wanted = "#1 ok\nr3*\nr6\n#2 ok\nr3\nr6\nr7\nr8\n";
     check_report(&rt, rt.alloc(), MERGED, lines, wanted)
 }
+
+// Whether a line asks for the log of this path and this revision.
+fn is_log_of(line: &str, path: &[u8], rev: u32) -> bool {
+    match &Query::read(line.as_bytes()) {
+        Query::Log { of } => of.path() == path && of.rev() == rev,
+        _ => false,
+    }
+}
+
+#[test]
+fn a_peg_has_the_bytes_of_its_path_and_its_revision(rt: HostRuntime) -> Result<(), Fail> {
+    assert!(rt; is_log_of("log\t//a@b/@07", b"//a@b/", 7));
+    assert!(rt; !is_log_of("log\t//a@b/@07", b"/a@b", 7));
+    Ok(())
+}

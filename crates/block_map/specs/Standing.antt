@@ -18,7 +18,7 @@ standing_at same tree path =
 abbrev pub own_mergeinfo_at : {C M : Type 0} → (C → C → Bool) → Tree C M → List C → Option M
 own_mergeinfo_at same tree path = option_and_then (λ standing. standing.mergeinfo) (standing_at same tree path)
 
--- as it was found; it is not known where it stood before the block
+-- as it was found; nothing, where only what stood before the records says it
 abbrev pub standing_of : {C M : Type 0} → Found C M → Option (Standing M)
 standing_of (at path tick) = None
 standing_of (at_with path tick mergeinfo) = None

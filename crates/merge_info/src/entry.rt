@@ -19,7 +19,7 @@ pub(crate) struct Entry {
 }
 
 impl Entry {
-    /// What the path of `rest` below that of the value has of this entry.
+    /// What a path inherits of this entry, given `rest`, what follows the path that has the value.
     pub(crate) fn inherited(&self, alloc: Global, rest: &[u8]) -> Result<Line, AllocError>
         requires path { IsPrintedPath self.now.path.items }
         requires rest { IsPrintedPath rest.now }

@@ -10,8 +10,8 @@ use Rattle.svn_dump.specs.declared.record.Act.{Act}
 use Rattle.svn_dump.specs.declared.record.Act.TheVariants as act
 use Rattle.svn_dump.specs.declared.record.Mi.{Mi}
 use Rattle.svn_dump.specs.declared.record.NodeRecord.{NodeRecord}
-use Rattle.path_index.specs.RecordEffect.{IsAddition, IsCopy, KeepsOrigin, SetsOrigin, SetsPath}
-use Rattle.path_index.proofs.Steps.{KeepsOrigin-delete, KeepsOrigin-change, KeepsOrigin-add, SetsOrigin-add, KeepsOrigin-copy, SetsOrigin-copy}
+use Rattle.path_index.specs.RecordEffect.{IsAddition, IsCopy, SetsOrigin, SetsPath}
+use Rattle.path_index.proofs.Steps.{KeepsOrigin, KeepsOrigin-delete, KeepsOrigin-change, KeepsOrigin-add, SetsOrigin-add, KeepsOrigin-copy, SetsOrigin-copy}
 
 module _ (each : NodeRecord) (path : List NameId) where
   keeps_as : (a : Act) → each.act ≡ a → KeepsOrigin same_name path (record { path = each.path; action = action_view a }) → KeepsOrigin same_name path (record_view each)

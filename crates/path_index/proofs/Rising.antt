@@ -4,7 +4,11 @@ use Rattle.std.proofs.lemmas.Bool.{ne_eqb}
 use Rattle.std.proofs.lemmas.List.Elements.{All-nil, All-cons, All-head, All-tail}
 use Rattle.svn_dump.specs.Dump.{record_view}
 use Rattle.svn_dump.specs.declared.record.NodeRecord.{NodeRecord}
-use Rattle.path_index.specs.History.{AreRising, AreUpTo, records_of}
+use Rattle.path_index.specs.History.{AreRising, records_of}
+
+-- no record is of a later revision
+abbrev pub AreUpTo : ℕ → List NodeRecord → Type 0
+AreUpTo rev records = All (λ each. each.rev ≤ rev) records
 
 -- ---- parts of a list
 

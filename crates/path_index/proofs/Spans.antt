@@ -20,7 +20,7 @@ use Rattle.svn_dump.proofs.Origins.{OriginsFall, OriginsFall-trees_of, OriginsAr
 use Rattle.svn_dump.proofs.Trees.{entry_from, entry_at-tree_from_revision, entry_at-first_tree}
 use Rattle.path_index.specs.History.{records_of, history_to, trees_to, AreRising}
 use Rattle.path_index.specs.Index.{IsThere}
-use Rattle.path_index.specs.RecordEffect.{origin_of_entry, origin_view, KeepsOrigin, SetsOrigin}
+use Rattle.path_index.specs.RecordEffect.{origin_of_entry, origin_view, SetsOrigin}
 use Rattle.path_index.specs.Span.{IsSpan, location_before}
 use Rattle.svn_dump.specs.declared.origin.Origin.{Origin}
 use Rattle.path_index.proofs.EntriesOfPaths.{SetsAt-SetsPath}
@@ -30,7 +30,7 @@ use Rattle.path_index.specs.Numbers.{IsNewestBelow}
 use Rattle.path_index.specs.RecordsByPath.{AreByPath, SetsAt}
 use Rattle.path_index.specs.declared.records_by_path.RecordsByPath.{RecordsByPath}
 use Rattle.path_index.proofs.Prefixes.{trees_before, tree_of-last, tree_of-earlier, start_tree-first, start_tree-suc, All-records_of, records_of-back, records_of-among}
-use Rattle.path_index.proofs.Steps.{KeepsOrigin-fold, SetsOrigin-fold}
+use Rattle.path_index.proofs.Steps.{KeepsOrigin, KeepsOrigin-fold, SetsOrigin-fold}
 
 -- where the path of a revision came from
 abbrev pub origin_at : List NodeRecord → List NameId → ℕ → Option (List NameId × ℕ)

@@ -1,5 +1,5 @@
 -- What one record does to the origin of a path that exists after it.
-use Rattle.std.proofs.Common.{◌≡◌, ℕ, Bool, true, List, [], ◌∷◌, ◌++◌, Option, None, Some, All, is_some, option_map, fold, refl, ap, ◌∙◌, true≢false, sym, subst}
+use Rattle.std.proofs.Common.{◌≡◌, ℕ, IsTrue, Bool, true, List, [], ◌∷◌, ◌++◌, Option, None, Some, All, is_some, option_map, fold, refl, ap, ◌∙◌, true≢false, sym, subst}
 use Rattle.std.proofs.lemmas.List.Elements.{All-head, All-tail}
 use Rattle.std.proofs.lemmas.List.Sums.{fold-append}
 use Rattle.svn_path.specs.Below.{below, is_below}
@@ -9,7 +9,16 @@ use Rattle.svn_dump.specs.declared.kind.Kind.{Kind}
 use Rattle.svn_path.proofs.Belows.{IsSame, below-itself}
 use Rattle.svn_dump.proofs.Belows.{path_from_below}
 use Rattle.svn_dump.proofs.Trees.{entry_at-elsewhere, entry_at-under, entry_left, settled_entry_at, entry_from}
-use Rattle.path_index.specs.RecordEffect.{origin_of_entry, KeepsOrigin, SetsOrigin}
+use Rattle.path_index.specs.RecordEffect.{origin_of_entry, SetsOrigin}
+
+-- the path existed before the record, and had the same origin
+pub record KeepsOrigin {C M : Type 0} (same : C → C → Bool) (path : List C) (each : Record C M) : Type 0 where
+  pub there : (trees : List (Tree C M)) (tree : Tree C M)
+      → IsTrue (is_there same (tree_after_record same trees tree each) path) → IsTrue (is_there same tree path)
+  pub origin : (trees : List (Tree C M)) (tree : Tree C M)
+      → IsTrue (is_there same (tree_after_record same trees tree each) path)
+      → origin_of_entry (entry_at same (tree_after_record same trees tree each) path)
+      ≡ origin_of_entry (entry_at same tree path)
 
 -- the first entry, where it exists, has the origin of the second
 abbrev IsAlike : {C M : Type 0} → Option (Entry C M) → Option (Entry C M) → Type 0

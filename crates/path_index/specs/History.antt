@@ -1,5 +1,5 @@
 -- The history of a list of records: each revision has the records that bear its number.
-use Rattle.std.specs.Prelude.{ℕ, zero, suc, ◌≤◌, ◌==◌, List, [], ◌∷◌, ◌++◌, All, AllPairs, filter, map}
+use Rattle.std.specs.Prelude.{ℕ, zero, suc, ◌≤◌, ◌==◌, List, [], ◌∷◌, ◌++◌, AllPairs, filter, map}
 use Rattle.svn_path.specs.Path.{same_name}
 use Rattle.svn_path.specs.declared.names.NameId.{NameId}
 use Rattle.svn_dump.specs.Dump.{record_view}
@@ -18,10 +18,6 @@ history_to records (suc rev) = history_to records rev ++ records_of records (suc
 
 abbrev pub trees_to : List NodeRecord → ℕ → List (Tree NameId ValueId)
 trees_to records rev = trees_of same_name (history_to records rev)
-
--- no record is of a later revision
-abbrev pub AreUpTo : ℕ → List NodeRecord → Type 0
-AreUpTo rev records = All (λ each. each.rev ≤ rev) records
 
 -- the records stand in the order of their revisions
 abbrev pub AreRising : List NodeRecord → Type 0

@@ -33,7 +33,7 @@ pub record IsWith (number : ℕ) (old new : List ℕ) : Type 0 where
   pub sound : (each : ℕ) → Contains new each → Contains old each ⊎ (each ≡ number)
   pub here : Contains new number
 
--- to the numbers of the nodes come those of which this holds
+-- the new lists have the numbers of the old ones and those of which this holds
 pub record AddsNumbers (IsNew : ℕ → ℕ → Type 0) (old new : List (Vec ℕ)) : Type 0 where
   pub kept : (node number : ℕ) → HasNumber old node number → HasNumber new node number
   pub sound : (node number : ℕ) → HasNumber new node number → HasNumber old node number ⊎ IsNew node number

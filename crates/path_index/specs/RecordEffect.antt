@@ -15,15 +15,6 @@ use Rattle.svn_dump.specs.declared.record.NodeRecord.{NodeRecord}
 abbrev pub origin_of_entry : {C M : Type 0} → Option (Entry C M) → Option (List C × ℕ)
 origin_of_entry entry = option_and_then (λ e. e.origin) entry
 
--- the path existed before the record, and had the same origin
-pub record KeepsOrigin {C M : Type 0} (same : C → C → Bool) (path : List C) (each : Record C M) : Type 0 where
-  pub there : (trees : List (Tree C M)) (tree : Tree C M)
-      → IsTrue (is_there same (tree_after_record same trees tree each) path) → IsTrue (is_there same tree path)
-  pub origin : (trees : List (Tree C M)) (tree : Tree C M)
-      → IsTrue (is_there same (tree_after_record same trees tree each) path)
-      → origin_of_entry (entry_at same (tree_after_record same trees tree each) path)
-      ≡ origin_of_entry (entry_at same tree path)
-
 -- the path has this origin after the record
 pub record SetsOrigin {C M : Type 0} (same : C → C → Bool) (path : List C) (from : Option (List C × ℕ))
     (each : Record C M) : Type 0 where

@@ -35,7 +35,7 @@ pub record AddsEntries (children : List Child) (Holds : List NameId → ℕ → 
         → HasNumber old node number ⊎ IsEntryOf children Holds node number
     pub complete : (path : List NameId) (number : ℕ) → Holds path number → HasEntryOf children path number new
 
--- some of the first records is so related to the path and the number
+-- one of the first `count` records is related so to the path and the number
 pub record IsOfSome (IsOf : NodeRecord → ℕ → List NameId → ℕ → Type 0) (records : List NodeRecord) (count : ℕ)
     (path : List NameId) (number : ℕ) : Type 0 where
   pub index : ℕ

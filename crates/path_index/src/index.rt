@@ -128,7 +128,8 @@ impl Index {
         Span::up_to(&self.records, &self.by_path, path, peg)
     }
 
-    /// The operative revisions of the paths of these segments, each in its segment, the newest first.
+    /// The operative revisions of the paths of these segments, each in its segment, the newest first. The segments are
+    /// those of a path that exists; of others nothing is promised.
     pub fn operative(&self, segments: &[Segment]) -> Result<Vec<Hit>, AllocError>
         requires { IsWhole self.now }
         ensures { IfOk result (λ hits. AreHitsOf self.now segments.now hits.items) }

@@ -16,13 +16,16 @@ use Rattle.svn_path.specs.Path.{components_of, same_name}
 use Rattle.svn_path.specs.declared.names.NameId.{NameId}
 use Rattle.svn_dump.specs.Dump.{DumpValue, IsDump, history_in_bytes, history_view}
 use Rattle.svn_dump.specs.Location.{location}
-use Rattle.merge_info.specs.Value.{MergeInfoValue}
-use Rattle.merge_info.specs.Value.{ranges_of, runs_at, some_runs}
+use Rattle.merge_info.specs.Value.{MergeInfoValue, ranges_of, runs_at, some_runs}
 use Rattle.query_answer.specs.Merged.{eligible_at, found_in, merged_at, merged_revision, operative_location, value_has}
 use Rattle.query_answer.specs.SourceHits.{eligible_hit, hit_has, is_eligible_from, merged_hit, ranges_at, ranges_in}
-use Rattle.query_answer.specs.Repo.{eligible_by, found_by, merged_by, location_by, trees_in_bytes}
+use Rattle.query_answer.specs.Repo.{eligible_by, merged_by, location_by, trees_in_bytes}
 use Rattle.query_answer.proofs.InBytes.{alike, hits-index, location-in_bytes, location-index, name, segments-index, text, trees-renamed, trees_by_number}
 use Rattle.query_answer.proofs.OperativeLocations.{found-operative_of, found_in-rename, found_of_hit}
+
+-- what is found at the locations of a path of the dump in its operative revisions
+abbrev pub found_by : {X : Type 0} → DumpValue → List NameId → ℕ → (List (List ℕ) → ℕ → Option X) → List X
+found_by dump path rev find = found_in bytes_eq (history_in_bytes dump) (trees_in_bytes dump) (components_of dump.names path) rev find
 
 -- ---- by the ranges of the segments
 

@@ -17,7 +17,7 @@ use Rattle.block_map.specs.Map.{IsMapOf, MapValue}
 use Rattle.block_map.specs.declared.nearest.Nearest.{Nearest}
 use Rattle.query_answer.specs.Answer.{Answer, HasPathOf, TreesOfBytes, if_both_exist, if_peg_exists, with_effective_mergeinfo, answer_of, eligible_lines, locate_lines, log_lines, merged_lines, mergeinfo_lines, ok_answer, refused_answer, segments_lines}
 use Rattle.query_answer.specs.Effective.{NearestMergeinfo, effective_of, effective_value}
-use Rattle.query_answer.specs.Merged.{eligible_revisions, found_in, merged_revisions, value_has}
+use Rattle.query_answer.specs.Merged.{eligible_revisions, merged_revisions, value_has}
 use Rattle.query_answer.specs.Peg.{Peg, PegValue, peg_view}
 use Rattle.query_answer.specs.Query.{Query}
 use Rattle.merge_info.specs.Value.{MergeInfoValue}
@@ -146,10 +146,6 @@ IsPairFound dump source target (Ok pair) = IsPair dump source target pair
 IsPairFound dump source target (Err status) =
     (answer : MergeInfoValue → Answer)
     → if_both_exist (trees_in_bytes dump) (peg_view source) (peg_view target) answer ≡ refused_answer status
-
--- what is found at the locations of a path of the dump in its operative revisions
-abbrev pub found_by : {X : Type 0} → DumpValue → List NameId → ℕ → (List (List ℕ) → ℕ → Option X) → List X
-found_by dump path rev find = found_in bytes_eq (history_in_bytes dump) (trees_in_bytes dump) (components_of dump.names path) rev find
 
 abbrev pub merged_by : DumpValue → List NameId → ℕ → MergeInfoValue → List MergedRevision
 merged_by dump path rev value =

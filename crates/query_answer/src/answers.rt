@@ -14,8 +14,8 @@ use std::alloc::AllocError;
 use svn_path::Path;
 use svn_text::push_number;
 
-/// The answer to a query, with paths by the names of a repository. Contracts see its status and its result lines, which
-/// more than one variant may have.
+/// The answer to a query, with paths by the names of a repository. Contracts see its status and its result lines, and
+/// promise nothing else of the variant, which tests alone compare with the verb.
 #[derive(Drop)]
 pub enum Answer {
     /// There are no result lines, for this reason.

@@ -8,7 +8,7 @@ use svn_text::{GREATEST_REVISION, number_up_to, split_at_byte};
 /// What a line asks, borrowed from the line.
 #[derive(Debug, Drop)]
 pub enum Query<'a> {
-    /// No query of the other forms.
+    /// The line has none of the other forms.
     Bad,
     /// Where the path was located in a revision.
     Locate { of: Peg<'a>, rev: u32 },

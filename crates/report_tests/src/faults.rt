@@ -19,7 +19,7 @@ fn fault_of<R: Threads + Wait + Sync>(
     cuts: &[u32],
     workers: usize,
 ) -> Option<Fault>
-    requires cuts { All (λ blocks. 0 < blocks) cuts.now }
+    requires cuts { All (λ length. 0 < length) cuts.now }
     requires some_worker { 0 < workers }
     requires few_workers { workers ≤ most_workers }
 {

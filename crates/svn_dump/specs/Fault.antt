@@ -28,7 +28,7 @@ abbrev pub fault_of_new_path : {C M : Type 0} → (C → C → Bool) → Tree C 
 fault_of_new_path same tree path =
     if is_there same tree path then Some exists else (if has_parent same tree path then None else Some no_parent)
 
--- what an addition needs of its path, a replacing one that it is there
+-- what an addition needs of its path; one that replaces needs the path to be there
 abbrev pub fault_of_target : {C M : Type 0} → (C → C → Bool) → Tree C M → Bool → List C → Option Fault
 fault_of_target same tree replace path = if replace then fault_if_missing same tree path else fault_of_new_path same tree path
 

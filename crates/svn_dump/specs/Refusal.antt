@@ -60,7 +60,7 @@ abbrev pub grows_large : Option HistoryOfBytes → Bool
 grows_large None = false
 grows_large (Some history) = is_large history
 
--- against what a node block of a revision does
+-- the reasons against what a node block of a revision does
 abbrev pub action_refusals : ℕ → Node → NodeAction → List Reason
 action_refusals rev node action =
     reason BadPath (list_any has_dot (paths_read node.path action))
@@ -70,7 +70,7 @@ action_refusals rev node action =
     ∷ reason RevisionZero (not (nat_lt 0 rev))
     ∷ []
 
--- against its size, given whether the history grows too large by it
+-- the reasons against its size, given whether the history grows too large by it
 abbrev pub size_refusals : Node → NodeAction → Bool → List Reason
 size_refusals node action large = reason TooLarge (list_any is_long (paths_read node.path action) || large) ∷ []
 
@@ -78,7 +78,7 @@ abbrev pub later_refusals : ℕ → Node → Bool → Option NodeAction → List
 later_refusals rev node large None = []
 later_refusals rev node large (Some action) = action_refusals rev node action ++ size_refusals node action large
 
--- against a node block after so many revisions, of which it needs one
+-- the reasons against a node block after so many revisions; before the first revision there is always one
 unfoldable pub node_refusals : ℕ → Node → Bool → List Reason
 node_refusals revisions node large =
     reason Props (is_none node.setting)

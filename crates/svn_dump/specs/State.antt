@@ -20,18 +20,18 @@ state_from same trees (records ∷ history) count =
 abbrev pub state : {C M : Type 0} → (C → C → Bool) → History C M → ℕ → Tree C M
 state same history count = state_from same [] history count
 
--- the first fault of the record of a revision that so many others of it precede
+-- the first fault of a record of a revision, given how many records of the revision come before it
 abbrev pub fault_within : {C M : Type 0} → (C → C → Bool) → List (Tree C M) → List (Record C M) → ℕ → Option Fault
 fault_within same trees records count =
     option_and_then (λ each. fault_of same trees (tree_within same trees records count) each.path each.action) (slice_get records count)
 
--- the first fault of the record that so many others of the revisions that follow these trees precede
+-- the first fault of a record of the revisions after these trees, given how many of their records come before it
 unfoldable pub fault_of_next_record_from : {C M : Type 0} → (C → C → Bool) → List (Tree C M) → History C M → ℕ → Option Fault
 fault_of_next_record_from same trees [] count = None
 fault_of_next_record_from same trees (records ∷ history) count =
     if nat_lt count (length records) then fault_within same trees records count
     else fault_of_next_record_from same (with_revision same trees records) history (count - length records)
 
--- the first fault of the record that so many others of a history precede, in the tree after those
+-- the first fault of a record of a history, given how many records come before it, in the tree after those
 abbrev pub fault_of_next_record : {C M : Type 0} → (C → C → Bool) → History C M → ℕ → Option Fault
 fault_of_next_record same history count = fault_of_next_record_from same [] history count

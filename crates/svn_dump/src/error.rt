@@ -6,7 +6,7 @@ use thiserror::Error;
 /// Why bytes were not read as a dump.
 #[derive(Debug, Drop, Error)]
 pub enum DumpError {
-    /// The number of the refusal, and where the faulty block begins.
+    /// The number of the refusal, and where the faulty block begins, or the length of an input without a revision.
     #[error("refusal {number} at byte {at}")]
     Refused { number: u8, at: u64 },
     #[error("out of memory")]

@@ -56,7 +56,7 @@ fn is_delta(headers: &Headers) -> bool
 }
 
 /// Whether a path that is read has a component `.` or `..`.
-fn names_dot(path: &[u8], action: NodeAction) -> bool
+fn has_dot_in_paths(path: &[u8], action: NodeAction) -> bool
     ensures { result ≡ list_any has_dot (paths_read path.now (node_action_view action.entry)) }
 {
     match action {
@@ -70,7 +70,7 @@ fn refusal_of(rev: u32, found: &FrontBlock, path: &[u8], action: NodeAction) -> 
     ensures { result ≡ first_holding
         (action_refusals rev (node_of_front found.now path.now) (node_action_view action.entry)) }
 {
-    if names_dot(path, action) {
+    if has_dot_in_paths(path, action) {
         Some(Refusal::BadPath)
     } else if is_delta(&found.headers) {
         Some(Refusal::Delta)
@@ -139,8 +139,8 @@ fn act_of(
     })
 }
 
-/// The revision, the action and the mergeinfo of a node block after so many revisions. Nothing stands against it then
-/// but perhaps its size.
+/// The revision, the action and the mergeinfo of a node block after so many revisions. The only reason against such a
+/// block can be its size.
 fn judge<'a>(
     revisions: u32,
     found: &FrontBlock<'a>,

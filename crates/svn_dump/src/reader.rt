@@ -23,7 +23,8 @@ use std::alloc::Global;
 
 /// The dump that the bytes are. Nothing is copied but names and mergeinfo texts.
 ///
-/// A refusal has the number of the first reason against the first faulty block, and the offset of that block.
+/// A refusal has the number of the first reason against the first faulty block, and the offset of that block; where
+/// there is no revision, it has the length of the input.
 pub fn read(alloc: Global, bytes: &[u8]) -> Result<Dump, DumpError>
     // The bytes are a dump exactly where there is no reason against them, and then of one history.
     ensures exactly { (first_refusal bytes.now ≡ None)

@@ -23,8 +23,8 @@ HasNoRoomFor names name = (length names ≡ most_names) × IsFalse (has_name nam
 abbrev pub with_names : List (List ℕ) → List (List ℕ) → List (List ℕ)
 with_names names added = fold with_name names added
 
--- the name of a number; a number past the table's end stands for slashes, which no component has and of which
--- there are as many for no other number
+-- the name of a number; a number past the end of the table stands for so many slashes that no component and no other
+-- number has the same
 abbrev pub name_of : List (List ℕ) → ℕ → List ℕ
 name_of names number = slice_index_or names number (replicate (number + 1) 47)
 

@@ -1,4 +1,4 @@
-//! The table of names that the components of paths are numbers of.
+//! The table of names. A path has the numbers of its components in such a table.
 ghost use Rattle.std.specs.Prelude.{◌≡◌, ℕ, ◌<◌, ◌≤◌, ◌↔◌, List, [], Some, All, length, slice_get, bytes_eq, IsTrue, IsOk, IsSome, IfOk, IfSome, OnErr, IsErrOf};
 ghost use Rattle.std.specs.List.{IsDistinct};
 ghost use Rattle.svn_path.specs.Components.{IsComponent};

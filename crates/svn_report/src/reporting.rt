@@ -33,7 +33,7 @@ pub fn report<R: Threads + Wait + Sync, G: Gate>(
     workers: usize,
     gate: &G,
 ) -> Result<Vec<u8>, RunError>
-    requires cuts { All (λ blocks. 0 < blocks) cuts.now }
+    requires cuts { All (λ length. 0 < length) cuts.now }
     requires some_worker { 0 < workers }
     requires few_workers { workers ≤ most_workers }
     ensures ok { IfOk result (λ report. IsReport dump.now queries.now report.items) }

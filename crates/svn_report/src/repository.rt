@@ -48,7 +48,7 @@ pub fn load_repo<R: Threads + Sync>(
     cuts: &[u32],
     workers: usize,
 ) -> Result<Repo, LoadError>
-    requires cuts { All (λ blocks. 0 < blocks) cuts.now }
+    requires cuts { All (λ length. 0 < length) cuts.now }
     requires some_worker { 0 < workers }
     requires few_workers { workers ≤ most_workers }
     ensures repo { IfOk result (λ repo. repo ≡ dump) }
