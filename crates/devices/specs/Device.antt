@@ -12,7 +12,7 @@ pub record PullState : Type 0 where
   pub has_failed : Bool
 
 -- the bytes that went out, where the device reports them, how many calls were made and how many of them failed, whether
--- one failed, and whether the last of them that did not fail was a flush; a new device was not flushed
+-- one failed, and whether it was flushed after the last call of `push`; a new device was not
 pub record PushState : Type 0 where
   pub gone : Option (List ℕ)
   pub calls : ℕ
