@@ -1,6 +1,7 @@
 -- Runs in which no number is given both with and without `*`, and a scan that finds such a number.
-use Rattle.std.proofs.Common.{◌≡◌, ℕ, zero, suc, ◌<◌, ◌≤◌, Bool, true, false, List, [], ◌∷◌, ◌++◌, All, length, get_or, take, inl, inr, refl, sym, ap, ◌∙◌, arith, length-append, max}
-use Rattle.std.specs.List.{Any, list_any}
+use Rattle.std.proofs.Common.{◌≡◌, ℕ, zero, suc, ◌<◌, ◌≤◌, Bool, true, false, List, [], ◌∷◌, ◌++◌, All, length, get_or, take, inl, inr, Some, refl, sym, ap, ◌∙◌, arith, length-append, max}
+use Rattle.std.specs.Bool.{OnTrue}
+use Rattle.std.specs.List.{Any, IsAllAdjacentAnswer, list_any}
 use Rattle.std.specs.List.Sorted.{IsNonDecreasingBy, IsPermutation}
 use Rattle.std.proofs.lemmas.Bool.{both_ways, cases_Bool, cases_lt}
 use Rattle.std.proofs.lemmas.Bool.Decides.{nat_tests}
@@ -8,7 +9,8 @@ use Rattle.std.proofs.lemmas.List.{get_or_append_left, get_or_default, get_or-ta
 use Rattle.std.proofs.lemmas.List.Elements.{All-nil, All-push}
 use Rattle.std.proofs.lemmas.List.Folds.{list_any_at, list_any_none}
 use Rattle.std.proofs.lemmas.List.Quantifiers.{Any-push}
-use Rattle.std.proofs.lemmas.List.Sorted.{list_any-IsPermutation}
+use Rattle.std.proofs.lemmas.List.Sorted.{IsNonDecreasingBy-from_all_adjacent, list_any-IsPermutation}
+use Rattle.std.specs.Ordering.{is_le, is_some_and, nat_cmp}
 use Rattle.range_list.specs.Rangelist.{IsRun}
 use Rattle.range_list.specs.declared.run.Run.{Run}
 use Rattle.merge_info.specs.Clash.{IsRisingByFirst}
@@ -183,6 +185,16 @@ IsRisingByFirst-sorted (run ∷ runs) sorted = (
   λ k d below. sorted 0 (suc k) d (omega arith) (omega arith),
   IsRisingByFirst-sorted runs (λ i j d before within. sorted (suc i) (suc j) d (omega arith) (omega arith)),
 )
+
+le-tested : (a b : ℕ) → is_some_and is_le (Some (nat_cmp a b)) ≡ true → a ≤ b
+le-tested a b found = grind (arith, nat_tests)
+
+-- what a test of the first numbers finds
+pub IsRisingByFirst-tested : (runs : List Run) (rises : Bool) → IsAllAdjacentAnswer (λ a b r. r ≡ is_some_and is_le (Some (nat_cmp a.lo b.lo))) runs rises → OnTrue rises (IsRisingByFirst runs)
+IsRisingByFirst-tested runs true each =
+    IsRisingByFirst-sorted runs (IsNonDecreasingBy-from_all_adjacent (λ run. run.lo) runs
+    (λ k d within. le-tested _ _ (sym (each k d within))))
+IsRisingByFirst-tested runs false each = tt
 
 -- an earlier run of a sort ends where the runs of that sort end
 record EndsThere (inheritable : Bool) (runs : List Run) (i : ℕ) (d : Run) (last : ℕ) : Type 0 where

@@ -11,7 +11,7 @@ use Rattle.svn_text.specs.Cut.{Lacks}
 use Rattle.svn_text.specs.Number.{is_digit, number_of, value_of_digits}
 use Rattle.svn_text.specs.Number.{greatest_revision}
 use Rattle.merge_info.specs.Element.{revision_of}
-use Rattle.merge_info.proofs.JoinedBytes.{Lacks-cons, Lacks-nil}
+use Rattle.svn_text.proofs.Lines.{Lacks-digits}
 
 abbrev AreDigits : List ℕ → Type 0
 AreDigits bytes = list_all is_digit bytes ≡ true
@@ -53,13 +53,6 @@ revision_of-decimal n first last =
     ∙ ap (λ fits. option_and_then not_zero (cond fits (Some n) None)) (le-leb n greatest_revision last)
     ∙ cond-false _ _ _ (ne_eqb n 0 (omega arith))
 
--- digits lack every other byte
-Lacks-digits : (byte : ℕ) (digits : List ℕ) → is_digit byte ≡ false → AreDigits digits → Lacks byte digits
-Lacks-digits byte [] other all = Lacks-nil byte
-Lacks-digits byte (digit ∷ digits) other all =
-    let both = and_parts (is_digit digit) (list_all is_digit digits) all in
-    let differ = ne_eqb digit byte (λ same. both_ways (is_digit byte) other (ap is_digit (sym same) ∙ both.0)) in
-    Lacks-cons byte digit digits differ (Lacks-digits byte digits other both.1)
-
+-- a printed number lacks every byte but digits
 pub Lacks-decimal : (byte n : ℕ) → is_digit byte ≡ false → n < 2 ^ 64 → Lacks byte (decimal n)
 Lacks-decimal byte n other small = Lacks-digits byte (decimal n) other (decimal-digits n small)

@@ -1,4 +1,5 @@
 //! Numbers that are given both with and without `*`.
+ghost use Rattle.std.specs.Bool.{OnTrue};
 ghost use Rattle.std.specs.Prelude.{◌≡◌, All, IfOk};
 ghost use Rattle.range_list.specs.Rangelist.{IsRun};
 ghost use Rattle.merge_info.specs.Clash.{IsRisingByFirst};
@@ -12,9 +13,19 @@ pub(crate) fn has_clash(alloc: Global, runs: &[Run]) -> Result<bool, AllocError>
     requires { All IsRun runs.now }
     ensures { IfOk result (λ clash. clash ≡ has_clash runs.now) }
 {
+    if is_in_order(runs) {
+        return Ok(has_clash_in_order(runs));
+    }
     let mut sorted = Vec::from_slice(alloc, runs)?;
     sorted.sort_by_key(|run| run.lo)?;
     Ok(has_clash_in_order(&sorted))
+}
+
+/// Whether each run begins at or after those before it.
+fn is_in_order(runs: &[Run]) -> bool
+    ensures { OnTrue result (IsRisingByFirst runs.now) }
+{
+    runs.is_sorted_by_key(|run| run.lo)
 }
 
 /// The same of runs in the order of their first numbers.

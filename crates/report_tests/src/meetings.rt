@@ -2,6 +2,7 @@
 
 use query_pool::Gate;
 use std::sync::atomic::{AtomicUsize, Ordering};
+use std::thread::yield_now;
 
 /// The first calls of `enter` wait until so many have been made.
 #[derive(Drop)]
@@ -34,6 +35,7 @@ impl Meeting {
             if self.begun.load(Ordering::SeqCst) >= self.wanted {
                 return true;
             }
+            yield_now();
         }
         false
     }

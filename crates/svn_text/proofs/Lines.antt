@@ -1,14 +1,23 @@
 -- Where a byte stands first, and what stands before and after it.
-use Rattle.std.proofs.Common.{◌≡◌, ℕ, ◌+◌, ◌-◌, ◌<◌, false, List, ◌∷◌, ◌++◌, length, get_or, take, drop, sym, ap, ap₂, ◌∙◌, eqb-true, arith}
+use Rattle.std.proofs.Common.{◌≡◌, ℕ, ◌+◌, ◌-◌, ◌<◌, true, false, List, [], ◌∷◌, ◌++◌, length, get_or, take, drop, sym, ap, ap₂, ◌∙◌, eqb-true, arith}
 use Rattle.std.specs.Prelude.{IsFalse, ◌==◌}
-use Rattle.std.specs.List.{list_any, position_or_len}
-use Rattle.std.proofs.lemmas.Bool.{both_ways, false_from_ne_true}
+use Rattle.std.specs.List.{list_all, list_any, position_or_len}
+use Rattle.std.proofs.lemmas.Bool.{and_parts, both_ways, false_from_ne_true, ne_eqb}
 use Rattle.std.proofs.lemmas.List.{get_or_default, get_or-take, length-take, drop_more, take-append-drop, take_rest}
-use Rattle.std.proofs.lemmas.List.Elements.{All-from_get_or}
+use Rattle.std.proofs.lemmas.List.Elements.{All-cons, All-from_get_or, All-nil}
 use Rattle.std.proofs.lemmas.List.Folds.{list_any_none, list_any_at}
 use Rattle.std.proofs.lemmas.List.Sums.{position_or_len_is}
 use Rattle.svn_text.specs.Cut.{IsCutAt, Lacks}
+use Rattle.svn_text.specs.Number.{is_digit}
 use Rattle.memchr.specs.Find.{is_byte, NoneBefore, Nowhere, Passes}
+
+-- digits lack every other byte
+pub Lacks-digits : (byte : ℕ) (digits : List ℕ) → is_digit byte ≡ false → list_all is_digit digits ≡ true → Lacks byte digits
+Lacks-digits byte [] other all = All-nil (λ each. (each == byte) ≡ false)
+Lacks-digits byte (digit ∷ digits) other all =
+    let both = and_parts (is_digit digit) (list_all is_digit digits) all in
+    let differ = ne_eqb digit byte (λ same. both_ways (is_digit byte) other (ap is_digit (sym same) ∙ both.0)) in
+    All-cons (λ each. (each == byte) ≡ false) digit digits differ (Lacks-digits byte digits other both.1)
 
 module _ (byte : ℕ) (bytes : List ℕ) where
   fails : (j k : ℕ) → Nowhere (Passes (is_byte byte) bytes) 0 j → k < j → (get_or bytes k 0 == byte) ≡ false

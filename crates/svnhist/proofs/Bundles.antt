@@ -1,6 +1,6 @@
 -- Bundles: what stands before and behind the first of a byte is told by the bytes alone.
-use Rattle.std.proofs.Common.{◌≡◌, ℕ, ◌+◌, ◌<◌, ◌≤◌, ◌==◌, Bool, true, false, List, [], ◌∷◌, ◌++◌, Option, Some, None, length, get_or, option_and_then, ◌&&◌, if◌then◌else◌, refl, sym, ap, ◌∙◌, arith, length-append, append_assoc, append-nil, All, IsFalse, flat_map, lit<}
-use Rattle.std.proofs.lemmas.Bool.{eq-eqb, eqb-true, leb-true, both_ways, false_from_ne_true}
+use Rattle.std.proofs.Common.{◌≡◌, ℕ, ◌+◌, ◌<◌, ◌≤◌, ◌==◌, leb, Bool, true, false, List, [], ◌∷◌, ◌++◌, Option, Some, None, length, get_or, option_and_then, ◌&&◌, if◌then◌else◌, refl, sym, ap, ◌∙◌, arith, length-append, append_assoc, append-nil, All, IsFalse, flat_map, lit<}
+use Rattle.std.proofs.lemmas.Bool.{eq-eqb, eqb-true, lt-leb, both_ways}
 use Rattle.std.proofs.lemmas.List.Elements.{All-get_or, All-nil, All-head, All-tail, All-push, All-from_get_or}
 use Rattle.std.proofs.lemmas.List.Sums.{AllPass-from_list_all}
 use Rattle.std.specs.Cmp.{first_so}
@@ -16,7 +16,7 @@ use Rattle.query_pool.specs.Serving.{most_workers}
 use Rattle.svnhist.specs.Bundle.{AreLines, BundleValue, IsBundle}
 use Rattle.svn_report.specs.Report.{most_queries}
 use Rattle.svn_text.specs.Cut.{Lacks}
-use Rattle.svn_text.proofs.Lines.{Lacks-list_any}
+use Rattle.svn_text.proofs.Lines.{Lacks-digits, Lacks-list_any}
 use Rattle.svn_text.proofs.Cuts.{CutsFirst}
 use Rattle.query_answer.proofs.Queries.{slice_split-some}
 
@@ -48,15 +48,12 @@ number_given false all f value n found = cc
 number_given true false f value n found = cc
 number_given true true f value n found = refl
 
-Lacks-digits : (byte : ℕ) (digits : List ℕ) → byte < 48 → list_all is_digit digits ≡ true → Lacks byte digits
-Lacks-digits byte digits low all =
-    All-from_get_or (λ each. (each == byte) ≡ false) digits 0 (λ i below.
-    let passes : is_digit (get_or digits i 0) ≡ true = All-get_or (λ each. is_digit each ≡ true) digits i 0 below (AllPass-from_list_all is_digit digits all) in
-    let least : 48 ≤ get_or digits i 0 = leb-true _ _ (first_so _ _ passes) in
-    false_from_ne_true _ (λ same. let is : get_or digits i 0 ≡ byte = eqb-true _ _ same in absurd (omega arith)))
+-- a byte below the first digit is none
+low-digit : (byte : ℕ) → byte < 48 → is_digit byte ≡ false
+low-digit byte low = ap (λ first. first && leb byte 57) (lt-leb 48 byte low)
 
 pub Lacks-number : (byte most : ℕ) (digits : List ℕ) (n : ℕ) → byte < 48 → number_up_to most digits ≡ Some n → Lacks byte digits
-Lacks-number byte most digits n low found = Lacks-digits byte digits low (number_given (is_not_empty digits) (list_all is_digit digits) _ _ n found)
+Lacks-number byte most digits n low found = Lacks-digits byte digits (low-digit byte low) (number_given (is_not_empty digits) (list_all is_digit digits) _ _ n found)
 
 -- no number stands before the first of a byte that isn't there, or before which no number stands
 pub no_number-uncut : (byte most : ℕ) (bytes digits rest : List ℕ) (n : ℕ) → Lacks byte bytes → bytes ≡ digits ++ byte ∷ rest → ⊥

@@ -8,7 +8,7 @@ use crate::{Acts, Make, make_all, scan, total};
 use std::alloc::{AllocError, Global};
 use std::sync::atomic::{AtomicUsize, Ordering};
 use std::test::Fail;
-use std::thread::Threads;
+use std::thread::{Threads, yield_now};
 
 // The first guests wait for each other.
 #[derive(Drop)]
@@ -38,6 +38,7 @@ impl Meeting {
                 self.met.fetch_add(1, Ordering::SeqCst);
                 return;
             }
+            yield_now();
         }
     }
 

@@ -1,6 +1,7 @@
 //! Places where calls wait for each other.
 
 use std::sync::atomic::{AtomicUsize, Ordering};
+use std::thread::yield_now;
 
 // How often a call looks for the others before it gives up.
 const MOST_LOOKS: u32 = 100_000_000;
@@ -35,6 +36,7 @@ impl Meeting {
             if self.begun.load(Ordering::SeqCst) >= self.wanted {
                 return true;
             }
+            yield_now();
         }
         false
     }
