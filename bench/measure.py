@@ -58,11 +58,12 @@ def run(words, feeder=None, file=None):
         return Run(wall, usage, child.returncode, output.read(), errors.read())
 
 
-def peak_of(words):
-    """The peak memory of a command. The system counts what the process that starts a command had before as well, so a
-    small one of about 5 MB starts this."""
-    done = subprocess.run([sys.executable, "-I", "-S", "-c", PEAK] + words, stdin=subprocess.DEVNULL,
-                          stdout=subprocess.PIPE, check=True)
+def peak_of(words, feeder=("true",)):
+    """The peak memory of a command whose input is the output of another one. The system counts what the process that
+    starts a command had before as well, so a small one of about 5 MB starts this."""
+    with subprocess.Popen(feeder, stdout=subprocess.PIPE) as feeding:
+        done = subprocess.run([sys.executable, "-I", "-S", "-c", PEAK] + words, stdin=feeding.stdout,
+                              stdout=subprocess.PIPE, check=True)
     return int(done.stdout) * 1024
 
 

@@ -1,0 +1,193 @@
+"""How fast the program reads a dump in pieces, from a file and from a pipe, and how little memory that takes.
+
+Small records and mergeinfo end with a block that every reader refuses, so the program reads them and builds nothing.
+Large texts are a valid dump with few records. Each is measured in turns with another reader of the same bytes: the
+program of an older build, which `--before` names, or a command that counts through a pipe.
+
+The share of hashing is that of reading the mergeinfo (`functions.py`). The memory is that of the whole job with ten
+queries, by the two builds, on the histories of `maps.py`.
+"""
+import os
+import re
+
+from functions import shares_of
+from maps import MIXES, SIZES, VERBS, drawn_lines, pegs_at_ends, print_criterion, write_mix
+from measure import Failed, generate, peak_of, run
+from questions import records_of
+from reading import KINDS, REFUSED, load_into_cache
+
+# For each dump the options of `generate`, the revisions in full size and in quick size, and the status of reading it.
+DUMPS = {
+    "small records": KINDS["small"] + (REFUSED,),
+    "mergeinfo": (["--mix", "releases", "--records", "1", "--width", "20", "--body", "0:100"], 120000, 12000, REFUSED),
+    "large texts": (["--records", "1", "--width", "3", "--body", "0:4194304", "--no-checksums"], 2600, 260, 0),
+}
+GREP = ["grep", "-c", "^Node-path"]
+COUNT = ["wc", "-c"]
+# What a pipe is measured beside, and the limit of the time relative to that.
+PIPES = {"small records": (GREP, 2.2), "mergeinfo": (GREP, 3.5), "large texts": (COUNT, 1.3)}
+MOST_OF_BEFORE = 1
+MOST_OF_HASHING = 0.1
+MOST_FOR_TEXTS = 20
+# What the memory may be of what it was, less the size of the dump.
+MOST_OF_REST = 1.1
+# Functions that hash, and those into which hashing is compiled. All that such a function does counts as hashing.
+HASHING = re.compile(r"hash|Mergeinfo::|Names::find", re.IGNORECASE)
+LEAST_SHOWN = 0.05
+
+
+def words_of(program, dump, queries=os.devnull):
+    return [program, dump, queries, "0", "1"]
+
+
+class Reader:
+    """A command that reads a dump, and its best run so far."""
+
+    def __init__(self, words, feeder, status):
+        self.words = words
+        self.feeder = feeder
+        self.status = status
+        self.best = None
+
+    def run_once(self):
+        taken = run(self.words, self.feeder, os.devnull)
+        if taken.status != self.status:
+            raise Failed("%s ended with %d: %s" % (" ".join(self.words), taken.status, taken.errors.decode()))
+        if self.best is None or taken.wall < self.best.wall:
+            self.best = taken
+
+
+class Pair:
+    """Two readers of a dump, the program and another one, and the limit of the time relative to that."""
+
+    def __init__(self, title, path, ours, name, other, most):
+        self.title = title
+        self.size = os.path.getsize(path)
+        self.ours = ours
+        self.name = name
+        self.other = other
+        self.most = most
+
+    def run_once(self):
+        self.ours.run_once()
+        self.other.run_once()
+
+    def ratio(self):
+        return self.ours.best.wall / self.other.best.wall
+
+    def print_row(self):
+        print("| %s | %.1f | %.3f | %s | %.3f | %.2f |" % (
+            self.title, self.size / 1e6, self.ours.best.wall, self.name, self.other.best.wall, self.ratio()))
+
+    def print_criterion(self):
+        print_criterion("%s, time relative to %s" % (self.title, self.name), self.most, self.ratio())
+
+
+def file_pair(program, before, name, path):
+    ours, other = (Reader(words_of(each, path), None, DUMPS[name][-1]) for each in (program, before))
+    return Pair("%s from a file" % name, path, ours, "the program before", other, MOST_OF_BEFORE)
+
+
+def pipe_pair(program, name, path):
+    words, most = PIPES[name]
+    feeder = ["cat", path]
+    ours = Reader(words_of(program, "/dev/stdin"), feeder, DUMPS[name][-1])
+    return Pair("%s from a pipe" % name, path, ours, "`%s`" % " ".join(words), Reader(words, feeder, 0), most)
+
+
+def make(folder, name, is_quick):
+    """The path of a generated dump."""
+    options, full, quick, status = DUMPS[name]
+    path = os.path.join(folder, name.replace(" ", "-"))
+    with open(path, "wb") as file:
+        generate(options + ["--revisions", str(quick if is_quick else full)]
+                 + (["--faulty-end"] if status == REFUSED else []), file)
+    return path
+
+
+# ---- hashing
+
+def print_shares(tool, shares):
+    print("\n| function that reads mergeinfo, by %s | share |\n|---|---|" % tool)
+    for name, share in sorted(shares.items(), key=lambda pair: -pair[1]):
+        if share >= LEAST_SHOWN:
+            print("| `%s` | %.2f |" % (name, share))
+
+
+def share_of_hashing(shares):
+    return sum(share for name, share in shares.items() if HASHING.search(name))
+
+
+# ---- memory of whole runs
+
+class Memory:
+    """The peaks of the two builds on a history, with ten queries. Their reports must be the same."""
+
+    def __init__(self, programs, folder, mix, revisions):
+        self.title = "%s, %s revisions" % (mix, format(revisions, ","))
+        dump = os.path.join(folder, "memory.dump")
+        queries = os.path.join(folder, "memory.queries")
+        write_mix(dump, mix, revisions)
+        with open(queries, "w") as file:
+            file.writelines(drawn_lines(pegs_at_ends(records_of(dump)), VERBS))
+        commands = [words_of(program, dump, queries) for program in programs]
+        reports = {run(words, file=os.devnull).output for words in commands}
+        if len(reports) > 1 or reports.pop().count(b" ok\n") != len(VERBS):
+            raise Failed("the reports of the two programs differ, or do not answer all queries")
+        self.size = os.path.getsize(dump)
+        self.now, self.before = map(peak_of, commands)
+        os.remove(dump)
+
+    def print_row(self):
+        print("| %s | %.1f | %.1f | %.1f |" % (self.title, self.size / 1e6, self.before / 1e6, self.now / 1e6))
+
+    def print_criterion(self):
+        most = round(MOST_OF_REST * (self.before - self.size) / 1e6, 1)
+        print_criterion("%s, peak MB" % self.title, most, self.now / 1e6)
+
+
+def measured_memory(program, before, folder, is_quick):
+    return [Memory((program, before), folder, mix, size // 10 if is_quick else size)
+            for mix in MIXES for size in SIZES]
+
+
+# ---- tables
+
+def print_tables(given, pairs, memories, tool, shares, peak):
+    print("## Reading in pieces\n\nThe best of %d measurements.\n" % given.times)
+    print("| what is read | MB | seconds | beside it | seconds | relative |\n|---|---|---|---|---|---|")
+    for pair in pairs:
+        pair.print_row()
+    if memories:
+        print("\n| history | dump, MB | peak MB, before | peak MB |\n|---|---|---|---|")
+    for memory in memories:
+        memory.print_row()
+    if tool:
+        print_shares(tool, shares)
+    print("\n| criterion | at most | measured | |\n|---|---|---|---|")
+    for pair in pairs:
+        pair.print_criterion()
+    if tool:
+        print_criterion("mergeinfo, share of functions that hash", MOST_OF_HASHING, share_of_hashing(shares))
+    print_criterion("large texts from a pipe, peak MB", MOST_FOR_TEXTS, peak / 1e6)
+    for memory in memories:
+        memory.print_criterion()
+    print(flush=True)
+
+
+def run_pieces(program, folder, given):
+    paths = {name: make(folder, name, given.quick) for name in DUMPS}
+    for path in paths.values():
+        load_into_cache(path)
+    pairs = [file_pair(program, given.before, "small records", paths["small records"])] if given.before else []
+    pairs += [pipe_pair(program, name, path) for name, path in paths.items()]
+    for _ in range(given.times):
+        for pair in pairs:
+            pair.run_once()
+    tool, shares = shares_of(words_of(program, paths["mergeinfo"]), REFUSED, folder)
+    peak = peak_of(words_of(program, "/dev/stdin"), ["cat", paths["large texts"]])
+    for path in paths.values():
+        os.remove(path)
+    memories = measured_memory(program, given.before, folder, given.quick) if given.before else []
+    print_tables(given, pairs, memories, tool, shares, peak)
+    return 0

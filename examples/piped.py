@@ -1,0 +1,90 @@
+"""Runs the program on dumps that come from pipes. What it prints must be what it prints on the same dump as a file."""
+import os
+import shutil
+import subprocess
+
+HERE = os.path.dirname(os.path.abspath(__file__))
+# Whether the program reads DUMP in pieces, and so refuses an endless one as soon as it can.
+READS_IN_PIECES = False
+HEAD = b"SVN-fs-dump-format-version: 2\n\n"
+REVISION = b"Revision-number: %d\n\n"
+FILE = b"Node-path: file-%d\nNode-kind: file\nNode-action: add\nText-content-length: 30\n\n%030d\n\n"
+FILES = 20000
+ABOUT_FILES = b"log\tfile-0@1\nsegments\tfile-%d@1\nlocate\tfile@1\t0\n" % (FILES - 1)
+# Commands of sh with an endless pipe. The limit of memory, in KB, ends a program that takes all of it.
+ENDLESS = 'ulimit -v 1000000; { printf "$3"; yes; } | timeout 20 "$1" /dev/stdin "$2" 0 1'
+REFUSED = {
+    "": "1 Magic at byte 0",
+    r"SVN-fs-dump-format-version: 3\n": "2 Version at byte 0",
+    r"SVN-fs-dump-format-version: 2\nRevision-number: 1\n\n": "8 Revision at byte 30",
+}
+
+
+def ways():
+    """Commands that run the program, their first argument, on a dump and queries, the others."""
+    found = {
+        "cat": ["sh", 'cat "$2" | "$1" /dev/stdin "$3" 0 1'],
+        "a pipe with a pause": ["sh", '{ head -c 40 "$2"; sleep 0.1; tail -c +41 "$2"; } | "$1" /dev/stdin "$3" 0 1'],
+    }
+    if os.path.isdir("/dev/fd"):
+        found["/dev/fd"] = ["sh", 'cat "$2" | { exec 3<&0 </dev/null; "$1" /dev/fd/3 "$3" 0 1; }']
+    if os.path.isdir("/dev/fd") and shutil.which("bash"):
+        found["bash"] = ["bash", '"$1" <(cat "$2") "$3" 0 1']
+    if shutil.which("gzip"):
+        found["gzip"] = ["sh", 'gzip -c "$2" | gzip -dc | "$1" /dev/stdin "$3" 0 1']
+    return found
+
+
+def written(folder, name, text):
+    path = os.path.join(folder, name)
+    with open(path, "wb") as file:
+        file.write(text)
+    return path
+
+
+def outcome_of(words):
+    """The exit status, and what was printed on standard output and on standard error."""
+    done = subprocess.run(words, stdin=subprocess.DEVNULL, stdout=subprocess.PIPE, stderr=subprocess.PIPE)
+    return done.returncode, done.stdout, done.stderr
+
+
+def many_files():
+    return HEAD + REVISION % 0 + REVISION % 1 + b"".join(FILE % (each, each) for each in range(FILES))
+
+
+def content(name):
+    with open(os.path.join(HERE, name), "rb") as file:
+        return file.read()
+
+
+def dumps():
+    """Dumps that have a report, and some that are refused."""
+    many = many_files()
+    return {
+        "the example": content("branch.dump"),
+        "many files": many,
+        "nothing": b"",
+        "half a dump": many[:len(many) // 2],
+        "a faulty record": many + FILE % (0, 0),
+        "a faulty block": many + REVISION % 1,
+    }
+
+
+def run_endless(program, queries):
+    for text, refusal in REFUSED.items():
+        wanted = (1, b"", b"svnhist: dump refused: %s\n" % refusal.encode())
+        yield "an endless pipe, %s" % refusal, wanted, outcome_of(["sh", "-c", ENDLESS, "sh", program, queries, text])
+
+
+def run_piped(program, folder):
+    """Of each run its name, what is wanted and what was found."""
+    queries = written(folder, "queries", content("branch.queries") + ABOUT_FILES)
+    outcomes = []
+    for name, dump in dumps().items():
+        path = written(folder, "dump", dump)
+        wanted = outcome_of([program, path, queries, "0", "1"])
+        outcomes += [("%s, %s" % (name, way), wanted, outcome_of([shell, "-c", command, shell, program, path, queries]))
+                     for way, (shell, command) in ways().items()]
+    if READS_IN_PIECES:
+        outcomes += run_endless(program, queries)
+    return outcomes

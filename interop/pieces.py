@@ -1,0 +1,87 @@
+"""Gives a program its input through a pipe, in pieces, and moves the blocks of a dump."""
+import fcntl
+import os
+import select
+import signal
+import subprocess
+import threading
+
+# The size of the smallest pipe. One of this size can be written to only when it is empty.
+PAGE = 4096
+# How many bytes one read of the program gives at most.
+READ = 65536
+FIRST_LINE = b"SVN-fs-dump-format-version: 2\n"
+BODY_HEADER = b"UUID: 0\nContent-length: %06d\n\n"
+BODY_LINES = b"\nNode-path: a\n\n"
+LONG_HEADER = b"UUID: 0\nX: "
+
+
+def empty_lines(size):
+    return b"\n" * size
+
+
+def long_body(size):
+    """A block of this size with a body that looks like blocks."""
+    length = size - len(BODY_HEADER % 0)
+    return BODY_HEADER % length + (BODY_LINES * (1 + length // len(BODY_LINES)))[:length]
+
+
+def long_header(size):
+    """A block of this size with a long line."""
+    return LONG_HEADER + b"y" * (size - len(LONG_HEADER) - 2) + b"\n\n"
+
+
+def moved(lot, dump):
+    """The dump with its blocks later by some bytes, which do not affect its history, and the number of these bytes.
+
+    So a read of the program ends at a drawn place of the blocks. A dump without the right first line stays as it is.
+    """
+    if not dump.startswith(FIRST_LINE):
+        return dump, 0
+    size = READ * lot.choice((1, 1, 2, 3)) - lot.randint(len(FIRST_LINE), len(dump))
+    more = lot.choice((empty_lines, long_body, long_header))(size)
+    return FIRST_LINE + more + dump[len(FIRST_LINE):], size
+
+
+def cut(lot, text):
+    """The text in pieces of drawn sizes."""
+    most = lot.choice((1000, 100000) if len(text) > READ // 2 else (7, 70, 70, 70, 1000))
+    pieces = []
+    at = 0
+    while at < len(text):
+        size = lot.randint(1, most)
+        pieces.append(text[at:at + size])
+        at += size
+    return pieces
+
+
+def feed(pipe, pieces):
+    """Writes the pieces one by one, small ones only when those before them are taken, until nobody takes them."""
+    if all(len(piece) <= PAGE for piece in pieces):
+        fcntl.fcntl(pipe, fcntl.F_SETPIPE_SZ, PAGE)
+    free = select.poll()
+    free.register(pipe, select.POLLOUT)
+    try:
+        for piece in pieces:
+            free.poll()
+            os.write(pipe, piece)
+    except BrokenPipeError:
+        pass
+
+
+def run(words, pieces, seconds):
+    """The exit status of a command with this input, and what was printed on standard output and on standard error."""
+    reader, pipe = os.pipe()
+    child = subprocess.Popen(words, stdin=reader, stdout=subprocess.PIPE, stderr=subprocess.PIPE)
+    os.close(reader)
+    limit = threading.Timer(seconds, child.kill)
+    limit.start()
+    try:
+        feed(pipe, pieces)
+    finally:
+        os.close(pipe)
+        report, errors = child.communicate()
+        limit.cancel()
+    if child.returncode == -signal.SIGKILL:
+        return None, b"", b"no end after %d seconds\n" % seconds
+    return child.returncode, report, errors
