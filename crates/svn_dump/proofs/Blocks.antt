@@ -34,7 +34,16 @@ with_line bytes line more rest old new header cut added before = record {
       ∙ append_assoc front (line_text line) more ∙ ap (λ text. front ++ text) (append_assoc line (10 ∷ []) more));
 }
 
-body_length-from_headers : (lines : List (List ℕ)) → body_length lines ≡ body_length_from_headers (fields_of lines)
+-- the same of bytes that go on
+abbrev pub BeginsWithLines-append : (bytes : List ℕ) (values : List (Option (List ℕ))) (rest more : List ℕ) → BeginsWithLines bytes values rest → BeginsWithLines (bytes ++ more) values (rest ++ more)
+BeginsWithLines-append bytes values rest more found = record {
+  lines = found.lines;
+  all = found.all;
+  fields = found.fields;
+  whole = ap (λ all. all ++ more) found.whole ∙ append_assoc (flat_map line_text found.lines) rest more;
+}
+
+pub body_length-from_headers : (lines : List (List ℕ)) → body_length lines ≡ body_length_from_headers (fields_of lines)
 unfolding body_length
 body_length-from_headers lines = refl
 
@@ -92,7 +101,7 @@ module _ (bytes : List ℕ) (values : List (Option (List ℕ))) (rest : List ℕ
       by_colon true has false is = ap₂ (λ a b. not a || not b) has is
       by_colon false has named is = ap (λ a. not a || not (is_not_empty (header_name line))) has
 
-  header_holds : (list_any is_no_header (header_lines bytes) || has_twice (header_lines bytes)) ≡ true → first_holding (front_refusals bytes) ≡ Some Header
+  pub header_holds : (list_any is_no_header (header_lines bytes) || has_twice (header_lines bytes)) ≡ true → first_holding (front_refusals bytes) ≡ Some Header
   unfolding first_holding
   header_holds holds = cond-true _ _ _ holds
 
@@ -123,7 +132,7 @@ module _ (bytes : List ℕ) (values : List (Option (List ℕ))) (rest : List ℕ
 
   -- no line follows
   module _ (last : header_lines rest ≡ []) where
-    lines_are_found : header_lines bytes ≡ found.lines
+    pub lines_are_found : header_lines bytes ≡ found.lines
     lines_are_found = header_lines-found ∙ ap (λ all. found.lines ++ all) last ∙ append-nil found.lines
 
     length_is : body_length (header_lines bytes) ≡ body_length_from_headers values

@@ -81,7 +81,7 @@ block_first block rest is =
     (lines_first block.lines (10 ∷ (block.body ++ rest)) is.some_line is.headers)
 
 -- bytes that begin with no newline have no empty lines in front
-without_empty_lines-none : (bytes : List ℕ) → begins_with_newline bytes ≡ false → without_empty_lines bytes ≡ bytes
+pub without_empty_lines-none : (bytes : List ℕ) → begins_with_newline bytes ≡ false → without_empty_lines bytes ≡ bytes
 without_empty_lines-none [] other = refl
 without_empty_lines-none (byte ∷ bytes) other = ap (λ b. cond b (without_empty_lines bytes) (byte ∷ bytes)) other
 
@@ -167,6 +167,32 @@ refusal_from-blocks (suc most) total history last rest (block ∷ blocks) are te
     refusal_from-at most total history rest (block_text block ++ next) (without_empty_lines-block empty block next rest is whole)
     ∙ refusal_at-block history after (block_text block ++ next) next block is refl told most total (IsSmall-before_blocks after blocks last later small)
     ∙ refusal_from-blocks most total after last next blocks more later some small (omega (arith, length-block (replicate empty 10) block next rest whole))
+
+-- after blocks that tell a small history, what stands against the bytes stands in what follows
+pub refusal_from-front :
+    (most total : ℕ) (history last : HistoryOfBytes) (rest more : List ℕ) (blocks : List Block) → AreBlocks rest blocks → fold told_by (Some history) blocks ≡ Some last →
+    IsSmall last → length rest + length more < most → (left : ℕ) × (length more < left) × (refusal_from most total history (rest ++ more) ≡ refusal_from left total last more)
+refusal_from-front zero total history last rest more blocks are tells small enough = absurd (omega arith)
+refusal_from-front (suc most) total history last rest more [] are tells small enough = (
+  suc most,
+  omega arith,
+  refusal_from-at most total history (rest ++ more) (without_empty_lines more) (ap (λ empty. without_empty_lines (empty ++ more)) are.1 ∙ without_empty_lines-skip are.0 more)
+      ∙ sym (refusal_from-at most total history more (without_empty_lines more) refl)
+      ∙ ap (λ told. refusal_from (suc most) total told more) (same_Some history last tells),
+)
+refusal_from-front (suc most) total history last rest more (block ∷ blocks) are tells small enough =
+    let (empty, next, is, whole, follow) = are in
+    let (after, told, later) = after_first_block (with_block history block) blocks last tells in
+    let from : rest ++ more ≡ replicate empty 10 ++ block_text block ++ (next ++ more) =
+    ap (λ all. all ++ more) whole ∙ append_assoc (replicate empty 10 ++ block_text block) next more in
+    let shorter = length-block (replicate empty 10) block next rest whole in
+    let (left, long, same) = refusal_from-front most total after last next more blocks follow later small (omega (arith, shorter)) in (
+      left,
+      long,
+      refusal_from-at most total history (rest ++ more) (block_text block ++ (next ++ more)) (without_empty_lines-block empty block (next ++ more) (rest ++ more) is from)
+          ∙ refusal_at-block history after (block_text block ++ (next ++ more)) (next ++ more) block is refl told most total (IsSmall-before_blocks after blocks last later small)
+          ∙ same,
+    )
 
 -- ---- and back
 

@@ -1,16 +1,23 @@
 mod Blocks
 mod Drafts
+mod Feeds
 mod Fields
 mod FirstLines
 mod FirstRefusals
 mod Fronts
 mod Mergeinfos
 mod Nodes
+mod PartialBodies
+mod PartialHeaders
+mod PartialLines
 mod Pieces
-mod Reading
+mod Readers
+mod Readings
 mod Refusals
 mod Sorts
 mod TextTables
+mod Undecided
+mod WholeBlocks
 pub mod Belows
 pub mod Entries
 pub mod Faults

@@ -61,6 +61,11 @@ abbrev pub IsBlockRefusal : HistoryOfBytes → List ℕ → ReadError → Type 0
 IsBlockRefusal history bytes (read.Refused refusal) = block_refusal history bytes ≡ Some refusal
 IsBlockRefusal history bytes read.Memory = Unit {0}
 
+-- the same of every input that begins with these bytes
+abbrev pub IsBlockRefusalFrom : HistoryOfBytes → List ℕ → ReadError → Type 0
+IsBlockRefusalFrom history bytes (read.Refused refusal) = (more : List ℕ) → block_refusal history (bytes ++ more) ≡ Some refusal
+IsBlockRefusalFrom history bytes read.Memory = Unit {0}
+
 -- the history of a dump that is being read gets a block of that sort
 abbrev pub AddsSort : DumpValue → BlockSort → DumpValue → Type 0
 AddsSort old sort new = with_sort (history_in_bytes old) sort ≡ Some (history_in_bytes new)

@@ -1,13 +1,13 @@
 -- What the values of the listed headers say, by their indices, with the property section: what a block says that has
 -- these.
-use Rattle.std.specs.Prelude.{ℕ, Bool, ◌||◌, List, [], ◌∷◌, Option, Some, None, slice_index_or, option_copied, option_map, option_and_then}
+use Rattle.std.specs.Prelude.{ℕ, Bool, ◌&&◌, ◌||◌, is_none, is_some, List, [], ◌∷◌, Option, Some, None, slice_index_or, option_copied, option_map, option_and_then}
 use Rattle.svn_dump.specs.Block.{length_or_zero, whole_length}
 use Rattle.svn_dump.specs.Field.{index_of}
 use Rattle.svn_dump.specs.History.{Setting, keep, put}
 use Rattle.svn_dump.specs.Node.{BlockSort, Node, NodeAction, action_named, addition, node_add, node_change, node_copy, node_delete, sort_by_fields}
 use Rattle.svn_dump.specs.Record.{says_true}
 use Rattle.svn_dump.specs.Property.{last_value, mergeinfo_name, section_of}
-use Rattle.svn_dump.specs.declared.block.FrontBlock.{FrontBlock}
+use Rattle.svn_dump.specs.declared.block.BlockFront.{BlockFront}
 use Rattle.svn_dump.specs.declared.mergeinfo.Mergeinfo.{Mergeinfo}
 use Rattle.svn_dump.specs.declared.mergeinfo.Mergeinfo.TheVariants as mergeinfo
 use Rattle.svn_dump.specs.declared.node_action.NodeAction.{NodeAction as ReadAction}
@@ -26,6 +26,10 @@ body_length_from_headers values =
     (λ text. whole_length properties text (value_of values field.ContentLength))
     (length_or_zero (value_of values field.TextLength)))
     (length_or_zero (value_of values field.PropertiesLength))
+
+-- those of a node's block
+abbrev pub are_of_node : List (Option (List ℕ)) → Bool
+are_of_node values = is_none (value_of values field.RevisionNumber) && is_some (value_of values field.NodePath)
 
 abbrev pub is_delta_from_headers : List (Option (List ℕ)) → Bool
 is_delta_from_headers values = says_true (value_of values field.PropertiesDelta) || says_true (value_of values field.TextDelta)
@@ -75,9 +79,9 @@ sort_from_headers values properties =
 
 -- ---- the block at the front of the bytes
 
-abbrev pub sort_of_front : FrontBlock → BlockSort
+abbrev pub sort_of_front : BlockFront → BlockSort
 sort_of_front front = sort_from_headers front.headers front.properties.now
 
 -- the node block, given the value of its `Node-path`
-abbrev pub node_of_front : FrontBlock → List ℕ → Node
+abbrev pub node_of_front : BlockFront → List ℕ → Node
 node_of_front front path = node_from_headers front.headers front.properties.now path

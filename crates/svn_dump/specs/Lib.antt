@@ -1,9 +1,11 @@
 pub mod Block
+pub mod Decided
 pub mod Draft
 pub mod Dump
 pub mod DumpError
 pub mod DumpText
 pub mod Fault
+pub mod Feed
 pub mod Field
 pub mod FirstRefusal
 pub mod FrontBlock
@@ -14,8 +16,12 @@ pub mod Line
 pub mod Location
 pub mod Node
 pub mod NumberedRecord
+pub mod PartialBody
+pub mod PartialHeader
+pub mod PartialLine
 pub mod Property
 pub mod ReadError
+pub mod Reader
 pub mod Record
 pub mod Refusal
 pub mod State

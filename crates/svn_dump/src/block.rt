@@ -1,8 +1,8 @@
 //! The blocks of a dump.
-ghost use Rattle.std.specs.Prelude.{◌≡◌, IsFalse, IsTrue, IfErr, IfOk, IfSome, MatchOption, Some, []};
-ghost use Rattle.svn_dump.specs.FirstRefusal.{IsEmptyLines, begins_with_newline, front_refusals, without_empty_lines};
+ghost use Rattle.std.specs.Prelude.{◌≡◌, IsFalse, IsTrue, IfErr, IfOk, IfSome, MatchOption};
+ghost use Rattle.svn_dump.specs.FirstRefusal.{IsEmptyLines, begins_with_newline, without_empty_lines};
 ghost use Rattle.svn_dump.specs.FrontBlock.{BeginsWithBlock, BeginsWithHeaders};
-ghost use Rattle.svn_dump.specs.Refusal.{first_holding};
+ghost use Rattle.svn_dump.specs.PartialHeader.{IsDecidedFront};
 ghost use Rattle.svn_text.specs.Bytes.{is_not_empty};
 
 use crate::headers::Headers;
@@ -10,14 +10,12 @@ use crate::length::lengths_of;
 use crate::line::{header_of, split_line};
 use crate::refusal::Refusal;
 
-/// A block at the front of the bytes.
+/// What is read of a block.
 #[derive(Drop)]
-pub(crate) struct FrontBlock<'a> {
+pub(crate) struct BlockFront<'a> {
     pub(crate) headers: Headers<'a>,
-    /// The property section at the front of the body, empty where there is none.
+    /// The property section at the front of the body, empty where there is none or it isn't read.
     pub(crate) properties: &'a [u8],
-    /// What follows the block.
-    pub(crate) rest: &'a [u8],
 }
 
 /// The bytes without the empty lines at their front, if there is more than these.
@@ -34,9 +32,9 @@ pub(crate) fn skip_empty_lines(bytes: &[u8]) -> Option<&[u8]>
 }
 
 /// The headers of a block, and what follows the empty line after them, if the bytes do not end before it.
-fn headers_of(bytes: &[u8]) -> Result<(Headers<'_>, Option<&[u8]>), Refusal>
+pub(crate) fn headers_of(bytes: &[u8]) -> Result<(Headers<'_>, Option<&[u8]>), Refusal>
     ensures headers { IfOk result (λ found. BeginsWithHeaders bytes.now found.0 found.1) }
-    ensures refused { IfErr result (λ refusal. first_holding (front_refusals bytes.now) ≡ Some refusal) }
+    ensures refused { IfErr result (IsDecidedFront bytes.now) }
 {
     let mut headers = Headers::new();
     let mut rest = bytes;
@@ -53,28 +51,32 @@ fn headers_of(bytes: &[u8]) -> Result<(Headers<'_>, Option<&[u8]>), Refusal>
     Ok((headers, None))
 }
 
-/// The block that the bytes begin with. The text of its body is skipped.
-pub(crate) fn first_block(bytes: &[u8]) -> Result<FrontBlock<'_>, Refusal>
+/// The block that the bytes begin with, and what follows it, or `None` where the bytes end in it. The text of its body is
+/// skipped.
+pub(crate) fn first_block(bytes: &[u8]) -> Result<Option<(BlockFront<'_>, &[u8])>, Refusal>
     requires some { IsTrue (is_not_empty bytes.now) }
     requires not_empty_line { IsFalse (begins_with_newline bytes.now) }
-    ensures found { IfOk result
-        (λ found. BeginsWithBlock bytes.now found.headers found.properties.now found.rest.now) }
-    ensures refused { IfErr result (λ refusal. first_holding (front_refusals bytes.now) ≡ Some refusal) }
+    ensures found { IfOk result (λ found. IfSome found
+        (λ parts. BeginsWithBlock bytes.now parts.0.headers parts.0.properties.now parts.1.now)) }
+    ensures refused { IfErr result (IsDecidedFront bytes.now) }
 {
     let (headers, rest) = headers_of(bytes)?;
+    let Some(rest) = rest else {
+        return Ok(None);
+    };
     let Some((section, whole)) = lengths_of(&headers) else {
         return Err(Refusal::Length);
     };
-    match rest {
-        Some(rest) if whole <= rest.len() as u64 => {
-            let (body, rest) = rest.split_at(whole as usize);
-            let (properties, _) = body.split_at(section as usize);
-            Ok(FrontBlock {
-                headers,
-                properties,
-                rest,
-            })
-        }
-        _ => Err(Refusal::Truncated),
+    if whole > rest.len() as u64 {
+        return Ok(None);
     }
+    let (body, rest) = rest.split_at(whole as usize);
+    let (properties, _) = body.split_at(section as usize);
+    Ok(Some((
+        BlockFront {
+            headers,
+            properties,
+        },
+        rest,
+    )))
 }

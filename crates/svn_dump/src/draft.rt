@@ -8,7 +8,7 @@ ghost use Rattle.svn_dump.specs.Node.{node_block, revision_block};
 ghost use Rattle.svn_dump.specs.FrontBlock.{AddsSort, IsSortRefusal};
 ghost use Rattle.svn_dump.specs.HeaderValues.{node_of_front, sort_of_front};
 
-use crate::block::FrontBlock;
+use crate::block::BlockFront;
 use crate::dump::Dump;
 use crate::error::DumpError;
 use crate::field::Field;
@@ -60,7 +60,7 @@ impl Draft {
     }
 
     /// Adds what a block says.
-    pub(crate) fn add(&mut self, alloc: Global, found: &FrontBlock) -> Result<(), ReadError>
+    pub(crate) fn add(&mut self, alloc: Global, found: &BlockFront) -> Result<(), ReadError>
         ensures added { OnOk result (AddsSort self.old (sort_of_front found.now) self.new) }
         ensures keeps { OnOk result (IsWholeHistory self.old → IsWholeHistory self.new) }
         ensures refused { IfErr result (IsSortRefusal self.old (sort_of_front found.now)) }
@@ -97,7 +97,7 @@ impl Draft {
     fn add_record(
         &mut self,
         alloc: Global,
-        found: &FrontBlock,
+        found: &BlockFront,
         path: &[u8],
     ) -> Result<(), ReadError>
         ensures added { OnOk result (AddsSort self.old (node_block (node_of_front found.now path.now)) self.new) }

@@ -1,7 +1,7 @@
 //! The values of a block's headers.
 ghost use Rattle.std.specs.Prelude.{◌≡◌, [], option_copied, IfErr, OnOk, OnErr};
 ghost use Rattle.svn_dump.specs.Headers.{AddsHeader, AreHeaders, RepeatsHeader};
-ghost use Rattle.svn_dump.specs.HeaderValues.{value_of};
+ghost use Rattle.svn_dump.specs.HeaderValues.{are_of_node, value_of};
 ghost use Rattle.svn_dump.specs.declared.refusal.Refusal.TheVariants.{Header};
 
 use crate::field::Field;
@@ -30,11 +30,27 @@ impl<'a> Headers<'a> {
         Headers { values: [None; 12] }
     }
 
+    /// The same values.
+    pub(crate) fn dup(&self) -> Self
+        ensures { result ≡ self.now }
+    {
+        Headers {
+            values: self.values,
+        }
+    }
+
     /// The value of a header.
     pub(crate) fn get(&self, field: Field) -> Option<&'a [u8]>
         ensures { option_copied result ≡ value_of self.now field }
     {
         self.values[field.index()]
+    }
+
+    /// Whether they are those of a node's block.
+    pub(crate) fn are_of_node(&self) -> bool
+        ensures { result ≡ are_of_node self.now }
+    {
+        self.get(Field::RevisionNumber).is_none() && self.get(Field::NodePath).is_some()
     }
 
     /// Adds a header line. Lines of other names are ignored, and a second one of a listed name is refused.

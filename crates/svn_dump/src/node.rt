@@ -9,7 +9,7 @@ ghost use Rattle.svn_dump.specs.Refusal.{action_refusals, first_holding};
 ghost use Rattle.svn_dump.specs.HeaderValues.{node_action_view, is_delta_from_headers, node_of_front};
 ghost use Rattle.svn_dump.specs.NumberedRecord.{IsAcceptedAs, IsActOfNode, IsFirstAtAnySize, IsFirstReason, IsNumberedPath, IsRecordOfNode, IsTooLarge, has_long_source, is_act_large, is_path_large, record_refusals, texts_of_node};
 
-use crate::block::FrontBlock;
+use crate::block::BlockFront;
 use crate::field::Field;
 use crate::headers::Headers;
 use crate::mergeinfo::Mergeinfo;
@@ -66,7 +66,7 @@ fn has_dot_in_paths(path: &[u8], action: NodeAction) -> bool
 }
 
 /// The first reason against what a node block of a revision does.
-fn refusal_of(rev: u32, found: &FrontBlock, path: &[u8], action: NodeAction) -> Option<Refusal>
+fn refusal_of(rev: u32, found: &BlockFront, path: &[u8], action: NodeAction) -> Option<Refusal>
     ensures { result ≡ first_holding
         (action_refusals rev (node_of_front found.now path.now) (node_action_view action.entry)) }
 {
@@ -143,7 +143,7 @@ fn act_of(
 /// block can be its size.
 fn judge<'a>(
     revisions: u32,
-    found: &FrontBlock<'a>,
+    found: &BlockFront<'a>,
     path: &[u8],
 ) -> Result<(u32, NodeAction<'a>, Mergeinfo<'a>), Refusal>
     ensures ok { IfOk result (λ read. IsAcceptedAs revisions (node_of_front found.now path.now) read.0 read.1 read.2) }
@@ -168,7 +168,7 @@ pub(crate) fn record_of(
     names: &mut Names,
     texts: &mut Texts,
     revisions: u32,
-    found: &FrontBlock,
+    found: &BlockFront,
     path: &[u8],
 ) -> Result<NodeRecord, ReadError>
     ensures record { IfOk result

@@ -1,86 +1,254 @@
-//! Reading a dump.
-ghost use Rattle.std.specs.Prelude.{◌≡◌, ◌++◌, ◌↔◌, None, IsFalse, IsTrue, IfErr, IfOk, IsErrOf, OnOk, Some};
-ghost use Rattle.svn_text.specs.Bytes.{is_not_empty};
+//! What is kept of a dump that is read in pieces.
+ghost use Rattle.std.specs.Prelude.{◌≡◌, ◌<◌, ◌≤◌, ◌++◌, ◌∷◌, ℕ, List, [], length, IfErr, IfOk, IfSome, IsErrOf, OnOk};
+ghost use Rattle.svn_dump.specs.Decided.{IsDecidedError};
 ghost use Rattle.svn_dump.specs.Draft.{IsWholeHistory};
 ghost use Rattle.svn_dump.specs.Dump.{history_in_bytes};
-ghost use Rattle.svn_dump.specs.DumpText.{IsDumpText, first_line, names_of, values_of};
 ghost use Rattle.svn_dump.specs.DumpError.{IsRefusal};
-ghost use Rattle.svn_dump.specs.FirstRefusal.{begins_with_newline, first_refusal, line_refusals};
-ghost use Rattle.svn_dump.specs.FrontBlock.{AddsBlockTo, IsBlockRefusal};
-ghost use Rattle.svn_dump.specs.Property.{SectionsAreExact};
-ghost use Rattle.svn_dump.specs.Record.{HistoryOfBytes};
-ghost use Rattle.svn_dump.specs.Refusal.{first_holding};
-ghost use Rattle.svn_dump.specs.declared.error.DumpError.{DumpError};
+ghost use Rattle.svn_dump.specs.DumpText.{IsDumpText, names_of, values_of};
+ghost use Rattle.svn_dump.specs.FrontBlock.{AddsBlockTo, IsBlockRefusalFrom};
+ghost use Rattle.svn_dump.specs.ReadError.{dump_error_at};
+ghost use Rattle.svn_dump.specs.Reader.{BeginsBlock, HasReadAll, IsBodyTo, IsInBody, IsInLine, IsReadAs, IsReadTo, ReadsPart};
+ghost use Rattle.svn_dump.specs.declared.reader.Part.TheVariants.{Blocks};
 
-use crate::block::{first_block, skip_empty_lines};
+use crate::block::{BlockFront, first_block, headers_of, skip_empty_lines};
 use crate::draft::Draft;
 use crate::dump::Dump;
 use crate::error::DumpError;
-use crate::line::split_line;
+use crate::partial_body::PartialBody;
+use crate::partial_header::PartialHeader;
+use crate::partial_line::PartialLine;
 use crate::read_error::ReadError;
 use crate::refusal::Refusal;
 use std::alloc::Global;
+use std::mem::replace;
 
-/// The dump that the bytes are. Nothing is copied but names and mergeinfo texts.
-///
-/// A refusal has the number of the first reason against the first faulty block, and the offset of that block; where
-/// there is no revision, it has the length of the input.
-pub fn read(alloc: Global, bytes: &[u8]) -> Result<Dump, DumpError>
-    // The bytes are a dump exactly where there is no reason against them, and then of one history.
-    ensures exactly { (first_refusal bytes.now ≡ None)
-        ↔ ((history : HistoryOfBytes) × IsDumpText bytes.now history) }
-    ensures one { (a b : HistoryOfBytes) → IsDumpText bytes.now a → IsDumpText bytes.now b → a ≡ b }
+/// Where the next byte belongs.
+#[derive(Drop)]
+pub(crate) enum Part {
+    /// The first line.
+    Line(PartialLine),
+    /// Before a block.
+    Blocks,
+    /// The header of a block.
+    Header(PartialHeader),
+    /// The body of a block with this header.
+    Body(PartialHeader, PartialBody),
+}
 
-    // A property section is read as its form says.
-    ensures sections { SectionsAreExact }
+/// The records so far, and the part of the dump that has begun and not ended.
+#[derive(Drop)]
+pub(crate) struct Reader {
+    pub(crate) alloc: Global,
+    pub(crate) draft: Draft,
+    pub(crate) part: Part,
+    /// The offset at which the block in progress begins.
+    pub(crate) at: u64,
+}
 
-    ensures ok { IfOk result (λ dump. IsDumpText bytes.now (history_in_bytes dump)) }
-    ensures names { IfOk result (λ dump. dump.names ≡ names_of (history_in_bytes dump)) }
-    ensures values { IfOk result (λ dump. dump.values ≡ values_of (history_in_bytes dump)) }
-    ensures refused { IfErr result (IsRefusal bytes.now) }
+impl Reader {
+    /// A reader of a dump of which nothing has come. It takes no memory.
+    pub(crate) fn new(alloc: Global) -> Self
+        ensures read { HasReadAll result [] }
+        ensures whole { IsWholeHistory result.draft }
+    {
+        Reader {
+            alloc,
+            draft: Draft::new(alloc),
+            part: Part::Line(PartialLine::Front(0)),
+            at: 0,
+        }
+    }
 
-    // A faulty first line is reported without taking any memory.
-    ensures memory { IsErrOf result DumpError.Memory → first_holding (line_refusals bytes.now) ≡ None }
-{
-    let mut rest = match after_first_line(bytes) {
-        Ok(rest) => rest,
-        Err(refusal) => return Err(ReadError::Refused(refusal).at(0)),
-    };
-    let mut draft = Draft::new(alloc);
-    while let Some(block) = skip_empty_lines(rest) {
-        rest = match add_block(alloc, &mut draft, block) {
-            Ok(rest) => rest,
-            Err(e) => return Err(e.at((bytes.len() - block.len()) as u64)),
+    /// Reads a piece that ends at this offset.
+    pub(crate) fn read(&mut self, end: u64, piece: &[u8]) -> Result<(), ReadError>
+        requires { length piece.now ≤ end }
+        ensures ok { OnOk result ((bytes : List ℕ) → HasReadAll self.old bytes → end ≡ length (bytes ++ piece.now)
+            → HasReadAll self.new (bytes ++ piece.now)) }
+        ensures keeps { OnOk result (IsWholeHistory self.old.draft → IsWholeHistory self.new.draft) }
+        ensures refused { IfErr result (λ e. (bytes : List ℕ) → HasReadAll self.old bytes
+            → end ≡ length (bytes ++ piece.now) → IsDecidedError (bytes ++ piece.now) (dump_error_at self.new.at e)) }
+    {
+        let Some(mut rest) = self.end_part(piece)? else {
+            return Ok(());
         };
+        while let Some(block) = skip_empty_lines(rest) {
+            self.at = end - block.len() as u64;
+            let Some(after) = self.read_block(block)? else {
+                return Ok(());
+            };
+            rest = after;
+        }
+        Ok(())
     }
-    draft.finish(bytes.len() as u64)
-}
 
-/// What follows the first line of a dump.
-fn after_first_line(bytes: &[u8]) -> Result<&[u8], Refusal>
-    ensures ok { IfOk result (λ rest. bytes.now ≡ first_line ++ rest.now) }
-    ensures refused { IfErr result (λ refusal. first_holding (line_refusals bytes.now) ≡ Some refusal) }
-{
-    let Some(rest) = bytes.strip_prefix(b"SVN-fs-dump-format-version: ") else {
-        return Err(Refusal::Magic);
-    };
-    match split_line(rest) {
-        None => Err(Refusal::Truncated),
-        Some((version, rest)) if version == b"2".as_slice() => Ok(rest),
-        Some(_) => Err(Refusal::Version),
+    /// Goes on with the part in progress, and answers what follows it, or `None` where the piece ends in it.
+    fn end_part<'p>(&mut self, piece: &'p [u8]) -> Result<Option<&'p [u8]>, ReadError>
+        ensures ok { IfOk result (λ left. (bytes : List ℕ) → HasReadAll self.old bytes
+            → ReadsPart self.new bytes piece.now left) }
+        ensures within { IfOk result (λ left. IfSome left (λ rest. length rest.now ≤ length piece.now)) }
+        ensures part { IfOk result (λ left. IfSome left (λ rest. self.new.part ≡ Blocks)) }
+        ensures keeps { OnOk result (IsWholeHistory self.old.draft → IsWholeHistory self.new.draft) }
+        ensures refused { IfErr result (λ e. (bytes : List ℕ) → HasReadAll self.old bytes
+            → IsDecidedError (bytes ++ piece.now) (dump_error_at self.new.at e)) }
+    {
+        match replace(&mut self.part, Part::Blocks) {
+            Part::Blocks => Ok(Some(piece)),
+            Part::Line(line) => self.read_line(line, piece),
+            Part::Header(header) => self.read_header(header, piece),
+            Part::Body(header, body) => self.read_body(header, body, piece),
+        }
     }
-}
 
-/// Adds the block that the bytes begin with, and answers what follows it.
-fn add_block<'a>(alloc: Global, draft: &mut Draft, bytes: &'a [u8]) -> Result<&'a [u8], ReadError>
-    requires some { IsTrue (is_not_empty bytes.now) }
-    requires not_empty_line { IsFalse (begins_with_newline bytes.now) }
-    ensures added { IfOk result (λ rest. AddsBlockTo draft.old draft.new bytes.now rest.now) }
-    ensures keeps { OnOk result (IsWholeHistory draft.old → IsWholeHistory draft.new) }
-    ensures refused { IfErr result
-        (λ e. IsWholeHistory draft.old → IsBlockRefusal (history_in_bytes draft.old) bytes.now e) }
-{
-    let found = first_block(bytes)?;
-    draft.add(alloc, &found)?;
-    Ok(found.rest)
+    /// Goes on with the first line.
+    fn read_line<'p>(
+        &mut self,
+        line: PartialLine,
+        piece: &'p [u8],
+    ) -> Result<Option<&'p [u8]>, ReadError>
+        requires { self.old.part ≡ Blocks }
+        ensures ok { IfOk result (λ left. (bytes : List ℕ) → IsInLine self.old line bytes
+            → ReadsPart self.new bytes piece.now left) }
+        ensures within { IfOk result (λ left. IfSome left (λ rest. length rest.now ≤ length piece.now)) }
+        ensures part { IfOk result (λ left. IfSome left (λ rest. self.new.part ≡ Blocks)) }
+        ensures keeps { OnOk result (IsWholeHistory self.old.draft → IsWholeHistory self.new.draft) }
+        ensures refused { IfErr result (λ e. (bytes : List ℕ) → IsInLine self.old line bytes
+            → IsDecidedError (bytes ++ piece.now) (dump_error_at self.new.at e)) }
+    {
+        let mut line = line;
+        match line.extend(piece)? {
+            None => {
+                self.part = Part::Line(line);
+                Ok(None)
+            }
+            Some(rest) => Ok(Some(rest)),
+        }
+    }
+
+    /// Reads a block that begins here. A whole one is read where it lies.
+    fn read_block<'p>(&mut self, block: &'p [u8]) -> Result<Option<&'p [u8]>, ReadError>
+        requires part { self.old.part ≡ Blocks }
+        requires begins { BeginsBlock block.now }
+        ensures ok { IfOk result (λ left. (bytes : List ℕ) → IsReadAs bytes self.old.draft → self.old.at ≡ length bytes
+            → ReadsPart self.new bytes block.now left) }
+        ensures within { IfOk result (λ left. IfSome left (λ rest. length rest.now < length block.now)) }
+        ensures part { IfOk result (λ left. IfSome left (λ rest. self.new.part ≡ Blocks)) }
+        ensures keeps { OnOk result (IsWholeHistory self.old.draft → IsWholeHistory self.new.draft) }
+        ensures refused { IfErr result (λ e. (bytes : List ℕ) → IsReadAs bytes self.old.draft
+            → self.old.at ≡ length bytes → IsDecidedError (bytes ++ block.now) (dump_error_at self.new.at e)) }
+    {
+        match first_block(block)? {
+            None => self.read_header(PartialHeader::new(self.alloc), block),
+            Some((found, rest)) => {
+                self.draft.add(self.alloc, &found)?;
+                Ok(Some(rest))
+            }
+        }
+    }
+
+    /// Goes on with a header.
+    fn read_header<'p>(
+        &mut self,
+        header: PartialHeader,
+        piece: &'p [u8],
+    ) -> Result<Option<&'p [u8]>, ReadError>
+        requires { self.old.part ≡ Blocks }
+        ensures ok { IfOk result (λ left. (bytes : List ℕ) → IsReadTo bytes self.old.draft self.old.at header
+            → BeginsBlock (header ++ piece.now) → ReadsPart self.new bytes piece.now left) }
+        ensures within { IfOk result (λ left. IfSome left (λ rest. length rest.now < length piece.now)) }
+        ensures part { IfOk result (λ left. IfSome left (λ rest. self.new.part ≡ Blocks)) }
+        ensures keeps { OnOk result (IsWholeHistory self.old.draft → IsWholeHistory self.new.draft) }
+        ensures refused { IfErr result (λ e. (bytes : List ℕ) → IsReadTo bytes self.old.draft self.old.at header
+            → BeginsBlock (header ++ piece.now) → IsDecidedError (bytes ++ piece.now) (dump_error_at self.new.at e)) }
+    {
+        let mut header = header;
+        match header.extend(piece)? {
+            None => {
+                self.part = Part::Header(header);
+                Ok(None)
+            }
+            Some(rest) => {
+                let body = header.body(self.alloc)?;
+                self.read_body(header, body, rest)
+            }
+        }
+    }
+
+    /// Goes on with the body of a block with this header.
+    fn read_body<'p>(
+        &mut self,
+        header: PartialHeader,
+        body: PartialBody,
+        piece: &'p [u8],
+    ) -> Result<Option<&'p [u8]>, ReadError>
+        requires { self.old.part ≡ Blocks }
+        ensures ok { IfOk result (λ left. (bytes : List ℕ) → IsInBody self.old header body bytes
+            → ReadsPart self.new bytes piece.now left) }
+        ensures within { IfOk result (λ left. IfSome left (λ rest. length rest.now ≤ length piece.now)) }
+        ensures part { IfOk result (λ left. IfSome left (λ rest. self.new.part ≡ Blocks)) }
+        ensures keeps { OnOk result (IsWholeHistory self.old.draft → IsWholeHistory self.new.draft) }
+        ensures refused { IfErr result (λ e. (bytes : List ℕ) → IsInBody self.old header body bytes
+            → IsDecidedError (bytes ++ piece.now) (dump_error_at self.new.at e)) }
+    {
+        let mut body = body;
+        match body.extend(piece)? {
+            None => {
+                self.part = Part::Body(header, body);
+                Ok(None)
+            }
+            Some(rest) => {
+                self.add_block(&header, &body)?;
+                Ok(Some(rest))
+            }
+        }
+    }
+
+    /// Adds a block whose last byte has come.
+    fn add_block(&mut self, header: &PartialHeader, body: &PartialBody) -> Result<(), ReadError>
+        ensures part { self.new.part ≡ self.old.part }
+        ensures at { self.new.at ≡ self.old.at }
+        ensures added { OnOk result ((come : List ℕ) → IsBodyTo header.now body.now come → body.now.left ≡ 0
+            → BeginsBlock header.now → AddsBlockTo self.old.draft self.new.draft (header.now ++ 10 ∷ come) []) }
+        ensures keeps { OnOk result (IsWholeHistory self.old.draft → IsWholeHistory self.new.draft) }
+        ensures refused { IfErr result (λ e. (come : List ℕ) → IsBodyTo header.now body.now come → body.now.left ≡ 0
+            → BeginsBlock header.now → IsWholeHistory self.old.draft
+            → IsBlockRefusalFrom (history_in_bytes self.old.draft) (header.now ++ 10 ∷ come) e) }
+    {
+        let (headers, _) = headers_of(header.bytes())?;
+        let properties = body.section.as_slice();
+        self.draft.add(
+            self.alloc,
+            &BlockFront {
+                headers,
+                properties,
+            },
+        )?;
+        Ok(())
+    }
+
+    /// The dump of so many bytes, where it ends here.
+    pub(crate) fn finish(self, end: u64) -> Result<Dump, DumpError>
+        requires { IsWholeHistory self.draft }
+        ensures ok { IfOk result (λ dump. (bytes : List ℕ) → HasReadAll self bytes
+            → IsDumpText bytes (history_in_bytes dump)) }
+        ensures names { IfOk result (λ dump. (bytes : List ℕ) → HasReadAll self bytes
+            → dump.names ≡ names_of (history_in_bytes dump)) }
+        ensures values { IfOk result (λ dump. (bytes : List ℕ) → HasReadAll self bytes
+            → dump.values ≡ values_of (history_in_bytes dump)) }
+        ensures refused { IfErr result (λ e. (bytes : List ℕ) → HasReadAll self bytes → end ≡ length bytes
+            → IsRefusal bytes e) }
+        ensures memory { IsErrOf result DumpError.Memory → ⊥ }
+    {
+        let Reader {
+            alloc: _,
+            draft,
+            part,
+            at,
+        } = self;
+        match part {
+            Part::Blocks => draft.finish(end),
+            Part::Line(line) => Err(ReadError::Refused(line.refusal()).at(0)),
+            Part::Header(header) => Err(ReadError::Refused(header.refusal()).at(at)),
+            Part::Body(..) => Err(ReadError::Refused(Refusal::Truncated).at(at)),
+        }
+    }
 }

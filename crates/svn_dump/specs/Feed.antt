@@ -1,0 +1,21 @@
+-- A reader of a dump that comes in pieces, as its calls show it.
+use Rattle.std.specs.Prelude.{◌≡◌, ℕ, List, Option, None, Some, length}
+use Rattle.svn_dump.specs.Decided.{IsDecidedError}
+use Rattle.svn_dump.specs.Reader.{HasReadAll}
+use Rattle.svn_dump.specs.declared.error.DumpError.{DumpError}
+use Rattle.svn_dump.specs.declared.reader.Reader.{Reader}
+
+-- what it keeps, how many bytes have come, and the error that it answered, if it did
+pub record FeedValue : Type 0 where
+  pub reader : Reader
+  pub count : ℕ
+  pub refusal : Option DumpError
+
+abbrev pub HasReadOrRefused : Reader → Option DumpError → List ℕ → Type 0
+HasReadOrRefused reader None bytes = HasReadAll reader bytes
+HasReadOrRefused reader (Some error) bytes = IsDecidedError bytes error
+
+-- these bytes have come to it, in whatever pieces
+pub record HasRead (feed : FeedValue) (bytes : List ℕ) : Type 0 where
+  pub counted : feed.count ≡ length bytes
+  pub read : HasReadOrRefused feed.reader feed.refusal bytes

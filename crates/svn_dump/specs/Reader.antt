@@ -1,0 +1,83 @@
+-- A dump that is read in pieces: what its reader keeps of the bytes that have come.
+use Rattle.std.specs.Prelude.{◌≡◌, ◌≢◌, ℕ, ◌<◌, List, [], ◌∷◌, ◌++◌, Option, None, Some, IsFalse, IsTrue, length}
+use Rattle.std.specs.Borrow.{Bor}
+use Rattle.svn_text.specs.Bytes.{is_not_empty}
+use Rattle.svn_dump.specs.Block.{AreBlocks, Block, body_length, properties_length}
+use Rattle.svn_dump.specs.Decided.{IsDecidedError}
+use Rattle.svn_dump.specs.Draft.{IsWholeHistory, dump_of}
+use Rattle.svn_dump.specs.Dump.{DumpValue, history_in_bytes}
+use Rattle.svn_dump.specs.DumpText.{first_line}
+use Rattle.svn_dump.specs.FirstRefusal.{begins_with_newline, header_lines}
+use Rattle.svn_dump.specs.PartialBody.{IsPartialBody}
+use Rattle.svn_dump.specs.PartialHeader.{AreHeaderLines, IsHeaderFront, is_node}
+use Rattle.svn_dump.specs.PartialLine.{IsPartialLine}
+use Rattle.svn_dump.specs.Record.{history_of}
+use Rattle.svn_dump.specs.declared.partial_body.PartialBody.{PartialBody}
+use Rattle.svn_dump.specs.declared.partial_line.PartialLine.{PartialLine}
+use Rattle.svn_dump.specs.declared.reader.Part.{Part}
+use Rattle.svn_dump.specs.declared.reader.Part.TheVariants as part
+use Rattle.svn_dump.specs.declared.reader.Reader.{Reader}
+
+-- the bytes are a first line and whole blocks, with empty lines beside them, which tell the history of this dump
+pub record IsReadAs (bytes : List ℕ) (draft : DumpValue) : Type 0 where
+  pub rest : List ℕ
+  pub blocks : List Block
+  pub begins : bytes ≡ first_line ++ rest
+  pub follows : AreBlocks rest blocks
+  pub tells : history_of blocks ≡ Some (history_in_bytes draft)
+  pub whole : IsWholeHistory draft
+
+-- the bytes begin a block
+pub record BeginsBlock (bytes : List ℕ) : Type 0 where
+  pub some : IsTrue (is_not_empty bytes)
+  pub not_empty_line : IsFalse (begins_with_newline bytes)
+
+-- the bytes are read up to a block that begins there, of which so much has come
+pub record IsReadTo (bytes : List ℕ) (draft : DumpValue) (at : ℕ) (block : List ℕ) : Type 0 where
+  pub front : List ℕ
+  pub whole : bytes ≡ front ++ block
+  pub read : IsReadAs front draft
+  pub begins : at ≡ length front
+
+-- so much of the body has come
+pub record IsBodyTo (header : List ℕ) (body : PartialBody) (come : List ℕ) : Type 0 where
+  pub lines : AreHeaderLines header
+  pub section : ℕ
+  pub whole : ℕ
+  pub long : body_length (header_lines header) ≡ Some whole
+  pub kept : IsTrue (is_node (header_lines header)) → properties_length (header_lines header) ≡ Some section
+  pub so_far : IsPartialBody body section whole come
+
+-- ---- by the part in progress
+
+pub record IsInLine (reader : Reader) (line : PartialLine) (bytes : List ℕ) : Type 0 where
+  pub so_far : IsPartialLine line bytes
+  pub draft : reader.draft ≡ dump_of [] [] [] []
+  pub at : reader.at ≡ 0
+
+pub record IsInHeader (reader : Reader) (header bytes : List ℕ) : Type 0 where
+  pub read : IsReadTo bytes reader.draft reader.at header
+  pub some : BeginsBlock header
+  pub front : IsHeaderFront header
+
+pub record IsInBody (reader : Reader) (header : List ℕ) (body : PartialBody) (bytes : List ℕ) : Type 0 where
+  pub come : List ℕ
+  pub read : IsReadTo bytes reader.draft reader.at (header ++ 10 ∷ come)
+  pub some : BeginsBlock header
+  pub so_far : IsBodyTo header body come
+
+abbrev pub IsIn : Part → Reader → List ℕ → Type 0
+IsIn (part.Line line) reader bytes = IsInLine reader line bytes
+IsIn part.Blocks reader bytes = IsReadAs bytes reader.draft
+IsIn (part.Header header) reader bytes = IsInHeader reader header bytes
+IsIn (part.Body header body) reader bytes = IsInBody reader header body bytes × (0 < body.left)
+
+-- the reader has read these bytes
+abbrev pub HasReadAll : Reader → List ℕ → Type 0
+HasReadAll reader bytes = IsIn reader.part reader bytes
+
+-- a piece that follows these bytes ends in a part of the dump, or in one that ends before the rest
+abbrev pub ReadsPart : Reader → List ℕ → List ℕ → Option (Bor (List ℕ)) → Type 0
+ReadsPart new bytes piece None = HasReadAll new (bytes ++ piece)
+ReadsPart new bytes piece (Some rest) =
+    (last : List ℕ) × (piece ≡ last ++ rest.now) × IsReadAs (bytes ++ last) new.draft

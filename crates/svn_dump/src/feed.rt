@@ -1,0 +1,114 @@
+//! A dump that comes in pieces.
+ghost use Rattle.std.specs.Prelude.{◌≡◌, ◌+◌, ◌<◌, ◌^◌, ◌++◌, ⊤, ℕ, List, [], None, Some, length, IfErr, IfOk, IsErrOf, MatchOption, OnOk};
+ghost use Rattle.svn_dump.specs.Decided.{IsDecidedError, IsUndecided};
+ghost use Rattle.svn_dump.specs.Dump.{history_in_bytes};
+ghost use Rattle.svn_dump.specs.DumpError.{IsRefusal};
+ghost use Rattle.svn_dump.specs.DumpText.{IsDumpText, names_of, values_of};
+ghost use Rattle.svn_dump.specs.Feed.{HasRead};
+ghost use Rattle.svn_dump.specs.declared.error.DumpError.{DumpError};
+
+use crate::dump::Dump;
+use crate::error::DumpError;
+use crate::reader::Reader;
+use std::alloc::Global;
+use std::marker::Model;
+
+/// A reader of a dump that comes in pieces.
+///
+/// It keeps the records so far, the header of a block that has begun, and, of a node's block, its property section. It
+/// keeps no text, and nothing of the body of another block; room is taken for bytes that have come, never for a length
+/// that a header claims.
+#[derive(Drop)]
+pub struct Feed {
+    reader: Reader,
+    /// How many bytes have come.
+    count: u64,
+    /// The error that was answered.
+    refusal: Option<DumpError>,
+}
+
+impl Model for Feed {
+    ghost use Rattle.svn_dump.specs.Feed.{FeedValue};
+    ghost use Rattle.std.specs.Prelude.{MatchOption, ⊤};
+    ghost use Rattle.svn_dump.specs.Draft.{IsWholeHistory};
+
+    ghost Value = { FeedValue };
+
+    ghost view = { λ f. record { reader = f.reader; count = f.count; refusal = f.refusal } };
+
+    ghost invariant = { λ f. MatchOption f.refusal (IsWholeHistory f.reader.draft) (λ _. ⊤) };
+}
+
+impl Feed {
+    /// A reader to which nothing has come. It takes no memory.
+    pub fn new(alloc: Global) -> Self
+        ensures read { HasRead result [] }
+        ensures count { result.count ≡ 0 }
+        ensures refusal { result.refusal ≡ None }
+    {
+        Feed {
+            reader: Reader::new(alloc),
+            count: 0,
+            refusal: None,
+        }
+    }
+
+    /// Reads the next bytes of the dump, of which there may be any number, also none.
+    ///
+    /// A refusal comes with the first byte that decides it: the first byte that differs from the first line's name, the
+    /// newline of a first line with another version, the newline of a faulty header line, the empty line after a header
+    /// with faulty lengths, and the last byte of a block for all else. After an error the same error is answered from
+    /// then on.
+    pub fn feed(&mut self, bytes: &[u8]) -> Result<(), DumpError>
+        requires few { self.old.count + length bytes.now < 2 ^ 64 }
+        ensures read { (before : List ℕ) → HasRead self.old before → HasRead self.new (before ++ bytes.now) }
+        ensures count { self.new.count ≡ self.old.count + length bytes.now }
+
+        // No refusal is decided by the bytes that have come, or this one is.
+        ensures undecided { OnOk result
+            ((before : List ℕ) → HasRead self.old before → IsUndecided (before ++ bytes.now)) }
+        ensures decided { IfErr result
+            (λ error. (before : List ℕ) → HasRead self.old before → IsDecidedError (before ++ bytes.now) error) }
+
+        // An error is answered from then on.
+        ensures ok { OnOk result (self.new.refusal ≡ None) }
+        ensures kept { IfErr result (λ error. self.new.refusal ≡ Some error) }
+        ensures again { MatchOption self.old.refusal ⊤ (λ error. self.new.refusal ≡ Some error) }
+    {
+        self.count += bytes.len() as u64;
+        if let Some(error) = self.refusal {
+            return Err(error);
+        }
+        match self.reader.read(self.count, bytes) {
+            Ok(()) => Ok(()),
+            Err(error) => {
+                let error = error.at(self.reader.at);
+                self.refusal = Some(error);
+                Err(error)
+            }
+        }
+    }
+
+    /// The dump that all bytes are which have come, as `read` answers it.
+    pub fn finish(self) -> Result<Dump, DumpError>
+        ensures ok { IfOk result (λ dump. (bytes : List ℕ) → HasRead self bytes
+            → IsDumpText bytes (history_in_bytes dump)) }
+        ensures names { IfOk result (λ dump. (bytes : List ℕ) → HasRead self bytes
+            → dump.names ≡ names_of (history_in_bytes dump)) }
+        ensures values { IfOk result (λ dump. (bytes : List ℕ) → HasRead self bytes
+            → dump.values ≡ values_of (history_in_bytes dump)) }
+        ensures refused { IfErr result (λ error. (bytes : List ℕ) → HasRead self bytes → IsRefusal bytes error) }
+        ensures again { MatchOption self.refusal ⊤ (λ error. IfErr result (λ e. e ≡ error)) }
+        ensures memory { IsErrOf result DumpError.Memory → self.refusal ≡ Some DumpError.Memory }
+    {
+        let Feed {
+            reader,
+            count,
+            refusal,
+        } = self;
+        match refusal {
+            Some(error) => Err(error),
+            None => reader.finish(count),
+        }
+    }
+}

@@ -1,0 +1,41 @@
+//! Reading a dump that is there as a whole.
+ghost use Rattle.std.specs.Prelude.{◌≡◌, ◌↔◌, None, IfErr, IfOk, IsErrOf};
+ghost use Rattle.svn_dump.specs.Dump.{history_in_bytes};
+ghost use Rattle.svn_dump.specs.DumpText.{IsDumpText, names_of, values_of};
+ghost use Rattle.svn_dump.specs.DumpError.{IsRefusal};
+ghost use Rattle.svn_dump.specs.FirstRefusal.{first_refusal, line_refusals};
+ghost use Rattle.svn_dump.specs.Property.{SectionsAreExact};
+ghost use Rattle.svn_dump.specs.Record.{HistoryOfBytes};
+ghost use Rattle.svn_dump.specs.Refusal.{first_holding};
+ghost use Rattle.svn_dump.specs.declared.error.DumpError.{DumpError};
+
+use crate::dump::Dump;
+use crate::error::DumpError;
+use crate::feed::Feed;
+use std::alloc::Global;
+
+/// The dump that the bytes are. Nothing is copied but names and mergeinfo texts.
+///
+/// A refusal has the number of the first reason against the first faulty block, and the offset of that block; where
+/// there is no revision, it has the length of the input.
+pub fn read(alloc: Global, bytes: &[u8]) -> Result<Dump, DumpError>
+    // The bytes are a dump exactly where there is no reason against them, and then of one history.
+    ensures exactly { (first_refusal bytes.now ≡ None)
+        ↔ ((history : HistoryOfBytes) × IsDumpText bytes.now history) }
+    ensures one { (a b : HistoryOfBytes) → IsDumpText bytes.now a → IsDumpText bytes.now b → a ≡ b }
+
+    // A property section is read as its form says.
+    ensures sections { SectionsAreExact }
+
+    ensures ok { IfOk result (λ dump. IsDumpText bytes.now (history_in_bytes dump)) }
+    ensures names { IfOk result (λ dump. dump.names ≡ names_of (history_in_bytes dump)) }
+    ensures values { IfOk result (λ dump. dump.values ≡ values_of (history_in_bytes dump)) }
+    ensures refused { IfErr result (IsRefusal bytes.now) }
+
+    // A faulty first line is reported without taking any memory.
+    ensures memory { IsErrOf result DumpError.Memory → first_holding (line_refusals bytes.now) ≡ None }
+{
+    let mut feed = Feed::new(alloc);
+    feed.feed(bytes)?;
+    feed.finish()
+}
