@@ -10,7 +10,6 @@ mod Pieces
 mod Reading
 mod Refusals
 mod Sorts
-mod TextTables
 pub mod Belows
 pub mod Entries
 pub mod Faults
