@@ -1,8 +1,11 @@
-//! Bytes cut at a byte, and decimal numbers.
+//! Bytes cut at a byte or hashed once, and decimal numbers.
 
 use std::alloc::{AllocError, Global};
+use std::hash::{DefaultHasher, Hash, Hasher};
 use std::test::Fail;
-use svn_text::{GREATEST_REVISION, number_up_to, push_number, split_at_byte, split_at_last};
+use svn_text::{
+    GREATEST_REVISION, HashedText, number_up_to, push_number, split_at_byte, split_at_last,
+};
 
 #[test]
 fn bytes_are_split_at_the_first_or_the_last_such_byte(rt: HostRuntime) {
@@ -19,6 +22,31 @@ fn bytes_are_split_at_the_first_or_the_last_such_byte(rt: HostRuntime) {
         (split_at_byte(b';', bytes), split_at_last(b';', bytes)),
         (None, None)
     );
+}
+
+fn hash_of(text: &HashedText<'_>) -> u64 {
+    let mut hasher = DefaultHasher::new();
+    text.hash(&mut hasher);
+    hasher.finish()
+}
+
+// Whether two texts are equal, and whether they have one hash.
+fn compared(text: &HashedText<'_>, other: &[u8]) -> (bool, bool) {
+    let other = HashedText::new(other);
+    (*text == other, hash_of(text) == hash_of(&other))
+}
+
+#[test]
+fn texts_are_compared_and_hashed_by_all_their_bytes(rt: HostRuntime) -> Result<(), Fail> {
+    let text = HashedText::new(b"/branches/1.x:2-9".as_slice()).to_owned(rt.alloc())?;
+    for (other, same) in [
+        (b"/branches/1.x:2-9".as_slice(), true),
+        (b"/branches/2.x:2-9", false),
+        (b"/branches/1.x:2-99", false),
+    ] {
+        assert!(rt; compared(&text, other) == (same, same));
+    }
+    Ok(())
 }
 
 #[test]

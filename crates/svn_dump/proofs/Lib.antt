@@ -15,7 +15,6 @@ mod Readers
 mod Readings
 mod Refusals
 mod Sorts
-mod TextTables
 mod Undecided
 mod WholeBlocks
 pub mod Belows

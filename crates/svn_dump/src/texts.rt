@@ -10,23 +10,23 @@ use crate::refusal::Refusal;
 use indexmap::IndexSet;
 use std::alloc::Global;
 use std::marker::Model;
+use svn_text::HashedText;
 
 /// The distinct mergeinfo texts of a dump, seen as the list of their bytes.
 #[derive(Drop)]
 pub(crate) struct Texts {
-    known: IndexSet<Vec<u8>>,
+    known: IndexSet<HashedText<'static>>,
 }
 
 impl Model for Texts {
     ghost use Rattle.std.specs.Prelude.{ℕ, List};
-    ghost use Rattle.svn_path.specs.Names.{texts};
     ghost use Rattle.svn_dump.specs.Texts.{IsTextTable};
 
     ghost Value = { List (List ℕ) };
 
-    ghost view = { λ t. texts t.known.keys };
+    ghost view = { λ t. t.known.keys };
 
-    ghost invariant = { λ t. IsTextTable (texts t.known.keys) };
+    ghost invariant = { λ t. IsTextTable t.known.keys };
 }
 
 impl Texts {
@@ -46,15 +46,15 @@ impl Texts {
         ensures refused { IfErr result (IsTooLarge (is_full_with self.old (text.now ∷ []))) }
         ensures err { OnErr result (self.new ≡ self.old) }
     {
-        if let Some(index) = self.known.get_index_of(text) {
+        let text = HashedText::new(text);
+        if let Some(index) = self.known.get_index_of(&text) {
             return Ok(ValueId(index as u32));
         }
         let index = self.known.len();
         if index == u32::MAX as usize {
             return Err(ReadError::Refused(Refusal::TooLarge));
         }
-        self.known
-            .insert(Vec::from_slice(*self.known.allocator(), text)?)?;
+        self.known.insert(text.to_owned(*self.known.allocator())?)?;
         Ok(ValueId(index as u32))
     }
 

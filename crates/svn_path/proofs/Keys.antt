@@ -1,50 +1,20 @@
--- The keys of a table's set, by their bytes.
-use Rattle.std.proofs.Common.{◌≡◌, ℕ, List, [], ◌∷◌, ◌++◌, Some, inl, inr, length, get_or, slice_get, position, bytes_eq, Vec, refl, sym, ap, ◌∙◌, arith}
-use Rattle.std.proofs.lemmas.Bool.{cases_Bool, cond-true, cond-false}
-use Rattle.std.proofs.lemmas.List.{length-map, map_push, length_push, get_or_push}
+-- The keys of a table's set, which are its names.
+use Rattle.std.proofs.Common.{◌≡◌, ℕ, false, List, [], ◌∷◌, ◌++◌, Some, length, get_or, slice_get, position, bytes_eq, sym, ap, ◌∙◌, arith}
+use Rattle.std.proofs.lemmas.List.{length_push, get_or_push}
 use Rattle.std.proofs.lemmas.List.Quantifiers.{position-Some}
 use Rattle.std.proofs.lemmas.Option.{slice_get-get_or}
 use Rattle.std.proofs.lemmas.Slice.Eq.{bytes_eq-Decides}
-use Rattle.std.specs.List.{list_any, position_or_len}
-use Rattle.std.specs.declared.alloc.Global.{Global}
+use Rattle.std.specs.List.{list_any}
 use Rattle.indexmap.specs.IndexSet.{insert_key}
-use Rattle.svn_path.specs.Names.{has_name, with_name, texts}
-use Rattle.svn_path.proofs.Tables.{has_name-flipped, with_name-known, with_name-new}
-
--- whether a key has the bytes
-pub list_any-texts : (keys : List (Vec ℕ Global)) (name : List ℕ) → list_any (λ key. bytes_eq name key.items) keys ≡ has_name (texts keys) name
-list_any-texts keys name = keys_then keys ∙ has_name-flipped (texts keys) name
-  where
-    keys_then : (keys : List (Vec ℕ Global)) → list_any (λ key. bytes_eq name key.items) keys ≡ list_any (bytes_eq name) (texts keys)
-    keys_then [] = refl
-    keys_then (key ∷ keys) = rw (keys_then keys)
-
-position_or_len-texts : (keys : List (Vec ℕ Global)) (name : List ℕ) → position_or_len (λ key. bytes_eq name key.items) keys ≡ position_or_len (bytes_eq name) (texts keys)
-position_or_len-texts [] name = refl
-position_or_len-texts (key ∷ keys) name = rw (position_or_len-texts keys name)
 
 -- where the first such key is, the table has the name
-pub slice_get-position : (keys : List (Vec ℕ Global)) (name : List ℕ) (number : ℕ) → position (λ key. bytes_eq name key.items) keys ≡ Some number → slice_get (texts keys) number ≡ Some name
-slice_get-position keys name number first =
-    let same : position (bytes_eq name) (texts keys) ≡ Some number = rw (length-map, ← position_or_len-texts keys name) first in
-    let found = position-Some (bytes_eq name) (texts keys) number [] same in
-    slice_get-get_or (texts keys) number [] found.0 ∙ ap Some (sym ((bytes_eq-Decides name (get_or (texts keys) number [])).0 found.1))
+pub slice_get-position : (names : List (List ℕ)) (name : List ℕ) (number : ℕ) → position (bytes_eq name) names ≡ Some number → slice_get names number ≡ Some name
+slice_get-position names name number first =
+    let found = position-Some (bytes_eq name) names number [] first in
+    slice_get-get_or names number [] found.0 ∙ ap Some (sym ((bytes_eq-Decides name (get_or names number [])).0 found.1))
 
--- an insert leaves the table with the name
-pub texts-insert_key : (keys : List (Vec ℕ Global)) (value : Vec ℕ Global) → texts (insert_key (λ a b. bytes_eq a.items b.items) keys value) ≡ with_name (texts keys) value.items
-texts-insert_key keys value =
-    elim (cases_Bool (has_name (texts keys) value.items)) [
-      | inl known ↦ ap texts (cond-true _ _ _ (list_any-texts keys value.items ∙ known)) ∙ sym (with_name-known (texts keys) value.items known)
-      | inr unknown ↦
-          ap texts (cond-false _ _ _ (list_any-texts keys value.items ∙ unknown)) ∙ map_push (λ key. key.items) keys value ∙ sym (with_name-new (texts keys) value.items unknown)
-    ]
-
--- the same of the keys before and after it
-pub texts-inserted : (old new : List (Vec ℕ Global)) (value : Vec ℕ Global) (names : List (List ℕ)) (name : List ℕ) → texts old ≡ names → new ≡ insert_key (λ a b. bytes_eq a.items b.items) old value → value.items ≡ name → texts new ≡ with_name names name
-texts-inserted old new value names name view inserted items =
-    ap texts inserted ∙ texts-insert_key old value ∙ ap (with_name (texts old)) items ∙ ap (λ all. with_name all name) view
-
--- the name that goes last has the length for its number
-pub slice_get_push : (names : List (List ℕ)) (name : List ℕ) (number : ℕ) → number ≡ length names → slice_get (names ++ name ∷ []) number ≡ Some name
-slice_get_push names name number last =
-    slice_get-get_or (names ++ name ∷ []) number [] (omega (arith, length_push names name)) ∙ ap Some (get_or_push names name [] number (sym last))
+-- an insert of a name that no key is puts it last, with the length for its number
+pub slice_get-insert_key : (names : List (List ℕ)) (name : List ℕ) (number : ℕ) → list_any (bytes_eq name) names ≡ false → number ≡ length names → slice_get (insert_key bytes_eq names name) number ≡ Some name
+slice_get-insert_key names name number new last =
+    rw new
+    (slice_get-get_or (names ++ name ∷ []) number [] (omega (arith, length_push names name)) ∙ ap Some (get_or_push names name [] number (sym last)))

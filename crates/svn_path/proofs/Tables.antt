@@ -4,14 +4,14 @@ use Rattle.std.proofs.lemmas.Bool.{cases_Bool, cases_lt, cases_order, both_ways,
 use Rattle.std.proofs.lemmas.Bool.Decides.{same_from_decides, Decides-eqb}
 use Rattle.std.proofs.lemmas.Cmp.{nat_list_eq_equiv}
 use Rattle.std.proofs.lemmas.List.{append-nil, append_assoc, get_or_append_left, get_or_default, get_or_past, length-map, get_or-map, length-replicate}
-use Rattle.std.proofs.lemmas.List.Elements.{All-nil, All-head, All-tail, All-push, All-weaker, All-get_or, All-map}
+use Rattle.std.proofs.lemmas.List.Elements.{All-nil, All-head, All-tail, All-weaker, All-get_or, All-map}
 use Rattle.std.proofs.lemmas.List.Folds.{list_any_at, list_any-append, Any-from_list_any}
-use Rattle.std.proofs.lemmas.Map.Keys.{IsDistinct-push, apart_from_distinct}
+use Rattle.std.proofs.lemmas.Map.Keys.{apart_from_distinct}
 use Rattle.std.proofs.lemmas.Slice.Eq.{bytes_eq-Decides}
 use Rattle.std.specs.List.{list_any, IsDistinct}
 use Rattle.svn_path.proofs.Belows.{Renames}
 use Rattle.svn_path.specs.Components.{IsComponent}
-use Rattle.svn_path.specs.Names.{most_names, has_name, with_name, with_names, name_of, IsTable}
+use Rattle.svn_path.specs.Names.{has_name, with_name, with_names, name_of, IsTable}
 use Rattle.svn_path.specs.Path.{same_name, IsPathOf, components_of, HasUnknown}
 use Rattle.svn_path.specs.declared.names.NameId.{NameId}
 
@@ -160,12 +160,6 @@ with_names-append names (name ∷ added) =
     let rest = with_names-append (with_name names name) added in
     (first.0 ++ rest.0, rest.1 ∙ ap (λ front. front ++ rest.0) first.1 ∙ append_assoc names first.0 rest.0)
 
--- so it is no shorter
-pub length-le-with_names : (names added : List (List ℕ)) → length names ≤ length (with_names names added)
-length-le-with_names names added =
-    let grown = with_names-append names added in
-    omega (arith, ap length grown.1 ∙ length-append names grown.0)
-
 -- each path keeps what it spells
 pub components_of-with_names : (names added : List (List ℕ)) (path : List NameId) → IsPathOf names path → components_of (with_names names added) path ≡ components_of names path
 components_of-with_names names added path known =
@@ -201,27 +195,6 @@ has_name-flipped (each ∷ names) name = rw (nat_list_eq_equiv.symm name each, h
 pub IsTable-nil : IsTable []
 unfolding IsDistinct
 IsTable-nil = record { few = omega arith; components = All-nil IsComponent; distinct = tt }
-
--- and it stays as a component comes, where there is room
-pub IsTable-with_name : {names : List (List ℕ)} → IsTable names → (name : List ℕ) → IsComponent name → length (with_name names name) ≤ most_names → IsTable (with_name names name)
-IsTable-with_name {names} table name component few =
-    elim (cases_Bool (has_name names name)) [
-      | inl known ↦ subst IsTable (sym (with_name-known names name known)) table
-      | inr unknown ↦
-          let grown = with_name-new names name unknown in
-          subst IsTable (sym grown) (record {
-            few = subst (λ all. length all ≤ most_names) grown few;
-            components = All-push IsComponent names name table.components component;
-            distinct = IsDistinct-push nat_list_eq_equiv names name table.distinct (has_name-flipped names name ∙ unknown);
-          })
-    ]
-
--- or several
-pub IsTable-with_names : (names added : List (List ℕ)) → IsTable names → All IsComponent added → length (with_names names added) ≤ most_names → IsTable (with_names names added)
-IsTable-with_names names [] table components few = table
-IsTable-with_names names (name ∷ added) table components few =
-    let room : length (with_name names name) ≤ most_names = omega (arith, length-le-with_names (with_name names name) added) in
-    IsTable-with_names (with_name names name) added (IsTable-with_name table name (All-head IsComponent name added components) room) (All-tail IsComponent name added components) few
 
 -- each component of a path of the table is one
 pub components_of-components : (names : List (List ℕ)) (path : List NameId) → All IsComponent names → IsPathOf names path → All IsComponent (components_of names path)

@@ -1,7 +1,6 @@
 -- A table of names: each component once, numbered from 0 in the order in which they came.
-use Rattle.std.specs.Prelude.{◌≡◌, ℕ, ◌+◌, ◌≤◌, Bool, List, [], ◌∷◌, ◌++◌, All, fold, length, map, replicate, slice_index_or, bytes_eq, IsFalse, if◌then◌else◌, Vec}
+use Rattle.std.specs.Prelude.{◌≡◌, ℕ, ◌+◌, ◌≤◌, Bool, List, [], ◌∷◌, ◌++◌, All, fold, length, replicate, slice_index_or, bytes_eq, IsFalse, if◌then◌else◌}
 use Rattle.std.specs.List.{list_any, IsDistinct}
-use Rattle.std.specs.declared.alloc.Global.{Global}
 use Rattle.svn_path.specs.Components.{IsComponent}
 
 -- how many names a table holds at most
@@ -27,10 +26,6 @@ with_names names added = fold with_name names added
 -- number has the same
 abbrev pub name_of : List (List ℕ) → ℕ → List ℕ
 name_of names number = slice_index_or names number (replicate (number + 1) 47)
-
--- the bytes of the names that a table keeps
-abbrev pub texts : List (Vec ℕ Global) → List (List ℕ)
-texts names = map (λ name. name.items) names
 
 -- what every table keeps
 pub record IsTable (names : List (List ℕ)) : Type 0 where

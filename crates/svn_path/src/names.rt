@@ -7,6 +7,7 @@ ghost use Rattle.svn_path.specs.Names.{has_name, with_name, most_names, HasNoRoo
 use indexmap::IndexSet;
 use std::alloc::{AllocError, AllocFailed, Global};
 use std::marker::Model;
+use svn_text::HashedText;
 use thiserror::Error;
 
 /// The number of a name in a table. Numbers begin at 0 and follow the order in which names came.
@@ -25,20 +26,20 @@ pub enum NamesError {
 /// The distinct components of a repository's paths, seen as the list of their bytes.
 #[derive(Drop)]
 pub struct Names {
-    known: IndexSet<Vec<u8>>,
+    known: IndexSet<HashedText<'static>>,
 }
 
 impl Model for Names {
     ghost use Rattle.std.specs.Prelude.{ℕ, List, ◌≤◌, All, length, bytes_eq};
     ghost use Rattle.std.specs.List.{IsDistinct};
     ghost use Rattle.svn_path.specs.Components.{IsComponent};
-    ghost use Rattle.svn_path.specs.Names.{IsTable, texts};
+    ghost use Rattle.svn_path.specs.Names.{IsTable};
 
     ghost Value = { List (List ℕ) };
 
-    ghost view = { λ n. texts n.known.keys };
+    ghost view = { λ n. n.known.keys };
 
-    ghost invariant = { λ n. IsTable (texts n.known.keys) };
+    ghost invariant = { λ n. IsTable n.known.keys };
 }
 
 impl From<AllocError> for NamesError {
@@ -80,15 +81,15 @@ impl Names {
         ensures full { IsErrOf result NamesError.Full ↔ HasNoRoomFor self.old name.now }
         ensures err { OnErr result (self.new ≡ self.old) }
     {
-        if let Some(id) = self.find(name) {
+        let text = HashedText::new(name);
+        if let Some(id) = self.find_text(&text) {
             return Ok(id);
         }
         let index = self.known.len();
         if index == u32::MAX as usize {
             return Err(NamesError::Full);
         }
-        self.known
-            .insert(Vec::from_slice(*self.known.allocator(), name)?)?;
+        self.known.insert(text.to_owned(*self.known.allocator())?)?;
         Ok(NameId(index as u32))
     }
 
@@ -97,8 +98,16 @@ impl Names {
         ensures number { IfSome result (λ id. slice_get self.now id.0 ≡ Some name.now) }
         ensures found { IsSome result ↔ IsTrue (has_name self.now name.now) }
     {
+        self.find_text(&HashedText::new(name))
+    }
+
+    /// The same of a name that is hashed already.
+    fn find_text(&self, text: &HashedText<'_>) -> Option<NameId>
+        ensures number { IfSome result (λ id. slice_get self.now id.0 ≡ Some text.now) }
+        ensures found { IsSome result ↔ IsTrue (has_name self.now text.now) }
+    {
         self.known
-            .get_index_of(name)
+            .get_index_of(text)
             .map(|index| NameId(index as u32))
     }
 

@@ -1,4 +1,5 @@
 pub mod Bytes
 pub mod Cut
+pub mod HashedText
 pub mod Line
 pub mod Number
