@@ -1,4 +1,7 @@
 //! The text of what was read, and the comparison with the text that is wanted.
+ghost use Rattle.std.specs.Prelude.{◌<◌};
+
+use crate::pieces::read_in_pieces;
 use crate::samples::dump_of;
 use std::alloc::Global;
 use std::test::Fail;
@@ -150,10 +153,22 @@ fn check_both(alloc: Global, dump: &Dump, wanted: &str) -> Result<(), Fail> {
     check_lines(alloc, dump, true, wanted)
 }
 
-/// Fails unless the bytes are read as that text, and `dup` gives records of the same text.
+fn check_pieces(alloc: Global, bytes: &[u8], size: usize, wanted: &str) -> Result<(), Fail>
+    requires { 0 < size }
+{
+    let dump = read_in_pieces(alloc, bytes, size)?;
+    check_lines(alloc, &dump, false, wanted)
+}
+
+/// Fails unless the bytes are read as that text, also in pieces, and `dup` gives records of the same text.
 pub(crate) fn check_text(alloc: Global, bytes: &[u8], wanted: &str) -> Result<(), Fail> {
     let dump = read(alloc, bytes)?;
-    check_both(alloc, &dump, wanted.trim())
+    check_both(alloc, &dump, wanted.trim())?;
+    check_pieces(alloc, bytes, 1, wanted.trim())?;
+    check_pieces(alloc, bytes, 2, wanted.trim())?;
+    check_pieces(alloc, bytes, 3, wanted.trim())?;
+    check_pieces(alloc, bytes, 7, wanted.trim())?;
+    check_pieces(alloc, bytes, 64, wanted.trim())
 }
 
 /// Fails unless the front with these blocks after it is read as that text.

@@ -10,6 +10,8 @@ mod long;
 #[cfg(test)]
 mod mergeinfo;
 #[cfg(test)]
+mod pieces;
+#[cfg(test)]
 mod records;
 #[cfg(test)]
 mod refusals;

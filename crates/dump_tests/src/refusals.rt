@@ -1,26 +1,37 @@
 //! The comparison of a refusal with the one that is wanted.
+use crate::pieces::read_in_pieces;
 use crate::samples::dump_of;
 use std::alloc::Global;
 use std::test::Fail;
-use svn_dump::{DumpError, read};
+use svn_dump::{Dump, DumpError, read};
 
-/// The number of the refusal and where the faulty block begins, if the bytes are refused.
-fn refusal(alloc: Global, bytes: &[u8]) -> Result<Option<(u64, u64)>, Fail> {
-    match read(alloc, bytes) {
+/// The number of the refusal and where the faulty block begins, if the answer is one.
+fn refusal(answer: Result<Dump, DumpError>) -> Result<Option<(u64, u64)>, Fail> {
+    match answer {
         Ok(_) => Ok(None),
         Err(DumpError::Refused { number, at }) => Ok(Some((u64::from(number), at))),
         Err(DumpError::Memory) => Err("out of memory")?,
     }
 }
 
-/// Fails unless the bytes are refused by that number at that byte.
-pub(crate) fn check_refusal(alloc: Global, bytes: &[u8], number: u64, at: u64) -> Result<(), Fail> {
-    let found = refusal(alloc, bytes)?;
+fn check_answer(
+    answer: Result<Dump, DumpError>,
+    bytes: &[u8],
+    number: u64,
+    at: u64,
+) -> Result<(), Fail> {
+    let found = refusal(answer)?;
     if found == Some((number, at)) {
         Ok(())
     } else {
         Err(Fail::new(format_args!("{found:?}, not {number} at {at}: {bytes:?}")))
     }
+}
+
+/// Fails unless the bytes are refused by that number at that byte, also where they come one by one.
+pub(crate) fn check_refusal(alloc: Global, bytes: &[u8], number: u64, at: u64) -> Result<(), Fail> {
+    check_answer(read(alloc, bytes), bytes, number, at)?;
+    check_answer(read_in_pieces(alloc, bytes, 1), bytes, number, at)
 }
 
 fn number_of(digits: &str) -> u64 {

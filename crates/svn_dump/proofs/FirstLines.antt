@@ -3,13 +3,12 @@ use Rattle.std.proofs.Common.{◌≡◌, ◌≢◌, ℕ, true, false, List, ◌�
 use Rattle.std.specs.Prelude.{Some, IsFalse, bytes_eq, codes, nat_eq}
 use Rattle.std.specs.List.{before_first, list_any, position_or_len, starts_with}
 use Rattle.std.proofs.lemmas.Bool.{cond-false, cond-true, not_from_false, not_from_true, false_from_ne_true}
-use Rattle.std.proofs.lemmas.Slice.Eq.{bytes_eq-Decides, slice_eq-Decides}
+use Rattle.std.proofs.lemmas.Slice.Eq.{slice_eq-Decides}
 use Rattle.std.proofs.Math.Seq.{drop-append_seam, take-append_seam}
 use Rattle.std.proofs.lemmas.List.{get_or-append_right, get_or_append_left}
 use Rattle.std.proofs.lemmas.List.Folds.{list_any-append}
 use Rattle.std.proofs.lemmas.List.Sums.{position_or_len_is}
 use Rattle.svn_text.specs.Line.{is_newline}
-use Rattle.svn_dump.specs.DumpText.{first_line}
 use Rattle.svn_dump.specs.FirstRefusal.{line_refusals, magic}
 use Rattle.svn_dump.specs.Refusal.{first_holding}
 use Rattle.svn_dump.proofs.Fronts.{All-none}
@@ -69,7 +68,3 @@ module _ (bytes rest : List ℕ) (begins : bytes ≡ magic ++ rest) where
     refused_version other =
         cond-false _ _ _ (not_from_true _ begins_so)
         ∙ cond-true _ _ _ (ap₂ (λ a b. a && not (bytes_eq b (codes "2"))) some_newline version_is ∙ not_from_false _ other)
-
-    pub version_taken : bytes_eq version (codes "2") ≡ true → bytes ≡ first_line ++ more
-    version_taken same =
-        begins ∙ ap (λ all. magic ++ all) (cut ∙ ap (λ front. front ++ 10 ∷ more) ((bytes_eq-Decides version (codes "2")).0 same))

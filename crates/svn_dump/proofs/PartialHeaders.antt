@@ -1,12 +1,12 @@
 -- The header of a block as it comes, line by line.
-use Rattle.std.proofs.Common.{◌≡◌, ℕ, suc, ◌+◌, ◌-◌, ◌<◌, ◌≤◌, Bool, true, false, ◌&&◌, ◌||◌, List, [], ◌∷◌, ◌++◌, length, take, drop, map, get_or, ◌⊎◌, ⊎_elim, inl, inr, refl, sym, ap, ap₂, subst, ◌∙◌, append_assoc, append-nil, arith, length-append, length-take, eq-eqb, Bor}
-use Rattle.std.specs.Prelude.{Option, Some, None, All, IsFalse, IsTrue, bytes_eq, cond, count_by, flat_map}
-use Rattle.std.specs.List.{after_first, before_first, list_any, position_or_len}
+use Rattle.std.proofs.Common.{◌≡◌, ℕ, ◌+◌, ◌<◌, ◌≤◌, true, List, [], ◌∷◌, ◌++◌, length, take, drop, map, get_or, ◌⊎◌, ⊎_elim, inl, inr, refl, sym, ap, ap₂, subst, ◌∙◌, append_assoc, append-nil, arith, length-append, length-take, Bor}
+use Rattle.std.specs.Prelude.{Option, Some, None, IsFalse, IsTrue, bytes_eq, cond, count_by, flat_map}
+use Rattle.std.specs.List.{list_any, position_or_len}
 use Rattle.std.proofs.Math.Seq.{drop-append-add, drop-append_seam, take-append_seam}
-use Rattle.std.proofs.lemmas.Bool.{both_ways, or_from, or_parts}
+use Rattle.std.proofs.lemmas.Bool.{or_from}
 use Rattle.std.proofs.lemmas.Grind.{flat_map-append}
 use Rattle.std.proofs.lemmas.List.{get_or_append_left, get_or_at, get_or-take, map-append, nil_from_length}
-use Rattle.std.proofs.lemmas.List.Elements.{All-head, All-nil, All-push, All-tail}
+use Rattle.std.proofs.lemmas.List.Elements.{All-nil, All-push}
 use Rattle.std.proofs.lemmas.List.Folds.{list_any-append}
 use Rattle.std.proofs.lemmas.List.Sums.{fails_before_first, position_or_len_is, sum_by-cons}
 use Rattle.svn_text.specs.Bytes.{is_colon, is_not_empty}
@@ -16,8 +16,8 @@ use Rattle.svn_dump.specs.Field.{fields_of}
 use Rattle.svn_dump.specs.FirstRefusal.{after_lines, front_refusals, header_lines}
 use Rattle.svn_dump.specs.FrontBlock.{BeginsWithHeaders, BeginsWithLines, IsUnfinished}
 use Rattle.svn_dump.specs.Headers.{AddsHeader, AreHeaders, AreOnce, RepeatsHeader}
-use Rattle.svn_dump.specs.HeaderValues.{are_of_node, body_length_from_headers}
-use Rattle.svn_dump.specs.PartialHeader.{AreHeaderLines, IsDecidedFront, IsDecidedFrontError, IsHeaderFront, IsPartialHeader, is_node, without_value}
+use Rattle.svn_dump.specs.HeaderValues.{body_length_from_headers}
+use Rattle.svn_dump.specs.PartialHeader.{AreHeaderLines, IsDecidedFront, IsDecidedFrontError, IsHeaderFront, IsPartialHeader, without_value}
 use Rattle.svn_dump.specs.Refusal.{first_holding}
 use Rattle.svn_dump.specs.declared.read_error.ReadError.{ReadError}
 use Rattle.svn_dump.specs.declared.read_error.ReadError.TheVariants as read

@@ -1,6 +1,6 @@
 -- The first line as it comes, byte by byte.
-use Rattle.std.proofs.Common.{◌≡◌, ◌≢◌, ℕ, ◌+◌, ◌-◌, ◌<◌, ◌≤◌, ◌==◌, Bool, true, false, List, [], ◌∷◌, ◌++◌, length, take, drop, get_or, ◌⊎◌, inl, inr, refl, sym, ap, ap₂, subst, ◌∙◌, append_assoc, append-nil, arith, lt-ltb, nat_lt, length-append}
-use Rattle.std.specs.Prelude.{Option, Some, None, IsFalse, bytes_eq, codes}
+use Rattle.std.proofs.Common.{◌≡◌, ◌≢◌, ℕ, ◌+◌, ◌-◌, ◌<◌, ◌≤◌, false, List, [], ◌∷◌, ◌++◌, length, take, drop, get_or, ◌⊎◌, inl, inr, refl, sym, ap, ap₂, subst, ◌∙◌, append_assoc, arith, lt-ltb, nat_lt, length-append}
+use Rattle.std.specs.Prelude.{Option, Some, bytes_eq, codes}
 use Rattle.std.specs.Bool.{then_some}
 use Rattle.std.specs.List.{list_any}
 use Rattle.std.proofs.lemmas.Bool.{cases_lt, false_from_ne_true, le-ltb, ne_eqb, or_from}
@@ -21,9 +21,6 @@ use Rattle.svn_dump.proofs.FirstLines.{refused_cut, refused_magic, refused_versi
 -- bytes that are no other ones
 not_same : (bytes other : List ℕ) → bytes ≢ other → bytes_eq bytes other ≡ false
 not_same bytes other apart = false_from_ne_true _ (λ same. apart ((bytes_eq-Decides bytes other).0 same))
-
-whole_line : first_line ≡ magic ++ 50 ∷ 10 ∷ []
-whole_line = refl
 
 -- a byte, and what follows it
 push : (bytes more : List ℕ) (byte : ℕ) → (bytes ++ byte ∷ []) ++ more ≡ bytes ++ byte ∷ more

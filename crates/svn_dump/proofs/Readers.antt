@@ -1,5 +1,5 @@
 -- The parts of a dump, as their bytes come.
-use Rattle.std.proofs.Common.{◌≡◌, ℕ, ◌+◌, ◌-◌, ◌<◌, ◌≤◌, List, [], ◌∷◌, ◌++◌, length, replicate, refl, sym, ap, subst, ◌∙◌, append_assoc, append-nil, length-append, arith, Bor}
+use Rattle.std.proofs.Common.{◌≡◌, ℕ, ◌-◌, ◌<◌, ◌≤◌, List, [], ◌∷◌, ◌++◌, length, replicate, refl, sym, ap, subst, ◌∙◌, append_assoc, append-nil, length-append, arith, Bor}
 use Rattle.std.specs.Prelude.{Option, None, Some, Result, Ok, Err, IfErr, IfOk, IfSome}
 use Rattle.svn_dump.specs.Block.{block_text}
 use Rattle.svn_dump.specs.Decided.{HasFirstLine, IsDecidedError}
@@ -11,7 +11,7 @@ use Rattle.svn_dump.specs.Field.{fields_of}
 use Rattle.svn_dump.specs.FirstRefusal.{IsEmptyLines, front_refusals, header_lines, line_refusals, without_empty_lines}
 use Rattle.svn_dump.specs.FrontBlock.{AddsBlock, BeginsWithLines, IsBlockRefusalFrom}
 use Rattle.svn_dump.specs.PartialBody.{EndsBody, ExtendsBody, IsPartialBody}
-use Rattle.svn_dump.specs.PartialHeader.{AreHeaderLines, EndsHeader, ExtendsHeader, IsBodyAfter, IsDecidedFront, IsDecidedFrontError}
+use Rattle.svn_dump.specs.PartialHeader.{AreHeaderLines, EndsHeader, IsBodyAfter, IsDecidedFront, IsDecidedFrontError}
 use Rattle.svn_dump.specs.PartialLine.{EndsLine, IsDecidedLine}
 use Rattle.svn_dump.specs.ReadError.{dump_error_at}
 use Rattle.svn_dump.specs.Reader.{BeginsBlock, HasReadAll, IsBodyTo, IsIn, IsInBody, IsInHeader, IsInLine, IsReadAs, IsReadTo, ReadsPart}
@@ -129,15 +129,6 @@ IsDecidedError-header bytes header piece draft at (read.Refused refusal) to begi
     IsDecidedError-block (bytes ++ piece) (header ++ piece) draft at (read.Refused refusal) (IsReadTo-more bytes header piece draft at to) begins
     (λ more. block_refusal-front (history_in_bytes draft) ((header ++ piece) ++ more) refusal (decided more))
 IsDecidedError-header bytes header piece draft at read.Memory to begins decided = HasFirstLine-to bytes header piece draft at to
-
--- it goes on
-pub IsInHeader-extends :
-    (reader : Reader) (bytes old piece new : List ℕ) → IsReadTo bytes reader.draft reader.at old → BeginsBlock (old ++ piece) → ExtendsHeader old piece new → IsInHeader reader new (bytes ++ piece)
-IsInHeader-extends reader bytes old piece new to begins extends = record {
-  read = rw extends.kept (IsReadTo-more bytes old piece reader.draft reader.at to);
-  some = rw extends.kept begins;
-  front = extends.front;
-}
 
 begins_lines : (header rest : List ℕ) (lines : AreHeaderLines header) → BeginsBlock (header ++ 10 ∷ rest) → BeginsBlock header
 begins_lines [] rest lines begins = absurd (cc)

@@ -1,12 +1,10 @@
 -- Bytes that are read as a draft: what stands against an input that begins with them, and what follows them.
-use Rattle.std.proofs.Common.{◌≡◌, ◌≢◌, ℕ, zero, suc, ◌+◌, ◌-◌, ◌<◌, ◌≤◌, true, false, List, [], ◌∷◌, ◌++◌, length, replicate, refl, sym, ap, ap₂, ◌∙◌, subst, append_assoc, append-nil, length-append, arith}
-use Rattle.std.specs.Prelude.{Option, Some, Result, Ok, Err, IfErr, IfOk, IsErrOf, option_and_then}
+use Rattle.std.proofs.Common.{◌≡◌, ℕ, zero, suc, ◌+◌, ◌-◌, ◌<◌, List, [], ◌∷◌, ◌++◌, length, replicate, refl, sym, ap, ◌∙◌, subst, append_assoc, append-nil, length-append, arith}
+use Rattle.std.specs.Prelude.{Some, option_and_then}
 use Rattle.std.specs.List.{after_first}
-use Rattle.std.specs.Option.{option_or}
 use Rattle.std.proofs.lemmas.Bool.{cond-true}
 use Rattle.std.proofs.lemmas.Grind.{fold-append}
 use Rattle.std.proofs.lemmas.List.{nil_from_length}
-use Rattle.svn_text.specs.Bytes.{is_not_empty}
 use Rattle.svn_text.specs.Line.{is_newline}
 use Rattle.svn_dump.specs.Block.{AreBlocks, Block, IsBlock, block_text}
 use Rattle.svn_dump.specs.Decided.{HasFirstLine, IsDecidedError}
@@ -14,8 +12,8 @@ use Rattle.svn_dump.specs.Draft.{IsWholeHistory, dump_of}
 use Rattle.svn_dump.specs.Dump.{DumpValue, IsDump, history_in_bytes}
 use Rattle.svn_dump.specs.DumpError.{IsFirstAt, IsRefusal}
 use Rattle.svn_dump.specs.DumpText.{IsDumpText, IsSmall, first_line, names_of, values_of}
-use Rattle.svn_dump.specs.FirstRefusal.{RefusalAt, after_block, block_at, block_refusal, end_refusal, first_refusal, front_refusals, line_refusals, refusal_from, refusal_or}
-use Rattle.svn_dump.specs.FrontBlock.{AddsBlock, IsBlockRefusalFrom}
+use Rattle.svn_dump.specs.FirstRefusal.{RefusalAt, after_block, block_at, block_refusal, end_refusal, first_refusal, line_refusals, refusal_from, refusal_or}
+use Rattle.svn_dump.specs.FrontBlock.{IsBlockRefusalFrom}
 use Rattle.svn_dump.specs.ReadError.{dump_error_at}
 use Rattle.svn_dump.specs.Reader.{BeginsBlock, IsReadAs, IsReadTo}
 use Rattle.svn_dump.specs.Record.{HistoryOfBytes, history_of, with_block}

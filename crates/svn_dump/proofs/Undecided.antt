@@ -1,6 +1,6 @@
 -- Bytes that decide no refusal: inputs that begin with them are refused for different reasons, or one of them for none.
-use Rattle.std.proofs.Common.{◌≡◌, ◌≢◌, ℕ, zero, suc, pred, ◌+◌, ◌-◌, ◌<◌, ◌≤◌, ◌==◌, nat_le, Bool, true, false, ◌&&◌, ◌||◌, List, [], ◌∷◌, ◌++◌, length, take, drop, replicate, inl, inr, refl, sym, ap, ap₂, subst, ◌∙◌, append_assoc, append-nil, take-append-drop, length-append, arith}
-use Rattle.std.specs.Prelude.{Option, Some, None, cond, flat_map, option_and_then}
+use Rattle.std.proofs.Common.{◌≡◌, ◌≢◌, ℕ, zero, suc, pred, ◌<◌, ◌≤◌, nat_le, Bool, true, false, ◌||◌, List, [], ◌∷◌, ◌++◌, length, drop, replicate, inl, inr, refl, sym, ap, subst, ◌∙◌, append_assoc, append-nil, take-append-drop, length-append, arith}
+use Rattle.std.specs.Prelude.{Option, Some, None, flat_map, option_and_then}
 use Rattle.std.specs.List.{list_all, list_any}
 use Rattle.std.specs.Option.{option_or}
 use Rattle.std.proofs.lemmas.List.Elements.{All-nil}
@@ -8,10 +8,9 @@ use Rattle.std.proofs.lemmas.Bool.{and_parts, cases_Bool, cases_lt, cond-false, 
 use Rattle.std.proofs.lemmas.List.{length-replicate}
 use Rattle.std.proofs.lemmas.List.Folds.{list_any-append}
 use Rattle.std.proofs.lemmas.Option.{none-some, same_Some}
-use Rattle.svn_text.specs.Bytes.{is_not_empty}
 use Rattle.svn_text.specs.Line.{is_newline, line_text}
 use Rattle.svn_dump.specs.Block.{IsHeader, body_length}
-use Rattle.svn_dump.specs.Decided.{IsDecided, IsUndecided}
+use Rattle.svn_dump.specs.Decided.{IsUndecided}
 use Rattle.svn_dump.specs.Draft.{dump_of}
 use Rattle.svn_dump.specs.Dump.{DumpValue, history_in_bytes}
 use Rattle.svn_dump.specs.DumpError.{IsFirstAt}
@@ -22,7 +21,7 @@ use Rattle.svn_dump.specs.HeaderValues.{body_length_from_headers}
 use Rattle.svn_dump.specs.Node.{BlockSort, Node, NodeAction, node_block, other_block, revision_block, uuid_block}
 use Rattle.svn_dump.specs.PartialHeader.{AreHeaderLines, IsHeaderFront}
 use Rattle.svn_dump.specs.PartialLine.{IsPartialLine}
-use Rattle.svn_dump.specs.Reader.{BeginsBlock, HasReadAll, IsIn, IsInBody, IsInHeader, IsInLine, IsReadAs}
+use Rattle.svn_dump.specs.Reader.{BeginsBlock, HasReadAll, IsIn, IsInBody, IsInHeader, IsReadAs}
 use Rattle.svn_dump.specs.Record.{HistoryOfBytes, sort_of, with_block, with_sort}
 use Rattle.svn_dump.specs.Refusal.{Reason, first_holding, grows_large, later_refusals, node_refusals, number_of_refusal, refusals_by, sort_refusals}
 use Rattle.svn_dump.specs.declared.partial_body.PartialBody.{PartialBody}
@@ -37,21 +36,14 @@ use Rattle.svn_dump.proofs.Blocks.{header_holds, BeginsWithLines-append}
 use Rattle.svn_dump.proofs.Fronts.{front-block, header_lines-line, header_lines-lines}
 use Rattle.svn_dump.proofs.PartialHeaders.{BeginsWithLines-front, refused-front_cut, refused-front_length}
 use Rattle.svn_dump.proofs.PartialLines.{refused-other, refused-other_cut, refused-short, refused-version_cut}
-use Rattle.svn_dump.proofs.Readers.{IsRefusal-body, IsRefusal-header}
+use Rattle.svn_dump.proofs.Readers.{IsRefusal-body}
 use Rattle.svn_dump.proofs.Readings.{BeginsBlock-append, IsFirstAt-line, IsReadAs-line, first_refusal-block, first_refusal-end, first_refusal-from}
 use Rattle.svn_dump.proofs.Refusals.{first_holding-append}
 use Rattle.svn_dump.proofs.WholeBlocks.{IsBlock-whole, block_refusal-front, whole_block, whole_text}
 
 -- ---- two inputs
 
--- the number that bytes are refused with is the same of each input that begins with them
-abbrev IsRefusedWith : List ℕ → ℕ → Type 0
-IsRefusedWith bytes number = (at : ℕ) × IsFirstAt bytes number at
-
-same_number : (bytes : List ℕ) (first second at : ℕ) (refusal : Option RefusalAt) → IsFirstAt bytes first at → first_refusal bytes ≡ refusal → ((found : RefusalAt) → refusal ≡ Some found → number_of_refusal found.refusal ≡ second) → first ≡ second
-same_number bytes first second at refusal is told number =
-    is.numbered ∙ number (record { refusal = is.refusal; at = at }) (sym told ∙ is.first)
-
+-- bytes are refused with one number
 same_as : (bytes : List ℕ) (first second at other : ℕ) → IsFirstAt bytes first at → IsFirstAt bytes second other → first ≡ second
 same_as bytes first second at other is also = is.numbered ∙ ap (λ (found : RefusalAt). number_of_refusal found.refusal) (same_Some _ _ (sym is.first ∙ also.first)) ∙ sym also.numbered
 
@@ -66,9 +58,6 @@ apart bytes more number other at there alone longer differ = λ decided place is
 
 ends_of_line : IsFirstAt first_line 8 30
 ends_of_line = record { refusal = Revision; first = first_refusal-end first_line (dump_of [] [] [] []) IsReadAs-line; numbered = refl }
-
-abbrev IsShown : PartialLine → List ℕ → Type 0
-IsShown shown bytes = IsPartialLine shown bytes
 
 undecided-line : (shown : PartialLine) (bytes : List ℕ) → IsPartialLine shown bytes → IsUndecided bytes
 undecided-line (line.Front count) bytes is =

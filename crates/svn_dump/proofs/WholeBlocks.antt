@@ -1,13 +1,12 @@
 -- Whole blocks: what they add to a history, and what stands against them after it.
-use Rattle.std.proofs.Common.{◌≡◌, ℕ, ◌+◌, ◌<◌, ◌≤◌, Bool, true, false, ◌&&◌, List, [], ◌∷◌, ◌++◌, length, take, inl, inr, refl, sym, ap, ap₂, subst, ◌∙◌, append_assoc, append-nil, arith}
-use Rattle.std.specs.Prelude.{Option, Some, None, IsTrue, flat_map, is_none, is_some, option_map}
+use Rattle.std.proofs.Common.{◌≡◌, ℕ, true, false, ◌&&◌, List, [], ◌∷◌, ◌++◌, length, take, inl, inr, refl, sym, ap, subst, ◌∙◌, append_assoc, append-nil, arith}
+use Rattle.std.specs.Prelude.{Option, Some, None, flat_map, is_none, is_some, option_map}
 use Rattle.std.specs.Option.{option_or}
 use Rattle.std.proofs.lemmas.Bool.{both_ways, cases_Bool}
 use Rattle.std.proofs.lemmas.List.{length-take-le}
 use Rattle.svn_text.specs.Bytes.{is_not_empty}
 use Rattle.svn_text.specs.Line.{line_text}
 use Rattle.svn_dump.specs.Block.{Block, IsBlock, block_text, body_length}
-use Rattle.svn_dump.specs.Dump.{DumpValue, history_in_bytes}
 use Rattle.svn_dump.specs.Field.{fields_of}
 use Rattle.svn_dump.specs.FirstRefusal.{block_at, block_refusal, front_refusals, header_lines}
 use Rattle.svn_dump.specs.FrontBlock.{AddsBlock, BeginsWithBlock, IsBlockRefusalFrom}

@@ -56,12 +56,7 @@ pub record AddsBlock (bytes rest : List ℕ) (old new : HistoryOfBytes) : Type 0
 abbrev pub AddsBlockTo : DumpValue → DumpValue → List ℕ → List ℕ → Type 0
 AddsBlockTo old new bytes rest = AddsBlock bytes rest (history_in_bytes old) (history_in_bytes new)
 
--- the error is the first reason against the block that the bytes begin with, or want of memory
-abbrev pub IsBlockRefusal : HistoryOfBytes → List ℕ → ReadError → Type 0
-IsBlockRefusal history bytes (read.Refused refusal) = block_refusal history bytes ≡ Some refusal
-IsBlockRefusal history bytes read.Memory = Unit {0}
-
--- the same of every input that begins with these bytes
+-- the error is the first reason against the block, of every input that begins with these bytes, or want of memory
 abbrev pub IsBlockRefusalFrom : HistoryOfBytes → List ℕ → ReadError → Type 0
 IsBlockRefusalFrom history bytes (read.Refused refusal) = (more : List ℕ) → block_refusal history (bytes ++ more) ≡ Some refusal
 IsBlockRefusalFrom history bytes read.Memory = Unit {0}

@@ -1,5 +1,5 @@
 -- The header of a block, as far as it has come.
-use Rattle.std.specs.Prelude.{◌≡◌, ℕ, ◌≤◌, Bool, ◌&&◌, is_none, is_some, IsTrue, List, [], ◌∷◌, ◌++◌, Option, Some, All, IsFalse, codes, flat_map, length, map}
+use Rattle.std.specs.Prelude.{◌≡◌, ℕ, Bool, ◌&&◌, is_none, is_some, IsTrue, List, [], ◌∷◌, ◌++◌, Option, Some, All, IsFalse, codes, flat_map, length, map}
 use Rattle.std.specs.List.{list_any}
 use Rattle.svn_dump.specs.Block.{IsHeader, body_length, field, header_name, properties_length}
 use Rattle.svn_text.specs.Line.{is_newline, line_text}

@@ -1,5 +1,5 @@
 -- The first line of a dump, as far as it has come.
-use Rattle.std.specs.Prelude.{◌≡◌, ◌≢◌, ℕ, ◌<◌, List, [], ◌∷◌, ◌++◌, Option, None, Some, IsFalse, codes, length, take}
+use Rattle.std.specs.Prelude.{◌≡◌, ◌≢◌, ℕ, ◌<◌, List, [], ◌++◌, Option, None, Some, IsFalse, codes, length, take}
 use Rattle.std.specs.List.{list_any}
 use Rattle.svn_text.specs.Line.{is_newline}
 use Rattle.svn_dump.specs.DumpText.{first_line}

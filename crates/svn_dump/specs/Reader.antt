@@ -1,9 +1,8 @@
 -- A dump that is read in pieces: what its reader keeps of the bytes that have come.
-use Rattle.std.specs.Prelude.{◌≡◌, ◌≢◌, ℕ, ◌<◌, List, [], ◌∷◌, ◌++◌, Option, None, Some, IsFalse, IsTrue, length}
+use Rattle.std.specs.Prelude.{◌≡◌, ℕ, ◌<◌, List, [], ◌∷◌, ◌++◌, Option, None, Some, IsFalse, IsTrue, length}
 use Rattle.std.specs.Borrow.{Bor}
 use Rattle.svn_text.specs.Bytes.{is_not_empty}
 use Rattle.svn_dump.specs.Block.{AreBlocks, Block, body_length, properties_length}
-use Rattle.svn_dump.specs.Decided.{IsDecidedError}
 use Rattle.svn_dump.specs.Draft.{IsWholeHistory, dump_of}
 use Rattle.svn_dump.specs.Dump.{DumpValue, history_in_bytes}
 use Rattle.svn_dump.specs.DumpText.{first_line}

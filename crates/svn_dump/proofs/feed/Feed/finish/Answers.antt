@@ -1,4 +1,3 @@
-use Rattle.std.proofs.Common.{sym, ◌∙◌}
 use Rattle.svn_dump.proofs.Feeds.{IsRefusal-decided, decided-refused}
 use Rattle.svn_dump.proofs.feed.Feed.finish.Goals as goal
 

@@ -1,4 +1,4 @@
-use Rattle.std.proofs.Common.{take, sym, ap, ◌∙◌, ◌++◌, ◌-◌, length}
+use Rattle.std.proofs.Common.{take, ap, ◌∙◌, ◌++◌, ◌-◌, length}
 use Rattle.svn_dump.proofs.PartialBodies.{extended}
 use Rattle.svn_dump.proofs.partial_body.PartialBody.extend.Goals as goal
 

@@ -1,5 +1,5 @@
-use Rattle.std.proofs.Common.{Some, ◌++◌, ◌∷◌, [], sym, ap, ◌∙◌, refl}
-use Rattle.svn_dump.specs.Block.{body_length, length_or_zero}
+use Rattle.std.proofs.Common.{Some, sym, ap, ◌∙◌}
+use Rattle.svn_dump.specs.Block.{length_or_zero}
 use Rattle.svn_dump.specs.HeaderValues.{are_of_node, body_length_from_headers, value_of}
 use Rattle.svn_dump.specs.declared.field.Field.TheVariants.{PropertiesLength}
 use Rattle.svn_dump.proofs.Blocks.{body_length-from_headers}

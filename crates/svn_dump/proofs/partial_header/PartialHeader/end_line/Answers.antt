@@ -1,5 +1,3 @@
-use Rattle.std.proofs.Common.{◌++◌, ◌∷◌, [], sym, ap, ◌∙◌}
-use Rattle.svn_text.specs.Bytes.{is_not_empty}
 use Rattle.svn_dump.proofs.PartialHeaders.{IsPartialHeader-more, after_lines-more}
 use Rattle.svn_dump.proofs.partial_header.PartialHeader.end_line.Goals as goal
 

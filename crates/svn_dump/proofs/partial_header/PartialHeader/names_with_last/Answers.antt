@@ -1,6 +1,6 @@
-use Rattle.std.proofs.Common.{◌≡◌, drop, sym, ap, ◌∙◌, ℕ, List}
+use Rattle.std.proofs.Common.{drop, ap, ◌∙◌}
 use Rattle.std.proofs.lemmas.Result.{err_from_is_err_and}
-use Rattle.svn_dump.proofs.PartialHeaders.{IsPartialHeader-line, last-from, refused-name_twice, refused-no_header_line, start-within}
+use Rattle.svn_dump.proofs.PartialHeaders.{IsPartialHeader-line, last-from, refused-name_twice, refused-no_header_line}
 use Rattle.svn_dump.proofs.partial_header.PartialHeader.names_with_last.Goals as goal
 
 pub returns-in_default-clause-refused : goal.returns-in_default-clause-refused

@@ -2,8 +2,6 @@ use Rattle.std.proofs.Common.{◌++◌, ◌∷◌, sym, ap, ◌∙◌, append_as
 use Rattle.std.proofs.lemmas.Result.{err_from_is_err_and}
 use Rattle.svn_dump.specs.Dump.{history_in_bytes}
 use Rattle.svn_dump.specs.FirstRefusal.{front_refusals}
-use Rattle.svn_dump.specs.HeaderValues.{sort_from_headers}
-use Rattle.svn_dump.specs.Record.{with_sort}
 use Rattle.svn_dump.specs.Refusal.{first_holding}
 use Rattle.svn_dump.proofs.PartialHeaders.{values-lines}
 use Rattle.svn_dump.proofs.WholeBlocks.{AddsBlock-whole, IsBlockRefusalFrom-whole, block_refusal-front}

@@ -1,9 +1,7 @@
-use Rattle.std.proofs.Common.{sym, ap, ◌∙◌, ◌++◌}
 use Rattle.std.proofs.lemmas.Result.{err_from_is_err_and}
 use Rattle.svn_dump.specs.Dump.{history_in_bytes}
-use Rattle.svn_dump.specs.HeaderValues.{sort_from_headers}
 use Rattle.svn_dump.specs.declared.read_error.ReadError.TheVariants as read
-use Rattle.svn_dump.proofs.Readers.{IsDecidedError-here, IsReadAs-adds, IsReadTo-none}
+use Rattle.svn_dump.proofs.Readers.{IsDecidedError-here, IsReadAs-adds}
 use Rattle.svn_dump.proofs.WholeBlocks.{AddsBlock-found, IsBlockRefusalFrom-found, IsBlockRefusalFrom-front}
 use Rattle.svn_dump.proofs.reader.Reader.read_block.Goals as goal
 

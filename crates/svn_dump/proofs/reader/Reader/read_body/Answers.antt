@@ -1,4 +1,4 @@
-use Rattle.std.proofs.Common.{refl, sym, ap, ◌∙◌, ◌++◌}
+use Rattle.std.proofs.Common.{refl, ◌++◌}
 use Rattle.std.proofs.lemmas.Result.{err_from_is_err_and}
 use Rattle.svn_dump.proofs.Readers.{HasFirstLine-to, IsBodyTo-ends, IsDecidedError-ends, IsInBody-extends, IsReadAs-ends}
 use Rattle.svn_dump.proofs.reader.Reader.read_body.Goals as goal

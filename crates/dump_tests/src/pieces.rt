@@ -1,0 +1,94 @@
+//! Dumps that come in pieces.
+ghost use Rattle.std.specs.Prelude.{◌≡◌, ◌+◌, ◌<◌, ◌^◌, length};
+
+use crate::samples::{ONE, START};
+use std::alloc::Global;
+use std::test::Fail;
+use svn_dump::{Dump, DumpError, Feed};
+
+/// The answer on the bytes, which come in pieces of that size.
+pub(crate) fn read_in_pieces(alloc: Global, bytes: &[u8], size: usize) -> Result<Dump, DumpError>
+    requires { 0 < size }
+{
+    let mut feed = Feed::new(alloc);
+    let mut rest = bytes;
+    while !rest.is_empty() {
+        let (piece, more) = rest.split_at(size.min(rest.len()));
+        feed.feed(piece)?;
+        rest = more;
+    }
+    feed.finish()
+}
+
+// The number and the byte of a refusal, if the answer is one.
+fn refusal_in<T: Drop>(answer: Result<T, DumpError>) -> Option<(u8, u64)> {
+    match answer {
+        Err(DumpError::Refused { number, at }) => Some((number, at)),
+        _ => None,
+    }
+}
+
+fn fed(feed: &mut Feed, bytes: &[u8]) -> Option<(u8, u64)>
+    requires { feed.old.count + length bytes.now < 2 ^ 64 }
+    ensures { feed.new.count ≡ feed.old.count + length bytes.now }
+{
+    refusal_in(feed.feed(bytes))
+}
+
+// Whether the bytes decide this refusal, and those before the last one decide none. It is answered from then on.
+fn is_decided_at_last(alloc: Global, bytes: &[u8], number: u8, at: u64) -> bool {
+    let wanted = Some((number, at));
+    let (front, last) = bytes.split_at(bytes.len().saturating_sub(1));
+    let mut feed = Feed::new(alloc);
+    fed(&mut feed, front).is_none()
+        && fed(&mut feed, last) == wanted
+        && fed(&mut feed, b"".as_slice()) == wanted
+        && refusal_in(feed.finish()) == wanted
+}
+
+fn check_decided(alloc: Global, front: &str, last: &str, number: u8, at: u64) -> Result<(), Fail> {
+    let bytes = [front, last].concat(alloc)?;
+    if is_decided_at_last(alloc, bytes.as_bytes(), number, at) {
+        Ok(())
+    } else {
+        Err(Fail::new(format_args!("{number} at {at}: {bytes:?}")))
+    }
+}
+
+const LENGTH: &str = "Node-path: a
+Node-kind: file
+Node-action: add
+Text-content-length: 5
+Content-length: 4
+
+";
+
+const SECTION: &str = "Node-path: a
+Node-action: change
+Prop-content-length: 10
+Content-length: 12
+
+PROPS-EN.
+..";
+
+const ACTION: &str = "Node-path: a
+Node-action: add
+
+";
+
+#[test]
+fn a_refusal_comes_with_the_byte_that_decides_it(rt: HostRuntime) -> Result<(), Fail> {
+    for (front, last, number, at) in [
+        ("", "x", 1, 0),
+        ("SVN-fs-dump-format-version:", "2", 1, 0),
+        ("SVN-fs-dump-format-version: 4", "\n", 2, 0),
+        (START, "Revision-number: 1\n\n", 8, 31),
+        (ONE, "Node-path a\n", 3, 71),
+        (ONE, LENGTH, 4, 71),
+        (ONE, SECTION, 6, 71),
+        (ONE, ACTION, 7, 71),
+    ] {
+        check_decided(rt.alloc(), front, last, number, at)?;
+    }
+    Ok(())
+}
