@@ -5,7 +5,7 @@ use Rattle.svn_dump.specs.DumpText.{first_line}
 use Rattle.svn_dump.specs.declared.error.DumpError.{DumpError}
 use Rattle.svn_dump.specs.declared.error.DumpError.TheVariants.{Refused, Memory}
 
--- every input that begins with these bytes is refused so
+-- every input that begins with these bytes is refused with this number at this offset
 abbrev pub IsDecided : List ℕ → ℕ → ℕ → Type 0
 IsDecided bytes number at = (more : List ℕ) → IsFirstAt (bytes ++ more) number at
 

@@ -1,6 +1,8 @@
 -- Which refusals the reader gives.
-use Rattle.std.specs.Prelude.{◌≡◌, ℕ, List, Some}
+use Rattle.std.specs.Prelude.{◌≡◌, ◌↔◌, ℕ, List, None, Some}
+use Rattle.svn_dump.specs.DumpText.{IsDumpText}
 use Rattle.svn_dump.specs.FirstRefusal.{first_refusal}
+use Rattle.svn_dump.specs.Record.{HistoryOfBytes}
 use Rattle.svn_dump.specs.Refusal.{number_of_refusal}
 use Rattle.svn_dump.specs.declared.error.DumpError.{DumpError}
 use Rattle.svn_dump.specs.declared.error.DumpError.TheVariants.{Refused, Memory}
@@ -16,3 +18,11 @@ pub record IsFirstAt (bytes : List ℕ) (number at : ℕ) : Type 0 where
 abbrev pub IsRefusal : List ℕ → DumpError → Type 0
 IsRefusal bytes (Refused number at) = IsFirstAt bytes number at
 IsRefusal bytes Memory = Unit {0}
+
+-- bytes are a dump exactly where there is no reason against them
+abbrev pub DumpsAreExact : Type 0
+DumpsAreExact = (bytes : List ℕ) → (first_refusal bytes ≡ None) ↔ ((history : HistoryOfBytes) × IsDumpText bytes history)
+
+-- and then of one history
+abbrev pub DumpsAreOne : Type 0
+DumpsAreOne = (bytes : List ℕ) (a b : HistoryOfBytes) → IsDumpText bytes a → IsDumpText bytes b → a ≡ b

@@ -7,7 +7,7 @@ use crate::texts::Texts;
 use std::marker::Model;
 use svn_path::Names;
 
-/// The records of a dump, with the names and the mergeinfo texts that they number. Only `read` makes one.
+/// The records of a dump, with the names and the mergeinfo texts that they number. Only `read` and `Feed::finish` make one.
 #[derive(Drop)]
 pub struct Dump {
     pub(crate) names: Names,

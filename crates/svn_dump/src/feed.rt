@@ -1,10 +1,11 @@
 //! A dump that comes in pieces.
-ghost use Rattle.std.specs.Prelude.{◌≡◌, ◌+◌, ◌<◌, ◌^◌, ◌++◌, ⊤, ℕ, List, [], None, Some, length, IfErr, IfOk, IsErrOf, MatchOption, OnOk};
+ghost use Rattle.std.specs.Prelude.{◌≡◌, ◌+◌, ◌<◌, ◌^◌, ◌++◌, ℕ, List, [], None, Some, length, IfErr, IfOk, IfSome, IsErrOf, OnOk};
 ghost use Rattle.svn_dump.specs.Decided.{IsDecidedError, IsUndecided};
 ghost use Rattle.svn_dump.specs.Dump.{history_in_bytes};
-ghost use Rattle.svn_dump.specs.DumpError.{IsRefusal};
+ghost use Rattle.svn_dump.specs.DumpError.{DumpsAreExact, DumpsAreOne, IsRefusal};
 ghost use Rattle.svn_dump.specs.DumpText.{IsDumpText, names_of, values_of};
 ghost use Rattle.svn_dump.specs.Feed.{HasRead};
+ghost use Rattle.svn_dump.specs.Property.{SectionsAreExact};
 ghost use Rattle.svn_dump.specs.declared.error.DumpError.{DumpError};
 
 use crate::dump::Dump;
@@ -15,9 +16,9 @@ use std::marker::Model;
 
 /// A reader of a dump that comes in pieces.
 ///
-/// It keeps the records so far, the header of a block that has begun, and, of a node's block, its property section. It
-/// keeps no text, and nothing of the body of another block; room is taken for bytes that have come, never for a length
-/// that a header claims.
+/// It keeps the records so far with their names and mergeinfo texts, the header of the block in progress and, of a
+/// node's block, what has come of its property section; nothing else of a body. Room is taken for bytes that have come,
+/// never for a length that a header claims.
 #[derive(Drop)]
 pub struct Feed {
     reader: Reader,
@@ -45,6 +46,7 @@ impl Feed {
         ensures read { HasRead result [] }
         ensures count { result.count ≡ 0 }
         ensures refusal { result.refusal ≡ None }
+        ensures undecided { IsUndecided [] }
     {
         Feed {
             reader: Reader::new(alloc),
@@ -53,12 +55,13 @@ impl Feed {
         }
     }
 
-    /// Reads the next bytes of the dump, of which there may be any number, also none.
+    /// Reads the next bytes of the dump, perhaps none. Fewer than 2^64 may come in all, also after an error.
     ///
-    /// A refusal comes with the first byte that decides it: the first byte that differs from the first line's name, the
-    /// newline of a first line with another version, the newline of a faulty header line, the empty line after a header
-    /// with faulty lengths, and the last byte of a block for all else. After an error the same error is answered from
-    /// then on.
+    /// A refusal comes with the byte that decides it: the first one that differs from `SVN-fs-dump-format-version: `,
+    /// the newline of a first line with another version, that of a faulty header line, the empty line after a header
+    /// with faulty lengths, and for the reasons against a whole block its last byte, which is the empty line where the
+    /// body has no bytes. What only the end of the input shows, `finish` answers. After an error the same error is
+    /// answered from then on.
     pub fn feed(&mut self, bytes: &[u8]) -> Result<(), DumpError>
         requires few { self.old.count + length bytes.now < 2 ^ 64 }
         ensures read { (before : List ℕ) → HasRead self.old before → HasRead self.new (before ++ bytes.now) }
@@ -73,7 +76,7 @@ impl Feed {
         // An error is answered from then on.
         ensures ok { OnOk result (self.new.refusal ≡ None) }
         ensures kept { IfErr result (λ error. self.new.refusal ≡ Some error) }
-        ensures again { MatchOption self.old.refusal ⊤ (λ error. self.new.refusal ≡ Some error) }
+        ensures again { IfSome self.old.refusal (λ error. IsErrOf result error) }
     {
         self.count += bytes.len() as u64;
         if let Some(error) = self.refusal {
@@ -89,8 +92,13 @@ impl Feed {
         }
     }
 
-    /// The dump that all bytes are which have come, as `read` answers it.
+    /// The answer of `read` on all bytes that have come, or the error that `feed` answered.
     pub fn finish(self) -> Result<Dump, DumpError>
+        // What holds of all bytes, whatever is answered.
+        ensures exactly { DumpsAreExact }
+        ensures one { DumpsAreOne }
+        ensures sections { SectionsAreExact }
+
         ensures ok { IfOk result (λ dump. (bytes : List ℕ) → HasRead self bytes
             → IsDumpText bytes (history_in_bytes dump)) }
         ensures names { IfOk result (λ dump. (bytes : List ℕ) → HasRead self bytes
@@ -98,7 +106,7 @@ impl Feed {
         ensures values { IfOk result (λ dump. (bytes : List ℕ) → HasRead self bytes
             → dump.values ≡ values_of (history_in_bytes dump)) }
         ensures refused { IfErr result (λ error. (bytes : List ℕ) → HasRead self bytes → IsRefusal bytes error) }
-        ensures again { MatchOption self.refusal ⊤ (λ error. IfErr result (λ e. e ≡ error)) }
+        ensures again { IfSome self.refusal (λ error. IsErrOf result error) }
         ensures memory { IsErrOf result DumpError.Memory → self.refusal ≡ Some DumpError.Memory }
     {
         let Feed {

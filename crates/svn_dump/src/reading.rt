@@ -14,10 +14,11 @@ use crate::error::DumpError;
 use crate::feed::Feed;
 use std::alloc::Global;
 
-/// The dump that the bytes are. Nothing is copied but names and mergeinfo texts.
+/// The dump that the bytes are. Of a whole block only names and mergeinfo texts are copied, and of one that the bytes
+/// end in its header and property section too.
 ///
-/// A refusal has the number of the first reason against the first faulty block, and the offset of that block; where
-/// there is no revision, it has the length of the input.
+/// A refusal has the number of the first reason against the first faulty block, and the offset of that block; where no
+/// block is faulty and there is no revision, it has the length of the input.
 pub fn read(alloc: Global, bytes: &[u8]) -> Result<Dump, DumpError>
     // The bytes are a dump exactly where there is no reason against them, and then of one history.
     ensures exactly { (first_refusal bytes.now ≡ None)
@@ -32,7 +33,7 @@ pub fn read(alloc: Global, bytes: &[u8]) -> Result<Dump, DumpError>
     ensures values { IfOk result (λ dump. dump.values ≡ values_of (history_in_bytes dump)) }
     ensures refused { IfErr result (IsRefusal bytes.now) }
 
-    // A faulty first line is reported without taking any memory.
+    // Want of memory is never answered for a faulty first line.
     ensures memory { IsErrOf result DumpError.Memory → first_holding (line_refusals bytes.now) ≡ None }
 {
     let mut feed = Feed::new(alloc);
