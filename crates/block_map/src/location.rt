@@ -18,7 +18,8 @@ pub(crate) struct Location {
 impl Location {
     /// The location at these components below it.
     pub(crate) fn below(&self, rest: &[NameId]) -> Result<Self, AllocError>
-        ensures { IfOk result (λ location. location ≡ record { path = self.now.path ++ rest.now; tick = self.now.tick }) }
+        ensures { IfOk result
+            (λ location. location ≡ record { path = self.now.path ++ rest.now; tick = self.now.tick }) }
     {
         Ok(Location {
             path: self.path.join(rest)?,

@@ -123,8 +123,8 @@ impl Map {
         ensures found { IfOk result (IsNearestOrNone (λ above. mergeinfo_of (look_in self.now tick above)) path.now) }
 
         // In a map of the first records of a dump, at the end of a revision, it is that of the tree of the revision.
-        ensures of_revision { (dump : _) (rev : _) → IsMapOfFirstRecords dump self.now → IsEndIn dump rev tick → IfOk result
-            (IsNearestOrNone (own_mergeinfo_at same_name (revision_in dump rev)) path.now) }
+        ensures of_revision { (dump : _) (rev : _) → IsMapOfFirstRecords dump self.now → IsEndIn dump rev tick
+            → IfOk result (IsNearestOrNone (own_mergeinfo_at same_name (revision_in dump rev)) path.now) }
     {
         Ok(self.trees.nearest(tick, path.parts()))
     }

@@ -33,7 +33,8 @@ impl Model for Trie {
 
     ghost view = { λ t. record { nodes = t.nodes.items; parts = t.parts; locations = t.locations.items } };
 
-    ghost invariant = { λ t. IsSound (record { nodes = t.nodes.items; parts = t.parts; locations = t.locations.items }) };
+    ghost invariant = { λ t.
+        IsSound (record { nodes = t.nodes.items; parts = t.parts; locations = t.locations.items }) };
 }
 
 /// The number of the next element of a list. A list of 4,294,967,295 elements takes no other: that is reported as want

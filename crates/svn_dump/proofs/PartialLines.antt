@@ -19,8 +19,8 @@ use Rattle.svn_dump.specs.declared.refusal.Refusal.TheVariants.{Magic, Truncated
 use Rattle.svn_dump.proofs.FirstLines.{refused_cut, refused_magic, refused_version}
 
 -- bytes that are no other ones
-not_same : (bytes other : List ℕ) → bytes ≢ other → bytes_eq bytes other ≡ false
-not_same bytes other apart = false_from_ne_true _ (λ same. apart ((bytes_eq-Decides bytes other).0 same))
+bytes_eq-apart : (bytes other : List ℕ) → bytes ≢ other → bytes_eq bytes other ≡ false
+bytes_eq-apart bytes other apart = false_from_ne_true _ (λ same. apart ((bytes_eq-Decides bytes other).0 same))
 
 -- a byte, and what follows it
 push : (bytes more : List ℕ) (byte : ℕ) → (bytes ++ byte ∷ []) ++ more ≡ bytes ++ byte ∷ more
@@ -111,7 +111,7 @@ module _ (bytes : List ℕ) (is : HasOtherVersion bytes) where
   pub refused-other : (byte : ℕ) → byte ≡ 10 → IsDecidedLine (bytes ++ byte ∷ []) Version
   refused-other byte newline = λ more.
       refused_version _ (is.value ++ 10 ∷ more) (push bytes more byte ∙ ap₂ (λ front each. front ++ each ∷ more) is.begins newline ∙ append_assoc magic is.value (10 ∷ more))
-      is.value more refl is.one_line (not_same is.value (codes "2") is.other)
+      is.value more refl is.one_line (bytes_eq-apart is.value (codes "2") is.other)
 
   -- it goes on
   pub other-more : (byte : ℕ) → byte ≢ 10 → HasOtherVersion (bytes ++ byte ∷ [])

@@ -161,16 +161,16 @@ undecided-header reader header bytes is =
 -- ---- in a body
 
 -- the reasons against a whole block come after those against its form
-first_holding-later : (against : List Reason) → list_all (λ each. nat_le 6 (number_of_refusal each.refusal)) against ≡ true → (refusal : Refusal) → first_holding against ≡ Some refusal → 6 ≤ number_of_refusal refusal
+first_holding-numbered : (against : List Reason) → list_all (λ each. nat_le 6 (number_of_refusal each.refusal)) against ≡ true → (refusal : Refusal) → first_holding against ≡ Some refusal → 6 ≤ number_of_refusal refusal
 unfolding first_holding
-first_holding-later [] later refusal told = absurd (none-some refusal told)
-first_holding-later (each ∷ against) later refusal told =
+first_holding-numbered [] later refusal told = absurd (none-some refusal told)
+first_holding-numbered (each ∷ against) later refusal told =
     let (here, rest) = and_parts (nat_le 6 (number_of_refusal each.refusal)) (list_all (λ one. nat_le 6 (number_of_refusal one.refusal)) against) later in
     elim (cases_Bool each.holds) [
       | inl holds ↦
           let same : each.refusal ≡ refusal = same_Some _ _ (sym (cond-true _ _ _ holds) ∙ told) in
           subst (λ one. 6 ≤ number_of_refusal one) same (leb-true 6 _ here)
-      | inr other ↦ first_holding-later against rest refusal (sym (cond-false _ _ _ other) ∙ told)
+      | inr other ↦ first_holding-numbered against rest refusal (sym (cond-false _ _ _ other) ∙ told)
     ]
 
 later_all : (rev : ℕ) (node : Node) (large : Bool) (action : Option NodeAction) → list_all (λ each. nat_le 6 (number_of_refusal each.refusal)) (later_refusals rev node large action) ≡ true
@@ -213,7 +213,7 @@ whole_number front draft read header come lines long begins found told =
         6 ≤ number_of_refusal found.refusal
     by_block most bytes (Some refusal) first rest is =
         subst (λ (each : RefusalAt). 6 ≤ number_of_refusal each.refusal) (same_Some _ _ is)
-        (first_holding-later (sort_refusals (history_in_bytes draft) (sort_of (block_at bytes))) (sort_later (history_in_bytes draft) (with_sort (history_in_bytes draft) (sort_of (block_at bytes))) (sort_of (block_at bytes))) refusal first)
+        (first_holding-numbered (sort_refusals (history_in_bytes draft) (sort_of (block_at bytes))) (sort_later (history_in_bytes draft) (with_sort (history_in_bytes draft) (sort_of (block_at bytes))) (sort_of (block_at bytes))) refusal first)
     by_block most bytes None first rest is =
         let last = nothing_later most (length (front ++ bytes)) (with_block (history_in_bytes draft) (block_at bytes)) found
         (sym (ap (λ after_all. option_and_then (λ after. refusal_from most (length (front ++ bytes)) after after_all) (with_block (history_in_bytes draft) (block_at bytes))) rest) ∙ is) in

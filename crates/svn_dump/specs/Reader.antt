@@ -3,7 +3,11 @@ use Rattle.std.specs.Prelude.{◌≡◌, ℕ, ◌<◌, List, [], ◌∷◌, ◌+
 use Rattle.std.specs.Borrow.{Bor}
 use Rattle.svn_text.specs.Bytes.{is_not_empty}
 use Rattle.svn_dump.specs.Block.{AreBlocks, Block, body_length, properties_length}
+use Rattle.svn_dump.specs.Decided.{IsDecidedError}
 use Rattle.svn_dump.specs.Draft.{IsWholeHistory, dump_of}
+use Rattle.svn_dump.specs.FrontBlock.{AddsBlockTo, IsBlockRefusalFrom}
+use Rattle.svn_dump.specs.ReadError.{dump_error_at}
+use Rattle.svn_dump.specs.declared.read_error.ReadError.{ReadError}
 use Rattle.svn_dump.specs.Dump.{DumpValue, history_in_bytes}
 use Rattle.svn_dump.specs.DumpText.{first_line}
 use Rattle.svn_dump.specs.FirstRefusal.{begins_with_newline, header_lines}
@@ -80,3 +84,48 @@ abbrev pub ReadsPart : Reader → List ℕ → List ℕ → Option (Bor (List �
 ReadsPart new bytes piece None = HasReadAll new (bytes ++ piece)
 ReadsPart new bytes piece (Some rest) =
     (last : List ℕ) × (piece ≡ last ++ rest.now) × IsReadAs (bytes ++ last) new.draft
+
+-- ---- what a call promises of all bytes that were read before it
+
+-- what comes after bytes of which this holds is read so
+abbrev pub ReadsAfter : (List ℕ → Type 0) → Reader → List ℕ → Option (Bor (List ℕ)) → Type 0
+ReadsAfter before new piece left = (bytes : List ℕ) → before bytes → ReadsPart new bytes piece left
+
+-- or decides this error
+abbrev pub RefusesAfter : (List ℕ → Type 0) → Reader → List ℕ → ReadError → Type 0
+RefusesAfter before new piece e = (bytes : List ℕ) → before bytes → IsDecidedError (bytes ++ piece) (dump_error_at new.at e)
+
+-- the same of a piece that ends at this offset
+abbrev pub ReadsUpTo : Reader → Reader → ℕ → List ℕ → Type 0
+ReadsUpTo old new end piece = (bytes : List ℕ) → HasReadAll old bytes → end ≡ length (bytes ++ piece) → HasReadAll new (bytes ++ piece)
+
+abbrev pub RefusesUpTo : Reader → Reader → ℕ → List ℕ → ReadError → Type 0
+RefusesUpTo old new end piece e =
+    (bytes : List ℕ) → HasReadAll old bytes → end ≡ length (bytes ++ piece) → IsDecidedError (bytes ++ piece) (dump_error_at new.at e)
+
+-- of a block that begins after all bytes
+abbrev pub ReadsBlock : Reader → Reader → List ℕ → Option (Bor (List ℕ)) → Type 0
+ReadsBlock old new block left = (bytes : List ℕ) → IsReadAs bytes old.draft → old.at ≡ length bytes → ReadsPart new bytes block left
+
+abbrev pub RefusesBlock : Reader → Reader → List ℕ → ReadError → Type 0
+RefusesBlock old new block e =
+    (bytes : List ℕ) → IsReadAs bytes old.draft → old.at ≡ length bytes → IsDecidedError (bytes ++ block) (dump_error_at new.at e)
+
+-- of more of a header
+abbrev pub ReadsHeader : Reader → List ℕ → Reader → List ℕ → Option (Bor (List ℕ)) → Type 0
+ReadsHeader old header new piece left =
+    (bytes : List ℕ) → IsReadTo bytes old.draft old.at header → BeginsBlock (header ++ piece) → ReadsPart new bytes piece left
+
+abbrev pub RefusesHeader : Reader → List ℕ → Reader → List ℕ → ReadError → Type 0
+RefusesHeader old header new piece e =
+    (bytes : List ℕ) → IsReadTo bytes old.draft old.at header → BeginsBlock (header ++ piece) → IsDecidedError (bytes ++ piece) (dump_error_at new.at e)
+
+-- and of a block whose last byte has come: it is added, or decides this error
+abbrev pub AddsCome : Reader → List ℕ → PartialBody → Reader → Type 0
+AddsCome old header body new =
+    (come : List ℕ) → IsBodyTo header body come → body.left ≡ 0 → BeginsBlock header → AddsBlockTo old.draft new.draft (header ++ 10 ∷ come) []
+
+abbrev pub RefusesCome : Reader → List ℕ → PartialBody → ReadError → Type 0
+RefusesCome old header body e =
+    (come : List ℕ) → IsBodyTo header body come → body.left ≡ 0 → BeginsBlock header → IsWholeHistory old.draft →
+    IsBlockRefusalFrom (history_in_bytes old.draft) (header ++ 10 ∷ come) e

@@ -1,13 +1,12 @@
 //! What is kept of a dump that is read in pieces.
 ghost use Rattle.std.specs.Prelude.{◌≡◌, ◌<◌, ◌≤◌, ◌++◌, ◌∷◌, ℕ, List, [], length, IfErr, IfOk, IfSome, IsErrOf, OnOk};
-ghost use Rattle.svn_dump.specs.Decided.{IsDecidedError};
 ghost use Rattle.svn_dump.specs.Draft.{IsWholeHistory};
 ghost use Rattle.svn_dump.specs.Dump.{history_in_bytes};
 ghost use Rattle.svn_dump.specs.DumpError.{IsRefusal};
 ghost use Rattle.svn_dump.specs.DumpText.{IsDumpText, names_of, values_of};
-ghost use Rattle.svn_dump.specs.FrontBlock.{AddsBlockTo, IsBlockRefusalFrom};
-ghost use Rattle.svn_dump.specs.ReadError.{dump_error_at};
-ghost use Rattle.svn_dump.specs.Reader.{BeginsBlock, HasReadAll, IsBodyTo, IsInBody, IsInLine, IsReadAs, IsReadTo, ReadsPart};
+ghost use Rattle.svn_dump.specs.Reader.{AddsCome, BeginsBlock, HasReadAll, IsInBody, IsInLine};
+ghost use Rattle.svn_dump.specs.Reader.{ReadsAfter, ReadsBlock, ReadsHeader, ReadsUpTo};
+ghost use Rattle.svn_dump.specs.Reader.{RefusesAfter, RefusesBlock, RefusesCome, RefusesHeader, RefusesUpTo};
 ghost use Rattle.svn_dump.specs.declared.reader.Part.TheVariants.{Blocks};
 
 use crate::block::{BlockFront, first_block, headers_of, skip_empty_lines};
@@ -62,11 +61,9 @@ impl Reader {
     /// Reads a piece that ends at this offset.
     pub(crate) fn read(&mut self, end: u64, piece: &[u8]) -> Result<(), ReadError>
         requires { length piece.now ≤ end }
-        ensures ok { OnOk result ((bytes : List ℕ) → HasReadAll self.old bytes → end ≡ length (bytes ++ piece.now)
-            → HasReadAll self.new (bytes ++ piece.now)) }
+        ensures ok { OnOk result (ReadsUpTo self.old self.new end piece.now) }
         ensures keeps { OnOk result (IsWholeHistory self.old.draft → IsWholeHistory self.new.draft) }
-        ensures refused { IfErr result (λ e. (bytes : List ℕ) → HasReadAll self.old bytes
-            → end ≡ length (bytes ++ piece.now) → IsDecidedError (bytes ++ piece.now) (dump_error_at self.new.at e)) }
+        ensures refused { IfErr result (RefusesUpTo self.old self.new end piece.now) }
     {
         let Some(mut rest) = self.end_part(piece)? else {
             return Ok(());
@@ -83,13 +80,11 @@ impl Reader {
 
     /// Goes on with the part in progress, and answers what follows it, or `None` where the piece ends in it.
     fn end_part<'p>(&mut self, piece: &'p [u8]) -> Result<Option<&'p [u8]>, ReadError>
-        ensures ok { IfOk result (λ left. (bytes : List ℕ) → HasReadAll self.old bytes
-            → ReadsPart self.new bytes piece.now left) }
+        ensures ok { IfOk result (ReadsAfter (HasReadAll self.old) self.new piece.now) }
         ensures within { IfOk result (λ left. IfSome left (λ rest. length rest.now ≤ length piece.now)) }
         ensures part { IfOk result (λ left. IfSome left (λ rest. self.new.part ≡ Blocks)) }
         ensures keeps { OnOk result (IsWholeHistory self.old.draft → IsWholeHistory self.new.draft) }
-        ensures refused { IfErr result (λ e. (bytes : List ℕ) → HasReadAll self.old bytes
-            → IsDecidedError (bytes ++ piece.now) (dump_error_at self.new.at e)) }
+        ensures refused { IfErr result (RefusesAfter (HasReadAll self.old) self.new piece.now) }
     {
         match replace(&mut self.part, Part::Blocks) {
             Part::Blocks => Ok(Some(piece)),
@@ -106,13 +101,11 @@ impl Reader {
         piece: &'p [u8],
     ) -> Result<Option<&'p [u8]>, ReadError>
         requires { self.old.part ≡ Blocks }
-        ensures ok { IfOk result (λ left. (bytes : List ℕ) → IsInLine self.old line bytes
-            → ReadsPart self.new bytes piece.now left) }
+        ensures ok { IfOk result (ReadsAfter (IsInLine self.old line) self.new piece.now) }
         ensures within { IfOk result (λ left. IfSome left (λ rest. length rest.now ≤ length piece.now)) }
         ensures part { IfOk result (λ left. IfSome left (λ rest. self.new.part ≡ Blocks)) }
         ensures keeps { OnOk result (IsWholeHistory self.old.draft → IsWholeHistory self.new.draft) }
-        ensures refused { IfErr result (λ e. (bytes : List ℕ) → IsInLine self.old line bytes
-            → IsDecidedError (bytes ++ piece.now) (dump_error_at self.new.at e)) }
+        ensures refused { IfErr result (RefusesAfter (IsInLine self.old line) self.new piece.now) }
     {
         let mut line = line;
         match line.extend(piece)? {
@@ -128,13 +121,11 @@ impl Reader {
     fn read_block<'p>(&mut self, block: &'p [u8]) -> Result<Option<&'p [u8]>, ReadError>
         requires part { self.old.part ≡ Blocks }
         requires begins { BeginsBlock block.now }
-        ensures ok { IfOk result (λ left. (bytes : List ℕ) → IsReadAs bytes self.old.draft → self.old.at ≡ length bytes
-            → ReadsPart self.new bytes block.now left) }
+        ensures ok { IfOk result (ReadsBlock self.old self.new block.now) }
         ensures within { IfOk result (λ left. IfSome left (λ rest. length rest.now < length block.now)) }
         ensures part { IfOk result (λ left. IfSome left (λ rest. self.new.part ≡ Blocks)) }
         ensures keeps { OnOk result (IsWholeHistory self.old.draft → IsWholeHistory self.new.draft) }
-        ensures refused { IfErr result (λ e. (bytes : List ℕ) → IsReadAs bytes self.old.draft
-            → self.old.at ≡ length bytes → IsDecidedError (bytes ++ block.now) (dump_error_at self.new.at e)) }
+        ensures refused { IfErr result (RefusesBlock self.old self.new block.now) }
     {
         match first_block(block)? {
             None => self.read_header(PartialHeader::new(self.alloc), block),
@@ -152,13 +143,11 @@ impl Reader {
         piece: &'p [u8],
     ) -> Result<Option<&'p [u8]>, ReadError>
         requires { self.old.part ≡ Blocks }
-        ensures ok { IfOk result (λ left. (bytes : List ℕ) → IsReadTo bytes self.old.draft self.old.at header
-            → BeginsBlock (header ++ piece.now) → ReadsPart self.new bytes piece.now left) }
+        ensures ok { IfOk result (ReadsHeader self.old header self.new piece.now) }
         ensures within { IfOk result (λ left. IfSome left (λ rest. length rest.now < length piece.now)) }
         ensures part { IfOk result (λ left. IfSome left (λ rest. self.new.part ≡ Blocks)) }
         ensures keeps { OnOk result (IsWholeHistory self.old.draft → IsWholeHistory self.new.draft) }
-        ensures refused { IfErr result (λ e. (bytes : List ℕ) → IsReadTo bytes self.old.draft self.old.at header
-            → BeginsBlock (header ++ piece.now) → IsDecidedError (bytes ++ piece.now) (dump_error_at self.new.at e)) }
+        ensures refused { IfErr result (RefusesHeader self.old header self.new piece.now) }
     {
         let mut header = header;
         match header.extend(piece)? {
@@ -181,13 +170,11 @@ impl Reader {
         piece: &'p [u8],
     ) -> Result<Option<&'p [u8]>, ReadError>
         requires { self.old.part ≡ Blocks }
-        ensures ok { IfOk result (λ left. (bytes : List ℕ) → IsInBody self.old header body bytes
-            → ReadsPart self.new bytes piece.now left) }
+        ensures ok { IfOk result (ReadsAfter (IsInBody self.old header body) self.new piece.now) }
         ensures within { IfOk result (λ left. IfSome left (λ rest. length rest.now ≤ length piece.now)) }
         ensures part { IfOk result (λ left. IfSome left (λ rest. self.new.part ≡ Blocks)) }
         ensures keeps { OnOk result (IsWholeHistory self.old.draft → IsWholeHistory self.new.draft) }
-        ensures refused { IfErr result (λ e. (bytes : List ℕ) → IsInBody self.old header body bytes
-            → IsDecidedError (bytes ++ piece.now) (dump_error_at self.new.at e)) }
+        ensures refused { IfErr result (RefusesAfter (IsInBody self.old header body) self.new piece.now) }
     {
         let mut body = body;
         match body.extend(piece)? {
@@ -206,12 +193,9 @@ impl Reader {
     fn add_block(&mut self, header: &PartialHeader, body: &PartialBody) -> Result<(), ReadError>
         ensures part { self.new.part ≡ self.old.part }
         ensures at { self.new.at ≡ self.old.at }
-        ensures added { OnOk result ((come : List ℕ) → IsBodyTo header.now body.now come → body.now.left ≡ 0
-            → BeginsBlock header.now → AddsBlockTo self.old.draft self.new.draft (header.now ++ 10 ∷ come) []) }
+        ensures added { OnOk result (AddsCome self.old header.now body.now self.new) }
         ensures keeps { OnOk result (IsWholeHistory self.old.draft → IsWholeHistory self.new.draft) }
-        ensures refused { IfErr result (λ e. (come : List ℕ) → IsBodyTo header.now body.now come → body.now.left ≡ 0
-            → BeginsBlock header.now → IsWholeHistory self.old.draft
-            → IsBlockRefusalFrom (history_in_bytes self.old.draft) (header.now ++ 10 ∷ come) e) }
+        ensures refused { IfErr result (RefusesCome self.old header.now body.now) }
     {
         let (headers, _) = headers_of(header.bytes())?;
         let properties = body.section.as_slice();

@@ -27,7 +27,8 @@ fn load_opened<F: Read + Drop>(
     opened: io::Result<F>,
     source: Source,
 ) -> Result<Vec<u8>, RunError>
-    ensures bytes { IfOk opened (λ file. IfOk result (λ bytes. IfSome (F.remaining file) (λ left. left ≡ bytes.items))) }
+    ensures bytes { IfOk opened
+        (λ file. IfOk result (λ bytes. IfSome (F.remaining file) (λ left. left ≡ bytes.items))) }
     ensures unopened { IsErr opened → IsErrOf result (RunError.Read source) }
     ensures error { IfErr result (IsReadOrMemory source) }
 {

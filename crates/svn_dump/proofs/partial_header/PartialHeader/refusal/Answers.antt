@@ -1,9 +1,8 @@
 use Rattle.std.proofs.Common.{[], sym, ap, ◌∙◌, append-nil}
-use Rattle.svn_dump.specs.Field.{fields_of}
-use Rattle.svn_dump.specs.FirstRefusal.{front_refusals, header_lines}
+use Rattle.svn_dump.specs.FirstRefusal.{front_refusals}
 use Rattle.svn_dump.specs.HeaderValues.{body_length_from_headers}
 use Rattle.svn_dump.specs.Refusal.{first_holding}
-use Rattle.svn_dump.proofs.PartialHeaders.{header_lines-front, refused-front_cut, refused-front_length, values-lines}
+use Rattle.svn_dump.proofs.PartialHeaders.{refused-front_cut, refused-front_length, values-front}
 use Rattle.svn_dump.proofs.partial_header.PartialHeader.refusal.Goals as goal
 
 pub returns-in-Err : goal.returns-in-Err
@@ -12,18 +11,12 @@ returns-in-Err c =
 
 pub returns-in-None : goal.returns-in-None
 returns-in-None c =
-    let bytes = c.self.inside.bytes.items in
     let front = c.self.invariant.front in
-    let values =
-    values-lines c.deref.result.now c.in-Ok.headers c.in-Ok.field-0-1 c.in-Ok.ensures.headers
-    ∙ ap fields_of (ap header_lines c.deref.ensures.value ∙ header_lines-front bytes front) in
-    rw (← c.self.view_is) (refused-front_length bytes front (ap body_length_from_headers (sym values) ∙ sym c.in-None.ensures.whole))
+    let values = values-front c.self.inside.bytes.items c.deref.result.now front c.in-Ok.headers c.in-Ok.field-0-1 c.deref.ensures.value c.in-Ok.ensures.headers in
+    rw (← c.self.view_is) (refused-front_length c.self.inside.bytes.items front (ap body_length_from_headers (sym values) ∙ sym c.in-None.ensures.whole))
 
 pub returns-in-Some : goal.returns-in-Some
 returns-in-Some c =
-    let bytes = c.self.inside.bytes.items in
     let front = c.self.invariant.front in
-    let values =
-    values-lines c.deref.result.now c.in-Ok.headers c.in-Ok.field-0-1 c.in-Ok.ensures.headers
-    ∙ ap fields_of (ap header_lines c.deref.ensures.value ∙ header_lines-front bytes front) in
-    rw (← c.self.view_is) (refused-front_cut bytes front c.in-Some.field-0.1 (ap body_length_from_headers (sym values) ∙ sym c.in-Some.ensures.whole))
+    let values = values-front c.self.inside.bytes.items c.deref.result.now front c.in-Ok.headers c.in-Ok.field-0-1 c.deref.ensures.value c.in-Ok.ensures.headers in
+    rw (← c.self.view_is) (refused-front_cut c.self.inside.bytes.items front c.in-Some.field-0.1 (ap body_length_from_headers (sym values) ∙ sym c.in-Some.ensures.whole))
