@@ -1,10 +1,10 @@
 -- Bytes that are read as a draft: what stands against an input that begins with them, and what follows them.
-use Rattle.std.proofs.Common.{◌≡◌, ℕ, zero, suc, ◌+◌, ◌-◌, ◌<◌, List, [], ◌∷◌, ◌++◌, length, replicate, refl, sym, ap, ◌∙◌, subst, append_assoc, append-nil, length-append, arith}
+use Rattle.std.proofs.Common.{◌≡◌, ℕ, suc, ◌+◌, ◌-◌, ◌<◌, List, [], ◌∷◌, ◌++◌, length, replicate, refl, sym, ap, ◌∙◌, subst, append_assoc, append-nil, length-append, arith}
 use Rattle.std.specs.Prelude.{Some, option_and_then}
 use Rattle.std.specs.List.{after_first}
 use Rattle.std.proofs.lemmas.Bool.{cond-true}
 use Rattle.std.proofs.lemmas.Grind.{fold-append}
-use Rattle.std.proofs.lemmas.List.{nil_from_length}
+use Rattle.std.proofs.lemmas.List.{nil_from_length, replicate-append-replicate}
 use Rattle.svn_text.specs.Line.{is_newline}
 use Rattle.svn_dump.specs.Block.{AreBlocks, Block, IsBlock, block_text}
 use Rattle.svn_dump.specs.Decided.{HasFirstLine, IsDecidedError}
@@ -30,15 +30,10 @@ use Rattle.svn_dump.proofs.Histories.{length-history_in_bytes}
 
 -- ---- blocks beside each other
 
-replicate-append : (byte m n : ℕ) → replicate m byte ++ replicate n byte ≡ replicate (m + n) byte
-replicate-append byte zero n = ap (λ (k : ℕ). replicate k byte) (let same : n ≡ 0 + n = omega arith in same)
-replicate-append byte (suc m) n =
-    ap (λ all. byte ∷ all) (replicate-append byte m n) ∙ ap (λ (k : ℕ). replicate k byte) (let same : suc (m + n) ≡ suc m + n = omega arith in same)
-
 AreBlocks-newlines : (empty : ℕ) (bytes : List ℕ) (blocks : List Block) → AreBlocks bytes blocks → AreBlocks (replicate empty 10 ++ bytes) blocks
 AreBlocks-newlines empty bytes [] are = (
   empty + are.0,
-  ap (λ all. replicate empty 10 ++ all) are.1 ∙ replicate-append 10 empty are.0,
+  ap (λ all. replicate empty 10 ++ all) are.1 ∙ replicate-append-replicate empty are.0 10,
 )
 AreBlocks-newlines empty bytes (block ∷ blocks) are =
     let (more, rest, is, whole, follow) = are in
@@ -47,7 +42,7 @@ AreBlocks-newlines empty bytes (block ∷ blocks) are =
       rest,
       is,
       ap (λ all. replicate empty 10 ++ all) (whole ∙ append_assoc (replicate more 10) text rest)
-          ∙ sym (append_assoc (replicate empty 10) (replicate more 10) (text ++ rest)) ∙ ap (λ all. all ++ (text ++ rest)) (replicate-append 10 empty more)
+          ∙ sym (append_assoc (replicate empty 10) (replicate more 10) (text ++ rest)) ∙ ap (λ all. all ++ (text ++ rest)) (replicate-append-replicate empty more 10)
           ∙ sym (append_assoc (replicate (empty + more) 10) text rest),
       follow,
     )

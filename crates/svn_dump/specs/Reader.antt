@@ -121,11 +121,11 @@ RefusesHeader old header new piece e =
     (bytes : List ℕ) → IsReadTo bytes old.draft old.at header → BeginsBlock (header ++ piece) → IsDecidedError (bytes ++ piece) (dump_error_at new.at e)
 
 -- and of a block whose last byte has come: it is added, or decides this error
-abbrev pub AddsCome : Reader → List ℕ → PartialBody → Reader → Type 0
-AddsCome old header body new =
+abbrev pub AddsWholeBlock : Reader → List ℕ → PartialBody → Reader → Type 0
+AddsWholeBlock old header body new =
     (come : List ℕ) → IsBodyTo header body come → body.left ≡ 0 → BeginsBlock header → AddsBlockTo old.draft new.draft (header ++ 10 ∷ come) []
 
-abbrev pub RefusesCome : Reader → List ℕ → PartialBody → ReadError → Type 0
-RefusesCome old header body e =
+abbrev pub RefusesWholeBlock : Reader → List ℕ → PartialBody → ReadError → Type 0
+RefusesWholeBlock old header body e =
     (come : List ℕ) → IsBodyTo header body come → body.left ≡ 0 → BeginsBlock header → IsWholeHistory old.draft →
     IsBlockRefusalFrom (history_in_bytes old.draft) (header ++ 10 ∷ come) e

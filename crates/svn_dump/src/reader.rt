@@ -4,9 +4,9 @@ ghost use Rattle.svn_dump.specs.Draft.{IsWholeHistory};
 ghost use Rattle.svn_dump.specs.Dump.{history_in_bytes};
 ghost use Rattle.svn_dump.specs.DumpError.{IsRefusal};
 ghost use Rattle.svn_dump.specs.DumpText.{IsDumpText, names_of, values_of};
-ghost use Rattle.svn_dump.specs.Reader.{AddsCome, BeginsBlock, HasReadAll, IsInBody, IsInLine};
+ghost use Rattle.svn_dump.specs.Reader.{AddsWholeBlock, BeginsBlock, HasReadAll, IsInBody, IsInLine};
 ghost use Rattle.svn_dump.specs.Reader.{ReadsAfter, ReadsBlock, ReadsHeader, ReadsUpTo};
-ghost use Rattle.svn_dump.specs.Reader.{RefusesAfter, RefusesBlock, RefusesCome, RefusesHeader, RefusesUpTo};
+ghost use Rattle.svn_dump.specs.Reader.{RefusesAfter, RefusesBlock, RefusesWholeBlock, RefusesHeader, RefusesUpTo};
 ghost use Rattle.svn_dump.specs.declared.reader.Part.TheVariants.{Blocks};
 
 use crate::block::{BlockFront, first_block, headers_of, skip_empty_lines};
@@ -193,9 +193,9 @@ impl Reader {
     fn add_block(&mut self, header: &PartialHeader, body: &PartialBody) -> Result<(), ReadError>
         ensures part { self.new.part ≡ self.old.part }
         ensures at { self.new.at ≡ self.old.at }
-        ensures added { OnOk result (AddsCome self.old header.now body.now self.new) }
+        ensures added { OnOk result (AddsWholeBlock self.old header.now body.now self.new) }
         ensures keeps { OnOk result (IsWholeHistory self.old.draft → IsWholeHistory self.new.draft) }
-        ensures refused { IfErr result (RefusesCome self.old header.now body.now) }
+        ensures refused { IfErr result (RefusesWholeBlock self.old header.now body.now) }
     {
         let (headers, _) = headers_of(header.bytes())?;
         let properties = body.section.as_slice();
