@@ -12,8 +12,12 @@ from tree import ROOT, command, copied_tree
 PAGES = ["README.md", "docs/recipes.md", "docs/svnhist.1"]
 CONSOLE = re.compile(r"^```console\n(.*?)^```$", re.MULTILINE | re.DOTALL)
 EXAMPLE = re.compile(r"^\.EX\n(.*?)^\.EE$", re.MULTILINE | re.DOTALL)
-# The repository of the examples is the one whose dump is in interop.
-SVNADMIN = ['test "$*" = "dump -q REPO" && exec cat interop/branches.dump', "exit 1"]
+# Commands of the examples. The repository is the one whose dump is in interop.
+TOOLS = {
+    "svnadmin": ['test "$*" = "dump -q REPO" && exec cat interop/branches.dump', "exit 1"],
+    "svnlook": ['test "$*" = "youngest REPO" && exec echo 13', "exit 1"],
+    "ssh": ['test "$1" = host && shift && exec "$@"', "exit 1"],
+}
 
 
 def blocks_of(page, text):
@@ -32,7 +36,8 @@ def run_pages(program, folder):
     """Of each command its name, what the page shows and what was printed."""
     root = copied_tree(folder, program)
     tools = os.path.join(folder, "tools")
-    command(tools, "svnadmin", SVNADMIN)
+    for name, lines in TOOLS.items():
+        command(tools, name, lines)
     os.symlink(os.path.join(root, "svnhist"), os.path.join(tools, "svnhist"))
     environment = dict(os.environ, PATH=tools + os.pathsep + os.environ.get("PATH", os.defpath))
     outcomes = []

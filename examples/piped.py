@@ -4,8 +4,6 @@ import shutil
 import subprocess
 
 HERE = os.path.dirname(os.path.abspath(__file__))
-# Whether the program reads DUMP in pieces, and so refuses an endless one as soon as it can.
-READS_IN_PIECES = False
 HEAD = b"SVN-fs-dump-format-version: 2\n\n"
 REVISION = b"Revision-number: %d\n\n"
 FILE = b"Node-path: file-%d\nNode-kind: file\nNode-action: add\nText-content-length: 30\n\n%030d\n\n"
@@ -85,6 +83,4 @@ def run_piped(program, folder):
         wanted = outcome_of([program, path, queries, "0", "1"])
         outcomes += [("%s, %s" % (name, way), wanted, outcome_of([shell, "-c", command, shell, program, path, queries]))
                      for way, (shell, command) in ways().items()]
-    if READS_IN_PIECES:
-        outcomes += run_endless(program, queries)
-    return outcomes
+    return outcomes + list(run_endless(program, queries))

@@ -1,11 +1,19 @@
 //! Readers that give a few bytes a call, and fail.
+ghost use Rattle.std.specs.Prelude.{◌<◌, ◌≤◌, All};
+ghost use Rattle.query_pool.specs.Serving.{most_workers};
 
+use crate::reports::report_of;
+use crate::workers::QUERIES;
 use devices::{Device, Failed, Pull, Source};
+use query_pool::NoGate;
 use sample_dumps::MERGED;
 use std::alloc::Global;
 use std::io::{self, Read};
+use std::sync::Wait;
 use std::test::Fail;
-use svn_report::{RunError, load};
+use std::thread::Threads;
+use svn_dump::DumpError;
+use svn_report::{RunError, load, report_from};
 
 // A reader that gives its bytes in pieces. One of its calls fails.
 #[derive(Drop)]
@@ -42,6 +50,16 @@ fn device(most: usize, good_calls: usize, error: io::ErrorKind) -> Device<Pieces
     })
 }
 
+// A device that gives all these bytes at its first call, and then fails.
+fn cut_off(bytes: &'static [u8]) -> Device<Pieces> {
+    Device::new(Pieces {
+        bytes,
+        most: usize::MAX,
+        good_calls: 1,
+        error: io::ErrorKind::Other,
+    })
+}
+
 // Whether all bytes are loaded, so many a call.
 fn is_loaded_whole(alloc: Global, most: usize) -> Result<bool, RunError> {
     let mut input = device(most, usize::MAX, io::ErrorKind::Other);
@@ -66,4 +84,74 @@ fn a_failed_read_is_reported(rt: HostRuntime) {
         let mut slice = [0u8; 4];
         assert!(rt; matches!(failing.pull(&mut slice), Err(Failed)));
     }
+}
+
+// Whether the report on the merged history, which comes in pieces of 7 bytes, is this one.
+fn is_report_of_pieces<R: Threads + Wait + Sync>(
+    rt: &R,
+    alloc: Global,
+    cuts: &[u32],
+    workers: usize,
+    wanted: &[u8],
+) -> Result<bool, RunError>
+    requires cuts { All (λ length. 0 < length) cuts.now }
+    requires some_worker { 0 < workers }
+    requires few_workers { workers ≤ most_workers }
+{
+    let mut input = device(7, usize::MAX, io::ErrorKind::Other);
+    let found = report_from(rt, alloc, &mut input, QUERIES, cuts, workers, &NoGate)?;
+    Ok(found.as_slice() == wanted)
+}
+
+#[test]
+fn a_dump_in_pieces_has_the_same_report(rt: HostRuntime) -> Result<(), Fail> {
+    let wanted = report_of(&rt, rt.alloc(), MERGED, QUERIES)?;
+    for workers in [1, 8] {
+        assert!(rt; is_report_of_pieces(&rt, rt.alloc(), &[1], workers, wanted.as_slice())?);
+        assert!(rt; is_report_of_pieces(&rt, rt.alloc(), &[], workers, wanted.as_slice())?);
+    }
+    Ok(())
+}
+
+// Why there is no report on what a device gives.
+fn error_from<R: Threads + Wait + Sync>(
+    rt: &R,
+    alloc: Global,
+    input: &mut Device<Pieces>,
+    queries: &[u8],
+) -> Option<RunError> {
+    report_from(rt, alloc, input, queries, &[], 1, &NoGate).err()
+}
+
+const SKIPPING: &[u8] =
+    b"SVN-fs-dump-format-version: 2\n\nRevision-number: 0\n\nRevision-number: 2\n\n";
+
+#[test]
+fn a_refusal_is_reported_before_a_failure(rt: HostRuntime) {
+    let error = error_from(&rt, rt.alloc(), &mut cut_off(SKIPPING), QUERIES);
+    assert!(rt;
+        matches!(
+            error,
+            Some(RunError::Dump(DumpError::Refused { number: 8, at: 51 }))
+        )
+    );
+}
+
+#[test]
+fn a_failure_before_a_refusal_is_reported(rt: HostRuntime) {
+    for mut failing in [cut_off(&SKIPPING[..60]), device(7, 1, io::ErrorKind::Other)] {
+        let error = error_from(&rt, rt.alloc(), &mut failing, QUERIES);
+        assert!(rt; matches!(error, Some(RunError::Read(Source::Dump))));
+        let mut slice = [0u8; 4];
+        assert!(rt; matches!(failing.pull(&mut slice), Err(Failed)));
+    }
+}
+
+#[test]
+fn queries_are_counted_before_a_byte_is_read(rt: HostRuntime) -> Result<(), Fail> {
+    let queries = vec![in rt.alloc(); b'\n'; 1_000_001]?;
+    let mut failing = device(7, 0, io::ErrorKind::Other);
+    let error = error_from(&rt, rt.alloc(), &mut failing, queries.as_slice());
+    assert!(rt; matches!(error, Some(RunError::TooMany)));
+    Ok(())
 }

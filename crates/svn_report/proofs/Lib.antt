@@ -1,6 +1,7 @@
 mod AnswerTexts
 mod BlockEnds
 mod BlockIndexes
+mod Fronts
 mod LoadErrors
 mod QueryLines
 mod RecordEnds

@@ -7,4 +7,5 @@ pub mod QueryLines
 pub mod RecordEnds
 pub mod Report
 pub mod ReportError
+pub mod ReportFrom
 pub mod RunError

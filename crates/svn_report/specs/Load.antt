@@ -1,5 +1,6 @@
 -- How a run reports that an input could not be read.
-use Rattle.std.specs.Prelude.{◌≡◌, ◌⊎◌, ℕ, ◌+◌, IsTrue}
+use Rattle.std.specs.Prelude.{◌≡◌, ◌⊎◌, ℕ, ◌+◌, List, IsFalse, IsTrue}
+use Rattle.std.specs.Io.KnownBytes.{Consumes, IsAtEnd}
 use Rattle.devices.specs.Device.{PullState}
 use Rattle.svn_report.specs.declared.run_error.RunError.{RunError}
 use Rattle.svn_report.specs.declared.run_error.RunError.TheVariants.{TooMany, Dump, Fault as Faulty, Read, Memory}
@@ -8,6 +9,13 @@ use Rattle.devices.specs.declared.source.Source.{Source}
 -- how many reads one call makes at most
 abbrev pub most_reads : ℕ
 most_reads = 4294967296
+
+-- all bytes of an input were read, to its end
+pub record IsReadWhole (old new : PullState) (bytes : List ℕ) : Type 0 where
+  pub read : Consumes old.left new.left bytes
+  pub end : IsAtEnd new.left
+  pub ends : new.ends ≡ old.ends + 1
+  pub sound : IsFalse new.has_failed
 
 -- an input was not read to its end: no call reached it, and one failed or so many were made
 pub record IsUnread (old new : PullState) : Type 0 where

@@ -25,6 +25,11 @@ answers_from number history trees (line ∷ lines) =
 abbrev pub answers : HistoryOfBytes → List ℕ → List ℕ
 answers history queries = answers_from 1 history (trees_of bytes_eq history) (query_lines queries)
 
+-- the history is lawful, and these are the answers to the queries on it
+pub record IsReportOn (history : HistoryOfBytes) (queries report : List ℕ) : Type 0 where
+  pub lawful : first_fault bytes_eq history ≡ None
+  pub answered : report ≡ answers history queries
+
 -- there are few enough queries, the bytes are a dump of a lawful history, and these are its answers
 pub record IsReport (dump queries report : List ℕ) : Type 0 where
   pub few : AreFew queries

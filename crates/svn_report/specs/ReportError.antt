@@ -21,6 +21,14 @@ pub record IsFirstFault (dump : List ℕ) (fault : Fault) : Type 0 where
   pub read : IsDumpText dump history
   pub first : first_fault bytes_eq history ≡ Some (fault.number, kind_view fault.kind)
 
+-- the fault of the history's first faulty record, or want of memory
+abbrev pub IsHistoryError : HistoryOfBytes → RunError → Type 0
+IsHistoryError history run.TooMany = ⊥
+IsHistoryError history (run.Dump refused) = ⊥
+IsHistoryError history (run.Fault fault) = first_fault bytes_eq history ≡ Some (fault.number, kind_view fault.kind)
+IsHistoryError history (run.Read source) = ⊥
+IsHistoryError history run.Memory = Unit {0}
+
 -- the first reason against the bytes as a dump; running out of memory is an error of its own
 abbrev pub IsRefused : List ℕ → DumpError → Type 0
 IsRefused dump (refusal.Refused number at) = IsFirstAt dump number at

@@ -7,6 +7,7 @@ mod block_index;
 mod blocks;
 mod cutting;
 mod loading;
+mod pieces;
 mod query_lines;
 mod reporting;
 mod repository;
@@ -14,6 +15,7 @@ mod run_error;
 
 pub use cutting::cut;
 pub use loading::load;
+pub use pieces::report_from;
 pub use reporting::report;
 pub use repository::{LoadError, load_repo};
 pub use run_error::RunError;

@@ -8,10 +8,10 @@ use devices::{Pull, Source};
 use std::alloc::Global;
 
 /// How many reads one call makes at most.
-const MOST_READS: u64 = 4_294_967_296;
+pub(crate) const MOST_READS: u64 = 4_294_967_296;
 
 /// How many bytes one read gives at most.
-const PIECE: usize = 65_536;
+pub(crate) const PIECE: usize = 65_536;
 
 /// All bytes of an input.
 ///

@@ -2,8 +2,8 @@
 ghost use Rattle.std.specs.Prelude.{◌≡◌, ◌<◌, ◌≤◌, ◌↔◌, All, length, IfErr, IfOk, IsErrOf};
 ghost use Rattle.svn_dump.specs.Dump.{history_in_bytes};
 ghost use Rattle.svn_report.specs.QueryLines.{query_lines};
-ghost use Rattle.svn_report.specs.Report.{IsReport, answers, most_queries};
-ghost use Rattle.svn_report.specs.ReportError.{IsRunError};
+ghost use Rattle.svn_report.specs.Report.{AreFew, IsReport, IsReportOn, answers, most_queries};
+ghost use Rattle.svn_report.specs.ReportError.{IsHistoryError, IsRunError};
 ghost use Rattle.query_pool.specs.Serving.{most_workers};
 
 use crate::answering::answer_lines;
@@ -15,10 +15,10 @@ use query_pool::Gate;
 use std::alloc::Global;
 use std::sync::Wait;
 use std::thread::Threads;
-use svn_dump::read;
+use svn_dump::{Dump, read};
 
 /// How many queries one run answers at most.
-const MOST_QUERIES: usize = 1_000_000;
+pub(crate) const MOST_QUERIES: usize = 1_000_000;
 
 /// The answers to the query lines, in their order.
 ///
@@ -46,6 +46,26 @@ pub fn report<R: Threads + Wait + Sync, G: Gate>(
         return Err(RunError::TooMany);
     }
     let dump = read(alloc, dump)?;
+    report_on(rt, alloc, dump, queries, cuts, workers, gate)
+}
+
+/// The answers to the query lines on a dump.
+pub(crate) fn report_on<R: Threads + Wait + Sync, G: Gate>(
+    rt: &R,
+    alloc: Global,
+    dump: Dump,
+    queries: &[u8],
+    cuts: &[u32],
+    workers: usize,
+    gate: &G,
+) -> Result<Vec<u8>, RunError>
+    requires few_queries { AreFew queries.now }
+    requires cuts { All (λ length. 0 < length) cuts.now }
+    requires some_worker { 0 < workers }
+    requires few_workers { workers ≤ most_workers }
+    ensures ok { IfOk result (λ report. IsReportOn (history_in_bytes dump) queries.now report.items) }
+    ensures error { IfErr result (IsHistoryError (history_in_bytes dump)) }
+{
     let repo = load_repo(rt, alloc, dump, cuts, workers)?;
     let answers = answered(rt, alloc, &repo, queries, workers, gate);
     drop(repo);
@@ -61,7 +81,7 @@ fn answered<R: Threads + Wait + Sync, G: Gate>(
     workers: usize,
     gate: &G,
 ) -> Result<Vec<u8>, RunError>
-    requires few_queries { length (query_lines queries.now) ≤ most_queries }
+    requires few_queries { AreFew queries.now }
     requires some_worker { 0 < workers }
     requires few_workers { workers ≤ most_workers }
     ensures ok { IfOk result (λ report. report.items ≡ answers (history_in_bytes repo.now) queries.now) }

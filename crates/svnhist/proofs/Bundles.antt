@@ -1,9 +1,7 @@
 -- Bundles: what stands before and behind the first of a byte is told by the bytes alone.
-use Rattle.std.proofs.Common.{◌≡◌, ℕ, ◌+◌, ◌<◌, ◌≤◌, ◌==◌, leb, Bool, true, false, List, [], ◌∷◌, ◌++◌, Option, Some, None, length, get_or, option_and_then, ◌&&◌, if◌then◌else◌, refl, sym, ap, ◌∙◌, arith, length-append, append_assoc, append-nil, All, IsFalse, flat_map, lit<}
-use Rattle.std.proofs.lemmas.Bool.{eq-eqb, eqb-true, lt-leb, both_ways}
-use Rattle.std.proofs.lemmas.List.Elements.{All-get_or, All-nil, All-head, All-tail, All-push, All-from_get_or}
-use Rattle.std.proofs.lemmas.List.Sums.{AllPass-from_list_all}
-use Rattle.std.specs.Cmp.{first_so}
+use Rattle.std.proofs.Common.{◌≡◌, ℕ, ◌+◌, ◌<◌, ◌==◌, leb, Bool, true, false, List, [], ◌∷◌, ◌++◌, Option, Some, None, length, option_and_then, ◌&&◌, if◌then◌else◌, refl, sym, ap, ◌∙◌, arith, length-append, append_assoc, append-nil, All, IsFalse, flat_map, lit<}
+use Rattle.std.proofs.lemmas.Bool.{eq-eqb, lt-leb, both_ways}
+use Rattle.std.proofs.lemmas.List.Elements.{All-get_or, All-nil, All-head, All-tail, All-push}
 use Rattle.std.proofs.Math.Seq.{get_or-append_seam}
 use Rattle.std.proofs.lemmas.Grind.{flat_map-append}
 use Rattle.std.proofs.lemmas.List.Folds.{list_any_none}

@@ -5,12 +5,12 @@
 -- 2: `IsNoBundle`
 -- 3: `IsFailed` and `IsFailureLine`, on two files `IsFailedOnFiles`, and `IsRefusedOnFiles` where nothing went out
 -- 4: the line for want of memory, on two files `IsRefusedOnFiles`
-use Rattle.std.specs.Prelude.{◌≡◌, ◌⊎◌, ℕ, ◌+◌, ◌<◌, IsFalse, IsTrue, List, Option, Some, None, Vec, take}
-use Rattle.std.specs.Io.KnownBytes.{Appends, Consumes, IsAtEnd}
+use Rattle.std.specs.Prelude.{◌≡◌, ◌⊎◌, ℕ, ◌<◌, IsFalse, IsTrue, List, Option, Some, None, Vec, take}
+use Rattle.std.specs.Io.KnownBytes.{Appends}
 use Rattle.std.specs.declared.alloc.Global.{Global}
 use Rattle.svnhist.specs.Bundle.{BundleValue, IsBundle}
 use Rattle.devices.specs.Device.{PullState, PushState}
-use Rattle.svn_report.specs.Load.{IsReadOrMemory, IsUnread}
+use Rattle.svn_report.specs.Load.{IsReadOrMemory, IsReadWhole, IsUnread}
 use Rattle.svn_report.specs.Report.{IsReport}
 use Rattle.svn_report.specs.ReportError.{IsRunError}
 use Rattle.svn_report.specs.RunError.{line_of, status_of}
@@ -20,13 +20,6 @@ use Rattle.svn_report.specs.declared.run_error.RunError.TheVariants.{Read, Memor
 use Rattle.devices.specs.declared.source.Source.TheVariants.{Dump as DumpFile, Queries, Input}
 
 -- ---- what was read
-
--- all bytes of an input were read, to its end
-pub record IsReadWhole (old new : PullState) (bytes : List ℕ) : Type 0 where
-  pub read : Consumes old.left new.left bytes
-  pub end : IsAtEnd new.left
-  pub ends : new.ends ≡ old.ends + 1
-  pub sound : IsFalse new.has_failed
 
 -- the report on the bundle that the bytes are, or none where they are no bundle
 abbrev pub IsBundleAnswer : List ℕ → Option (Vec ℕ Global) → Type 0

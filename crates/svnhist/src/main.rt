@@ -4,7 +4,8 @@
 mod arguments;
 mod bundle;
 mod bundle_reader;
-mod file;
+mod cuts;
+mod files;
 mod program;
 #[cfg(test)]
 mod tests;
@@ -16,7 +17,7 @@ pub use query_pool::{Gate, NoGate};
 use std::env::{self, Env};
 use std::io::{self, ErrorKind};
 use std::process::ExitCode;
-pub use svn_report::{LoadError, RunError, load, load_repo, report};
+pub use svn_report::{LoadError, RunError, load, load_repo, report, report_from};
 
 fn main(rt: HostRuntime) -> ExitCode {
     let mut output = Device::new(rt.stdout());

@@ -1,17 +1,16 @@
 //! The program: a bundle or two files in, their report out.
-ghost use Rattle.std.specs.Prelude.{◌≡◌, ◌≢◌, ℕ, ◌<◌, ◌≤◌, ◌⊎◌, List, IfErr, IfOk, IsFalse, IsTrue};
+ghost use Rattle.std.specs.Prelude.{◌≡◌, ◌≢◌, ◌<◌, ◌≤◌, ◌⊎◌, IfErr, IfOk, IsFalse, IsTrue};
 ghost use Rattle.std.specs.Io.KnownBytes.{Appends};
 ghost use Rattle.svn_report.specs.Load.{IsReadError, IsUnread};
-ghost use Rattle.svnhist.specs.ExitStatus.{IsBundleAnswer, IsBundleError, IsPartSent, IsFailedOnFiles, IsFailed, IsFailureLine, IsFilesError, IsDoneOnFiles, IsInputAnswer, IsInputError, IsErrorLine, IsRefusedOnFiles, IsRefused, IsDone, IsNoBundle, PrintsLine};
-ghost use Rattle.svn_report.specs.Report.{IsReport};
-ghost use Rattle.svn_report.specs.ReportError.{IsRunError};
+ghost use Rattle.svnhist.specs.ExitStatus.{IsBundleAnswer, IsBundleError, IsPartSent, IsFailedOnFiles, IsFailed, IsFailureLine, IsDoneOnFiles, IsInputAnswer, IsInputError, IsErrorLine, IsRefusedOnFiles, IsRefused, IsDone, IsNoBundle, PrintsLine};
 ghost use Rattle.svn_report.specs.RunError.{line_of};
 ghost use Rattle.svnhist.specs.ProgramLines.{unsent_line, usage_line};
 ghost use Rattle.query_pool.specs.Serving.{most_workers};
 
 use crate::arguments::Arguments;
 use crate::bundle_reader::bundle;
-use crate::file::load_file;
+use crate::cuts::cuts_of;
+use crate::files::answer_files;
 use devices::{Pull, Push, Source, send};
 use query_pool::NoGate;
 use std::alloc::{AllocError, Global};
@@ -176,55 +175,14 @@ fn answer_bundle<R: Threads + Wait + Sync>(
     let Some(parts) = bundle(bytes) else {
         return Ok(None);
     };
-    let report = answer_blocks(
+    let report = report(
         rt,
         alloc,
         parts.dump,
         parts.queries,
-        parts.block,
+        cuts_of(&parts.block),
         parts.workers,
+        &NoGate,
     )?;
     Ok(Some(report))
-}
-
-/// The report on two files, of which the queries are read first.
-fn answer_files<R: Files + Threads + Wait + Sync>(
-    rt: &R,
-    alloc: Global,
-    asked: &Arguments<'_>,
-) -> Result<Vec<u8>, RunError>
-    requires some_worker { 0 < asked.now.workers }
-    requires few_workers { asked.now.workers ≤ most_workers }
-    ensures ok { IfOk result (λ report. (dump queries : List ℕ) × IsReport dump queries report.items) }
-    ensures error { IfErr result IsFilesError }
-{
-    let queries = load_file(rt, alloc, asked.queries, Source::Queries)?;
-    let dump = load_file(rt, alloc, asked.dump, Source::Dump)?;
-    answer_blocks(
-        rt,
-        alloc,
-        dump.as_slice(),
-        queries.as_slice(),
-        asked.block,
-        asked.workers,
-    )
-}
-
-/// The report over blocks of one length, where 0 is one block.
-fn answer_blocks<R: Threads + Wait + Sync>(
-    rt: &R,
-    alloc: Global,
-    dump: &[u8],
-    queries: &[u8],
-    block: u32,
-    workers: usize,
-) -> Result<Vec<u8>, RunError>
-    requires some_worker { 0 < workers }
-    requires few_workers { workers ≤ most_workers }
-    ensures ok { IfOk result (λ report. IsReport dump.now queries.now report.items) }
-    ensures error { IfErr result (IsRunError dump.now queries.now) }
-{
-    let lengths = [block];
-    let cuts = if block == 0 { &[] } else { lengths.as_slice() };
-    report(rt, alloc, dump, queries, cuts, workers, &NoGate)
 }

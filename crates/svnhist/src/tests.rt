@@ -1,13 +1,17 @@
 //! Bundles, arguments and files.
 
-use crate::arguments::read_arguments;
+use crate::arguments::{Arguments, read_arguments};
 use crate::bundle_reader::bundle;
-use crate::file::load_file;
+use crate::files::answer_files;
 use devices::Source;
 use std::alloc::{AllocError, Global};
+use std::env::{self, Env};
+use std::path::PathBuf;
 use std::rt::Files;
+use std::sync::Wait;
 use std::test::Fail;
-use std::{env, fs};
+use std::thread::Threads;
+use std::{fs, io};
 use svn_report::RunError;
 
 #[test]
@@ -89,29 +93,73 @@ fn wrong_arguments_are_refused(rt: HostRuntime) -> Result<(), Fail> {
     Ok(())
 }
 
-const CONTENT: &[u8] = b"a line\nand another\n";
+const DUMP: &[u8] = b"SVN-fs-dump-format-version: 2\n\nRevision-number: 0\n\n";
 
-// Whether a file is loaded whole.
-fn is_loaded<R: Files>(rt: &R, alloc: Global, path: &str) -> Result<bool, RunError> {
-    let found = load_file(rt, alloc, path, Source::Dump)?;
-    Ok(found.as_slice() == CONTENT)
+const QUERIES: &[u8] = b"segments\t/@0\n";
+
+const REPORT: &[u8] = b"#1 ok\n0-0 /\n";
+
+// The path of a file with this content.
+fn written<R: Files + Env + AllocGlobal>(
+    rt: &R,
+    name: &str,
+    content: &[u8],
+) -> io::Result<PathBuf> {
+    let mut path = env::temp_dir(rt)?;
+    path.push(name)?;
+    fs::write(rt, path.as_path(), content)?;
+    Ok(path)
 }
 
-// Whether a file can't be read, as the queries.
-fn is_unread<R: Files>(rt: &R, alloc: Global, path: &str) -> bool {
-    matches!(
-        load_file(rt, alloc, path, Source::Queries),
-        Err(RunError::Read(Source::Queries))
+// The report on the files at two paths.
+fn answers<R: Files + Threads + Wait + Sync>(
+    rt: &R,
+    alloc: Global,
+    dump: &str,
+    queries: &str,
+) -> Result<Vec<u8>, RunError> {
+    let asked = Arguments {
+        dump,
+        queries,
+        block: 0,
+        workers: 1,
+    };
+    answer_files(rt, alloc, &asked)
+}
+
+// Whether the report on two files is right, and an error names the one that is missing.
+fn are_answered<R: Files + Threads + Wait + Sync>(
+    rt: &R,
+    alloc: Global,
+    dump: &str,
+    queries: &str,
+) -> Result<bool, RunError> {
+    let report = answers(rt, alloc, dump, queries)?;
+    Ok(
+        report.as_slice() == REPORT
+            && matches!(
+                answers(rt, alloc, "", queries),
+                Err(RunError::Read(Source::Dump))
+            )
+            && matches!(
+                answers(rt, alloc, "", ""),
+                Err(RunError::Read(Source::Queries))
+            ),
     )
 }
 
 #[test]
-fn a_file_is_loaded_whole(rt: HostRuntime) -> Result<(), Fail> {
-    let mut path = env::temp_dir(&rt)?;
-    path.push("svnhist-loads-a-file")?;
-    fs::write(&rt, path.as_path(), CONTENT)?;
-    let is_whole = is_loaded(&rt, rt.alloc(), path.as_path().as_str());
-    fs::remove_file(&rt, path.as_path())?;
-    assert!(rt; is_whole? && is_unread(&rt, rt.alloc(), path.as_path().as_str()));
+fn the_queries_of_a_file_are_answered(rt: HostRuntime) -> Result<(), Fail> {
+    let dump = written(&rt, "svnhist-answers-dump", DUMP)?;
+    let queries = written(&rt, "svnhist-answers-queries", QUERIES)?;
+    let are_right = are_answered(
+        &rt,
+        rt.alloc(),
+        dump.as_path().as_str(),
+        queries.as_path().as_str(),
+    );
+    fs::remove_file(&rt, dump.as_path())?;
+    fs::remove_file(&rt, queries.as_path())?;
+    assert!(rt; are_right?);
     Ok(())
 }
