@@ -27,14 +27,12 @@ def verdict(value, most):
 def print_size(program, dump, revisions, given, before):
     """The rows of one history. Returns the seconds of reading, and those by block and workers, and the bytes of one
     record in one block."""
-    load = seconds(given, program, dump, "load")
-    to_read = seconds(given, program, dump, "read")
-    reading = to_read - load
+    reading = seconds(given, program, dump, "read")
     kept = peak_of(words(program, dump, "read"))
     found = {}
     sizes = {}
     for workers, block in ((workers, block) for workers in WORKERS for block in BLOCKS):
-        taken = seconds(given, program, dump, "index", block, workers) - to_read
+        taken = seconds(given, program, dump, "index", block, workers) - reading
         sizes[block, workers] = (peak_of(words(program, dump, "index", block, workers)) - kept) / (revisions * RECORDS)
         found[block, workers] = taken
         growth = "%.2f" % (taken / before[block, workers]) if before else ""

@@ -1,8 +1,8 @@
 """Builds a copy of the program that ends after one step, so that each step can be measured alone.
 
-The steps are `load`, the bytes of the dump; `read`, its records; and then either `index`, the index of the records, or
-`map`, the ends of the revisions, the map of all records as one block, and the check of each record. The second argument
-names the last step, in place of the queries. The time and the memory of a step are the difference of two runs.
+The steps are `read`, the records of the dump, and then either `index`, the index of the records, or `map`, the ends of
+the revisions, the map of all records as one block, and the check of each record. The second argument names the last
+step, in place of the queries. The time and the memory of a step are the difference of two runs.
 
 The copy is made in the temporary directory, with what the prover kept of the program, and is proved as the program is.
 """
@@ -36,14 +36,13 @@ STEPS = """//! The steps of a run up to the index or the map of a dump.
 ghost use Rattle.std.specs.Prelude.{◌<◌, ◌≤◌};
 
 use crate::arguments::Arguments;
-use crate::file::load_file;
-use devices::Source;
+use devices::{Device, Source};
 use std::alloc::Global;
+use std::fs;
 use std::rt::Files;
 use std::sync::Wait;
 use std::thread::Threads;
-use svn_dump::read;
-use svn_report::{RunError, make_index, make_map};
+use svn_report::{RunError, make_index, make_map, read_dump};
 
 /// Runs the steps up to the one that the arguments name in place of the queries.
 pub(crate) fn run_steps<R: Files + Threads + Wait + Sync>(
@@ -54,11 +53,10 @@ pub(crate) fn run_steps<R: Files + Threads + Wait + Sync>(
     requires some_worker { 0 < asked.now.workers }
     requires few_workers { asked.now.workers ≤ 64 }
 {
-    let bytes = load_file(rt, alloc, asked.dump, Source::Dump)?;
-    if asked.queries == "load" {
-        return Ok(());
-    }
-    let dump = read(alloc, bytes.as_slice())?;
+    let Ok(file) = fs::open(rt, asked.dump) else {
+        return Err(RunError::Read(Source::Dump));
+    };
+    let dump = read_dump(alloc, &mut Device::new(file))?;
     if asked.queries == "index" {
         make_index(rt, alloc, &dump, asked.block, asked.workers)?;
     }
@@ -159,12 +157,14 @@ def write_main(path):
 
 
 def write_report(crate):
-    """Lets the library of reports give away how it makes an index and a map."""
+    """Lets the library of reports give away how it reads a dump and makes an index and a map."""
     write_text(MAKERS, crate, "src", "makers.rt")
     write_text(PROOFS, crate, "proofs", "makers", "make_map", "Answers.antt")
     contents = os.path.join(crate, "src", "lib.rt")
     change(contents, "mod loading;\n", "mod loading;\nmod makers;\n")
     change(contents, "pub use loading::load;\n", "pub use loading::load;\npub use makers::{make_index, make_map};\n")
+    change(contents, "pub use pieces::report_from;\n", "pub use pieces::{read_dump, report_from};\n")
+    change(os.path.join(crate, "src", "pieces.rt"), "\nfn read_dump<", "\npub fn read_dump<")
     change(os.path.join(crate, "src", "repository.rt"), "\nfn lawful_map<", "\npub(crate) fn lawful_map<")
 
 
