@@ -33,7 +33,7 @@ impl Meeting {
         if before >= self.guests {
             return;
         }
-        for _ in 0..10_000_000u32 {
+        for _ in 0..1_000_000u32 {
             if self.came.load(Ordering::SeqCst) >= self.guests {
                 self.met.fetch_add(1, Ordering::SeqCst);
                 return;
