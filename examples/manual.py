@@ -1,5 +1,7 @@
-"""Has the manual page checked by the formatters that are installed."""
+"""Compares the version of the manual page with the launcher's, and has the page checked by the formatters that are
+installed."""
 import os
+import re
 import shutil
 import subprocess
 
@@ -25,9 +27,15 @@ def warnings_of(words, output):
     return ((done.stdout or b"") + done.stderr).decode("utf-8", "replace").replace(PAGE, "docs/svnhist.1")
 
 
+def versions_in(path, pattern):
+    with open(path, encoding="utf-8") as file:
+        return re.findall(pattern, file.read(), re.MULTILINE)
+
+
 def run_manual():
-    """Of each formatter its name, no warnings, and the warnings that it gave."""
-    outcomes = []
+    """The two versions; and of each formatter its name, no warnings, and the warnings that it gave."""
+    launcher = versions_in(os.path.join(ROOT, "svnhist"), r"^version=(\S+)$")
+    outcomes = [("version", launcher, versions_in(PAGE, r'^\.TH SVNHIST 1 \S+ "svnhist (\S+)"'))]
     if shutil.which("mandoc"):
         outcomes.append(("mandoc", "", warnings_of(MANDOC, subprocess.PIPE)))
     if is_man_db():

@@ -1,7 +1,7 @@
 """Runs the commands that the documentation shows and compares their output with what the page shows.
 
-In README.md and docs/recipes.md these are the lines after `$ ` of each block marked `console`, in the manual page those
-of each block between `.EX` and `.EE`. The lines up to the next command are its output.
+These are the lines after `$ `: in the manual page those of each block between `.EX` and `.EE`, in the other pages those
+of each block marked `console`. The lines up to the next command are its output.
 """
 import os
 import re
@@ -9,7 +9,7 @@ import subprocess
 
 from tree import ROOT, command, copied_tree
 
-PAGES = ["README.md", "docs/recipes.md", "docs/svnhist.1"]
+PAGES = ["README.md", "docs/recipes.md", "docs/queries.md", "docs/svnhist.1"]
 CONSOLE = re.compile(r"^```console\n(.*?)^```$", re.MULTILINE | re.DOTALL)
 EXAMPLE = re.compile(r"^\.EX\n(.*?)^\.EE$", re.MULTILINE | re.DOTALL)
 # Commands of the examples. The repository is the one whose dump is in interop.
@@ -23,7 +23,7 @@ TOOLS = {
 def blocks_of(page, text):
     if not page.endswith(".1"):
         return CONSOLE.findall(text)
-    return [block.replace(r"\-", "-").replace(r"\e", "\\") for block in EXAMPLE.findall(text)]
+    return [block.replace(r"\-", "-").replace(r"\(ha", "^").replace(r"\e", "\\") for block in EXAMPLE.findall(text)]
 
 
 def commands_of(block):
