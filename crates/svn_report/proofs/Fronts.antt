@@ -1,5 +1,5 @@
 -- The front of a dump that a device gave to a reader.
-use Rattle.std.proofs.Common.{◌≡◌, ℕ, ◌≤◌, List, ◌++◌, Option, length, take, inl}
+use Rattle.std.proofs.Common.{◌≡◌, ℕ, ◌≤◌, List, ◌++◌, Option, length, take, inl, IsFalse}
 use Rattle.std.specs.Io.KnownBytes.{Consumes}
 use Rattle.std.proofs.KnownBytes.{Consumes-trans}
 use Rattle.std.proofs.lemmas.List.{take-append-le, take-take}
@@ -31,17 +31,18 @@ module _ (old mid new : PullState) (feed : FeedValue) (is : IsFrontRead old mid 
 
   -- a piece that decides a refusal
   pub IsDumpErrorFrom-piece : (error : DumpError) → ((before : List ℕ) → HasRead feed before → IsDecidedError (before ++ piece) error)
-      → new.ends ≡ old.ends → length piece ≤ most_bytes → IsDumpErrorFrom old new (run_error_of_dump error)
-  IsDumpErrorFrom-piece (refusal.Refused number at) decided no_end small = inl (record {
+      → new.ends ≡ old.ends → IsFalse new.has_failed → length piece ≤ most_bytes → IsDumpErrorFrom old new (run_error_of_dump error)
+  IsDumpErrorFrom-piece (refusal.Refused number at) decided no_end sound small = inl (record {
     front = is.front;
     piece = piece;
     given = Consumes-trans old.left mid.left new.left is.front piece is.given given;
     no_end = no_end;
+    sound = sound;
     small = small;
     before = is.undecided;
     decided = decided is.front is.read;
   })
-  IsDumpErrorFrom-piece refusal.Memory decided no_end small = tt
+  IsDumpErrorFrom-piece refusal.Memory decided no_end sound small = tt
 
 -- the bytes that were given stand at the front of the piece
 pub Consumes-piece : (old new : Option (List ℕ)) (count len : ℕ) (given rest : List ℕ) → count ≤ length given → count ≤ len

@@ -17,7 +17,7 @@ pub record IsReadWhole (old new : PullState) (bytes : List ℕ) : Type 0 where
   pub ends : new.ends ≡ old.ends + 1
   pub sound : IsFalse new.has_failed
 
--- an input was not read to its end: no call reached it, and one failed or so many were made
+-- an input was not read to its end: no call reached it, and one failed or `most_reads` were made
 pub record IsUnread (old new : PullState) : Type 0 where
   pub no_end : new.ends ≡ old.ends
   pub why : IsTrue new.has_failed ⊎ (new.calls ≡ old.calls + most_reads)

@@ -1,5 +1,5 @@
 -- The report on a dump that a device gives in pieces.
-use Rattle.std.specs.Prelude.{◌≡◌, ◌⊎◌, ℕ, ◌<◌, ◌≤◌, List, ◌++◌, length}
+use Rattle.std.specs.Prelude.{◌≡◌, ◌⊎◌, ℕ, ◌<◌, ◌≤◌, List, ◌++◌, length, IsFalse}
 use Rattle.std.specs.Io.KnownBytes.{Consumes}
 use Rattle.devices.specs.Device.{PullState}
 use Rattle.svn_dump.specs.Decided.{IsDecided, IsUndecided}
@@ -17,7 +17,7 @@ use Rattle.svn_report.specs.ReportError.{IsFirstFault}
 use Rattle.svn_report.specs.declared.run_error.RunError.{RunError}
 use Rattle.svn_report.specs.declared.run_error.RunError.TheVariants as run
 
--- how many bytes one read gives at most
+-- how many bytes a piece has at most
 abbrev pub most_bytes : ℕ
 most_bytes = 65536
 
@@ -33,12 +33,14 @@ pub record IsReportFrom (old new : PullState) (queries report : List ℕ) : Type
   pub all : IsReadWhole old new dump
   pub right : IsReport dump queries report
 
--- the piece that was read last decides the refusal, and what came before it decided none
+-- the last bytes that were given, at most one piece, decide the refusal, and those before them decide none; nothing was
+-- read after them, since that may fail
 pub record IsDecidedByPiece (old new : PullState) (number at : ℕ) : Type 0 where
   pub front : List ℕ
   pub piece : List ℕ
   pub given : Consumes old.left new.left (front ++ piece)
   pub no_end : new.ends ≡ old.ends
+  pub sound : IsFalse new.has_failed
   pub small : length piece ≤ most_bytes
   pub before : IsUndecided front
   pub decided : IsDecided (front ++ piece) number at

@@ -19,8 +19,8 @@ use svn_dump::{Dump, Feed};
 
 /// The report on a dump that a device gives, in pieces of at most 65,536 bytes, of which only one is held at a time.
 ///
-/// Reading ends with the piece that decides a refusal. A device that fails before one is decided, or that isn't at its
-/// end after 4,294,967,296 reads, gives `Read(Source::Dump)`. All else is as for `report`.
+/// Reading ends with the piece that decides a refusal. Where the device fails before one is decided, or 4,294,967,296
+/// reads meet no end, the answer is `Read(Source::Dump)`. All else is as for `report`.
 pub fn report_from<R: Threads + Wait + Sync, P: Pull, G: Gate>(
     rt: &R,
     alloc: Global,

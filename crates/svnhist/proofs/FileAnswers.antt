@@ -40,6 +40,6 @@ module _ (old new : PullState) (queries : List ℕ) where
   IsFileError-from (run.Dump refusal.Memory) why = absurd why.1
   IsFileError-from (run.Fault fault) (few, by) =
       inr (record { dump = by.dump; has = HasContent-whole old.left new.left by.dump by.all.read by.all.end; why = (few, by.first) })
-  IsFileError-from (run.Read source) why = inl (ap (λ each. run.Read each) why.1)
+  IsFileError-from (run.Read source) why = inl (ap (λ each. run.Read each) why.1, why.0)
   IsFileError-from run.Memory why =
       let (dump, has) = some-content old.left in inr (record { dump = dump; has = has; why = tt })

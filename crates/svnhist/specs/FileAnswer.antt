@@ -1,7 +1,7 @@
 -- The report on the file of a dump, or why there is none.
 use Rattle.std.specs.Prelude.{◌≡◌, ◌⊎◌, ℕ, List, Option, None, Some, ⊤}
 use Rattle.devices.specs.declared.source.Source.TheVariants.{Dump as DumpFile}
-use Rattle.svn_report.specs.Report.{IsReport}
+use Rattle.svn_report.specs.Report.{AreFew, IsReport}
 use Rattle.svn_report.specs.ReportError.{IsRunError}
 use Rattle.svn_report.specs.declared.run_error.RunError.{RunError}
 use Rattle.svn_report.specs.declared.run_error.RunError.TheVariants.{Read}
@@ -21,6 +21,6 @@ pub record IsErrorOnFile (content : Option (List ℕ)) (queries : List ℕ) (err
   pub has : HasContent content dump
   pub why : IsRunError dump queries error
 
--- the file can't be read, or there is no report on it
+-- the file can't be read, and the queries are few enough; or there is no report on it
 abbrev pub IsFileError : Option (List ℕ) → List ℕ → RunError → Type 0
-IsFileError content queries error = (error ≡ Read DumpFile) ⊎ IsErrorOnFile content queries error
+IsFileError content queries error = ((error ≡ Read DumpFile) × AreFew queries) ⊎ IsErrorOnFile content queries error

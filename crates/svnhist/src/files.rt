@@ -1,8 +1,9 @@
 //! Answering the queries of one file on the dump of another.
-ghost use Rattle.std.specs.Prelude.{◌≡◌, ◌<◌, ◌≤◌, List, ℕ, IfErr, IfOk, IfSome, IsErr, IsErrOf};
+ghost use Rattle.std.specs.Prelude.{◌≡◌, ◌<◌, ◌≤◌, ◌↔◌, List, ℕ, length, IfErr, IfOk, IfSome, IsErr, IsErrOf};
 ghost use Rattle.query_pool.specs.Serving.{most_workers};
 ghost use Rattle.svn_report.specs.Load.{IsReadOrMemory};
-ghost use Rattle.svn_report.specs.Report.{IsReport};
+ghost use Rattle.svn_report.specs.QueryLines.{query_lines};
+ghost use Rattle.svn_report.specs.Report.{IsReport, most_queries};
 ghost use Rattle.svnhist.specs.ExitStatus.{IsFilesError};
 ghost use Rattle.svnhist.specs.FileAnswer.{IsFileError, IsReportOnFile};
 
@@ -68,6 +69,8 @@ fn answer_opened<R: Threads + Wait + Sync, F: Read + Drop>(
         (λ file. IfOk result (λ report. IsReportOnFile (F.remaining file) queries.now report.items)) }
     ensures unopened { IsErr opened → IsErrOf result (RunError.Read Source.Dump) }
     ensures error { IfOk opened (λ file. IfErr result (IsFileError (F.remaining file) queries.now)) }
+    ensures too_many { IfOk opened
+        (λ _. IsErrOf result RunError.TooMany ↔ (most_queries < length (query_lines queries.now))) }
 {
     match opened {
         Ok(file) => report_from(

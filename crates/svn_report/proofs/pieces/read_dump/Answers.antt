@@ -9,7 +9,7 @@ returns-in_err-feed-in-Ok-clause-error g c =
     rw (told.1, told.2) (IsDumpErrorFrom-piece (g.P.Pull.state c.args.input.now) (g.P.Pull.state c.loop.input) (g.P.Pull.state c.pull.new.self)
     c.loop.feed c.loop.invariant.front _
     (rw (c.deref.ensures.value) (Consumes-piece _ _ c.in-Ok.n c.loop.piece.len c.pull.new.slice _ c.in-Ok.ensures.bound (search rules) c.in-Ok.ensures.bytes.0))
-    _ c.in_err-feed-in-Ok.ensures.decided (search rules) (search rules))
+    _ c.in_err-feed-in-Ok.ensures.decided (search rules) (search rules) (search rules))
 
 pub loop-preserved : goal.loop-preserved
 loop-preserved g c = record {
