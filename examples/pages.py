@@ -1,7 +1,8 @@
 """Runs the commands that the documentation shows and compares their output with what the page shows.
 
 These are the lines after `$ `: in the manual page those of each block between `.EX` and `.EE`, in the other pages those
-of each block marked `console`. The lines up to the next command are its output.
+of each block marked `console`. Lines after `> ` that follow continue the command. The lines from there up to the next
+command are its output.
 """
 import os
 import re
@@ -14,7 +15,12 @@ CONSOLE = re.compile(r"^```console\n(.*?)^```$", re.MULTILINE | re.DOTALL)
 EXAMPLE = re.compile(r"^\.EX\n(.*?)^\.EE$", re.MULTILINE | re.DOTALL)
 # Commands of the examples. The repository is the one whose dump is in interop.
 TOOLS = {
-    "svnadmin": ['test "$*" = "dump -q REPO" && exec cat interop/branches.dump', "exit 1"],
+    "svnadmin": ['case "$*" in',
+                 "'dump -q REPO') exec cat interop/branches.dump ;;",
+                 "'dump -q -r 0:7 REPO') exec sed '/^Revision-number: 8$/,$ d' interop/branches.dump ;;",
+                 "'dump -q --incremental -r 8:13 REPO')",
+                 "exec sed -n '1,4 p; /^Revision-number: 8$/,$ p' interop/branches.dump ;;",
+                 "esac", "exit 1"],
     "svnlook": ['test "$*" = "youngest REPO" && exec echo 13', "exit 1"],
     "ssh": ['test "$1" = host && shift && exec "$@"', "exit 1"],
 }
@@ -28,8 +34,8 @@ def blocks_of(page, text):
 
 def commands_of(block):
     """Each command of a block with the output that the page shows."""
-    pieces = re.split(r"^\$ (.*)\n", block, flags=re.MULTILINE)
-    return list(zip(pieces[1::2], pieces[2::2]))
+    pieces = re.split(r"^\$ (.*(?:\n> .*)*)\n", block, flags=re.MULTILINE)
+    return [(lines.replace("\n> ", "\n"), output) for lines, output in zip(pieces[1::2], pieces[2::2])]
 
 
 def run_pages(program, folder):

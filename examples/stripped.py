@@ -1,5 +1,5 @@
-"""Runs the program on dumps that `strip-texts` has made smaller. What it prints must be what it prints on the whole dump,
-and what is not well formed must be refused by both."""
+"""Runs the program on dumps that `strip-texts` has made smaller. What it prints must be what it prints on the whole
+dumps. Dumps that are not well formed must be refused by `strip-texts` and by the program, before and after it."""
 import glob
 import os
 import subprocess
