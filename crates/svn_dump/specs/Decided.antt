@@ -9,7 +9,7 @@ use Rattle.svn_dump.specs.declared.error.DumpError.TheVariants.{Refused, Memory}
 abbrev pub IsDecided : List ℕ → ℕ → ℕ → Type 0
 IsDecided bytes number at = (more : List ℕ) → IsFirstAt (bytes ++ more) number at
 
--- inputs that begin with these bytes are refused differently, or not all of them are
+-- there is no number and offset with which every input that begins with these bytes is refused
 abbrev pub IsUndecided : List ℕ → Type 0
 IsUndecided bytes = (number at : ℕ) → IsDecided bytes number at → ⊥
 

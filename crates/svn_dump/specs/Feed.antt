@@ -15,7 +15,7 @@ abbrev pub HasReadOrRefused : Reader → Option DumpError → List ℕ → Type 
 HasReadOrRefused reader None bytes = HasReadAll reader bytes
 HasReadOrRefused reader (Some error) bytes = IsDecidedError bytes error
 
--- these bytes may be what has come to it, in whatever pieces; bytes of which nothing is kept may be any
+-- these bytes may be what has come to it, in whatever pieces; bytes that are skipped may be any of the same number
 pub record HasRead (feed : FeedValue) (bytes : List ℕ) : Type 0 where
   pub counted : feed.count ≡ length bytes
   pub read : HasReadOrRefused feed.reader feed.refusal bytes

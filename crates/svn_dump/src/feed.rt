@@ -67,7 +67,7 @@ impl Feed {
         ensures read { (before : List ℕ) → HasRead self.old before → HasRead self.new (before ++ bytes.now) }
         ensures count { self.new.count ≡ self.old.count + length bytes.now }
 
-        // No refusal is decided by the bytes that have come, or this one is.
+        // `Ok`: these bytes decide no refusal. An error: the refusal that they decide, or want of memory.
         ensures undecided { OnOk result
             ((before : List ℕ) → HasRead self.old before → IsUndecided (before ++ bytes.now)) }
         ensures decided { IfErr result

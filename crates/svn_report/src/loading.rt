@@ -15,7 +15,7 @@ pub(crate) const PIECE: usize = 65_536;
 
 /// All bytes of an input.
 ///
-/// A device that fails, or that isn't at its end after 4,294,967,296 reads, gives `Read`.
+/// `Read` where the device fails, or 4,294,967,296 reads meet no end.
 pub fn load<P: Pull>(alloc: Global, input: &mut P, source: Source) -> Result<Vec<u8>, RunError>
     ensures bytes { IfOk result (λ bytes. Consumes (P.state input.old).left (P.state input.new).left bytes.items) }
     ensures end { OnOk result (IsAtEnd (P.state input.new).left) }

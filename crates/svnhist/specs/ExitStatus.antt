@@ -141,7 +141,7 @@ IsFileUnread error = (error ≡ Read DumpFile) ⊎ (error ≡ Read Queries)
 abbrev pub IsFilesError : RunError → Type 0
 IsFilesError error = IsFileUnread error ⊎ ((dump queries : List ℕ) × IsRunError dump queries error)
 
--- exit statuses 1, 3 and 4: nothing went out, and the line is that of an error of this status
+-- exit statuses 1, 3 and 4, where nothing went out: the line is that of an error of this status
 pub record IsRefusedOnFiles (status : ℕ) (errors_old errors_new : PushState) : Type 0 where
   pub error : RunError
   pub files : IsFilesError error
