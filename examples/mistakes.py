@@ -1,5 +1,5 @@
 """Runs the program on what is often given to it by mistake, as docs/dump-format.md ('When a dump is refused') and
-docs/queries.md ('Why is it `bad-query`, why `no-such-path`') describe it.
+docs/queries.md ('Why is it `bad-query`, why `no-such-path`') describe it, and strip-texts with arguments.
 
 Short texts stand for what other programs write, so that none of them is needed.
 """
@@ -86,6 +86,8 @@ ELSEWHERE = [
     b"\xfc", b"u\xcc\x88",
 ]
 MEANT = [b"", b"trunk", b"/trunk", b"trunk/src", b"trunk/", b"with space", b"a@b", b"\xc3\xbc"]
+STRIP = os.path.join(ROOT, "examples", "strip-texts")
+STRIP_USAGE = b"usage: strip-texts < DUMP > STRIPPED\n"
 UNREAD = [("a directory", "."), ("no file", "missing"), ("a hyphen", "-"), ("a URL", "file:///srv/repo")]
 USAGE = "usage: svnhist DUMP QUERIES BLOCK WORKERS"
 # A line of the table in docs/dump-format.md.
@@ -117,6 +119,12 @@ class Runs:
         self.lines.add(re.sub(r"record \d+$", "record K", re.sub(r"byte [1-9]\d*$", "byte B", line)))
         self.outcomes.append((name, (status, b"", b"svnhist: %s\n" % line.encode()), self.run(words, given)))
 
+    def strip(self, words, wanted):
+        """A call of strip-texts with arguments, of which it takes none."""
+        done = subprocess.run([STRIP] + words, cwd=self.folder, stdin=subprocess.DEVNULL, stdout=subprocess.PIPE,
+                              stderr=subprocess.PIPE)
+        self.outcomes.append((" ".join(["strip-texts"] + words), wanted, (done.returncode, done.stdout, done.stderr)))
+
     def answer(self, name, queries, status):
         """A run of which each answer has this status."""
         self.write("asked", b"".join(query + b"\n" for query in queries))
@@ -139,6 +147,9 @@ def run_mistakes(program, folder):
     runs.refuse("a dump and no arguments", 2, USAGE, [], WHOLE)
     with open(os.path.join(ROOT, "docs", "dump-format.md"), encoding="utf-8") as file:
         runs.outcomes.append(("the lines of docs/dump-format.md", set(TABLED.findall(file.read())), runs.lines))
+    runs.strip(["good"], (2, b"", STRIP_USAGE))
+    runs.strip(["-h"], (0, STRIP_USAGE, b""))
+    runs.strip(["--help"], (0, STRIP_USAGE, b""))
     runs.answer("lines that are no queries", BAD, b"bad-query")
     runs.answer("paths that are not meant", [b"log\t%s@1" % path for path in ELSEWHERE], b"no-such-path")
     runs.answer("paths that are meant", [b"log\t%s@1" % path for path in MEANT], b"ok")
