@@ -13,7 +13,7 @@ from tree import ROOT, command, copied_tree
 PAGES = ["README.md", "docs/recipes.md", "docs/queries.md", "docs/svnhist.1"]
 CONSOLE = re.compile(r"^```console\n(.*?)^```$", re.MULTILINE | re.DOTALL)
 EXAMPLE = re.compile(r"^\.EX\n(.*?)^\.EE$", re.MULTILINE | re.DOTALL)
-# Commands of the examples. The repository is the one whose dump is in interop.
+# Commands of the examples. REPO is the repository of interop/branches.dump, and URL that of interop/merges.dump.
 TOOLS = {
     "svnadmin": ['case "$*" in',
                  "'dump -q REPO') exec cat interop/branches.dump ;;",
@@ -21,6 +21,7 @@ TOOLS = {
                  "'dump -q --incremental -r 8:13 REPO')",
                  "exec sed -n '1,4 p; /^Revision-number: 8$/,$ p' interop/branches.dump ;;",
                  "esac", "exit 1"],
+    "svn": ['test "$*" = "list URL/branches@17" && exec printf "%s/\\n" one three two', "exit 1"],
     "svnlook": ['test "$*" = "youngest REPO" && exec echo 13', "exit 1"],
     "ssh": ['test "$1" = host && shift && exec "$@"', "exit 1"],
 }
