@@ -1,21 +1,15 @@
 -- At which ticks a look finds what stood somewhere.
-use Rattle.std.proofs.Common.{ℕ, zero, suc, ◌+◌, ◌-◌, ◌≤◌, Bool, List, [], ◌∷◌, ◌++◌, Option, None, Some, All, fold, get_or, length, inl, inr, arith}
+use Rattle.std.proofs.Common.{ℕ, zero, suc, ◌+◌, ◌-◌, Bool, List, [], ◌∷◌, ◌++◌, Option, None, Some, All, fold, get_or, length, inl, inr, arith}
 use Rattle.std.proofs.lemmas.Bool.{cases_lt, le-leb, lt-leb}
 use Rattle.std.proofs.lemmas.List.Elements.{All-head, All-nil, All-push, All-tail}
 use Rattle.svn_path.specs.Below.{below}
 use Rattle.svn_dump.specs.History.{Setting, keep, put, Action, delete, change, add, copy, Record}
+use Rattle.block_map.specs.LookThrough.{IsFoundUpTo}
 use Rattle.block_map.specs.Look.{Found, at, at_with, is, absent, IsFoundAtOrBefore, Look, found_after_action, resolved, look, look_after, look_at, looks_of, with_setting, with_look}
 
--- what stood somewhere is found at a tick that is no later
-abbrev IsUpTo : {C M : Type 0} → ℕ → Found C M → Type 0
-IsUpTo lo (at path tick) = tick ≤ lo
-IsUpTo lo (at_with path tick mergeinfo) = tick ≤ lo
-IsUpTo lo (is kind mergeinfo) = Unit {0}
-IsUpTo lo absent = Unit {0}
-
--- and so at each path
+-- what stood somewhere is found at a tick that is no later, at each path
 abbrev AreUpTo : {C M : Type 0} → ℕ → Look C M → Type 0
-AreUpTo lo found = (path : _) → IsUpTo lo (found path)
+AreUpTo lo found = (path : _) → IsFoundUpTo lo (found path)
 
 module _ {C M : Type 0} (lo : ℕ) where
   -- each look of a list, or nothing past its end
@@ -24,21 +18,21 @@ module _ {C M : Type 0} (lo : ℕ) where
   up_to-get (each ∷ looks) zero all path = All-head (AreUpTo lo) each looks all path
   up_to-get (each ∷ looks) (suc index) all path = up_to-get looks index (All-tail (AreUpTo lo) each looks all) path
 
-  up_to-look_at : (looks : List (Look C M)) (tick : ℕ) (path : List C) → All (AreUpTo lo) looks → IsUpTo lo (look_at lo looks tick path)
+  up_to-look_at : (looks : List (Look C M)) (tick : ℕ) (path : List C) → All (AreUpTo lo) looks → IsFoundUpTo lo (look_at lo looks tick path)
   up_to-look_at looks tick path all = elim (cases_lt lo tick) [
     | inl past ↦ rw (lt-leb tick lo past) (up_to-get looks (tick - lo - 1) all path)
     | inr before ↦ rw (le-leb tick lo before) before
   ]
 
-  up_to-with_setting : (setting : Setting M) (found : Found C M) → IsUpTo lo found → IsUpTo lo (with_setting setting found)
+  up_to-with_setting : (setting : Setting M) (found : Found C M) → IsFoundUpTo lo found → IsFoundUpTo lo (with_setting setting found)
   up_to-with_setting keep found up_to = up_to
   up_to-with_setting (put mergeinfo) (at path tick) up_to = up_to
   up_to-with_setting (put mergeinfo) (at_with path tick old) up_to = up_to
   up_to-with_setting (put mergeinfo) (is kind old) up_to = tt
   up_to-with_setting (put mergeinfo) absent up_to = tt
 
-  up_to-found_after_action : (looks : List (Look C M)) (action : Action C M) (old : Found C M) (rest : List C) → All (AreUpTo lo) looks → IsUpTo lo old
-      → IsUpTo lo (found_after_action lo looks action old rest)
+  up_to-found_after_action : (looks : List (Look C M)) (action : Action C M) (old : Found C M) (rest : List C) → All (AreUpTo lo) looks → IsFoundUpTo lo old
+      → IsFoundUpTo lo (found_after_action lo looks action old rest)
   up_to-found_after_action looks delete old rest all up_to = tt
   up_to-found_after_action looks (change setting) old [] all up_to = up_to-with_setting setting old up_to
   up_to-found_after_action looks (change setting) old (c ∷ rest) all up_to = up_to
@@ -55,10 +49,10 @@ module _ {C M : Type 0} (lo : ℕ) where
         old : Found C M
         old = look_at lo looks (lo + length looks) path
 
-        before : IsUpTo lo old
+        before : IsFoundUpTo lo old
         before = up_to-look_at looks (lo + length looks) path all
 
-        by : (left : Option (List C)) → IsUpTo lo (elim left [ None ↦ old | Some rest ↦ found_after_action lo looks each.action old rest ])
+        by : (left : Option (List C)) → IsFoundUpTo lo (elim left [ None ↦ old | Some rest ↦ found_after_action lo looks each.action old rest ])
         by None = before
         by (Some rest) = up_to-found_after_action looks each.action old rest all before
 
@@ -68,12 +62,12 @@ module _ {C M : Type 0} (lo : ℕ) where
         up_to-fold (with_look same lo looks each) records
         (All-push (AreUpTo lo) looks (look_after same lo looks each) all (up_to-look_after looks each all))
 
-    up_to-look : (records : List (Record C M)) (tick : ℕ) (path : List C) → IsUpTo lo (look same lo records tick path)
+    pub up_to-look : (records : List (Record C M)) (tick : ℕ) (path : List C) → IsFoundUpTo lo (look same lo records tick path)
     unfolding looks_of
     up_to-look records tick path = up_to-look_at (looks_of same lo records) tick path (up_to-fold [] records (All-nil (AreUpTo lo)))
 
 -- from the beginning of a history everything is known
-from_resolved : {C M : Type 0} (lo : ℕ) (found : Found C M) → IsUpTo lo found → IsFoundAtOrBefore lo (resolved lo found)
+from_resolved : {C M : Type 0} (lo : ℕ) (found : Found C M) → IsFoundUpTo lo found → IsFoundAtOrBefore lo (resolved lo found)
 from_resolved zero (at [] tick) up_to = tt
 from_resolved zero (at (c ∷ path) tick) up_to = tt
 from_resolved zero (at_with [] tick mergeinfo) up_to = tt
@@ -88,3 +82,10 @@ from_resolved (suc lo) absent up_to = tt
 pub IsFoundAtOrBefore-look : {C M : Type 0} (same : C → C → Bool) (lo : ℕ) (records : List (Record C M)) (tick : ℕ) (path : List C)
     → IsFoundAtOrBefore lo (resolved lo (look same lo records tick path))
 IsFoundAtOrBefore-look same lo records tick path = from_resolved lo (look same lo records tick path) (up_to-look lo same records tick path)
+
+-- what is found so is found at a tick that is no later
+pub IsFoundUpTo-earlier : {C M : Type 0} (lo : ℕ) (each : Found C M) → IsFoundAtOrBefore lo each → IsFoundUpTo lo each
+IsFoundUpTo-earlier lo (at path tick) from = from.1
+IsFoundUpTo-earlier lo (at_with path tick mergeinfo) from = from.1
+IsFoundUpTo-earlier lo (is kind mergeinfo) from = tt
+IsFoundUpTo-earlier lo absent from = tt

@@ -1,9 +1,13 @@
+pub mod BlocksOfMaps
 pub mod CopiedNodes
 pub mod FaultsFound
 pub mod FaultsSame
 pub mod FirstFaults
 pub mod FoundFrom
 pub mod GrownTries
+pub mod JoinedMaps
+pub mod LocationPaths
+pub mod LooksThrough
 pub mod MapsBuilt
 pub mod MapsOfDumps
 pub mod NearestFound

@@ -1,12 +1,13 @@
 -- Positions of paths below a root.
-use Rattle.std.proofs.Common.{◌≡◌, ℕ, ◌+◌, ◌<◌, List, [], ◌∷◌, ◌++◌, None, Some, IfSome, drop, get_or, length, take, append_assoc, refl, sym, ap, subst, ◌∙◌, arith}
+use Rattle.std.proofs.Common.{◌≡◌, ℕ, ◌+◌, ◌<◌, List, [], ◌∷◌, ◌++◌, Option, None, Some, IfSome, drop, get_or, length, option_map, take, append_assoc, refl, sym, ap, subst, ◌∙◌, arith}
 use Rattle.std.specs.Prelude.{slice_get}
 use Rattle.std.proofs.Math.Seq.{drop-length}
 use Rattle.std.proofs.lemmas.List.{take_more}
 use Rattle.std.proofs.lemmas.List.Sums.{fold-append}
 use Rattle.svn_path.specs.declared.names.NameId.{NameId}
+use Rattle.block_map.specs.Locations.{AddsBelow, IsLocationBelow, location_below}
 use Rattle.block_map.specs.Look.{at}
-use Rattle.block_map.specs.Trie.{At, HasLocation, IsLocationAround, IsAroundOf, IsNodeOf, IsPositionOf, TrieValue, around_inside, around_view, as_at, at_path, at_root, child_at, found_at, found_here, inside, position_view}
+use Rattle.block_map.specs.Trie.{At, HasLocation, IsLocationAround, IsAroundOf, IsNodeOf, IsPositionOf, IsRegionAround, TrieValue, around_inside, around_view, as_at, at_path, at_root, child_at, found_at, found_here, inside, position_view}
 use Rattle.block_map.specs.declared.node.Here.{Here}
 use Rattle.block_map.specs.declared.node.Node.{Node}
 use Rattle.block_map.specs.declared.node.Region.{Region}
@@ -16,6 +17,7 @@ use Rattle.block_map.specs.declared.location.LocationId.{LocationId}
 use Rattle.block_map.specs.declared.position.Around.{Around}
 use Rattle.block_map.specs.declared.position.Around.TheVariants as around
 use Rattle.block_map.specs.declared.position.Position.{Position}
+use Rattle.block_map.proofs.TreesNodes.{slice_get_last}
 
 -- one component further down
 pub at_path-push : (trie : TrieValue) (from : At) (path : List NameId) (name : NameId) → at_path trie from (path ++ name ∷ []) ≡ child_at trie (at_path trie from path) name
@@ -54,12 +56,21 @@ around_view-inside trie region.Nothing path outside = refl
 around_view-inside trie (region.At id) path outside = λ i rest. as_at (slice_get trie.locations id.0) (drop-length path i ++ rest)
 
 -- what is found around a path is what the location further down shows
-pub IsLocationAround-below : (trie : TrieValue) (path : List NameId) (id : LocationId) (from : ℕ) (front location : Location) → slice_get trie.locations id.0 ≡ Some front
-    → location ≡ record { path = front.path ++ drop from path; tick = front.tick } → IsLocationAround trie path (around.At id from) (Some location)
-IsLocationAround-below trie path id from front location found is = λ rest.
-    ap (λ shown. as_at (Some shown) rest) is
-    ∙ ap (λ whole. at whole front.tick) (append_assoc front.path (drop from path) rest)
-    ∙ ap (λ shown. as_at shown (drop from path ++ rest)) (sym found)
+pub IsLocationAround-below : (trie : TrieValue) (path : List NameId) (id : LocationId) (from : ℕ) (location : Location) → IsLocationBelow trie.locations id (drop from path) location
+    → IsLocationAround trie path (around.At id from) (Some location)
+IsLocationAround-below trie path id from location below = λ rest. by rest (slice_get trie.locations id.0) below
+  where
+    by : (rest : List NameId) (front : Option Location) → option_map (location_below (drop from path)) front ≡ Some location
+        → as_at (Some location) rest ≡ as_at front (drop from path ++ rest)
+    by rest None is = cc
+    by rest (Some front) is = ap (λ shown. as_at shown rest) (sym is) ∙ ap (λ whole. at whole front.tick) (append_assoc front.path (drop from path) rest)
+
+-- so a region at that location has what is found around the path
+pub IsRegionAround-below : (old new : TrieValue) (path : List NameId) (id : LocationId) (from : ℕ) (last : LocationId) → last.0 ≡ length old.locations
+    → AddsBelow old.locations new.locations id (drop from path) → IsRegionAround old new path (around.At id from) (region.At last)
+IsRegionAround-below old new path id from last is adds = λ outside i rest.
+    (ap (λ locations. as_at (slice_get locations last.0) rest) adds.added ∙ ap (λ found. as_at found rest) (slice_get_last old.locations adds.location last.0 is)
+    ∙ IsLocationAround-below old path id from adds.location adds.below rest) i
 
 -- what is found at a node that is there, by what it says of itself
 pub found_at-node : (trie : TrieValue) (path : List NameId) (position : Position) (node : Node) (says : Here) (around : Around) → position.node ≡ Some node → node.here ≡ says

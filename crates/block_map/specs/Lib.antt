@@ -1,8 +1,12 @@
+pub mod Blocks
 pub mod Ends
 pub mod FaultFound
 pub mod FaultKind
 pub mod GhostRecords
+pub mod Joining
+pub mod Locations
 pub mod Look
+pub mod LookThrough
 pub mod Map
 pub mod Node
 pub mod Parts

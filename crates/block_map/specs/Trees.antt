@@ -8,7 +8,8 @@ use Rattle.svn_dump.specs.declared.record.NodeRecord.{NodeRecord}
 use Rattle.svn_dump.specs.declared.record.ValueId.{ValueId}
 use Rattle.block_map.specs.Ends.{action_at_tick}
 use Rattle.block_map.specs.Map.{most_nodes}
-use Rattle.block_map.specs.Look.{found_after_action, resolved, look, look_after, looks_of}
+use Rattle.block_map.specs.Look.{Found, found_after_action, resolved, look, look_after, looks_of}
+use Rattle.block_map.specs.LookThrough.{look_through}
 use Rattle.block_map.specs.Trie.{ExtendsTrie, IsNodeOf, IsSound, LookOfNumbers, at_path, at_root, found_below}
 use Rattle.block_map.specs.declared.trees.Trees.{Trees}
 use Rattle.block_map.specs.declared.node.Node.{Node}
@@ -22,7 +23,11 @@ end_of_trees trees = trees.start + length trees.records.records
 abbrev pub look_in_trees : Trees → ℕ → LookOfNumbers
 look_in_trees trees tick path = resolved trees.start (look same_name trees.start trees.records.records tick path)
 
--- the tree below the node shows that
+-- and what they say of what later records found
+abbrev pub look_through_trees : Trees → Found NameId ValueId → Found NameId ValueId
+look_through_trees trees each = look_through same_name trees.start trees.records.records each
+
+-- the tree below the node shows what they say of a tick
 abbrev pub ShowsTick : Trees → ℕ → Node → Type 0
 ShowsTick trees tick node = (path : List NameId) → found_below trees.trie (at_root node) path ≡ look_in_trees trees tick path
 

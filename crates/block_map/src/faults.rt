@@ -114,16 +114,21 @@ pub fn fault_at(
         ≡ fault_of_next_record same_name (history_view dump.now) (number - 1)) }
 {
     let index = number - 1;
-    Ok(fault_of(map, ends, index, &dump.records()[index as usize]))
+    fault_of(map, ends, index, &dump.records()[index as usize])
 }
 
 /// The first fault of a record that so many others precede.
-fn fault_of(map: &Map, ends: &Ends, tick: u32, each: &NodeRecord) -> Option<FaultKind>
+fn fault_of(
+    map: &Map,
+    ends: &Ends,
+    tick: u32,
+    each: &NodeRecord,
+) -> Result<Option<FaultKind>, AllocError>
     requires begins { map.now.lo ≡ 0 }
     requires within { tick ≤ hi_of map.now }
     requires source { HasSourceBefore ends.now (tick + 1) each.now.act }
-    ensures { option_map kind_view result
-        ≡ fault_found (standings_in map.now) tick each.now.path (action_in ends.now each.now) }
+    ensures { IfOk result (λ kind. option_map kind_view kind
+        ≡ fault_found (standings_in map.now) tick each.now.path (action_in ends.now each.now)) }
 {
     let path = each.path.parts();
     match &each.act {
@@ -135,53 +140,62 @@ fn fault_of(map: &Map, ends: &Ends, tick: u32, each: &NodeRecord) -> Option<Faul
             from_rev,
             ..
         } => {
-            let fault = fault_of_target(map, tick, *replace, path);
-            fault.or(fault_of_source(map, ends.at(*from_rev), from.parts()))
+            if let Some(kind) = fault_of_target(map, tick, *replace, path)? {
+                return Ok(Some(kind));
+            }
+            fault_of_source(map, ends.at(*from_rev), from.parts())
         }
     }
 }
 
 /// `Missing`, if the path is not there.
-fn fault_if_missing(map: &Map, tick: u32, path: &[NameId]) -> Option<FaultKind>
+fn fault_if_missing(map: &Map, tick: u32, path: &[NameId]) -> Result<Option<FaultKind>, AllocError>
     requires begins { map.now.lo ≡ 0 }
     requires within { tick ≤ hi_of map.now }
-    ensures { option_map kind_view result ≡ missing_found (standings_in map.now) tick path.now }
+    ensures { IfOk result (λ kind.
+        option_map kind_view kind ≡ missing_found (standings_in map.now) tick path.now) }
 {
-    match map.standing(tick, path) {
-        Some(_) => None,
-        None => Some(FaultKind::Missing),
+    match map.standing(tick, path)? {
+        Some(_) => Ok(None),
+        None => Ok(Some(FaultKind::Missing)),
     }
 }
 
 /// The first fault of an addition or a copy by its path.
-fn fault_of_target(map: &Map, tick: u32, replace: bool, path: &[NameId]) -> Option<FaultKind>
+fn fault_of_target(
+    map: &Map,
+    tick: u32,
+    replace: bool,
+    path: &[NameId],
+) -> Result<Option<FaultKind>, AllocError>
     requires begins { map.now.lo ≡ 0 }
     requires within { tick ≤ hi_of map.now }
-    ensures { option_map kind_view result ≡ target_found (standings_in map.now) tick replace path.now }
+    ensures { IfOk result (λ kind.
+        option_map kind_view kind ≡ target_found (standings_in map.now) tick replace path.now) }
 {
     if replace {
         return fault_if_missing(map, tick, path);
     }
-    if map.standing(tick, path).is_some() {
-        return Some(FaultKind::Exists);
+    if map.standing(tick, path)?.is_some() {
+        return Ok(Some(FaultKind::Exists));
     }
-    if has_parent(map, tick, path) {
-        None
+    if has_parent(map, tick, path)? {
+        Ok(None)
     } else {
-        Some(FaultKind::NoParent)
+        Ok(Some(FaultKind::NoParent))
     }
 }
 
 /// Whether the parent of a path is there and is a directory.
-fn has_parent(map: &Map, tick: u32, path: &[NameId]) -> bool
+fn has_parent(map: &Map, tick: u32, path: &[NameId]) -> Result<bool, AllocError>
     requires begins { map.now.lo ≡ 0 }
     requires within { tick ≤ hi_of map.now }
-    ensures { result ≡ has_parent_standing (standings_in map.now) tick path.now }
+    ensures { IfOk result (λ there. there ≡ has_parent_standing (standings_in map.now) tick path.now) }
 {
     let Some((_, above)) = path.split_last() else {
-        return false;
+        return Ok(false);
     };
-    is_dir(map.standing(tick, above))
+    Ok(is_dir(map.standing(tick, above)?))
 }
 
 /// Whether a directory stands there.
@@ -195,13 +209,14 @@ fn is_dir(standing: Option<Entry>) -> bool
 }
 
 /// `NoSource`, if the source of a copy is not there.
-fn fault_of_source(map: &Map, tick: u32, from: &[NameId]) -> Option<FaultKind>
+fn fault_of_source(map: &Map, tick: u32, from: &[NameId]) -> Result<Option<FaultKind>, AllocError>
     requires begins { map.now.lo ≡ 0 }
     requires within { tick ≤ hi_of map.now }
-    ensures { option_map kind_view result ≡ source_found (standings_in map.now) from.now tick }
+    ensures { IfOk result (λ kind.
+        option_map kind_view kind ≡ source_found (standings_in map.now) from.now tick) }
 {
-    match map.standing(tick, from) {
-        Some(_) => None,
-        None => Some(FaultKind::NoSource),
+    match map.standing(tick, from)? {
+        Some(_) => Ok(None),
+        None => Ok(Some(FaultKind::NoSource)),
     }
 }

@@ -1,4 +1,7 @@
 //! What a map says of a path.
+ghost use Rattle.std.specs.Prelude.{◌≡◌};
+ghost use Rattle.block_map.specs.Look.{at_with, from_beginning, with_mergeinfo as changed};
+ghost use Rattle.block_map.specs.Map.{found_view};
 
 use svn_dump::{Kind, ValueId};
 use svn_path::Path;
@@ -24,4 +27,44 @@ pub enum Found {
     },
     /// Nothing.
     Absent,
+}
+
+impl Found {
+    /// The same with this mergeinfo, if something stands there.
+    pub(crate) fn with_mergeinfo(self, mi: Option<ValueId>) -> Found
+        ensures { found_view result ≡ changed mi (found_view self) }
+    {
+        match self {
+            Found::At { path, tick } | Found::AtWith { path, tick, .. } => {
+                Found::AtWith { path, tick, mi }
+            }
+            Found::Is { kind, .. } => Found::Is { kind, mi },
+            Found::Absent => Found::Absent,
+        }
+    }
+
+    /// The same where a history begins. Before its first record the root alone is there, a directory.
+    pub(crate) fn from_beginning(self) -> Found
+        ensures { found_view result ≡ from_beginning (found_view self) }
+    {
+        match self {
+            Found::At { path, .. } => root_or_absent(&path, None),
+            Found::AtWith { path, mi, .. } => root_or_absent(&path, mi),
+            known => known,
+        }
+    }
+}
+
+/// The root with this mergeinfo, or nothing at any other path.
+fn root_or_absent(path: &Path, mi: Option<ValueId>) -> Found
+    ensures { (tick : _) → found_view result ≡ from_beginning (at_with path.now tick mi) }
+{
+    if path.is_empty() {
+        Found::Is {
+            kind: Kind::Dir,
+            mi,
+        }
+    } else {
+        Found::Absent
+    }
 }

@@ -7,13 +7,17 @@ mod fault;
 mod faults;
 mod found;
 mod ghost_records;
+mod joining;
 mod location;
+mod locations;
 mod map;
 mod nearest;
 mod node;
+mod numbers;
 mod part;
 mod parts;
 mod position;
+mod stored_location;
 mod trees;
 mod trie;
 

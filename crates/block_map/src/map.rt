@@ -1,13 +1,16 @@
 //! A map of the paths of a history.
-ghost use Rattle.std.specs.Prelude.{◌≡◌, ◌+◌, ◌^◌, ◌<◌, ◌≤◌, ◌++◌, All, List, length, option_map, IfOk};
+ghost use Rattle.std.specs.Prelude.{◌≡◌, ℕ, ◌+◌, ◌^◌, ◌<◌, ◌≤◌, ◌++◌, All, List, length, option_map, IfOk};
 ghost use Rattle.svn_dump.specs.Dump.{DumpValue, IsDump};
 ghost use Rattle.svn_dump.specs.Record.{most_components};
 ghost use Rattle.svn_dump.specs.declared.record.NodeRecord.{NodeRecord};
 ghost use Rattle.svn_path.specs.Path.{same_name};
+ghost use Rattle.block_map.specs.Blocks.{AreBlocksBefore, AreBlocksFrom, nodes_of, records_of, trees_of};
 ghost use Rattle.block_map.specs.Ends.{HaveSources, ends_of};
-ghost use Rattle.block_map.specs.Look.{IsFoundAtOrBefore};
+ghost use Rattle.block_map.specs.Look.{IsFoundAtOrBefore, resolved};
+ghost use Rattle.block_map.specs.LookThrough.{IsFoundUpTo, look_through as looked_through};
 ghost use Rattle.block_map.specs.Map.{IsEndIn, IsMapOfFirstRecords, IsNearestOrNone, found_view, hi_of, look_in, most_nodes, records_at_ticks, revision_in, state_in};
 ghost use Rattle.block_map.specs.Standing.{entry_view, mergeinfo_of, own_mergeinfo_at, standing_at, standing_of};
+ghost use Rattle.block_map.specs.Trees.{AreMapTrees};
 
 use crate::ends::Ends;
 use crate::entry::Entry;
@@ -16,26 +19,30 @@ use crate::nearest::Nearest;
 use crate::trees::Trees;
 use std::alloc::{AllocError, Global};
 use std::marker::Model;
-use svn_dump::NodeRecord;
+use std::sync::Arc;
+use svn_dump::{NodeRecord, ValueId};
 use svn_path::{NameId, Path};
 
-/// What stands at each path after each of some records.
+/// What stands at each path after each of some records. The records are in blocks, which maps share.
 #[derive(Drop)]
 pub struct Map {
-    trees: Trees,
+    pub(crate) lo: u32,
+    pub(crate) blocks: Vec<Arc<Trees>>,
 }
 
 impl Model for Map {
-    ghost use Rattle.std.specs.Prelude.{length};
-    ghost use Rattle.block_map.specs.Trees.{AreMapTrees};
+    ghost use Rattle.block_map.specs.Blocks.{AreBlocksFrom, nodes_of, records_of, trees_of};
     ghost use Rattle.block_map.specs.Map.{MapValue};
 
     ghost Value = { MapValue };
 
-    ghost view = { λ m.
-        record { lo = m.trees.start; records = m.trees.records.records; nodes = length m.trees.trie.nodes } };
+    ghost view = { λ m. record {
+      lo = m.lo;
+      records = records_of (trees_of m.blocks.items);
+      nodes = nodes_of (trees_of m.blocks.items);
+    } };
 
-    ghost invariant = { λ m. AreMapTrees m.trees };
+    ghost invariant = { λ m. AreBlocksFrom m.lo (trees_of m.blocks.items) };
 }
 
 impl Map {
@@ -57,25 +64,40 @@ impl Map {
         ensures of_first { (dump : DumpValue) (more : List NodeRecord) → start ≡ 0 → ends.now ≡ ends_of dump.counts
             → dump.records ≡ records.now ++ more → IfOk result (IsMapOfFirstRecords dump) }
     {
-        let mut trees = Trees::new(alloc, start);
-        for record in records {
-            trees.add(record, ends)?;
+        let trees = trees_after(alloc, records, start, ends)?;
+        Map::of_block(alloc, trees)
+    }
+
+    /// The map of one block, or of none if it has no records.
+    fn of_block(alloc: Global, trees: Trees) -> Result<Self, AllocError>
+        requires { AreMapTrees trees }
+        ensures lo { IfOk result (λ map. map.lo ≡ trees.start) }
+        ensures records { IfOk result (λ map. map.records ≡ trees.records.records) }
+        ensures nodes { IfOk result (λ map. map.nodes ≤ length trees.trie.nodes) }
+    {
+        let lo = trees.start;
+        let mut blocks = Vec::new(alloc);
+        if !trees.roots.is_empty() {
+            blocks.push(Arc::new(alloc, trees)?)?;
         }
-        Ok(Map { trees })
+        Ok(Map { lo, blocks })
     }
 
     /// The tick before the first record.
     pub fn lo(&self) -> u32
         ensures { result ≡ self.now.lo }
     {
-        self.trees.start
+        self.lo
     }
 
     /// The tick after the last record.
     pub fn hi(&self) -> u32
         ensures { result ≡ hi_of self.now }
     {
-        self.trees.start + self.trees.roots.len() as u32
+        match self.blocks.as_slice().split_last() {
+            Some((last, _)) => last.end(),
+            None => self.lo,
+        }
     }
 
     /// How many nodes the map keeps.
@@ -83,7 +105,7 @@ impl Map {
         ensures exact { result ≡ self.now.nodes }
         ensures few { result ≤ most_nodes (length self.now.records) }
     {
-        self.trees.trie.len() as u64
+        count_nodes(self.blocks.as_slice())
     }
 
     /// What the records say of a path at a tick.
@@ -93,7 +115,23 @@ impl Map {
         ensures exact { IfOk result (λ found. found_view found ≡ look_in self.now tick path.now) }
         ensures earlier { IfOk result (λ found. IsFoundAtOrBefore self.now.lo (found_view found)) }
     {
-        self.trees.look(tick, path)
+        self.found(tick, path.parts())
+    }
+
+    /// What the records say of a path of these components at a tick.
+    fn found(&self, tick: u32, path: &[NameId]) -> Result<Found, AllocError>
+        requires after { self.now.lo ≤ tick }
+        requires within { tick ≤ hi_of self.now }
+        ensures { IfOk result (λ found. found_view found ≡ look_in self.now tick path.now) }
+    {
+        let blocks = blocks_before(self.blocks.as_slice(), tick);
+        match blocks.split_last() {
+            Some((last, earlier)) => look_through(earlier, self.lo, last.look(tick, path)?),
+            None => {
+                let path = Path::of(*self.blocks.allocator(), path)?;
+                look_through(blocks, self.lo, Found::At { path, tick })
+            }
+        }
     }
 
     /// What stands at a path at a tick, in a map from the beginning of a history.
@@ -112,7 +150,7 @@ impl Map {
             → IfOk result (λ entry.
             option_map entry_view entry ≡ standing_at same_name (revision_in dump rev) path.now) }
     {
-        Ok(self.standing(tick, path.parts()))
+        self.standing(tick, path.parts())
     }
 
     /// The mergeinfo of a path at a tick, or of the nearest path above it that has some, in a map from the beginning of
@@ -126,15 +164,124 @@ impl Map {
         ensures of_revision { (dump : _) (rev : _) → IsMapOfFirstRecords dump self.now → IsEndIn dump rev tick
             → IfOk result (IsNearestOrNone (own_mergeinfo_at same_name (revision_in dump rev)) path.now) }
     {
-        Ok(self.trees.nearest(tick, path.parts()))
+        self.nearest_to(tick, path.parts())
+    }
+
+    /// The nearest mergeinfo of a path of these components.
+    fn nearest_to(&self, tick: u32, path: &[NameId]) -> Result<Option<Nearest>, AllocError>
+        requires begins { self.now.lo ≡ 0 }
+        requires within { tick ≤ hi_of self.now }
+        ensures { IfOk result (IsNearestOrNone (λ above. mergeinfo_of (look_in self.now tick above)) path.now) }
+    {
+        match blocks_before(self.blocks.as_slice(), tick) {
+            [only] => Ok(only.nearest(tick, path)),
+            _ => self.nearest_above(tick, path),
+        }
+    }
+
+    /// The same by the mergeinfo of each path from this one up to the root.
+    fn nearest_above(&self, tick: u32, path: &[NameId]) -> Result<Option<Nearest>, AllocError>
+        requires begins { self.now.lo ≡ 0 }
+        requires within { tick ≤ hi_of self.now }
+        ensures { IfOk result (IsNearestOrNone (λ above. mergeinfo_of (look_in self.now tick above)) path.now) }
+    {
+        let mut above = path;
+        loop {
+            if let Some(mi) = self.mergeinfo(tick, above)? {
+                let depth = above.len();
+                return Ok(Some(Nearest { mi, depth }));
+            }
+            let Some((_, parent)) = above.split_last() else {
+                return Ok(None);
+            };
+            above = parent;
+        }
+    }
+
+    /// The mergeinfo of a path of these components at a tick.
+    fn mergeinfo(&self, tick: u32, path: &[NameId]) -> Result<Option<ValueId>, AllocError>
+        requires begins { self.now.lo ≡ 0 }
+        requires within { tick ≤ hi_of self.now }
+        ensures { IfOk result (λ mi. mi ≡ mergeinfo_of (look_in self.now tick path.now)) }
+    {
+        match self.found(tick, path)? {
+            Found::Is { mi, .. } => Ok(mi),
+            _ => Ok(None),
+        }
     }
 
     /// What stands at a path of these components at a tick.
-    pub(crate) fn standing(&self, tick: u32, path: &[NameId]) -> Option<Entry>
+    pub(crate) fn standing(&self, tick: u32, path: &[NameId]) -> Result<Option<Entry>, AllocError>
         requires begins { self.now.lo ≡ 0 }
         requires within { tick ≤ hi_of self.now }
-        ensures { option_map entry_view result ≡ standing_of (look_in self.now tick path.now) }
+        ensures { IfOk result (λ entry.
+            option_map entry_view entry ≡ standing_of (look_in self.now tick path.now)) }
     {
-        self.trees.standing(tick, path)
+        match self.found(tick, path)? {
+            Found::Is { kind, mi } => Ok(Some(Entry { kind, mi })),
+            _ => Ok(None),
+        }
     }
+}
+
+/// The trees of these records, which follow the first `start` of their history.
+fn trees_after(
+    alloc: Global,
+    records: &[NodeRecord],
+    start: u32,
+    ends: &Ends,
+) -> Result<Trees, AllocError>
+    requires few { start + length records.now < 2 ^ 32 }
+    requires short { All (λ each. length each.path ≤ most_components) records.now }
+    requires sources { HaveSources start ends.now records.now }
+    ensures trees { IfOk result AreMapTrees }
+    ensures start { IfOk result (λ trees. trees.start ≡ start) }
+    ensures records { IfOk result (λ trees. trees.records.records ≡ records_at_ticks ends.now records.now) }
+{
+    let mut trees = Trees::new(alloc, start);
+    for record in records {
+        trees.add(record, ends)?;
+    }
+    Ok(trees)
+}
+
+/// How many nodes these blocks keep.
+fn count_nodes(blocks: &[Arc<Trees>]) -> u64
+    requires { (lo : ℕ) × AreBlocksFrom lo (trees_of blocks.now) }
+    ensures { result ≡ nodes_of (trees_of blocks.now) }
+{
+    let mut nodes = 0;
+    for block in blocks {
+        nodes += block.trie.len() as u64;
+    }
+    nodes
+}
+
+/// Those of these blocks that begin before a tick.
+fn blocks_before(blocks: &[Arc<Trees>], tick: u32) -> &[Arc<Trees>]
+    requires { (lo : ℕ) × AreBlocksFrom lo (trees_of blocks.now) }
+    ensures { AreBlocksBefore tick (trees_of blocks.now) (trees_of result.now) }
+{
+    let count = blocks.partition_point(|block| block.start < tick);
+    &blocks[..count]
+}
+
+/// What the records of these blocks, which follow the first `lo` of their history, say of what later records found.
+fn look_through(blocks: &[Arc<Trees>], lo: u32, found: Found) -> Result<Found, AllocError>
+    requires blocks { AreBlocksFrom lo (trees_of blocks.now) }
+    requires within { IsFoundUpTo (lo + length (records_of (trees_of blocks.now))) (found_view found) }
+    ensures { IfOk result (λ after. found_view after
+        ≡ resolved lo (looked_through same_name lo (records_of (trees_of blocks.now)) (found_view found))) }
+{
+    let mut found = found;
+    let mut left = blocks;
+    while let Some((last, earlier)) = left.split_last() {
+        found = last.look_through(found)?;
+        left = earlier;
+    }
+    Ok(if lo == 0 {
+        found.from_beginning()
+    } else {
+        found
+    })
 }

@@ -1,20 +1,20 @@
 //! The trees after each of some records.
-ghost use Rattle.std.specs.Prelude.{◌≡◌, ◌+◌, ◌^◌, ◌<◌, ◌≤◌, ◌++◌, ◌∷◌, [], length, option_map, IfOk, OnOk};
+ghost use Rattle.std.specs.Prelude.{◌≡◌, ◌+◌, ◌^◌, ◌<◌, ◌≤◌, ◌++◌, ◌∷◌, [], length, IfOk, OnOk};
 ghost use Rattle.std.specs.Prelude.{None};
 ghost use Rattle.svn_dump.specs.Dump.{record_view, setting_view};
 ghost use Rattle.svn_dump.specs.Tree.{mergeinfo_after};
 ghost use Rattle.svn_dump.specs.Record.{most_components};
-ghost use Rattle.block_map.specs.Trees.{AreTrees, IsNodeAfter, IsRootAfter, IsRootAt, SameTrees, ShowsPath, ShowsTick, action_in, end_of_trees, look_in_trees};
+ghost use Rattle.block_map.specs.Trees.{AreTrees, IsNodeAfter, IsRootAfter, IsRootAt, SameTrees, ShowsPath, ShowsTick, action_in, end_of_trees, look_in_trees, look_through_trees};
+ghost use Rattle.block_map.specs.Look.{resolved};
+ghost use Rattle.block_map.specs.LookThrough.{IsFoundUpTo};
 ghost use Rattle.block_map.specs.Ends.{HasSourceBefore, record_at_tick};
 ghost use Rattle.block_map.specs.Map.{IsNearestOrNone, found_view};
-ghost use Rattle.block_map.specs.Standing.{entry_view, mergeinfo_of, standing_of};
+ghost use Rattle.block_map.specs.Standing.{mergeinfo_of};
 ghost use Rattle.block_map.specs.Trie.{IsNodeOf, IsSound};
 
 use crate::ends::Ends;
-use crate::entry::Entry;
 use crate::found::Found;
 use crate::ghost_records::GhostRecords;
-use crate::location::Location;
 use crate::nearest::Nearest;
 use crate::node::Node;
 use crate::part::NodeId;
@@ -133,7 +133,7 @@ impl Trees {
             });
         }
         let path = Path::of(*self.roots.allocator(), path)?;
-        let location = self.trie.push_location(Location { path, tick })?;
+        let location = self.trie.push_location(path, tick)?;
         Ok(Node::at(location))
     }
 
@@ -202,71 +202,51 @@ impl Trees {
         }
     }
 
-    /// What the records say of a path at a tick.
-    pub(crate) fn look(&self, tick: u32, path: &Path) -> Result<Found, AllocError>
-        requires trees { AreTrees self.now }
-        requires after { self.now.start ≤ tick }
-        requires within { tick ≤ end_of_trees self.now }
-        ensures { IfOk result (λ found. found_view found ≡ look_in_trees self.now tick path.now) }
+    /// The tick after the last record.
+    pub(crate) fn end(&self) -> u32
+        requires { AreTrees self.now }
+        ensures { result ≡ end_of_trees self.now }
     {
-        if tick == self.start {
-            return self.found_at_start(path);
-        }
+        self.start + self.roots.len() as u32
+    }
+
+    /// What the records say of a path of these components at a tick after `start`.
+    pub(crate) fn look(&self, tick: u32, path: &[NameId]) -> Result<Found, AllocError>
+        requires trees { AreTrees self.now }
+        requires after { self.now.start < tick }
+        requires within { tick ≤ end_of_trees self.now }
+        ensures exact { IfOk result (λ found. found_view found ≡ look_in_trees self.now tick path.now) }
+        ensures earlier { IfOk result (λ found. IsFoundUpTo self.now.start (found_view found)) }
+    {
         let root = self.root(tick);
-        let position = self.trie.find(root, path.parts());
-        self.trie.found(position, path.parts())
+        let position = self.trie.find(root, path);
+        self.trie.found(position, path)
     }
 
-    /// What is found before the first record.
-    fn found_at_start(&self, path: &Path) -> Result<Found, AllocError>
-        ensures { IfOk result (λ found. found_view found ≡ look_in_trees self.now self.now.start path.now) }
-    {
-        if self.start > 0 {
-            return Ok(Found::At {
-                path: path.dup()?,
-                tick: self.start,
-            });
-        }
-        Ok(if path.is_empty() {
-            Found::Is {
-                kind: Kind::Dir,
-                mi: None,
-            }
-        } else {
-            Found::Absent
-        })
-    }
-
-    /// What stands at a path at a tick, in trees from the beginning of a history.
-    pub(crate) fn standing(&self, tick: u32, path: &[NameId]) -> Option<Entry>
+    /// What the records say of what later records found.
+    pub(crate) fn look_through(&self, found: Found) -> Result<Found, AllocError>
         requires trees { AreTrees self.now }
-        requires whole { self.now.start ≡ 0 }
-        requires within { tick ≤ end_of_trees self.now }
-        ensures { option_map entry_view result ≡ standing_of (look_in_trees self.now tick path.now) }
+        requires within { IsFoundUpTo (end_of_trees self.now) (found_view found) }
+        ensures exact { IfOk result (λ after. resolved self.now.start (found_view after)
+            ≡ resolved self.now.start (look_through_trees self.now (found_view found))) }
+        ensures earlier { IfOk result (λ after. IsFoundUpTo self.now.start (found_view after)) }
     {
-        if tick > 0 {
-            let root = self.root(tick);
-            return self.trie.entry(self.trie.find(root, path));
+        match &found {
+            Found::At { path, tick } if *tick > self.start => self.look(*tick, path.parts()),
+            Found::AtWith { path, tick, mi } if *tick > self.start => {
+                Ok(self.look(*tick, path.parts())?.with_mergeinfo(*mi))
+            }
+            _ => Ok(found),
         }
-        if path.is_empty() {
-            return Some(Entry {
-                kind: Kind::Dir,
-                mi: None,
-            });
-        }
-        None
     }
 
-    /// The nearest mergeinfo of a path at a tick, in trees from the beginning of a history.
+    /// The nearest mergeinfo of a path at a tick after `start` that is known to these records.
     pub(crate) fn nearest(&self, tick: u32, path: &[NameId]) -> Option<Nearest>
         requires trees { AreTrees self.now }
-        requires whole { self.now.start ≡ 0 }
+        requires after { self.now.start < tick }
         requires within { tick ≤ end_of_trees self.now }
         ensures { IsNearestOrNone (λ above. mergeinfo_of (look_in_trees self.now tick above)) path.now result }
     {
-        if tick == 0 {
-            return None;
-        }
         self.trie.nearest(self.root(tick), path)
     }
 }

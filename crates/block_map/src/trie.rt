@@ -8,22 +8,24 @@ ghost use Rattle.block_map.specs.Trie.{HasLocation, IsAroundOf, IsRegionAround, 
 use crate::entry::Entry;
 use crate::found::Found;
 use crate::location::{Location, LocationId};
+use crate::locations::Locations;
 use crate::nearest::Nearest;
 use crate::node::{Here, Node, Region};
+use crate::numbers::next_number;
 use crate::part::NodeId;
 use crate::parts::Parts;
 use crate::position::{Around, Position};
 use std::alloc::{AllocError, Global};
 use std::marker::Model;
 use svn_dump::ValueId;
-use svn_path::NameId;
+use svn_path::{NameId, Path};
 
 /// The nodes of trees, the maps of their children, and the locations that they name. Nothing in it ever changes.
 #[derive(Drop)]
 pub(crate) struct Trie {
     nodes: Vec<Node>,
     parts: Parts,
-    locations: Vec<Location>,
+    locations: Locations,
 }
 
 impl Model for Trie {
@@ -31,22 +33,10 @@ impl Model for Trie {
 
     ghost Value = { TrieValue };
 
-    ghost view = { λ t. record { nodes = t.nodes.items; parts = t.parts; locations = t.locations.items } };
+    ghost view = { λ t. record { nodes = t.nodes.items; parts = t.parts; locations = t.locations } };
 
     ghost invariant = { λ t.
-        IsSound (record { nodes = t.nodes.items; parts = t.parts; locations = t.locations.items }) };
-}
-
-/// The number of the next element of a list. A list of 4,294,967,295 elements takes no other: that is reported as want
-/// of memory.
-fn next_number(len: usize) -> Result<u32, AllocError>
-    ensures { IfOk result (λ number. number ≡ len) }
-{
-    if len < u32::MAX as usize {
-        Ok(len as u32)
-    } else {
-        Err(AllocError)
-    }
+        IsSound (record { nodes = t.nodes.items; parts = t.parts; locations = t.locations }) };
 }
 
 impl Trie {
@@ -58,7 +48,7 @@ impl Trie {
         Trie {
             nodes: Vec::new(alloc),
             parts: Parts::new(alloc),
-            locations: Vec::new(alloc),
+            locations: Locations::new(alloc),
         }
     }
 
@@ -92,14 +82,13 @@ impl Trie {
     }
 
     /// Adds a location.
-    pub(crate) fn push_location(&mut self, location: Location) -> Result<LocationId, AllocError>
+    pub(crate) fn push_location(&mut self, path: Path, tick: u32) -> Result<LocationId, AllocError>
         ensures id { IfOk result (λ id. id.0 ≡ length self.old.locations) }
-        ensures added { OnOk result (self.new ≡ record self.old { locations = self.old.locations ++ location ∷ [] }) }
+        ensures added { OnOk result
+            (self.new ≡ record self.old { locations = self.old.locations ++ record { path = path; tick = tick } ∷ [] }) }
         ensures after { IsSound self.new }
     {
-        let id = LocationId(next_number(self.locations.len())?);
-        self.locations.push(location)?;
-        Ok(id)
+        self.locations.push(path, tick)
     }
 
     /// The child of a node.
@@ -193,15 +182,12 @@ impl Trie {
         ensures location { IfOk result (IsLocationAround self.now path.now around) }
         ensures sound { IsSound self.now }
     {
-        let locations = self.locations.as_slice();
+        let locations = &self.locations;
         let Around::At { location, from } = around else {
             return Ok(None);
         };
-        let Some(front) = locations.get(location.0 as usize) else {
-            return Ok(None);
-        };
         let (_, rest) = path.split_at(from);
-        Ok(Some(front.below(rest)?))
+        Ok(Some(locations.below(location, rest)?))
     }
 
     /// What is found at a position.
@@ -233,10 +219,15 @@ impl Trie {
         ensures before { IsSound self.old }
         ensures after { IsSound self.new }
     {
-        match self.location(around, path)? {
-            None => Ok(Region::Nothing),
-            Some(location) => Ok(Region::At(self.push_location(location)?)),
+        let locations = &mut self.locations;
+        let Around::At { location, from } = around else {
+            return Ok(Region::Nothing);
+        };
+        let (_, rest) = path.split_at(from);
+        if rest.is_empty() {
+            return Ok(Region::At(location));
         }
+        Ok(Region::At(locations.push_below(location, rest)?))
     }
 
     /// The node at a position, as it is outside all others. It may add a location.

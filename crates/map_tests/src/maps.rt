@@ -4,7 +4,7 @@ ghost use Rattle.block_map.specs.Ends.{ends_of};
 ghost use Rattle.block_map.specs.Map.{IsMapOf};
 
 use block_map::{Ends, Entry, Found, Map, Nearest, check, fault_at};
-use sample_dumps::{MERGED, NESTED, TWO_TEXTS, copies_of_the_root, revision_ends};
+use sample_dumps::{DEEPER, MERGED, NESTED, TWO_TEXTS, copies_of_the_root, revision_ends};
 use std::alloc::{AllocError, Global};
 use std::test::Fail;
 use std::thread::Threads;
@@ -13,9 +13,9 @@ use svn_path::{Lookup, Path};
 
 // The records of a dump from one place up to another.
 #[derive(Clone, Copy)]
-struct Part {
-    start: usize,
-    end: usize,
+pub(crate) struct Part {
+    pub(crate) start: usize,
+    pub(crate) end: usize,
 }
 
 // The records 6 and 7 of `NESTED`, which copy `p` of two revisions, and those before them.
@@ -23,8 +23,11 @@ const COPIES: Part = Part { start: 5, end: 7 };
 
 const BEFORE_COPIES: Part = Part { start: 0, end: 5 };
 
+// The records 6 to 9 of `DEEPER`, which copy.
+const COPIES_OF_COPIES: Part = Part { start: 5, end: 9 };
+
 // The map of these records.
-fn map_of_part(alloc: Global, dump: &Dump, ends: &Ends, part: Part) -> Result<Map, Fail>
+pub(crate) fn map_of_part(alloc: Global, dump: &Dump, ends: &Ends, part: Part) -> Result<Map, Fail>
     requires { ends.now ≡ ends_of dump.now.counts }
 {
     let records = dump.records();
@@ -58,7 +61,13 @@ fn path_of(alloc: Global, dump: &Dump, text: &[u8]) -> Result<Path, Fail> {
 }
 
 // What a map says of a path after so many records of the history.
-fn look(alloc: Global, dump: &Dump, map: &Map, tick: u32, path: &[u8]) -> Result<Found, Fail> {
+pub(crate) fn look(
+    alloc: Global,
+    dump: &Dump,
+    map: &Map,
+    tick: u32,
+    path: &[u8],
+) -> Result<Found, Fail> {
     if tick < map.lo() || map.hi() < tick {
         return Err("no tick of the map")?;
     }
@@ -256,6 +265,42 @@ fn copies_find_their_sources(alloc: Global, dump: &Dump) -> Result<bool, Fail> {
 fn a_part_names_where_its_paths_were_before_it(rt: HostRuntime) -> Result<(), Fail> {
     let dump = read(rt.alloc(), NESTED)?;
     let found = copies_find_their_sources(rt.alloc(), &dump);
+    drop(dump);
+    assert!(rt; found?);
+    Ok(())
+}
+
+// Whether the records 6 to 9 of `DEEPER` leave at a path what stood at another one before them.
+fn copies_of_copies_find(
+    alloc: Global,
+    dump: &Dump,
+    path: &[u8],
+    from: &[u8],
+) -> Result<bool, Fail> {
+    let found = look_in_part(alloc, dump, COPIES_OF_COPIES, 9, path)?;
+    let is_found = finds(&found, alloc, dump, from, 5, None);
+    drop(found);
+    is_found
+}
+
+// Whether they do so at each path.
+fn copies_of_copies_find_their_sources(alloc: Global, dump: &Dump) -> Result<bool, Fail> {
+    for (path, from) in [
+        (b"/q/d".as_slice(), b"/p/a/b/c/d".as_slice()),
+        (b"/n", b"/p/a/b/c"),
+        (b"/m/c/d", b"/p/a/b/c/d"),
+    ] {
+        if !copies_of_copies_find(alloc, dump, path, from)? {
+            return Ok(false);
+        }
+    }
+    Ok(true)
+}
+
+#[test]
+fn a_part_names_where_copies_of_copies_were_before_it(rt: HostRuntime) -> Result<(), Fail> {
+    let dump = read(rt.alloc(), DEEPER)?;
+    let found = copies_of_copies_find_their_sources(rt.alloc(), &dump);
     drop(dump);
     assert!(rt; found?);
     Ok(())

@@ -82,6 +82,63 @@ Node-copyfrom-path: p
 
 ";
 
+/// Records 6 to 8 each copy a directory of what the record before them copied, and record 9 copies the last copy.
+pub const DEEPER: &[u8] = b"SVN-fs-dump-format-version: 2
+
+Revision-number: 0
+
+Revision-number: 1
+
+Node-path: p
+Node-kind: dir
+Node-action: add
+
+Node-path: p/a
+Node-kind: dir
+Node-action: add
+
+Node-path: p/a/b
+Node-kind: dir
+Node-action: add
+
+Node-path: p/a/b/c
+Node-kind: dir
+Node-action: add
+
+Node-path: p/a/b/c/d
+Node-kind: file
+Node-action: add
+
+Revision-number: 2
+
+Node-path: k
+Node-action: add
+Node-copyfrom-rev: 1
+Node-copyfrom-path: p/a
+
+Revision-number: 3
+
+Node-path: m
+Node-action: add
+Node-copyfrom-rev: 2
+Node-copyfrom-path: k/b
+
+Revision-number: 4
+
+Node-path: n
+Node-action: add
+Node-copyfrom-rev: 3
+Node-copyfrom-path: m/c
+
+Revision-number: 5
+
+Node-path: q
+Node-action: add
+Node-copyfrom-rev: 4
+Node-copyfrom-path: n
+
+";
+
 /// `a` is deleted, and its copy `b` is of the revision before that.
 pub const GONE: &[u8] = b"SVN-fs-dump-format-version: 2
 

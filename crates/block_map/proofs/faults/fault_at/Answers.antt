@@ -1,11 +1,14 @@
-use Rattle.std.proofs.Common.{◌≡◌, ℕ, List, ◌+◌, ◌-◌, ◌<◌, Some, get_or, length, sym, ap, subst, ◌∙◌, arith}
+use Rattle.std.proofs.Common.{◌≡◌, ℕ, List, ◌+◌, ◌-◌, ◌<◌, Some, get_or, length, option_map, sym, ap, subst, ◌∙◌, arith}
 use Rattle.std.specs.Prelude.{slice_get}
 use Rattle.std.proofs.lemmas.Option.{slice_get-get_or}
+use Rattle.std.proofs.lemmas.Result.{IfOk-weaker}
 use Rattle.svn_path.specs.Path.{same_name}
-use Rattle.svn_dump.specs.Dump.{DumpValue, IsDump}
+use Rattle.svn_dump.specs.Dump.{DumpValue, IsDump, history_view}
 use Rattle.svn_dump.specs.declared.record.NodeRecord.{NodeRecord}
 use Rattle.block_map.specs.Trees.{action_in}
+use Rattle.svn_dump.specs.State.{fault_of_next_record}
 use Rattle.block_map.specs.FaultFound.{fault_found}
+use Rattle.block_map.specs.FaultKind.{kind_view}
 use Rattle.block_map.specs.Ends.{HasSourceBefore, ends_of}
 use Rattle.block_map.specs.Map.{standings_in, state_in}
 use Rattle.block_map.specs.Standing.{standing_at}
@@ -41,8 +44,11 @@ returns c =
     let each = c.index-records-index.result in
     let kept = c.records.ensures.kept in
     let at = record_at dump c.records.result.now index each (omega (arith, c.requires.some, c.requires.within)) c.records.ensures.value c.index-records-index.is in
-    c.fault_of.ensures ∙ ap (λ ends. fault_found (standings_in map) index each.path (action_in ends each)) c.requires.ends
+    IfOk-weaker c.fault_of.result (λ kind. option_map kind_view kind ≡ fault_found (standings_in map) index each.path (action_in c.args.ends.now each))
+    (λ kind. option_map kind_view kind ≡ fault_of_next_record same_name (history_view dump) index)
+    (λ kind is. is ∙ ap (λ ends. fault_found (standings_in map) index each.path (action_in ends each)) c.requires.ends
     ∙ fault_found-same (standings_in map) (λ tick path. standing_at same_name (state_in dump tick) path) index
     (λ earlier path upto. standing-look dump kept map c.requires.map.first earlier path (omega (arith, upto, c.requires.some, c.requires.within, c.requires.map.whole)))
     (ends_of dump.counts) each.path each.act (source_before dump kept index each at)
-    ∙ sym (fault_of_next_record-found dump kept index each at)
+    ∙ sym (fault_of_next_record-found dump kept index each at))
+    c.fault_of.ensures

@@ -1,5 +1,4 @@
 use Rattle.std.proofs.Common.{◌≡◌, sym, subst}
-use Rattle.std.specs.Prelude.{IfOk}
 use Rattle.std.proofs.lemmas.Result.{IfOk-weaker}
 use Rattle.svn_path.specs.Path.{same_name}
 use Rattle.block_map.specs.Look.{IsFoundAtOrBefore}
@@ -10,6 +9,6 @@ use Rattle.block_map.proofs.map.Map.look.Goals as goal
 pub returns-clause-earlier : goal.returns-clause-earlier
 returns-clause-earlier c =
     let map = c.args.self.now in
-    IfOk-weaker c.look.result (λ found. found_view found ≡ look_in map c.args.tick c.args.path.now) (λ found. IsFoundAtOrBefore map.lo (found_view found))
-    (λ found exact. subst (IsFoundAtOrBefore map.lo) (sym exact) (IsFoundAtOrBefore-look same_name map.lo map.records c.args.tick c.args.path.now))
-    (subst (λ map. IfOk c.look.result (λ found. found_view found ≡ look_in map c.args.tick c.args.path.now)) c.self.view_is c.look.ensures)
+    IfOk-weaker c.found.result (λ found. found_view found ≡ look_in map c.args.tick c.parts.result.now) (λ found. IsFoundAtOrBefore map.lo (found_view found))
+    (λ found exact. subst (IsFoundAtOrBefore map.lo) (sym exact) (IsFoundAtOrBefore-look same_name map.lo map.records c.args.tick c.parts.result.now))
+    c.found.ensures

@@ -8,7 +8,7 @@ pub returns-clause-exact : goal.returns-clause-exact
 returns-clause-exact c =
     let pushed = c.self.view_is ∙ c.in_ok-id.ensures.added in
     let parts = ap (λ (trie : TrieValue). trie.parts) pushed in
-    let new : TrieValue = record { nodes = c.self.inside.nodes.items; parts = c.set.new.self; locations = c.self.inside.locations.items } in
+    let new : TrieValue = record { nodes = c.self.inside.nodes.items; parts = c.set.new.self; locations = c.self.inside.locations } in
     PutsNode-child c.args.self.now new c.args.node c.args.child c.args.name c.in_ok-id.id c.in_ok-children.children
     (record {
       sound = c.push.ensures.trie;

@@ -1,0 +1,217 @@
+-- The blocks of a map: where they stand, and what they say together.
+use Rattle.std.proofs.Common.{◌≡◌, ◌≢◌, ℕ, zero, suc, ◌+◌, ◌^◌, ◌<◌, ◌≤◌, All, List, [], ◌∷◌, ◌++◌, get_or, length, refl, sym, ap, subst, ◌∙◌, arith, append-nil, length-append}
+use Rattle.std.specs.Arc.{arc_value}
+use Rattle.std.specs.declared.sync.Arc.{Arc}
+use Rattle.std.specs.Global.{Global}
+use Rattle.std.specs.List.Sorted.{IsNonDecreasingBy}
+use Rattle.std.specs.Prelude.{Option}
+use Rattle.std.proofs.lemmas.Grind.{flat_map-append}
+use Rattle.std.proofs.lemmas.List.{get_or_at, map-append}
+use Rattle.std.proofs.lemmas.List.Elements.{All-head}
+use Rattle.std.proofs.lemmas.List.Sums.{sum_by-cons}
+use Rattle.svn_path.specs.Path.{same_name}
+use Rattle.svn_path.specs.declared.names.NameId.{NameId}
+use Rattle.svn_dump.specs.History.{Record}
+use Rattle.svn_dump.specs.declared.record.ValueId.{ValueId}
+use Rattle.block_map.specs.Blocks.{AreBlocksBefore, AreBlocksFrom, nodes_of, records_of, trees_of}
+use Rattle.block_map.specs.Look as found
+use Rattle.block_map.specs.Look.{Found, look, resolved, with_mergeinfo}
+use Rattle.block_map.specs.LookThrough.{look_through}
+use Rattle.block_map.specs.Map.{most_nodes}
+use Rattle.block_map.specs.Trees.{AreMapTrees, end_of_trees, look_in_trees}
+use Rattle.block_map.specs.declared.trees.Trees.{Trees}
+use Rattle.block_map.proofs.LooksThrough.{look-append, look_from-within, look_through-append, look_through-none}
+use Rattle.block_map.proofs.RecordNodes.{resolved-with_mergeinfo}
+use Rattle.block_map.proofs.Standings.{look_at_first}
+
+-- ---- lists of blocks
+
+-- the tick after their last record
+abbrev pub end_of_blocks : ℕ → List Trees → ℕ
+end_of_blocks lo blocks = lo + length (records_of blocks)
+
+pub records_of-append : (front more : List Trees) → records_of (front ++ more) ≡ records_of front ++ records_of more
+records_of-append front more = flat_map-append (λ (block : Trees). block.records.records) front more
+
+-- one block more at the front
+end-cons : (lo : ℕ) (first : Trees) (rest : List Trees) → first.start ≡ lo → end_of_blocks lo (first ∷ rest) ≡ end_of_blocks (end_of_trees first) rest
+end-cons lo first rest starts = omega (arith, starts, length-append first.records.records (records_of rest))
+
+pub AreBlocksFrom-append : (lo : ℕ) (front more : List Trees) → AreBlocksFrom lo front → AreBlocksFrom (end_of_blocks lo front) more → AreBlocksFrom lo (front ++ more)
+AreBlocksFrom-append lo [] more are next = let none : lo + 0 ≡ lo = omega arith in subst (λ at. AreBlocksFrom at more) none next
+AreBlocksFrom-append lo (first ∷ rest) more are next =
+    (are.0, are.1, are.2, AreBlocksFrom-append (end_of_trees first) rest more are.3 (subst (λ at. AreBlocksFrom at more) (end-cons lo first rest are.0) next))
+
+pub AreBlocksFrom-front : (lo : ℕ) (front more : List Trees) → AreBlocksFrom lo (front ++ more) → AreBlocksFrom lo front
+AreBlocksFrom-front lo [] more are = tt
+AreBlocksFrom-front lo (first ∷ rest) more are = (are.0, are.1, are.2, AreBlocksFrom-front (end_of_trees first) rest more are.3)
+
+pub AreBlocksFrom-back : (lo : ℕ) (front more : List Trees) → AreBlocksFrom lo (front ++ more) → AreBlocksFrom (end_of_blocks lo front) more
+AreBlocksFrom-back lo [] more are = let none : lo ≡ lo + 0 = omega arith in subst (λ at. AreBlocksFrom at more) none are
+AreBlocksFrom-back lo (first ∷ rest) more are =
+    subst (λ at. AreBlocksFrom at more) (sym (end-cons lo first rest are.0)) (AreBlocksFrom-back (end_of_trees first) rest more are.3)
+
+-- where the last block begins and ends
+pub last-start : (lo : ℕ) (earlier : List Trees) (last : Trees) → AreBlocksFrom lo (earlier ++ last ∷ []) → last.start ≡ end_of_blocks lo earlier
+last-start lo earlier last are = (AreBlocksFrom-back lo earlier (last ∷ []) are).0
+
+pub last-end : (lo : ℕ) (earlier : List Trees) (last : Trees) → AreBlocksFrom lo (earlier ++ last ∷ []) → end_of_trees last ≡ end_of_blocks lo (earlier ++ last ∷ [])
+last-end lo earlier last are =
+    omega (arith, last-start lo earlier last are, ap length (records_of-append earlier (last ∷ [])), length-append (records_of earlier) (records_of (last ∷ [])), length-append last.records.records [])
+
+-- there are few nodes
+pub nodes_of-few : (lo : ℕ) (blocks : List Trees) → AreBlocksFrom lo blocks → nodes_of blocks ≤ most_nodes (length (records_of blocks))
+nodes_of-few lo [] are = omega arith
+nodes_of-few lo (first ∷ rest) are =
+    omega (arith, nodes_of-few (end_of_trees first) rest are.3, are.2.few, sum_by-cons (λ (block : Trees). length block.trie.nodes) first rest, length-append first.records.records (records_of rest))
+
+pub nodes_of-small : (lo : ℕ) (blocks : List Trees) → AreBlocksFrom lo blocks → nodes_of blocks ≤ most_nodes (2 ^ 32)
+nodes_of-small lo [] are = omega arith
+nodes_of-small lo (first ∷ rest) are =
+    omega (arith, nodes_of-few lo (first ∷ rest) are, end-small (end_of_trees first) rest are.3 are.2.is.few, end-cons lo first rest are.0)
+  where
+    end-small : (at : ℕ) (blocks : List Trees) → AreBlocksFrom at blocks → at < 2 ^ 32 → end_of_blocks at blocks < 2 ^ 32
+    end-small at [] from few = omega (arith, few)
+    end-small at (next ∷ more) from few =
+        omega (arith, end-small (end_of_trees next) more from.3 from.2.is.few, end-cons at next more from.0)
+
+-- the trees of the last block and of the earlier ones
+pub trees-last : (blocks earlier : List (Arc Trees Global)) (last : Arc Trees Global) (block : Trees) → blocks ≡ earlier ++ last ∷ [] → block ≡ arc_value last
+    → trees_of blocks ≡ trees_of earlier ++ block ∷ []
+trees-last blocks earlier last block split is =
+    ap trees_of split ∙ map-append arc_value earlier (last ∷ []) ∙ ap (λ each. trees_of earlier ++ each ∷ []) (sym is)
+
+-- the last of those before a tick begins before it
+pub last-before : (tick : ℕ) (all front earlier : List Trees) (block : Trees) → AreBlocksBefore tick all front → front ≡ earlier ++ block ∷ [] → block.start < tick
+last-before tick all front earlier block before split =
+    subst (λ each. each.start < tick) (ap (λ blocks. get_or blocks (length earlier) block) split ∙ get_or_at earlier block [] block (length earlier) refl)
+    (before.before (length earlier) block (omega (arith, ap length split, length-append earlier (block ∷ []))))
+
+-- ---- the ticks at which blocks begin
+
+starts-from : (lo : ℕ) (blocks : List (Arc Trees Global)) (i : ℕ) (d : Arc Trees Global) → AreBlocksFrom lo (trees_of blocks) → i < length blocks → lo ≤ (arc_value (get_or blocks i d)).start
+starts-from lo [] i d are within = absurd (omega (arith, within))
+starts-from lo (first ∷ rest) zero d are within = omega (arith, are.0)
+starts-from lo (first ∷ rest) (suc i) d are within =
+    omega (arith, starts-from (end_of_trees (arc_value first)) rest i d are.3 (omega (arith, within)), are.0)
+
+-- each block is one
+pub each-block : (lo : ℕ) (blocks : List (Arc Trees Global)) (i : ℕ) (d : Arc Trees Global) → AreBlocksFrom lo (trees_of blocks) → i < length blocks → AreMapTrees (arc_value (get_or blocks i d))
+each-block lo [] i d are within = absurd (omega (arith, within))
+each-block lo (first ∷ rest) zero d are within = are.2
+each-block lo (first ∷ rest) (suc i) d are within = each-block (end_of_trees (arc_value first)) rest i d are.3 (omega (arith, within))
+
+pub starts-rise : (lo : ℕ) (blocks : List (Arc Trees Global)) → AreBlocksFrom lo (trees_of blocks) → IsNonDecreasingBy (λ (block : Arc Trees Global). (arc_value block).start) blocks
+starts-rise lo [] are i j d upto within = absurd (omega (arith, within))
+starts-rise lo (first ∷ rest) are zero zero d upto within = omega arith
+starts-rise lo (first ∷ rest) are zero (suc j) d upto within =
+    omega (arith, starts-from (end_of_trees (arc_value first)) rest j d are.3 (omega (arith, within)))
+starts-rise lo (first ∷ rest) are (suc i) zero d upto within = absurd (omega (arith, upto))
+starts-rise lo (first ∷ rest) are (suc i) (suc j) d upto within =
+    starts-rise (end_of_trees (arc_value first)) rest are.3 i j d (omega (arith, upto)) (omega (arith, within))
+
+-- ---- what the blocks say
+
+pub resolved-again : (lo : ℕ) (each : Found NameId ValueId) → resolved lo (resolved lo each) ≡ resolved lo each
+resolved-again zero (found.at [] tick) = refl
+resolved-again zero (found.at (c ∷ path) tick) = refl
+resolved-again zero (found.at_with [] tick mergeinfo) = refl
+resolved-again zero (found.at_with (c ∷ path) tick mergeinfo) = refl
+resolved-again zero (found.is kind mergeinfo) = refl
+resolved-again zero found.absent = refl
+resolved-again (suc lo) each = refl
+
+-- after the beginning nothing is resolved
+pub resolved-later : (lo : ℕ) (each : Found NameId ValueId) → lo ≢ 0 → resolved lo each ≡ each
+resolved-later zero each later = absurd (later refl)
+resolved-later (suc lo) each later = refl
+
+-- other mergeinfo lies over what a block says of a tick
+pub with_mergeinfo-through : (lo tick : ℕ) (path : List NameId) (mergeinfo : Option ValueId) (records : List (Record NameId ValueId)) (says : Found NameId ValueId) → tick ≤ lo + length records
+    → says ≡ resolved lo (look same_name lo records tick path)
+    → resolved lo (with_mergeinfo mergeinfo says) ≡ resolved lo (look_through same_name lo records (found.at_with path tick mergeinfo))
+with_mergeinfo-through lo tick path mergeinfo records says within is =
+    let own = look same_name lo records tick path in
+    resolved-with_mergeinfo lo mergeinfo says
+    ∙ ap (with_mergeinfo mergeinfo) (ap (resolved lo) is ∙ resolved-again lo own)
+    ∙ sym (resolved-with_mergeinfo lo mergeinfo own)
+    ∙ sym (ap (λ each. resolved lo (with_mergeinfo mergeinfo each)) (look_from-within same_name lo records tick path within))
+
+-- what the last block leaves is looked up in the earlier ones
+pub through-earlier : (lo : ℕ) (earlier : List Trees) (last : Trees) (left right : Found NameId ValueId) → AreBlocksFrom lo (earlier ++ last ∷ [])
+    → resolved last.start left ≡ resolved last.start right
+    → resolved lo (look_through same_name lo (records_of earlier) left) ≡ resolved lo (look_through same_name lo (records_of earlier) right)
+through-earlier lo [] last left right are same =
+    ap (resolved lo) (look_through-none same_name lo left) ∙ subst (λ at. resolved at left ≡ resolved at right) are.0 same
+    ∙ sym (ap (resolved lo) (look_through-none same_name lo right))
+through-earlier lo (first ∷ rest) last left right are same =
+    let later : last.start ≢ 0 = λ none. absurd (omega (arith, none, last-start lo (first ∷ rest) last are, are.1, length-append first.records.records (records_of rest))) in
+    ap (λ each. resolved lo (look_through same_name lo (records_of (first ∷ rest)) each)) (sym (resolved-later last.start left later) ∙ same ∙ resolved-later last.start right later)
+
+-- what all blocks say is what the last one says, by the earlier ones
+pub through-last : (lo : ℕ) (earlier : List Trees) (last : Trees) (each : Found NameId ValueId) → AreBlocksFrom lo (earlier ++ last ∷ [])
+    → look_through same_name lo (records_of (earlier ++ last ∷ [])) each ≡ look_through same_name lo (records_of earlier) (look_through same_name last.start last.records.records each)
+through-last lo earlier last each are =
+    ap (λ all. look_through same_name lo all each) (records_of-append earlier (last ∷ []) ∙ ap (λ more. records_of earlier ++ more) (append-nil last.records.records))
+    ∙ look_through-append same_name lo (records_of earlier) last.records.records each
+    ∙ ap (λ at. look_through same_name lo (records_of earlier) (look_through same_name at last.records.records each)) (sym (last-start lo earlier last are))
+
+module _ (lo tick : ℕ) (path : List NameId) where
+  abbrev look_of : List (Record NameId ValueId) → Found NameId ValueId
+  look_of records = look same_name lo records tick path
+
+  -- later blocks say nothing of an earlier tick
+  look-front : (front more : List Trees) → tick ≤ end_of_blocks lo front → look_of (records_of (front ++ more)) ≡ look_of (records_of front)
+  look-front front more within =
+      ap look_of (records_of-append front more) ∙ look-append same_name lo (records_of front) (records_of more) tick path
+      ∙ ap (look_through same_name lo (records_of front)) (look_at_first (end_of_blocks lo front) (found.looks_of same_name (end_of_blocks lo front) (records_of more)) tick path within)
+      ∙ look_from-within same_name lo (records_of front) tick path within
+
+  -- the last block that begins before a tick reaches it
+  pub end-front : (all front : List Trees) → AreBlocksFrom lo all → AreBlocksBefore tick all front → tick ≤ end_of_blocks lo all → tick ≤ end_of_blocks lo front
+  end-front all front are before within = by before.more before.split before.after
+    where
+      by : (more : List Trees) → all ≡ front ++ more → All (λ block. tick ≤ block.start) more → tick ≤ end_of_blocks lo front
+      by [] split after = subst (λ blocks. tick ≤ end_of_blocks lo blocks) (split ∙ append-nil front) within
+      by (next ∷ more) split after =
+          let starts = (AreBlocksFrom-back lo front (next ∷ more) (subst (AreBlocksFrom lo) split are)).0 in
+          omega (arith, starts, All-head (λ (block : Trees). tick ≤ block.start) next more after)
+
+  -- so all blocks say what those say
+  pub look-before : (all front : List Trees) → AreBlocksFrom lo all → AreBlocksBefore tick all front → tick ≤ end_of_blocks lo all → look_of (records_of all) ≡ look_of (records_of front)
+  look-before all front are before within =
+      ap (λ blocks. look_of (records_of blocks)) before.split ∙ look-front front before.more (end-front all front are before within)
+
+  -- and at the first tick, where there is none, they say nothing
+  pub look-none : (all : List Trees) → AreBlocksFrom lo all → AreBlocksBefore tick all [] → tick ≤ end_of_blocks lo all → look_of (records_of all) ≡ found.at path tick
+  look-none all are before within =
+      look-before all [] are before within
+      ∙ look_at_first lo (found.looks_of same_name lo []) tick path (omega (arith, end-front all [] are before within))
+
+  -- what the last one says, by the earlier ones
+  pub look-last : (earlier : List Trees) (last : Trees) (says after : Found NameId ValueId) → AreBlocksFrom lo (earlier ++ last ∷ [])
+      → says ≡ resolved last.start (look same_name last.start last.records.records tick path)
+      → resolved lo after ≡ resolved lo (look_through same_name lo (records_of earlier) says)
+      → resolved lo after ≡ resolved lo (look_of (records_of (earlier ++ last ∷ [])))
+  look-last earlier last says after are is through =
+      through
+      ∙ through-earlier lo earlier last says own are (ap (resolved last.start) is ∙ resolved-again last.start own)
+      ∙ sym (ap (resolved lo) whole)
+    where
+      own : Found NameId ValueId
+      own = look same_name last.start last.records.records tick path
+
+      whole : look_of (records_of (earlier ++ last ∷ [])) ≡ look_through same_name lo (records_of earlier) own
+      whole =
+          ap look_of (records_of-append earlier (last ∷ []) ∙ ap (λ more. records_of earlier ++ more) (append-nil last.records.records))
+          ∙ look-append same_name lo (records_of earlier) last.records.records tick path
+          ∙ ap (λ at. look_through same_name lo (records_of earlier) (look same_name at last.records.records tick path)) (sym (last-start lo earlier last are))
+
+  -- where there is only one, what it says
+  pub look-only : (all : List Trees) (only : Trees) → AreBlocksFrom lo all → AreBlocksBefore tick all (only ∷ []) → tick ≤ end_of_blocks lo all
+      → look_in_trees only tick path ≡ resolved lo (look_of (records_of all))
+  look-only all only are before within =
+      let starts = (AreBlocksFrom-front lo (only ∷ []) before.more (subst (AreBlocksFrom lo) before.split are)).0 in
+      ap (λ at. resolved at (look same_name at only.records.records tick path)) starts
+      ∙ ap (λ records. resolved lo (look_of records)) (sym (append-nil only.records.records))
+      ∙ ap (resolved lo) (sym (look-before all (only ∷ []) are before within))

@@ -1,0 +1,68 @@
+//! Joining the maps of neighbouring parts of a history.
+ghost use Rattle.std.specs.Prelude.{◌≡◌, ◌++◌, OnOk};
+ghost use Rattle.block_map.specs.Blocks.{trees_of};
+
+use crate::map::Map;
+use crate::trees::Trees;
+use par_scan::Acts;
+use std::alloc::AllocError;
+use std::sync::Arc;
+
+/// Maps share the blocks that they are joined of. Sharing one whose count of owners is full is want of memory.
+impl Acts for Map {
+    ghost use Rattle.par_scan.specs.Weightless.{no_weight};
+    ghost use Rattle.block_map.specs.Joining.{MapPoint, act_on_point, tick_before};
+    ghost use Rattle.block_map.specs.Map.{hi_of};
+
+    ghost Point = { MapPoint };
+
+    ghost act = { act_on_point };
+
+    ghost begin = { tick_before };
+
+    ghost end = { hi_of };
+
+    ghost weight = { λ _. 0 };
+
+    ghost weighs = { λ items joined acts. no_weight items };
+
+    fn fits(&self, later: &Self) -> bool {
+        self.hi() == later.lo
+    }
+
+    fn unit(&self) -> Result<Self, AllocError> {
+        Ok(Map {
+            lo: self.lo,
+            blocks: Vec::new(*self.blocks.allocator()),
+        })
+    }
+
+    fn join(&self, later: &Self) -> Result<Self, AllocError> {
+        let mut blocks = Vec::new(*self.blocks.allocator());
+        share(&mut blocks, self.blocks.as_slice())?;
+        share(&mut blocks, later.blocks.as_slice())?;
+        Ok(Map {
+            lo: self.lo,
+            blocks,
+        })
+    }
+
+    fn dup(&self) -> Result<Self, AllocError> {
+        let mut blocks = Vec::new(*self.blocks.allocator());
+        share(&mut blocks, self.blocks.as_slice())?;
+        Ok(Map {
+            lo: self.lo,
+            blocks,
+        })
+    }
+}
+
+/// Appends these blocks, which both lists then share.
+fn share(shared: &mut Vec<Arc<Trees>>, blocks: &[Arc<Trees>]) -> Result<(), AllocError>
+    ensures { OnOk result (trees_of shared.new.items ≡ trees_of shared.old.items ++ trees_of blocks.now) }
+{
+    for block in blocks {
+        shared.push(Arc::try_clone(block)?)?;
+    }
+    Ok(())
+}

@@ -1,0 +1,198 @@
+//! Maps of neighbouring parts of a history, joined.
+ghost use Rattle.std.specs.Prelude.{◌≡◌};
+ghost use Rattle.block_map.specs.Ends.{ends_of};
+
+use crate::maps::{Part, look, map_of_part};
+use block_map::{Ends, Entry, Found, Map};
+use par_scan::Acts;
+use sample_dumps::{NESTED, copies_of_the_root, revision_ends};
+use std::alloc::Global;
+use std::test::Fail;
+use svn_dump::{Dump, read};
+use svn_text::push_number;
+
+// Two maps as one, if they meet.
+fn joined(earlier: &Map, later: &Map) -> Result<Map, Fail> {
+    if !earlier.fits(later) {
+        return Err("the maps do not meet")?;
+    }
+    Ok(earlier.join(later)?)
+}
+
+// A map and that of the next records, as one.
+fn with_part(
+    alloc: Global,
+    dump: &Dump,
+    ends: &Ends,
+    earlier: &Map,
+    part: Part,
+) -> Result<Map, Fail>
+    requires { ends.now ≡ ends_of dump.now.counts }
+{
+    let later = map_of_part(alloc, dump, ends, part)?;
+    let both = joined(earlier, &later);
+    drop(later);
+    both
+}
+
+// The map of the records up to `end`, joined of maps of so many records each.
+fn map_of_parts(
+    alloc: Global,
+    dump: &Dump,
+    ends: &Ends,
+    size: usize,
+    end: usize,
+) -> Result<Map, Fail>
+    requires { ends.now ≡ ends_of dump.now.counts }
+{
+    let mut map = map_of_part(alloc, dump, ends, Part { start: 0, end: 0 })?;
+    let mut start: usize = 0;
+    for _ in 0..end {
+        let next = end.min(start.saturating_add(size));
+        let both = with_part(alloc, dump, ends, &map, Part { start, end: next });
+        drop(map);
+        map = both?;
+        start = next;
+    }
+    Ok(map)
+}
+
+// The same of all records.
+fn joined_map(alloc: Global, dump: &Dump, size: usize) -> Result<Map, Fail> {
+    let ends = revision_ends(alloc, dump)?;
+    let map = map_of_parts(alloc, dump, &ends, size, dump.records().len());
+    drop(ends);
+    map
+}
+
+// What stands at a path after so many records, as a map from the beginning of the history finds it.
+fn standing(
+    alloc: Global,
+    dump: &Dump,
+    map: &Map,
+    tick: u32,
+    path: &[u8],
+) -> Result<Option<Entry>, Fail> {
+    let found = look(alloc, dump, map, tick, path)?;
+    let entry = match found {
+        Found::Is { kind, mi } => Some(Entry { kind, mi }),
+        _ => None,
+    };
+    drop(found);
+    Ok(entry)
+}
+
+// Whether two maps say the same of a path after each of the records of `NESTED`.
+fn say_the_same(
+    alloc: Global,
+    dump: &Dump,
+    one: &Map,
+    other: &Map,
+    path: &[u8],
+) -> Result<bool, Fail> {
+    for tick in 0..8 {
+        if standing(alloc, dump, one, tick, path)? != standing(alloc, dump, other, tick, path)? {
+            return Ok(false);
+        }
+    }
+    Ok(true)
+}
+
+// Whether they do so of each of some paths.
+fn agree(alloc: Global, dump: &Dump, one: &Map, other: &Map) -> Result<bool, Fail> {
+    for path in [
+        b"/n/q/s".as_slice(),
+        b"/m/q/s",
+        b"/m/q",
+        b"/p/q/s",
+        b"/z/s",
+        b"/",
+    ] {
+        if !say_the_same(alloc, dump, one, other, path)? {
+            return Ok(false);
+        }
+    }
+    Ok(true)
+}
+
+// Whether a map of `NESTED` says what the one says that is joined of maps of so many records.
+fn agrees_with_parts(alloc: Global, dump: &Dump, whole: &Map, size: usize) -> Result<bool, Fail> {
+    let parts = joined_map(alloc, dump, size)?;
+    let agrees = agree(alloc, dump, whole, &parts);
+    drop(parts);
+    agrees
+}
+
+// The same of the map of all its records.
+fn nested_agrees(alloc: Global, dump: &Dump, size: usize) -> Result<bool, Fail> {
+    let whole = joined_map(alloc, dump, 7)?;
+    let agrees = agrees_with_parts(alloc, dump, &whole, size);
+    drop(whole);
+    agrees
+}
+
+// Whether it does so for each number of records.
+fn nested_agrees_always(alloc: Global, dump: &Dump) -> Result<bool, Fail> {
+    for size in 1..7 {
+        if !nested_agrees(alloc, dump, size)? {
+            return Ok(false);
+        }
+    }
+    Ok(true)
+}
+
+#[test]
+fn a_joined_map_says_what_the_map_of_all_records_says(rt: HostRuntime) -> Result<(), Fail> {
+    let dump = read(rt.alloc(), NESTED)?;
+    let agrees = nested_agrees_always(rt.alloc(), &dump);
+    drop(dump);
+    assert!(rt; agrees?);
+    Ok(())
+}
+
+// The path `/xN/../x1`, at which the root of the beginning is after so many copies of the root.
+fn path_of_copies(alloc: Global, count: u32) -> Result<Vec<u8>, Fail> {
+    let mut path = Vec::new(alloc);
+    for number in (1..=count).rev() {
+        path.extend_from_slice(b"/x")?;
+        push_number(&mut path, u64::from(number))?;
+    }
+    Ok(path)
+}
+
+// Whether the map finds that.
+fn finds_copies(alloc: Global, dump: &Dump, map: &Map, count: u32) -> Result<bool, Fail> {
+    let path = path_of_copies(alloc, count)?;
+    let entry = standing(alloc, dump, map, count, path.as_slice());
+    drop(path);
+    Ok(entry?.is_some())
+}
+
+// How many nodes the map of so many copies of the root keeps that is joined of a map for each, and whether it finds them.
+fn joined_copies(alloc: Global, dump: &Dump, count: u32) -> Result<(u64, bool), Fail> {
+    let map = joined_map(alloc, dump, 1)?;
+    let found = finds_copies(alloc, dump, &map, count);
+    let nodes = map.nodes();
+    drop(map);
+    Ok((nodes, found?))
+}
+
+// The same for the dump of so many copies.
+fn copies_of_dump(alloc: Global, count: u32) -> Result<(u64, bool), Fail> {
+    let text = copies_of_the_root(alloc, count)?;
+    let dump = read(alloc, text.as_slice());
+    drop(text);
+    let dump = dump?;
+    let found = joined_copies(alloc, &dump, count);
+    drop(dump);
+    found
+}
+
+#[test]
+fn maps_of_many_single_records_share_their_nodes(rt: HostRuntime) -> Result<(), Fail> {
+    for (count, most) in [(40, 120), (1100, 3300)] {
+        let (nodes, is_found) = copies_of_dump(rt.alloc(), count)?;
+        assert!(rt; nodes <= most && is_found, "{count}: {nodes}");
+    }
+    Ok(())
+}
