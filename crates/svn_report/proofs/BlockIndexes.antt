@@ -16,7 +16,7 @@ AreIndexesOfBlocks all borders indexes =
     (i : ℕ) (d : IndexValue) → i < length indexes → IsIndexOfBlock all borders i (get_or indexes i d)
 
 -- the borders from the second one on
-AreBorders-tail : (first last b c : ℕ) (bs : List ℕ) → AreBorders first last (b ∷ c ∷ bs) → AreBorders c last (c ∷ bs)
+pub AreBorders-tail : (first last b c : ℕ) (bs : List ℕ) → AreBorders first last (b ∷ c ∷ bs) → AreBorders c last (c ∷ bs)
 AreBorders-tail first last b c bs is =
     let next : length (b ∷ c ∷ bs) - 1 ≡ suc (length (c ∷ bs) - 1) = omega arith in
     record {
@@ -37,7 +37,7 @@ AreIndexesOfBlocks-tail all b bs m ms are i d below =
     }
 
 -- no border is above the last one
-border-le : (first last : ℕ) (borders : List ℕ) (i : ℕ) → AreBorders first last borders → i < length borders → get_or borders i 0 ≤ last
+pub border-le : (first last : ℕ) (borders : List ℕ) (i : ℕ) → AreBorders first last borders → i < length borders → get_or borders i 0 ≤ last
 border-le first last borders i is below =
     let up = is.rise i (length borders - 1) (omega arith) (omega arith) in
     omega (arith, is.ends, up)

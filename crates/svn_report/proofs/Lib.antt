@@ -1,8 +1,10 @@
 mod AnswerTexts
 mod BlockEnds
 mod BlockIndexes
+mod BlockMapsJoined
 mod Fronts
 mod LoadErrors
 mod QueryLines
 mod RecordEnds
 mod Reports
+mod SharedRepos

@@ -17,6 +17,7 @@ use Rattle.block_map.specs.Ends.{end_of, ends_of, ends_view}
 use Rattle.block_map.proofs.RevisionEnds.{ends_of-at, length-ends_of}
 use Rattle.block_map.proofs.RevisionStates.{end_of-within}
 use Rattle.svn_report.specs.Blocks.{AreBorders}
+use Rattle.svn_report.specs.Cutting.{last_border}
 use Rattle.svn_report.specs.RecordEnds.{AreRecordEnds, sum_at, sum_of}
 
 -- sums stand between no borders
@@ -121,7 +122,7 @@ module _ (dump : DumpValue) (is : IsDump dump) (sums : List Sum) (are : AreRecor
       (λ k d below. are.each (get_or ends k d) (omega (arith, ends-below k d below, are.len)))
 
   -- up to revisions that rise from 0 to the last one the numbers of records rise from 0 to that of all records
-  pub AreBorders-sums : AreBorders 0 (length dump.records) (map (sum_at sums) ends)
+  AreBorders-sums : AreBorders 0 (length dump.records) (map (sum_at sums) ends)
   AreBorders-sums =
       let some = some-counts dump.counts is.some_revision in
       let len = length-map ends (sum_at sums) in
@@ -141,3 +142,13 @@ module _ (dump : DumpValue) (is : IsDump dump) (sums : List Sum) (are : AreRecor
             ∙ ap sum (take_all (length sums - 1 + 1) dump.counts whole)
             ∙ sum-counts dump is;
       }
+
+  module _ (read : List ℕ) (same : read ≡ map (sum_at sums) ends) where
+    -- the last of them is that of all records
+    pub last_border-read : last_border read ≡ length dump.records
+    last_border-read = ap last_border same ∙ AreBorders-sums.ends
+
+    pub AreBorders-read : AreBorders 0 (last_border read) read
+    AreBorders-read =
+        subst (λ last. AreBorders 0 last read) (sym last_border-read)
+        (subst (AreBorders 0 (length dump.records)) (sym same) AreBorders-sums)

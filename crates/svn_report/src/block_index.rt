@@ -6,7 +6,7 @@ ghost use Rattle.svn_report.specs.RecordEnds.{AreRecordBorders, AreRecordEnds, s
 ghost use Rattle.query_pool.specs.Serving.{most_workers};
 
 use crate::blocks::Blocks;
-use crate::cutting::cut;
+use crate::cutting::{block_ends, share_out};
 use par_scan::{Sum, make_all, scan, total};
 use path_index::Index;
 use std::alloc::{AllocError, Global};
@@ -40,7 +40,8 @@ pub(crate) fn index_of<R: Threads + Sync>(
 }
 
 /// How many records precede each block that `cuts` make of the revisions of a dump, and how many there are. Each join
-/// of indexes copies, so neighbouring blocks are taken together until there is one for each worker.
+/// of indexes copies, so where there are more blocks than workers, neighbouring ones are taken together into as many
+/// groups as workers, as nearly equal in records as whole blocks allow.
 pub(crate) fn record_borders(
     alloc: Global,
     dump: &Dump,
@@ -51,11 +52,13 @@ pub(crate) fn record_borders(
     requires sums { AreRecordEnds dump.now.counts sums.now }
     requires cuts { All (λ length. 0 < length) cuts.now }
     requires some_worker { 0 < workers }
+    requires few_workers { workers ≤ most_workers }
     ensures exact { IfOk result (λ borders. AreRecordBorders cuts.now workers dump.now.counts borders.items) }
     ensures rise { IfOk result (λ borders. AreBorders 0 (length dump.now.records) borders.items) }
 {
-    let ends = cut(alloc, cuts, dump.counts().len() - 1, workers)?;
-    sums_at(alloc, sums, ends.as_slice())
+    let ends = block_ends(alloc, cuts, dump.counts().len() - 1)?;
+    let borders = sums_at(alloc, sums, ends.as_slice())?;
+    share_out(alloc, borders.as_slice(), workers)
 }
 
 /// For each revision how many records the revisions up to it have.

@@ -1,31 +1,17 @@
-//! Cutting the revisions of a history into blocks.
-ghost use Rattle.std.specs.Prelude.{◌≡◌, ◌+◌, ◌^◌, ◌<◌, ◌≤◌, All, IfOk, length};
+//! Cutting the revisions of a history into blocks, and sharing the blocks out.
+ghost use Rattle.std.specs.Prelude.{◌≡◌, ◌+◌, ◌-◌, ◌^◌, ◌<◌, ◌≤◌, All, IfOk, length};
 ghost use Rattle.svn_report.specs.Blocks.{AreBorders};
-ghost use Rattle.svn_report.specs.Cutting.{AreBlockEnds, IsCut, block_length, every_end};
+ghost use Rattle.svn_report.specs.Cutting.{AreBlockEnds, AreGroupBorders, AreBordersLeft, IsGroupEnd, IsShareable, block_length, distance, last_border};
 
 use std::alloc::{AllocError, Global};
 
 /// Revision 0 and the last revision of each block, of `last` revisions from 1 on. Blocks take revisions by the lengths
-/// `cuts` in turn; the last length is repeated, and no lengths mean one block. Neighbouring blocks are taken together
-/// so that at most `most` are left.
-pub fn cut(alloc: Global, cuts: &[u32], last: usize, most: usize) -> Result<Vec<usize>, AllocError>
-    requires cuts { All (λ length. 0 < length) cuts.now }
-    requires few_revisions { last < 2 ^ 32 }
-    requires some_block { 0 < most }
-    ensures exact { IfOk result (λ ends. IsCut cuts.now most last ends.items) }
-    ensures borders { IfOk result (λ ends. AreBorders 0 last ends.items) }
-    ensures few { IfOk result (λ ends. length ends.items ≤ most + 1) }
-{
-    let ends = block_ends(alloc, cuts, last)?;
-    let size = (ends.len() - 1).div_ceil(most).max(1);
-    take_together(alloc, ends.as_slice(), size)
-}
-
-/// The same with any number of blocks.
-fn block_ends(alloc: Global, cuts: &[u32], last: usize) -> Result<Vec<usize>, AllocError>
+/// `cuts` in turn; the last length is repeated, and no lengths mean one block.
+pub fn block_ends(alloc: Global, cuts: &[u32], last: usize) -> Result<Vec<usize>, AllocError>
     requires cuts { All (λ length. 0 < length) cuts.now }
     requires few_revisions { last < 2 ^ 32 }
     ensures exact { IfOk result (λ ends. AreBlockEnds cuts.now last ends.items) }
+    ensures borders { IfOk result (λ ends. AreBorders 0 last ends.items) }
     ensures few { IfOk result (λ ends. length ends.items ≤ last + 1) }
 {
     let mut ends = vec![in alloc; 0]?;
@@ -47,19 +33,65 @@ fn length_of_block(cuts: &[u32], all: usize, block: usize) -> usize
     cuts[block.min(cuts.len() - 1)] as usize
 }
 
-/// The ends of each `size` neighbouring blocks taken together, where the last ones are perhaps fewer.
-fn take_together(alloc: Global, ends: &[usize], size: usize) -> Result<Vec<usize>, AllocError>
-    requires some { 0 < length ends.now }
-    requires few { length ends.now ≤ 2 ^ 32 }
-    requires size { 0 < size }
-    requires small { size ≤ 2 ^ 32 }
-    ensures { IfOk result (λ kept. kept.items ≡ every_end size ends.now) }
+/// Of these numbers of records before each block, and of all records, those that are left where neighbouring blocks are
+/// taken together into at most `most` groups. Where there are more blocks than that, there are exactly `most` groups,
+/// as nearly equal in records as whole blocks allow.
+pub fn share_out(alloc: Global, borders: &[usize], most: usize) -> Result<Vec<usize>, AllocError>
+    requires borders { AreBorders 0 (last_border borders.now) borders.now }
+    requires few_records { last_border borders.now < 2 ^ 32 }
+    requires some_group { 0 < most }
+    requires few_groups { most < 2 ^ 32 }
+    ensures exact { IfOk result (λ kept. AreBordersLeft most borders.now kept.items) }
+    ensures borders { IfOk result (λ kept. AreBorders 0 (last_border borders.now) kept.items) }
+    ensures few { IfOk result (λ kept. length kept.items ≤ most + 1) }
 {
-    let blocks = ends.len() - 1;
-    let count = blocks.div_ceil(size) + 1;
-    let mut kept = Vec::with_capacity(alloc, count)?;
-    for block in 0..count {
-        kept.push(ends[blocks.min(block * size)])?;
+    if borders.len() - 1 <= most {
+        return Vec::from_slice(alloc, borders);
     }
+    group_borders(alloc, borders, most)
+}
+
+/// The same where there are more blocks than groups.
+fn group_borders(alloc: Global, borders: &[usize], most: usize) -> Result<Vec<usize>, AllocError>
+    requires shareable { IsShareable most borders.now }
+    requires some_group { 0 < most }
+    requires more_blocks { most + 1 < length borders.now }
+    ensures { IfOk result (λ kept. AreGroupBorders most borders.now kept.items) }
+{
+    let mut kept = vec![in alloc; borders[0]]?;
+    let mut place = 0;
+    for group in 1..most {
+        place = end_of_group(borders, most, group, place);
+        kept.push(borders[place])?;
+    }
+    kept.push(borders[borders.len() - 1])?;
     Ok(kept)
+}
+
+/// Where a group ends that begins at the border `start`. The borders rise, so after the first one that is further from
+/// the end of the group's share than the one before it, none is nearer.
+fn end_of_group(borders: &[usize], most: usize, group: usize, start: usize) -> usize
+    requires shareable { IsShareable most borders.now }
+    requires group { group < most }
+    requires room { start + 1 + (most - group) < length borders.now }
+    ensures { IsGroupEnd most borders.now group start result }
+{
+    let last = borders.len() - 1 - (most - group);
+    let mut place = start + 1;
+    while place < last
+        && distance(borders, most, group, place + 1) <= distance(borders, most, group, place)
+    {
+        place += 1;
+    }
+    place
+}
+
+/// How far the border at a place is from the end of a group's share, times `most`.
+fn distance(borders: &[usize], most: usize, group: usize, place: usize) -> usize
+    requires shareable { IsShareable most borders.now }
+    requires group { group < most }
+    requires place { place < length borders.now }
+    ensures { result ≡ distance most borders.now group place }
+{
+    (most * borders[place]).abs_diff(group * borders[borders.len() - 1])
 }

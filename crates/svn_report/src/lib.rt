@@ -4,6 +4,7 @@
 
 mod answering;
 mod block_index;
+mod block_maps;
 mod blocks;
 mod cutting;
 mod loading;
@@ -13,7 +14,7 @@ mod reporting;
 mod repository;
 mod run_error;
 
-pub use cutting::cut;
+pub use cutting::{block_ends, share_out};
 pub use loading::load;
 pub use pieces::report_from;
 pub use reporting::report;

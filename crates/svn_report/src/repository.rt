@@ -1,14 +1,16 @@
 //! The repository of a dump.
-ghost use Rattle.std.specs.Prelude.{◌≡◌, ◌<◌, ◌≤◌, All, IfErr, IfOk, None, OnOk, bytes_eq};
+ghost use Rattle.std.specs.Prelude.{◌≡◌, ◌<◌, ◌≤◌, All, IfErr, IfOk, None, OnOk, bytes_eq, length};
 ghost use Rattle.svn_path.specs.Path.{same_name};
 ghost use Rattle.svn_dump.specs.Dump.{IsDump, history_in_bytes, history_view};
 ghost use Rattle.svn_dump.specs.Fault.{first_fault};
 ghost use Rattle.block_map.specs.Ends.{ends_of};
 ghost use Rattle.block_map.specs.Map.{IsMapOf};
+ghost use Rattle.svn_report.specs.Blocks.{AreBorders};
 ghost use Rattle.svn_report.specs.LoadRepo.{IsLoadError};
 ghost use Rattle.query_pool.specs.Serving.{most_workers};
 
 use crate::block_index::{index_of, record_borders, record_ends};
+use crate::block_maps::map_of;
 use block_map::{Ends, Fault, Map, check};
 use query_answer::Repo;
 use std::alloc::{AllocError, Global};
@@ -38,7 +40,7 @@ impl From<AllocError> for LoadError {
 
 /// The repository of a dump, or its first faulty record.
 ///
-/// At most `workers` threads at a time make the indexes of blocks, which are then joined. Blocks take whole revisions
+/// At most `workers` threads at a time make the maps and the indexes of blocks, which are then joined. Blocks take whole revisions
 /// from 1 on by the lengths `cuts` in turn; the last length is repeated, and no lengths mean one block. Neighbouring
 /// blocks are taken together so that there are at most as many as workers.
 pub fn load_repo<R: Threads + Sync>(
@@ -58,7 +60,7 @@ pub fn load_repo<R: Threads + Sync>(
     let sums = record_ends(rt, alloc, &dump, workers)?;
     let borders = record_borders(alloc, &dump, sums.as_slice(), cuts, workers)?;
     let ends = Ends::new(sums);
-    let map = lawful_map(rt, alloc, &dump, &ends)?;
+    let map = lawful_map(rt, alloc, &dump, &ends, borders.as_slice(), workers)?;
     let index = index_of(rt, alloc, &dump, borders.as_slice(), workers)?;
     Ok(Repo::new(dump, index, map, ends))
 }
@@ -69,13 +71,18 @@ fn lawful_map<R: Threads + Sync>(
     alloc: Global,
     dump: &Dump,
     ends: &Ends,
+    borders: &[usize],
+    workers: usize,
 ) -> Result<Map, LoadError>
-    requires { ends.now ≡ ends_of dump.now.counts }
+    requires ends { ends.now ≡ ends_of dump.now.counts }
+    requires borders { AreBorders 0 (length dump.now.records) borders.now }
+    requires some_worker { 0 < workers }
+    requires few_workers { workers ≤ most_workers }
     ensures map { IfOk result (λ map. IsMapOf dump.now map) }
     ensures lawful { OnOk result (first_fault same_name (history_view dump.now) ≡ None) }
     ensures faulty { IfErr result (IsLoadError dump.now) }
 {
-    let map = Map::build(alloc, dump.records(), 0, ends)?;
+    let map = map_of(rt, alloc, dump, ends, borders, workers)?;
     judge(rt, &map, dump, ends)?;
     Ok(map)
 }

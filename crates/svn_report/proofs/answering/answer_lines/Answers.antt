@@ -1,4 +1,6 @@
 use Rattle.std.proofs.Common.{◌≡◌, ◌∙◌, length, arith, ap}
+use denote.Param.Send.{sendable}
+use Rattle.std.proofs.Crossing.{crosses}
 use Rattle.std.specs.List.{flat_map}
 use Rattle.std.proofs.lemmas.List.{length-map}
 use Rattle.std.proofs.lemmas.Result.{IfOk-weaker}
@@ -9,6 +11,7 @@ use Rattle.query_pool.proofs.Gathered.{gathered_each}
 use Rattle.svn_report.specs.Answering.{IsTextAt, lent_lines}
 use Rattle.svn_report.specs.Report.{answers, answers_from}
 use Rattle.svn_report.proofs.AnswerTexts.{answers_from-texts}
+use Rattle.svn_report.proofs.SharedRepos.{repo_sync}
 use Rattle.svn_report.proofs.answering.answer_lines.Goals as goal
 
 pub returns-in-Ok : goal.returns-in-Ok
@@ -27,3 +30,6 @@ returns-in-Ok g c =
     (λ place below text at. each place text at) in
     IfOk-weaker c.joined.result (λ out. out.items ≡ flat_map (λ text. text.items) texts) (λ out. out.items ≡ answers (history_in_bytes dump) c.args.queries.now)
     (λ out joined. joined ∙ same ∙ ap (answers_from 1 (history_in_bytes dump) (trees_in_bytes dump)) (ap lent_lines value ∙ c.in_ok-lines.ensures)) c.joined.ensures
+
+pub serve-requires-sync-J : goal.serve-requires-sync-J
+serve-requires-sync-J g c κs within = search (sendable, crosses, repo_sync) depth 40 fits 100000

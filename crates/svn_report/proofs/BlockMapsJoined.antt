@@ -1,0 +1,169 @@
+-- The maps of blocks meet, and joined they are of all records.
+use Rattle.std.proofs.Common.{◌≡◌, ℕ, suc, ◌+◌, ◌-◌, ◌<◌, ◌≤◌, List, [], ◌∷◌, ◌++◌, length, get_or, drop, refl, sym, ap, ◌∙◌, arith, length-take, length-drop}
+use Rattle.std.specs.List.{slice_range}
+use Rattle.std.proofs.lemmas.List.{drop_all, length-map, map-append}
+use Rattle.std.proofs.lemmas.List.Folds.{drop_split}
+use Rattle.svn_path.specs.Path.{same_name}
+use Rattle.svn_path.specs.declared.names.NameId.{NameId}
+use Rattle.svn_dump.specs.Dump.{DumpValue, record_view}
+use Rattle.svn_dump.specs.History.{Record}
+use Rattle.svn_dump.specs.declared.record.NodeRecord.{NodeRecord}
+use Rattle.svn_dump.specs.declared.record.ValueId.{ValueId}
+use Rattle.block_map.specs.Ends.{ends_of, record_at_tick}
+use Rattle.block_map.specs.Joining.{MapPoint, found, count, act_on_point, tick_before}
+use Rattle.block_map.specs.Look as look
+use Rattle.block_map.specs.Look.{Found, at, absent, resolved}
+use Rattle.block_map.specs.LookThrough.{look_through}
+use Rattle.block_map.specs.Map.{IsMapOf, MapValue, hi_of, records_at_ticks}
+use Rattle.block_map.proofs.LooksThrough.{look_from-within, look_through-append, look_through-none}
+use Rattle.block_map.proofs.MapsOfDumps.{IsMapOf-built}
+use Rattle.par_scan.specs.Chain.{IsChain, IsJoined, Meet, act_all}
+use Rattle.par_scan.specs.Weightless.{no_weight}
+use Rattle.svn_report.specs.Blocks.{AreBorders, IsMapOfBlock}
+use Rattle.svn_report.proofs.BlockIndexes.{AreBorders-tail, border-le}
+
+module _ (ends : List ℕ) where
+  -- each map is of the records of the block of its number
+  abbrev pub AreMapsOfBlocks : List NodeRecord → List ℕ → List MapValue → Type 0
+  AreMapsOfBlocks all borders maps =
+      (i : ℕ) (d : MapValue) → i < length maps → IsMapOfBlock all ends borders i (get_or maps i d)
+
+  module _ (all : List NodeRecord) where
+    -- the records from one on
+    abbrev records_from : ℕ → List (Record NameId ValueId)
+    records_from first = records_at_ticks ends (drop first all)
+
+    -- the blocks from the second one on
+    AreMapsOfBlocks-tail : (b : ℕ) (bs : List ℕ) (m : MapValue) (ms : List MapValue) → AreMapsOfBlocks all (b ∷ bs) (m ∷ ms) → AreMapsOfBlocks all bs ms
+    AreMapsOfBlocks-tail b bs m ms are i d below =
+        let is : IsMapOfBlock all ends (b ∷ bs) (suc i) (get_or ms i d) = are (suc i) d (omega arith) in
+        let next : suc i + 1 ≡ suc (i + 1) = omega arith in
+        record {
+          lo = is.lo;
+          records = is.records ∙ ap (λ j. records_at_ticks ends (slice_range all (get_or bs i 0) (get_or (b ∷ bs) j 0))) next;
+        }
+
+    -- the first map is of the records between the first two borders, and ends at the second one
+    first-records : (b c : ℕ) (bs : List ℕ) (m : MapValue) (ms : List MapValue) → AreMapsOfBlocks all (b ∷ c ∷ bs) (m ∷ ms) → m.records ≡ records_at_ticks ends (slice_range all b c)
+    first-records b c bs m ms are = (are 0 m (omega arith)).records
+
+    first-end : (b c : ℕ) (bs : List ℕ) (m : MapValue) (ms : List MapValue) → b ≤ c → c ≤ length all → AreMapsOfBlocks all (b ∷ c ∷ bs) (m ∷ ms) → hi_of m ≡ c
+    first-end b c bs m ms rise inside are =
+        let begins : m.lo ≡ b = (are 0 m (omega arith)).lo in
+        omega (
+          arith,
+          begins,
+          ap length (first-records b c bs m ms are),
+          length-map (slice_range all b c) (λ (each : NodeRecord). record_at_tick ends (record_view each)),
+          length-take (c - b) (drop b all),
+          length-drop b all,
+        )
+
+    -- joined they say what all records from the first border on say
+    act_all-maps : (first : ℕ) (borders : List ℕ) (maps : List MapValue) (each : Found NameId ValueId) → AreBorders first (length all) borders → AreMapsOfBlocks all borders maps → length maps + 1 ≡ length borders
+        → act_all act_on_point maps (found each) ≡ found (look_through same_name first (records_from first) each)
+    act_all-maps first [] maps each is are len = absurd (omega (arith, is.some))
+    act_all-maps first (b ∷ []) [] each is are len =
+        let starts : b ≡ first = is.starts in
+        let ends_at : b ≡ length all = is.ends in
+        ap found (sym (look_through-none same_name first each)
+        ∙ ap (λ records. look_through same_name first (records_at_ticks ends records) each) (sym (drop_all first all (omega arith))))
+    act_all-maps first (b ∷ []) (m ∷ ms) each is are len = absurd (omega arith)
+    act_all-maps first (b ∷ c ∷ bs) [] each is are len = absurd (omega arith)
+    act_all-maps first (b ∷ c ∷ bs) (m ∷ ms) each is are len =
+        let rise : b ≤ c = is.rise 0 1 (omega arith) (omega arith) in
+        let inside : c ≤ length all = border-le first (length all) (b ∷ c ∷ bs) 1 is (omega arith) in
+        let begins : m.lo ≡ b = (are 0 m (omega arith)).lo in
+        let starts : b ≡ first = is.starts in
+        let later = act_all-maps c (c ∷ bs) ms each (AreBorders-tail first (length all) b c bs is) (AreMapsOfBlocks-tail b (c ∷ bs) m ms are) (omega arith) in
+        ap (act_on_point m) later
+        ∙ ap found (
+        ap (λ tick. look_through same_name m.lo m.records (look_through same_name tick (records_from c) each)) (sym (first-end b c bs m ms rise inside are))
+        ∙ sym (look_through-append same_name m.lo m.records (records_from c) each)
+        ∙ ap (λ front. look_through same_name m.lo (front ++ records_from c) each) (first-records b c bs m ms are)
+        ∙ ap (λ records. look_through same_name m.lo records each)
+        (sym (map-append (λ (each : NodeRecord). record_at_tick ends (record_view each)) (slice_range all b c) (drop c all)) ∙ ap (records_at_ticks ends) (sym (drop_split all b c rise)))
+        ∙ ap (λ lo. look_through same_name lo (records_from b) each) begins
+        ∙ ap (λ n. look_through same_name n (records_from n) each) starts
+        )
+
+    -- each map begins where the one before it ends
+    Meet-maps : (first : ℕ) (borders : List ℕ) (maps : List MapValue) → AreBorders first (length all) borders → AreMapsOfBlocks all borders maps → length maps + 1 ≡ length borders → Meet tick_before hi_of maps
+    Meet-maps first borders [] is are len = tt
+    Meet-maps first borders (m ∷ []) is are len = tt
+    Meet-maps first [] (m ∷ n ∷ ms) is are len = absurd (omega arith)
+    Meet-maps first (b ∷ []) (m ∷ n ∷ ms) is are len = absurd (omega arith)
+    Meet-maps first (b ∷ c ∷ bs) (m ∷ n ∷ ms) is are len =
+        let rise : b ≤ c = is.rise 0 1 (omega arith) (omega arith) in
+        let inside : c ≤ length all = border-le first (length all) (b ∷ c ∷ bs) 1 is (omega arith) in
+        let next : n.lo ≡ c = (are 1 m (omega arith)).lo in (
+          first-end b c bs m (n ∷ ms) rise inside are ∙ sym next,
+          Meet-maps c (c ∷ bs) (n ∷ ms) (AreBorders-tail first (length all) b c bs is) (AreMapsOfBlocks-tail b (c ∷ bs) m (n ∷ ms) are) (omega arith),
+        )
+
+    -- they are a chain
+    pub IsChain-maps : (borders : List ℕ) (maps : List MapValue) → AreBorders 0 (length all) borders → AreMapsOfBlocks all borders maps → length maps + 1 ≡ length borders → IsChain tick_before hi_of (λ _. 0) maps
+    IsChain-maps borders maps is are len = record { meet = Meet-maps 0 borders maps is are len; light = omega (arith, no_weight maps) }
+
+    -- the last map ends after all records
+    last-end : (first : ℕ) (borders : List ℕ) (maps : List MapValue) (d : MapValue) → AreBorders first (length all) borders → AreMapsOfBlocks all borders maps → length maps + 1 ≡ length borders → 0 < length maps
+        → hi_of (get_or maps (length maps - 1) d) ≡ length all
+    last-end first borders [] d is are len some = absurd (omega (arith, some))
+    last-end first [] (m ∷ ms) d is are len some = absurd (omega arith)
+    last-end first (b ∷ []) (m ∷ ms) d is are len some = absurd (omega arith)
+    last-end first (b ∷ c ∷ e ∷ bs) (m ∷ []) d is are len some = absurd (omega arith)
+    last-end first (b ∷ c ∷ []) (m ∷ []) d is are len some =
+        let rise : b ≤ c = is.rise 0 1 (omega arith) (omega arith) in
+        let ends_at : c ≡ length all = is.ends in
+        first-end b c [] m [] rise (omega arith) are ∙ ends_at
+    last-end first (b ∷ c ∷ bs) (m ∷ n ∷ ms) d is are len some =
+        let place : length (m ∷ n ∷ ms) - 1 ≡ suc (length (n ∷ ms) - 1) = omega arith in
+        ap (λ i. hi_of (get_or (m ∷ n ∷ ms) i d)) place
+        ∙ last-end c (c ∷ bs) (n ∷ ms) d (AreBorders-tail first (length all) b c bs is) (AreMapsOfBlocks-tail b (c ∷ bs) m (n ∷ ms) are) (omega arith) (omega arith)
+
+-- what was found, if the point is that
+abbrev found_of : MapPoint → Found NameId ValueId
+found_of (found each) = each
+found_of (count nodes) = absent
+
+-- joined they are the map of a dump
+pub IsMapOf-joined : (dump : DumpValue) (borders : List ℕ) (maps : List MapValue) (joined : MapValue) → AreBorders 0 (length dump.records) borders
+    → AreMapsOfBlocks (ends_of dump.counts) dump.records borders maps → length maps + 1 ≡ length borders → IsJoined act_on_point tick_before hi_of maps joined → IsMapOf dump joined
+IsMapOf-joined dump borders maps joined is are len j = record {
+  first = record { lo = lo; within = omega (arith, end); looks = looks };
+  whole = end;
+}
+  where
+    lo : joined.lo ≡ 0
+    lo = j.begins joined ∙ (are 0 joined j.some).lo ∙ is.starts
+
+    end : hi_of joined ≡ length dump.records
+    end = j.ends joined ∙ last-end (ends_of dump.counts) dump.records 0 borders maps joined is are len j.some
+
+    says : (tick : ℕ) (path : List NameId) → tick ≤ hi_of joined
+        → look.look same_name joined.lo joined.records tick path ≡ look.look same_name 0 (records_at_ticks (ends_of dump.counts) dump.records) tick path
+    says tick path within =
+        let all = records_at_ticks (ends_of dump.counts) dump.records in
+        let inside : tick ≤ 0 + length all =
+        omega (arith, within, end, length-map dump.records (λ (each : NodeRecord). record_at_tick (ends_of dump.counts) (record_view each))) in
+        sym (look_from-within same_name joined.lo joined.records tick path within)
+        ∙ ap found_of (j.acts (found (at path tick)) ∙ act_all-maps (ends_of dump.counts) dump.records 0 borders maps (at path tick) is are len)
+        ∙ look_from-within same_name 0 all tick path inside
+
+    looks : (tick : ℕ) (path : List NameId) → tick ≤ hi_of joined
+        → resolved joined.lo (look.look same_name joined.lo joined.records tick path) ≡ resolved 0 (look.look same_name 0 (records_at_ticks (ends_of dump.counts) dump.records) tick path)
+    looks tick path within =
+        ap (resolved joined.lo) (says tick path within)
+        ∙ ap (λ at. resolved at (look.look same_name 0 (records_at_ticks (ends_of dump.counts) dump.records) tick path)) lo
+
+-- where there is no block there is no record
+pub IsMapOf-none : (dump : DumpValue) (borders : List ℕ) (map : MapValue) → AreBorders 0 (length dump.records) borders → length borders ≡ 1
+    → map.lo ≡ 0 → map.records ≡ [] → IsMapOf dump map
+IsMapOf-none dump borders map is one lo none = IsMapOf-built dump map lo (none ∙ ap (records_at_ticks (ends_of dump.counts)) (sym (by dump.records empty)))
+  where
+    empty : length dump.records ≡ 0
+    empty = sym is.ends ∙ ap (λ n. get_or borders (n - 1) 0) one ∙ is.starts
+
+    by : (records : List NodeRecord) → length records ≡ 0 → records ≡ []
+    by [] zero_is = refl
+    by (each ∷ records) zero_is = absurd (omega (arith, zero_is))

@@ -1,0 +1,24 @@
+-- Threads may share a repository, whose map owns its blocks together with other maps.
+use denote.Param.Send.{IsSend, IsSync, sendable}
+use Rattle.std.proofs.Crossing.{crosses}
+use Rattle.block_map.proofs.ghost_records.GhostRecords.TheLaws.TheKnot as knot
+use Rattle.block_map.specs.contracts.map.Map as Map
+use Rattle.block_map.specs.contracts.trees.Trees as Trees
+use Rattle.path_index.proofs.ghost_records.GhostRecords.TheLaws.TheKnot.{sync-GhostRecords}
+use Rattle.path_index.specs.contracts.index.Index as Index
+use Rattle.query_answer.specs.contracts.repo.Repo as Repo
+
+trees_send : IsSend Trees.the_row
+trees_send = search (sendable, crosses, knot.send-GhostRecords) depth 40 fits 100000
+
+trees_sync : IsSync Trees.the_row
+trees_sync = search (sendable, crosses, knot.sync-GhostRecords) depth 40 fits 100000
+
+map_sync : IsSync Map.the_row
+map_sync = search (sendable, crosses, trees_send, trees_sync) depth 40 fits 100000
+
+index_sync : IsSync Index.the_row
+index_sync = search (sendable, crosses, sync-GhostRecords) depth 40 fits 100000
+
+pub repo_sync : IsSync Repo.the_row
+repo_sync = search (sendable, crosses, map_sync, index_sync) depth 40 fits 100000

@@ -1,0 +1,69 @@
+//! The map of a dump, joined of the maps of blocks.
+ghost use Rattle.std.specs.Prelude.{◌≡◌, ◌<◌, ◌≤◌, IfOk, length};
+ghost use Rattle.svn_dump.specs.Dump.{IsDump};
+ghost use Rattle.block_map.specs.Ends.{ends_of};
+ghost use Rattle.block_map.specs.Map.{IsMapOf};
+ghost use Rattle.svn_report.specs.Blocks.{AreBorders};
+ghost use Rattle.query_pool.specs.Serving.{most_workers};
+
+use block_map::{Ends, Map};
+use par_scan::{Make, make_all, total};
+use std::alloc::{AllocError, Global};
+use std::thread::Threads;
+use svn_dump::{Dump, NodeRecord};
+
+/// Blocks of records, each between two borders, which are numbers of records. What is made of a block is the map of its
+/// records.
+#[derive(Clone, Copy)]
+pub(crate) struct BlockMaps<'a> {
+    alloc: Global,
+    records: &'a [NodeRecord],
+    ends: &'a Ends,
+    borders: &'a [usize],
+}
+
+impl Make for BlockMaps<'_> {
+    ghost use Rattle.svn_report.specs.Blocks.{HasMapOfBlock, IsMapOfBlock};
+
+    type Item = Map;
+
+    ghost has = { λ blocks i. HasMapOfBlock blocks.records.now blocks.ends.now blocks.borders.now i };
+
+    ghost gives = { λ blocks i map. IsMapOfBlock blocks.records.now blocks.ends.now blocks.borders.now i map };
+
+    fn make(&self, i: usize) -> Result<Map, AllocError> {
+        let start = self.borders[i];
+        let end = self.borders[i + 1];
+        let records = &self.records[start..end];
+        Map::build(self.alloc, records, start as u32, self.ends)
+    }
+}
+
+/// The map of all records of a dump. The maps of the blocks between these borders are made in parallel and joined.
+pub(crate) fn map_of<R: Threads + Sync>(
+    rt: &R,
+    alloc: Global,
+    dump: &Dump,
+    ends: &Ends,
+    borders: &[usize],
+    workers: usize,
+) -> Result<Map, AllocError>
+    requires ends { ends.now ≡ ends_of dump.now.counts }
+    requires borders { AreBorders 0 (length dump.now.records) borders.now }
+    requires some_worker { 0 < workers }
+    requires few_workers { workers ≤ most_workers }
+    ensures map { IfOk result (IsMapOf dump.now) }
+    ensures kept { IsDump dump.now }
+{
+    let blocks = BlockMaps {
+        alloc,
+        records: dump.records(),
+        ends,
+        borders,
+    };
+    let maps = make_all(rt, alloc, &blocks, borders.len() - 1, workers)?;
+    match total(rt, alloc, maps, workers)? {
+        Some(map) => Ok(map),
+        None => Map::build(alloc, &[], 0, ends),
+    }
+}
