@@ -1,5 +1,5 @@
 -- Elements that act on points, one after another, and stand between borders.
-use Rattle.std.specs.Prelude.{◌≡◌, ℕ, ◌+◌, ◌^◌, ◌<◌, List, [], ◌∷◌, slice_index_or, length, ◌-◌, take, ⊤}
+use Rattle.std.specs.Prelude.{◌≡◌, ℕ, ◌+◌, ◌^◌, ◌<◌, List, [], ◌∷◌, ◌++◌, slice_index_or, length, ◌-◌, take, ⊤}
 use Rattle.std.specs.List.{sum_by}
 
 -- all elements act on a point, the last one first
@@ -26,6 +26,14 @@ pub record IsChain {M : Type 0} (begin end weight : M → ℕ) (items : List M) 
 pub record IsSomeChain {M : Type 0} (begin end weight : M → ℕ) (items : List M) : Type 0 where
   pub some : 0 < length items
   pub chain : IsChain begin end weight items
+
+-- two shorter chains, one after the other, are the whole
+pub record AreHalves {M : Type 0} (begin end weight : M → ℕ) (items front back : List M) : Type 0 where
+  pub whole : items ≡ front ++ back
+  pub front_shorter : length front < length items
+  pub back_shorter : length back < length items
+  pub front_chain : IsSomeChain begin end weight front
+  pub back_chain : IsSomeChain begin end weight back
 
 -- the element changes no point, and both its borders are where the other one begins
 pub record IsUnitOf {M P : Type 0} (act : M → P → P) (begin end : M → ℕ) (later unit : M) : Type 0 where

@@ -41,6 +41,14 @@ pub trait Acts: Send + Sync + Drop + Sized {
         requires { IsChain begin end weight (self.now ∷ later.now ∷ []) }
         ensures { IfOk result (IsJoined act begin end (self.now ∷ later.now ∷ [])) };
 
+    /// As `join`, of two elements that are given away. It may use their memory.
+    fn append(self, later: Self) -> Result<Self, AllocError>
+        requires { IsChain begin end weight (self ∷ later ∷ []) }
+        ensures { IfOk result (IsJoined act begin end (self ∷ later ∷ [])) }
+    {
+        self.join(&later)
+    }
+
     /// An element that acts as this one.
     fn dup(&self) -> Result<Self, AllocError>
         ensures { IfOk result (ActsLike act begin end self.now) };

@@ -10,31 +10,35 @@ ghost use Rattle.std.specs.Prelude.{
   length,
   slice_index_or,
 };
-ghost use Rattle.par_scan.specs.Chain.{ActsLike, IsChain, IsJoined};
+ghost use Rattle.par_scan.specs.Chain.{ActsLike, AreHalves, IsChain, IsJoined};
 ghost use Rattle.par_scan.specs.Parts.{AreAfter, EachFits, IsScan, last_and_next};
 
 use crate::acts::Acts;
 use std::alloc::{AllocError, Global};
 
-/// All items joined, pair by pair.
-pub(crate) fn join_all<M: Acts>(items: &[M]) -> Result<M, AllocError>
-    requires some { 0 < length items.now }
-    requires chain { IsChain M.begin M.end M.weight items.now }
-    ensures { IfOk result (IsJoined M.act M.begin M.end items.now) }
+/// All items joined, pair by pair. Each join may use the memory of the two.
+pub(crate) fn join_all<M: Acts>(mut items: Vec<M>) -> Result<M, AllocError>
+    requires some { 0 < length items.items }
+    requires chain { IsChain M.begin M.end M.weight items.items }
+    ensures { IfOk result (IsJoined M.act M.begin M.end items.items) }
 {
-    let (front, back) = items.split_at(items.len() / 2);
     if items.len() == 1 {
-        return back[0].dup();
+        return Ok(items.swap_remove(0));
     }
-    if items.len() == 2 {
-        return front[0].join(&back[0]);
-    }
-    let later = join_all(back)?;
-    if items.len() == 3 {
-        return front[0].join(&later);
-    }
+    let (front, back) = halves(items)?;
     let earlier = join_all(front)?;
-    earlier.join(&later)
+    let later = join_all(back)?;
+    earlier.append(later)
+}
+
+/// The two halves of some items.
+pub(crate) fn halves<M: Acts>(mut items: Vec<M>) -> Result<(Vec<M>, Vec<M>), AllocError>
+    requires some { 1 < length items.items }
+    requires chain { IsChain M.begin M.end M.weight items.items }
+    ensures { IfOk result (λ halves. AreHalves M.begin M.end M.weight items.items halves.0.items halves.1.items) }
+{
+    let back = items.split_off(items.len() / 2)?;
+    Ok((items, back))
 }
 
 /// The item joined to the last of the earlier elements, or an element that acts as it does where there is none.

@@ -6,7 +6,6 @@ ghost use Rattle.std.specs.Prelude.{
   ◌-◌,
   ◌<◌,
   ◌≤◌,
-  ◌++◌,
   [],
   IfOk,
   IfSome,
@@ -21,7 +20,7 @@ ghost use Rattle.par_scan.specs.Parts.{AreOfParts, AreScans, FitsAt, IsAfterAt, 
 
 use crate::acts::Acts;
 use crate::gathering::{all_ok, append_all};
-use crate::joining::{join_all, join_each, join_to_last, last_of, scan_run};
+use crate::joining::{halves, join_all, join_each, join_to_last, last_of, scan_run};
 use std::alloc::{AllocError, Global};
 use std::thread::{self, Threads, map_chunks, map_indices};
 
@@ -65,7 +64,7 @@ pub fn total<R: Threads + Sync, M: Acts>(
     if items.len() < 2 {
         return Ok(items.pop());
     }
-    let joined = join_across(rt, items.as_slice(), parts)?;
+    let joined = join_across(rt, items, parts)?;
     Ok(Some(joined))
 }
 
@@ -73,40 +72,27 @@ pub fn total<R: Threads + Sync, M: Acts>(
 #[cycle(join_across)]
 fn join_across<R: Threads + Sync, M: Acts>(
     rt: &R,
-    items: &[M],
+    items: Vec<M>,
     parts: usize,
 ) -> Result<M, AllocError>
-    requires some { 0 < length items.now }
-    requires chain { IsChain M.begin M.end M.weight items.now }
-    ensures { IfOk result (IsJoined M.act M.begin M.end items.now) }
+    requires some { 0 < length items.items }
+    requires chain { IsChain M.begin M.end M.weight items.items }
+    ensures { IfOk result (IsJoined M.act M.begin M.end items.items) }
 {
     if parts < 2 || items.len() < 4 {
         return join_all(items);
     }
-    let (front, back) = halves(items);
-    let join_front = || -> Result<M, AllocError>
-        requires { IsSync R.row × IsSync M.row × IsSend M.row × IsSomeChain M.begin M.end M.weight front.now }
-        ensures { IfOk result (IsJoined M.act M.begin M.end front.entry.now) }
+    let (front, back) = halves(items)?;
+    let join_front = move || -> Result<M, AllocError>
+        requires { IsSync R.row × IsSync M.row × IsSend M.row × IsSomeChain M.begin M.end M.weight front.items }
+        ensures { IfOk result (IsJoined M.act M.begin M.end front.items) }
     { join_across(rt, front, parts / 2) };
-    let join_back = || -> Result<M, AllocError>
-        requires { IsSync R.row × IsSync M.row × IsSend M.row × IsSomeChain M.begin M.end M.weight back.now }
-        ensures { IfOk result (IsJoined M.act M.begin M.end back.entry.now) }
+    let join_back = move || -> Result<M, AllocError>
+        requires { IsSync R.row × IsSync M.row × IsSend M.row × IsSomeChain M.begin M.end M.weight back.items }
+        ensures { IfOk result (IsJoined M.act M.begin M.end back.items) }
     { join_across(rt, back, parts - parts / 2) };
     let (earlier, later) = thread::join(rt, join_front, join_back);
-    earlier?.join(&later?)
-}
-
-// The two halves of some items.
-fn halves<M: Acts>(items: &[M]) -> (&[M], &[M])
-    requires some { 1 < length items.now }
-    requires chain { IsChain M.begin M.end M.weight items.now }
-    ensures whole { items.now ≡ result.0.now ++ result.1.now }
-    ensures front { length result.0.now < length items.now }
-    ensures back { length result.1.now < length items.now }
-    ensures front_chain { IsSomeChain M.begin M.end M.weight result.0.now }
-    ensures back_chain { IsSomeChain M.begin M.end M.weight result.1.now }
-{
-    items.split_at(items.len() / 2)
+    earlier?.append(later?)
 }
 
 // Each part scanned on its own.

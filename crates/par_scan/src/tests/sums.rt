@@ -79,3 +79,9 @@ fn a_unit_and_a_like_sum(rt: HostRuntime) -> Result<(), Fail> {
     assert!(rt; Sum(u64::MAX - 4).fits(&Sum(4)) && !Sum(u64::MAX - 3).fits(&Sum(4)));
     Ok(())
 }
+
+#[test]
+fn sums_that_are_given_away_are_joined(rt: HostRuntime) -> Result<(), Fail> {
+    assert_eq!(rt; Sum(4).append(Sum(3))?, Sum(7));
+    Ok(())
+}

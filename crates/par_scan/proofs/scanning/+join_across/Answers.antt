@@ -4,20 +4,20 @@ use Rattle.par_scan.specs.Chain.{IsChain, IsJoined}
 use Rattle.par_scan.proofs.Chains.{IsChain-pair, IsJoined-both}
 use Rattle.par_scan.proofs.scanning.+join_across.Goals as goal
 
-pub join-requires : goal.join-requires
-join-requires g t c =
+pub append-requires : goal.append-requires
+append-requires g t c =
     let m = g.M.Acts in
-    let earlier : IsJoined m.act m.begin m.end c.halves.result.0.now c.in_ok-earlier.field-0 = search rules in
-    let later : IsJoined m.act m.begin m.end c.halves.result.1.now c.in_ok-later.field-0 = search rules in
+    let earlier : IsJoined m.act m.begin m.end c.in_ok-front.front.items c.in_ok-earlier.field-0 = search rules in
+    let later : IsJoined m.act m.begin m.end c.in_ok-front.back.items c.in_ok-later.field-0 = search rules in
     IsChain-pair m.act m.begin m.end m.weight m.weighs _ _ _ _
-    (subst (IsChain m.begin m.end m.weight) c.halves.ensures.whole c.requires.chain) earlier later
+    (subst (IsChain m.begin m.end m.weight) c.in_ok-front.ensures.whole c.requires.chain) earlier later
 
 pub returns : goal.returns
 returns g t c =
     let m = g.M.Acts in
-    let earlier : IsJoined m.act m.begin m.end c.halves.result.0.now c.in_ok-earlier.field-0 = search rules in
-    let later : IsJoined m.act m.begin m.end c.halves.result.1.now c.in_ok-later.field-0 = search rules in
+    let earlier : IsJoined m.act m.begin m.end c.in_ok-front.front.items c.in_ok-earlier.field-0 = search rules in
+    let later : IsJoined m.act m.begin m.end c.in_ok-front.back.items c.in_ok-later.field-0 = search rules in
     IfOk-weaker _ _ _
-    (λ x j. subst (λ l. IsJoined m.act m.begin m.end l x) (sym c.halves.ensures.whole)
+    (λ x j. subst (λ l. IsJoined m.act m.begin m.end l x) (sym c.in_ok-front.ensures.whole)
     (IsJoined-both m.act m.begin m.end _ _ _ _ x earlier later j))
-    c.join.ensures
+    c.append.ensures
