@@ -138,17 +138,11 @@ CopiesFrom-act each replace from from_rev mi is = subst (CopiesFrom from from_re
 
 -- ---- all that is kept
 
-moved_by-none : (copies : List Copied) → map (moved_by 0) copies ≡ copies
-moved_by-none [] = refl
-moved_by-none (copied ∷ copies) =
-    let is : copied.index + 0 ≡ copied.index = omega arith in
-    λ i. record { index = is i; to = copied.to; from = copied.from; from_rev = copied.from_rev } ∷ moved_by-none copies i
-
-pub AreKept-same : (records all : List NodeRecord) (revs revs' : List ℕ) (copies copies' : List Copied) → all ≡ records → revs' ≡ revs → copies' ≡ map (moved_by 0) copies → AreKept records revs copies → AreKept all revs' copies'
+pub AreKept-same : (records all : List NodeRecord) (revs revs' : List ℕ) (copies copies' : List Copied) → all ≡ records → revs' ≡ revs → copies' ≡ copies → AreKept records revs copies → AreKept all revs' copies'
 AreKept-same records all revs revs' copies copies' all_is revs_is copies_is kept =
-    subst (λ r. AreKept r revs' copies') (sym all_is) (subst (λ n. AreKept records n copies') (sym revs_is) (subst (AreKept records revs) (sym (copies_is ∙ moved_by-none copies)) kept))
+    subst (λ r. AreKept r revs' copies') (sym all_is) (subst (λ n. AreKept records n copies') (sym revs_is) (subst (AreKept records revs) (sym copies_is) kept))
 
-pub AreKept-join : (records more all : List NodeRecord) (revs others revs' : List ℕ) (copies later copies' : List Copied) → all ≡ records ++ more → revs' ≡ revs ++ others → copies' ≡ map (moved_by 0) copies ++ map (moved_by (length records)) later
+pub AreKept-join : (records more all : List NodeRecord) (revs others revs' : List ℕ) (copies later copies' : List Copied) → all ≡ records ++ more → revs' ≡ revs ++ others → copies' ≡ copies ++ map (moved_by (length records)) later
     → AreKept records revs copies → AreKept more others later → AreKept all revs' copies'
 AreKept-join records more all revs others revs' copies later copies' all_is revs_is copies_is one other =
     let whole : AreKept (records ++ more) (revs ++ others) (copies ++ map (moved_by (length records)) later) = record {
@@ -156,7 +150,7 @@ AreKept-join records more all revs others revs' copies later copies' all_is revs
       of_copies = AreCopies-append records more copies later one.of_copies other.of_copies;
     } in
     subst (λ r. AreKept r revs' copies') (sym all_is) (subst (λ n. AreKept (records ++ more) n copies') (sym revs_is)
-    (subst (AreKept (records ++ more) (revs ++ others)) (sym (copies_is ∙ ap (λ c. c ++ map (moved_by (length records)) later) (moved_by-none copies))) whole))
+    (subst (AreKept (records ++ more) (revs ++ others)) (sym copies_is) whole))
 
 -- ---- what is found
 

@@ -17,12 +17,22 @@ impl Copied {
     ghost use Rattle.path_index.specs.Records.{moved_by};
 
     /// The same copy with a greater index.
-    pub(crate) fn moved(&self, shift: u32) -> Result<Self, AllocError>
-        requires { self.now.index + shift < 2 ^ 32 }
-        ensures { IfOk result (λ copied. copied ≡ moved_by shift self.now) }
+    pub(crate) fn moved(self, shift: u32) -> Self
+        requires { self.index + shift < 2 ^ 32 }
+        ensures { result ≡ moved_by shift self }
+    {
+        Copied {
+            index: self.index + shift,
+            ..self
+        }
+    }
+
+    /// The same copy again.
+    pub(crate) fn dup(&self) -> Result<Self, AllocError>
+        ensures { IfOk result (λ copied. copied ≡ self.now) }
     {
         Ok(Copied {
-            index: self.index + shift,
+            index: self.index,
             to: self.to.dup()?,
             from: self.from.dup()?,
             from_rev: self.from_rev,

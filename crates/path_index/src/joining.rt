@@ -31,11 +31,15 @@ impl Acts for Index {
     }
 
     fn join(&self, later: &Self) -> Result<Self, AllocError> {
+        self.dup()?.append(later.dup()?)
+    }
+
+    fn append(self, later: Self) -> Result<Self, AllocError> {
         let count = self.records.len() as u32;
         Ok(Index {
-            records: self.records.join(&later.records)?,
+            records: self.records.append(later.records)?,
             first: self.first,
-            by_path: self.by_path.join(&later.by_path, count)?,
+            by_path: self.by_path.append(later.by_path, count)?,
         })
     }
 

@@ -51,6 +51,13 @@ impl Nodes {
         })
     }
 
+    /// Gives back the memory that is kept for more nodes.
+    pub(crate) fn shrink_to_fit(&mut self)
+        ensures { self.new ≡ self.old }
+    {
+        self.children.shrink_to_fit();
+    }
+
     /// The node of a component below another node, which is added where it is new. A tree of 4,294,967,295 nodes below
     /// the root takes no other: that is reported as want of memory.
     pub(crate) fn add(&mut self, parent: u32, name: NameId) -> Result<u32, AllocError>
@@ -66,8 +73,8 @@ impl Nodes {
     }
 
     /// Adds the nodes of another tree. Returns the node of each, from the root on.
-    pub(crate) fn add_all(&mut self, later: &Nodes) -> Result<Vec<u32>, AllocError>
-        ensures nodes { IfOk result (λ nodes. AreNodesOf later.now self.new nodes.items) }
+    pub(crate) fn add_all(&mut self, later: Nodes) -> Result<Vec<u32>, AllocError>
+        ensures nodes { IfOk result (λ nodes. AreNodesOf later self.new nodes.items) }
         ensures grown { OnOk result (Extends self.old self.new) }
     {
         let mut nodes = Vec::with_capacity(*self.children.allocator(), later.children.len() + 1)?;
@@ -76,6 +83,7 @@ impl Nodes {
             let node = self.add(nodes[child.parent as usize], child.name)?;
             nodes.push(node)?;
         }
+        self.children.shrink_to_fit();
         Ok(nodes)
     }
 

@@ -1,5 +1,5 @@
 //! Rising lists of numbers, one for each node.
-ghost use Rattle.std.specs.Prelude.{◌≡◌, ℕ, ◌+◌, ◌-◌, ◌^◌, ◌<◌, ◌++◌, [], All, filter, length, map, IfOk, OnOk};
+ghost use Rattle.std.specs.Prelude.{◌≡◌, ◌≢◌, ℕ, ◌+◌, ◌-◌, ◌^◌, ◌<◌, ◌++◌, [], All, filter, length, map, IfOk, OnOk};
 ghost use Rattle.path_index.specs.Numbers.{has_number, newer_of, numbers_of, AddsNumbers, ArePair, FitShifted};
 ghost use Rattle.path_index.specs.Numbers.{HasNumber, HaveSameNumbers, IsMoved, IsNewestBelow, IsFirstNotBelow, IsRising};
 ghost use Rattle.path_index.specs.Numbers.{IsShifted, IsUpTo, IsWith};
@@ -8,6 +8,7 @@ ghost use Rattle.path_index.specs.Operative.{down_from, hit_at};
 use crate::hit::Hit;
 use std::alloc::{AllocError, Global};
 use std::marker::Model;
+use std::mem;
 
 /// The numbers of nodes, each node's in rising order. Nodes past the end of the lists have none.
 #[derive(Drop)]
@@ -75,6 +76,28 @@ fn extend_to(lists: &mut Vec<Vec<u32>>, node: usize) -> Result<(), AllocError>
     Ok(())
 }
 
+/// Takes the list of a node away. An empty one stands in its place.
+fn take_list(lists: &mut Vec<Vec<u32>>, node: usize) -> Vec<u32>
+    ensures taken { result.items ≡ numbers_of lists.old.items node }
+    ensures others { (other : ℕ) → other ≢ node → numbers_of lists.new.items other ≡ numbers_of lists.old.items other }
+{
+    let none = Vec::new(*lists.allocator());
+    if node >= lists.len() {
+        return none;
+    }
+    mem::replace(&mut lists[node], none)
+}
+
+/// Gives back the memory that the lists keep for more numbers.
+fn shrink_all(lists: &mut Vec<Vec<u32>>)
+    ensures { HaveSameNumbers lists.old.items lists.new.items }
+{
+    for list in lists.iter_mut() {
+        list.shrink_to_fit();
+    }
+    lists.shrink_to_fit();
+}
+
 impl Numbers {
     /// No numbers. It takes no memory.
     pub(crate) fn new(alloc: Global) -> Self
@@ -116,6 +139,13 @@ impl Numbers {
         insert_number(&mut self.lists[node as usize], number)
     }
 
+    /// Gives back the memory that is kept for more numbers.
+    pub(crate) fn shrink_to_fit(&mut self)
+        ensures { HaveSameNumbers self.old self.new }
+    {
+        shrink_all(&mut self.lists);
+    }
+
     /// Makes room for so many more numbers of a node.
     fn reserve(&mut self, node: usize, more: usize) -> Result<(), AllocError>
         ensures { HaveSameNumbers self.old self.new }
@@ -139,18 +169,21 @@ impl Numbers {
         Ok(())
     }
 
-    /// Inserts the numbers of other nodes plus a shift, each at the node to which its own is mapped.
+    /// Inserts the numbers of other nodes plus a shift, each at the node to which its own is mapped. Each list of
+    /// numbers is given back as soon as its own are inserted.
     pub(crate) fn insert_all(
         &mut self,
-        later: &Numbers,
+        later: Numbers,
         nodes: &[u32],
         shift: u32,
     ) -> Result<(), AllocError>
-        requires { FitShifted later.now shift }
-        ensures { OnOk result (AddsNumbers (IsMoved later.now nodes.now (length nodes.now) shift) self.old self.new) }
+        requires { FitShifted later shift }
+        ensures { OnOk result (AddsNumbers (IsMoved later nodes.now (length nodes.now) shift) self.old self.new) }
     {
+        let Numbers { mut lists } = later;
         for (from, node) in nodes.iter().enumerate() {
-            self.insert_shifted(*node, later.of(from), shift)?;
+            let list = take_list(&mut lists, from);
+            self.insert_shifted(*node, list.as_slice(), shift)?;
         }
         self.lists.shrink_to_fit();
         Ok(())

@@ -48,13 +48,33 @@ fn push_copy(copies: &mut Vec<Copied>, index: u32, each: &NodeRecord) -> Result<
     Ok(())
 }
 
-/// Appends these copies with greater indices.
-fn push_moved(copies: &mut Vec<Copied>, more: &[Copied], shift: u32) -> Result<(), AllocError>
-    requires { All (λ each. each.index + shift < 2 ^ 32) more.now }
-    ensures { OnOk result (copies.new.items ≡ copies.old.items ++ map (moved_by shift) more.now) }
+/// The same copies again.
+fn dup_all(alloc: Global, copies: &[Copied]) -> Result<Vec<Copied>, AllocError>
+    ensures { IfOk result (λ again. again.items ≡ copies.now) }
 {
+    let mut again = Vec::with_capacity(alloc, copies.len())?;
+    for each in copies {
+        again.push(each.dup()?)?;
+    }
+    Ok(again)
+}
+
+/// Appends these revisions.
+fn append_revs(revs: &mut Vec<u32>, mut more: Vec<u32>) -> Result<(), AllocError>
+    ensures { OnOk result (revs.new.items ≡ revs.old.items ++ more.items) }
+{
+    revs.reserve_exact(more.len())?;
+    revs.append(&mut more)
+}
+
+/// Appends these copies with greater indices.
+fn append_moved(copies: &mut Vec<Copied>, more: Vec<Copied>, shift: u32) -> Result<(), AllocError>
+    requires { All (λ each. each.index + shift < 2 ^ 32) more.items }
+    ensures { OnOk result (copies.new.items ≡ copies.old.items ++ map (moved_by shift) more.items) }
+{
+    copies.reserve_exact(more.len())?;
     for each in more {
-        copies.push(each.moved(shift)?)?;
+        copies.push(each.moved(shift))?;
     }
     Ok(())
 }
@@ -73,41 +93,39 @@ impl Records {
             push_copy(&mut copies, index as u32, each)?;
             all.push(each);
         }
+        copies.shrink_to_fit();
         Ok(Records { revs, copies, all })
     }
 
     /// The same records again.
     pub(crate) fn dup(&self) -> Result<Self, AllocError>
-        requires { length self.now < 2 ^ 32 }
         ensures { IfOk result (λ kept. kept ≡ self.now) }
     {
         let alloc = self.allocator();
-        let revs = Vec::from_slice(alloc, self.revs.as_slice())?;
-        let mut copies = Vec::with_capacity(alloc, self.copies.len())?;
-        push_moved(&mut copies, self.copies.as_slice(), 0)?;
         Ok(Records {
-            revs,
-            copies,
+            revs: Vec::from_slice(alloc, self.revs.as_slice())?,
+            copies: dup_all(alloc, self.copies.as_slice())?,
             all: self.all.dup(),
         })
     }
 
-    /// These records and the later ones.
-    pub(crate) fn join(&self, later: &Records) -> Result<Self, AllocError>
-        requires { length self.now + length later.now < 2 ^ 32 }
-        ensures { IfOk result (λ kept. kept ≡ self.now ++ later.now) }
+    /// These records and the later ones. Those of `self` stay where they are.
+    pub(crate) fn append(self, later: Records) -> Result<Self, AllocError>
+        requires { length self + length later < 2 ^ 32 }
+        ensures { IfOk result (λ kept. kept ≡ self ++ later) }
     {
-        let alloc = self.allocator();
-        let mut revs = Vec::with_capacity(alloc, self.revs.len() + later.revs.len())?;
-        revs.extend_from_slice(self.revs.as_slice())?;
-        revs.extend_from_slice(later.revs.as_slice())?;
-        let mut copies = Vec::with_capacity(alloc, self.copies.len() + later.copies.len())?;
-        push_moved(&mut copies, self.copies.as_slice(), 0)?;
-        push_moved(&mut copies, later.copies.as_slice(), self.revs.len() as u32)?;
+        let Records {
+            mut revs,
+            mut copies,
+            all,
+        } = self;
+        let count = revs.len() as u32;
+        append_revs(&mut revs, later.revs)?;
+        append_moved(&mut copies, later.copies, count)?;
         Ok(Records {
             revs,
             copies,
-            all: self.all.join(&later.all),
+            all: all.join(&later.all),
         })
     }
 

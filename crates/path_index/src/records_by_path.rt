@@ -42,7 +42,18 @@ impl RecordsByPath {
         for (index, each) in records.iter().enumerate() {
             by_path.add(index as u32, each)?;
         }
+        by_path.shrink_to_fit();
         Ok(by_path)
+    }
+
+    /// Gives back the memory that is kept for more records.
+    fn shrink_to_fit(&mut self)
+        ensures { IsOfSameRecords self.old self.new }
+    {
+        self.nodes.shrink_to_fit();
+        self.added.shrink_to_fit();
+        self.copied.shrink_to_fit();
+        self.named.shrink_to_fit();
     }
 
     /// Adds the record of this index.
@@ -90,21 +101,17 @@ impl RecordsByPath {
         })
     }
 
-    /// The records of both, where `count` records are before those of `later`.
-    pub(crate) fn join(&self, later: &RecordsByPath, count: u32) -> Result<Self, AllocError>
-        requires { AreNeighbours self.now later.now count }
-        ensures { IfOk result (IsOfBoth self.now later.now count) }
+    /// The records of both, where `count` records are before those of `later`. Those of `self` stay where they are.
+    pub(crate) fn append(mut self, later: RecordsByPath, count: u32) -> Result<Self, AllocError>
+        requires { AreNeighbours self later count }
+        ensures { IfOk result (IsOfBoth self later count) }
     {
-        let mut joined = self.dup()?;
-        let nodes = joined.nodes.add_all(&later.nodes)?;
-        joined
-            .added
-            .insert_all(&later.added, nodes.as_slice(), count)?;
-        joined
-            .copied
-            .insert_all(&later.copied, nodes.as_slice(), count)?;
-        joined.named.insert_all(&later.named, nodes.as_slice(), 0)?;
-        Ok(joined)
+        let nodes = self.nodes.add_all(later.nodes)?;
+        self.added.insert_all(later.added, nodes.as_slice(), count)?;
+        self.copied
+            .insert_all(later.copied, nodes.as_slice(), count)?;
+        self.named.insert_all(later.named, nodes.as_slice(), 0)?;
+        Ok(self)
     }
 
     /// The index of the newest of the first `count` records that add the path without a copy, or copy to it or to a

@@ -56,5 +56,6 @@ loop-child-preserved c =
 pub returns-clause-nodes : goal.returns-clause-nodes
 returns-clause-nodes c =
     let all = c.as_slice-child-items.result.now in
-    subst (λ later. AreNodesOf later c.loop-child.self c.loop-child.nodes.items) (c.as_slice-child-items.ensures.keys ∙ c.later.view_is)
-    (AreNodesOf-mapped all c.loop-child.self c.loop-child.nodes.items c.loop-child.child-index (omega (arith, c.loop-child-test.false, c.loop-child.auto.child-index-end)) c.loop-child.invariant.mapped)
+    subst (λ children. AreNodesOf c.args.later children c.loop-child.nodes.items) (sym (c.shrink_to_fit.ensures.keys ∙ c.self-2.view_is))
+    (subst (λ later. AreNodesOf later c.loop-child.self c.loop-child.nodes.items) (c.as_slice-child-items.ensures.keys ∙ c.later.view_is)
+    (AreNodesOf-mapped all c.loop-child.self c.loop-child.nodes.items c.loop-child.child-index (omega (arith, c.loop-child-test.false, c.loop-child.auto.child-index-end)) c.loop-child.invariant.mapped))

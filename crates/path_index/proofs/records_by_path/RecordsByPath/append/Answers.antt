@@ -1,25 +1,25 @@
 use Rattle.std.proofs.Common.{sym, subst, length}
 use Rattle.path_index.specs.Numbers.{AddsNumbers, FitShifted, IsMoved}
 use Rattle.path_index.proofs.JoinedRecords.{AreByPath-both, FitShifted-added, FitShifted-copied, FitShifted-named}
-use Rattle.path_index.proofs.records_by_path.RecordsByPath.join.Goals as goal
+use Rattle.path_index.proofs.records_by_path.RecordsByPath.append.Goals as goal
 
 pub insert_all-requires : goal.insert_all-requires
 insert_all-requires c =
-    subst (FitShifted c.args.later.now.added) c.requires.is (FitShifted-added c.requires.records c.requires.more c.requires.few c.args.self.now c.args.later.now c.requires.first c.requires.second)
+    subst (FitShifted c.args.later.added) c.requires.is (FitShifted-added c.requires.records c.requires.more c.requires.few c.args.self c.args.later c.requires.first c.requires.second)
 
 pub insert_all-requires-2 : goal.insert_all-requires-2
 insert_all-requires-2 c =
-    subst (FitShifted c.args.later.now.copied) c.requires.is (FitShifted-copied c.requires.records c.requires.more c.requires.few c.args.self.now c.args.later.now c.requires.first c.requires.second)
+    subst (FitShifted c.args.later.copied) c.requires.is (FitShifted-copied c.requires.records c.requires.more c.requires.few c.args.self c.args.later c.requires.first c.requires.second)
 
 pub insert_all-requires-3 : goal.insert_all-requires-3
-insert_all-requires-3 c = FitShifted-named c.requires.records c.requires.more c.requires.few c.args.self.now c.args.later.now c.requires.first c.requires.second
+insert_all-requires-3 c = FitShifted-named c.requires.records c.requires.more c.requires.few c.args.self c.args.later c.requires.first c.requires.second
 
 pub returns : goal.returns
 returns c = λ records more is few one other.
-    let copy = c.in_ok-joined.joined in
-    let later = c.args.later.now in
+    let copy = c.args.self in
+    let later = c.args.later in
     let nodes = c.in_ok-nodes.nodes.items in
-    AreByPath-both records more few copy later (c.in_ok-joined.ensures records one) other
+    AreByPath-both records more few copy later one other
     (record { nodes = c.add_all.new.self; added = c.insert_all.new.self; copied = c.insert_all-2.new.self; named = c.insert_all-3.new.self })
     nodes c.in_ok-nodes.ensures.grown c.in_ok-nodes.ensures.nodes
     (subst (λ count. AddsNumbers (IsMoved later.added nodes (length nodes) count) copy.added c.insert_all.new.self) (sym is)
