@@ -170,6 +170,13 @@ impl Path {
         if has_dot(bytes) {
             return Err(PathError::Dot);
         }
+        Ok(Path::look_up(alloc, names, bytes)?)
+    }
+
+    /// The same where `.` and `..` are components like any other. No table has them, so such a path is unknown.
+    pub fn look_up(alloc: Global, names: &Names, bytes: &[u8]) -> Result<Lookup, AllocError>
+        ensures { IfOk result (IsLookup names.now (parts_of bytes.now)) }
+    {
         let mut parts = Vec::new(alloc);
         let mut rest = bytes;
         while let Some((part, more)) = next_part(rest) {

@@ -1,7 +1,7 @@
 use Rattle.std.proofs.Common.{sym, subst}
 use Rattle.svn_path.specs.Components.{parts_of}
 use Rattle.svn_path.proofs.Reading.{IsRead, IsRead-more}
-use Rattle.svn_path.proofs.path.Path.find.Goals as goal
+use Rattle.svn_path.proofs.path.Path.look_up.Goals as goal
 
 pub loop-part-preserved : goal.loop-part-preserved
 loop-part-preserved c =
