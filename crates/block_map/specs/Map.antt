@@ -1,5 +1,5 @@
 -- What a map shows, and when it is a map of some records.
-use Rattle.std.specs.Prelude.{◌≡◌, ℕ, ◌+◌, ◌*◌, ◌<◌, ◌≤◌, List, Option, None, Some, length, map, take}
+use Rattle.std.specs.Prelude.{◌≡◌, ℕ, ◌+◌, ◌*◌, ◌<◌, ◌≤◌, List, Option, None, Some, length, map, option_and_then, option_map, take}
 use Rattle.svn_path.specs.Path.{same_name}
 use Rattle.svn_path.specs.declared.names.NameId.{NameId}
 use Rattle.svn_dump.specs.Dump.{DumpValue, IsDump, history_view, record_view}
@@ -12,7 +12,8 @@ use Rattle.block_map.specs.Ends.{end_of, ends_of, record_at_tick}
 use Rattle.block_map.specs.FaultFound.{Standings}
 use Rattle.block_map.specs.Look as look
 use Rattle.block_map.specs.Look.{Look, at, at_with, is, absent, resolved, look}
-use Rattle.block_map.specs.Standing.{standing_of}
+use Rattle.block_map.specs.Standing.{Standing, entry_view, standing_of}
+use Rattle.block_map.specs.declared.entry.Entry.{Entry}
 use Rattle.block_map.specs.declared.found.Found.{Found}
 use Rattle.block_map.specs.declared.found.Found.TheVariants as found
 use Rattle.block_map.specs.declared.nearest.Nearest.{Nearest}
@@ -81,6 +82,12 @@ HasNoneFrom own path depth = (more : ℕ) → depth ≤ more → more ≤ length
 abbrev pub IsNearestOrNone : (List NameId → Option ValueId) → List NameId → Option Nearest → Type 0
 IsNearestOrNone own path None = HasNoneFrom own path 0
 IsNearestOrNone own path (Some nearest) = IsNearest own path nearest × HasNoneFrom own path (nearest.depth + 1)
+
+-- what stands at the path, and the nearest mergeinfo of it, given what stands at each path
+abbrev pub AreEntryAndNearest : (List NameId → Option (Standing ValueId)) → List NameId → Option Entry × Option Nearest → Type 0
+AreEntryAndNearest standing path found =
+    (option_map entry_view found.0 ≡ standing path)
+    × IsNearestOrNone (λ above. option_and_then (λ each. each.mergeinfo) (standing above)) path found.1
 
 -- ---- in a map of records of a dump
 

@@ -6,7 +6,7 @@ use Rattle.svn_path.specs.declared.names.NameId.{NameId}
 use Rattle.svn_dump.specs.declared.record.ValueId.{ValueId}
 use Rattle.block_map.specs.Look.{Found, Look, at, is, absent, with_mergeinfo}
 use Rattle.block_map.specs.Parts.{Extends, AreOrdered, HaveNodesBelow, child_in}
-use Rattle.block_map.specs.Standing.{mergeinfo_of}
+use Rattle.block_map.specs.Standing.{Standing, standing_of}
 use Rattle.block_map.specs.declared.node.Here.{Here}
 use Rattle.block_map.specs.declared.node.Here.TheVariants as here
 use Rattle.block_map.specs.declared.node.Node.{Node}
@@ -85,9 +85,9 @@ found_below trie from path = found_at trie (at_path trie from path)
 abbrev pub at_root : Node → At
 at_root node = record { node = Some node; outside = nothing }
 
--- the mergeinfo that is found at a path below a root
-abbrev pub mergeinfo_below : TrieValue → Node → List NameId → Option ValueId
-mergeinfo_below trie root path = mergeinfo_of (found_below trie (at_root root) path)
+-- what stands at a path below a root, as far as it is known
+abbrev pub standing_below : TrieValue → Node → List NameId → Option (Standing ValueId)
+standing_below trie root path = standing_of (found_below trie (at_root root) path)
 
 -- ---- sound tries
 

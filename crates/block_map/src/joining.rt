@@ -8,9 +8,12 @@ use par_scan::Acts;
 use std::alloc::AllocError;
 use std::sync::Arc;
 
-/// Maps share the blocks that they are joined of. Sharing one whose count of owners is full is want of memory.
+/// Maps share the blocks that they are joined of. Sharing one whose count of owners is full is want of memory. A joined
+/// map has the records of both, so it says of each path what they say together.
 impl Acts for Map {
     ghost use Rattle.par_scan.specs.Weightless.{no_weight};
+    ghost use Rattle.std.specs.Prelude.{◌≡◌, ◌++◌, ◌∷◌, [], IfOk};
+    ghost use Rattle.par_scan.specs.Chain.{IsChain, IsJoined};
     ghost use Rattle.block_map.specs.Joining.{MapPoint, act_on_point, tick_before};
     ghost use Rattle.block_map.specs.Map.{hi_of};
 
@@ -37,7 +40,11 @@ impl Acts for Map {
         })
     }
 
-    fn join(&self, later: &Self) -> Result<Self, AllocError> {
+    fn join(&self, later: &Self) -> Result<Self, AllocError>
+        requires { IsChain tick_before hi_of (λ _. 0) (self.now ∷ later.now ∷ []) }
+        ensures joined { IfOk result (IsJoined act_on_point tick_before hi_of (self.now ∷ later.now ∷ [])) }
+        ensures records { IfOk result (λ joined. joined.records ≡ self.now.records ++ later.now.records) }
+    {
         let mut blocks = Vec::new(*self.blocks.allocator());
         share(&mut blocks, self.blocks.as_slice())?;
         share(&mut blocks, later.blocks.as_slice())?;

@@ -8,7 +8,7 @@ ghost use Rattle.block_map.specs.Blocks.{AreBlocksBefore, AreBlocksFrom, nodes_o
 ghost use Rattle.block_map.specs.Ends.{HaveSources, ends_of};
 ghost use Rattle.block_map.specs.Look.{IsFoundAtOrBefore, resolved};
 ghost use Rattle.block_map.specs.LookThrough.{IsFoundUpTo, look_through as looked_through};
-ghost use Rattle.block_map.specs.Map.{IsEndIn, IsMapOfFirstRecords, IsNearestOrNone, found_view, hi_of, look_in, most_nodes, records_at_ticks, revision_in, state_in};
+ghost use Rattle.block_map.specs.Map.{AreEntryAndNearest, IsEndIn, IsMapOfFirstRecords, IsNearestOrNone, found_view, hi_of, look_in, most_nodes, records_at_ticks, revision_in, state_in};
 ghost use Rattle.block_map.specs.Standing.{entry_view, mergeinfo_of, own_mergeinfo_at, standing_at, standing_of};
 ghost use Rattle.block_map.specs.Trees.{AreMapTrees};
 
@@ -164,18 +164,41 @@ impl Map {
         ensures of_revision { (dump : _) (rev : _) → IsMapOfFirstRecords dump self.now → IsEndIn dump rev tick
             → IfOk result (IsNearestOrNone (own_mergeinfo_at same_name (revision_in dump rev)) path.now) }
     {
-        self.nearest_to(tick, path.parts())
+        let (_, nearest) = self.standing_and_nearest(tick, path.parts())?;
+        Ok(nearest)
     }
 
-    /// The nearest mergeinfo of a path of these components.
-    fn nearest_to(&self, tick: u32, path: &[NameId]) -> Result<Option<Nearest>, AllocError>
+    /// What `entry` and `nearest` find. Where one block has all records up to the tick, that is one way from the root.
+    pub fn entry_and_nearest(
+        &self,
+        tick: u32,
+        path: &Path,
+    ) -> Result<(Option<Entry>, Option<Nearest>), AllocError>
         requires begins { self.now.lo ≡ 0 }
         requires within { tick ≤ hi_of self.now }
-        ensures { IfOk result (IsNearestOrNone (λ above. mergeinfo_of (look_in self.now tick above)) path.now) }
+        ensures found { IfOk result
+            (AreEntryAndNearest (λ above. standing_of (look_in self.now tick above)) path.now) }
+
+        // In a map of the first records of a dump, at the end of a revision, it is that of the tree of the revision.
+        ensures of_revision { (dump : _) (rev : _) → IsMapOfFirstRecords dump self.now → IsEndIn dump rev tick
+            → IfOk result (AreEntryAndNearest (standing_at same_name (revision_in dump rev)) path.now) }
+    {
+        self.standing_and_nearest(tick, path.parts())
+    }
+
+    /// The same of a path of these components.
+    fn standing_and_nearest(
+        &self,
+        tick: u32,
+        path: &[NameId],
+    ) -> Result<(Option<Entry>, Option<Nearest>), AllocError>
+        requires begins { self.now.lo ≡ 0 }
+        requires within { tick ≤ hi_of self.now }
+        ensures { IfOk result (AreEntryAndNearest (λ above. standing_of (look_in self.now tick above)) path.now) }
     {
         match blocks_before(self.blocks.as_slice(), tick) {
-            [only] => Ok(only.nearest(tick, path)),
-            _ => self.nearest_above(tick, path),
+            [only] => Ok(only.entry_and_nearest(tick, path)),
+            _ => Ok((self.standing(tick, path)?, self.nearest_above(tick, path)?)),
         }
     }
 

@@ -8,11 +8,12 @@ ghost use Rattle.block_map.specs.Trees.{AreTrees, IsNodeAfter, IsRootAfter, IsRo
 ghost use Rattle.block_map.specs.Look.{resolved};
 ghost use Rattle.block_map.specs.LookThrough.{IsFoundUpTo};
 ghost use Rattle.block_map.specs.Ends.{HasSourceBefore, record_at_tick};
-ghost use Rattle.block_map.specs.Map.{IsNearestOrNone, found_view};
-ghost use Rattle.block_map.specs.Standing.{mergeinfo_of};
+ghost use Rattle.block_map.specs.Map.{AreEntryAndNearest, found_view};
+ghost use Rattle.block_map.specs.Standing.{standing_of};
 ghost use Rattle.block_map.specs.Trie.{IsNodeOf, IsSound};
 
 use crate::ends::Ends;
+use crate::entry::Entry;
 use crate::found::Found;
 use crate::ghost_records::GhostRecords;
 use crate::nearest::Nearest;
@@ -240,14 +241,18 @@ impl Trees {
         }
     }
 
-    /// The nearest mergeinfo of a path at a tick after `start` that is known to these records.
-    pub(crate) fn nearest(&self, tick: u32, path: &[NameId]) -> Option<Nearest>
+    /// What stands at a path at a tick after `start`, and its nearest mergeinfo, as far as these records say it.
+    pub(crate) fn entry_and_nearest(
+        &self,
+        tick: u32,
+        path: &[NameId],
+    ) -> (Option<Entry>, Option<Nearest>)
         requires trees { AreTrees self.now }
         requires after { self.now.start < tick }
         requires within { tick ≤ end_of_trees self.now }
-        ensures { IsNearestOrNone (λ above. mergeinfo_of (look_in_trees self.now tick above)) path.now result }
+        ensures { AreEntryAndNearest (λ above. standing_of (look_in_trees self.now tick above)) path.now result }
     {
-        self.trie.nearest(self.root(tick), path)
+        self.trie.entry_and_nearest(self.root(tick), path)
     }
 }
 

@@ -1,9 +1,9 @@
 //! The nodes of a map, which trees share.
 ghost use Rattle.std.specs.Prelude.{◌≡◌, ◌+◌, ◌<◌, ◌++◌, ◌∷◌, [], Some, IfOk, IfSome, OnOk, length, option_map, slice_get};
 ghost use Rattle.block_map.specs.Look.{with_mergeinfo as changed};
-ghost use Rattle.block_map.specs.Map.{IsNearestOrNone, found_view, nearest_view};
+ghost use Rattle.block_map.specs.Map.{AreEntryAndNearest, found_view, nearest_view};
 ghost use Rattle.block_map.specs.Standing.{entry_view, mergeinfo_of, standing_of};
-ghost use Rattle.block_map.specs.Trie.{HasLocation, IsAroundOf, IsRegionAround, IsCopiedNode, ExtendsTrie, IsNodeOf, IsLocationAround, IsPositionOf, IsSound, PutsNode, around_inside, as_at, child_at, child_of, found_at, mergeinfo_below, position_view};
+ghost use Rattle.block_map.specs.Trie.{HasLocation, IsAroundOf, IsRegionAround, IsCopiedNode, ExtendsTrie, IsNodeOf, IsLocationAround, IsPositionOf, IsSound, PutsNode, around_inside, as_at, child_at, child_of, found_at, position_view, standing_below};
 
 use crate::entry::Entry;
 use crate::found::Found;
@@ -262,10 +262,15 @@ impl Trie {
         }
     }
 
-    /// The mergeinfo of the path below a root, or of the nearest path above it that is known to have some.
-    pub(crate) fn nearest(&self, root: Node, path: &[NameId]) -> Option<Nearest>
+    /// What is known to stand at a path below a root, and the mergeinfo of the path, or of the nearest path above it that
+    /// is known to have some.
+    pub(crate) fn entry_and_nearest(
+        &self,
+        root: Node,
+        path: &[NameId],
+    ) -> (Option<Entry>, Option<Nearest>)
         requires { IsNodeOf self.now root }
-        ensures { IsNearestOrNone (mergeinfo_below self.now root) path.now result }
+        ensures { AreEntryAndNearest (standing_below self.now root) path.now result }
     {
         let mut position = Position {
             node: Some(root),
@@ -276,7 +281,7 @@ impl Trie {
             position = self.step(position, *name, depth);
             nearest = self.mergeinfo(position, depth + 1).or(nearest);
         }
-        nearest
+        (self.entry(position), nearest)
     }
 
     /// The mergeinfo at a position of so many components, if it is known that there is some.

@@ -19,8 +19,18 @@ invariant_of-result c =
     let meet : end_of_blocks lo earlier ≡ c.later.inside.lo = ap hi_of c.self.view_is ∙ c.requires.meet.0 ∙ ap (λ map. map.lo) (sym c.later.view_is) in
     subst (AreBlocksFrom lo) (sym shared) (AreBlocksFrom-append lo earlier later c.self.invariant (subst (λ at. AreBlocksFrom at later) (sym meet) c.later.invariant))
 
-pub returns : goal.returns
-returns c =
+pub returns-clause-records : goal.returns-clause-records
+returns-clause-records c =
+    let earlier = trees_of c.self.inside.blocks.items in
+    let later = trees_of c.later.inside.blocks.items in
+    let shared : trees_of c.share-2.new.shared.items ≡ earlier ++ later =
+    c.in_ok-share-2.ensures
+    ∙ ap (λ front. front ++ trees_of c.as_slice-2.result.now) (c.in_ok-share.ensures ∙ ap (λ items. trees_of items ++ trees_of c.as_slice.result.now) c.new-blocks.ensures.items ∙ ap trees_of c.as_slice.ensures.value)
+    ∙ ap (λ items. earlier ++ trees_of items) c.as_slice-2.ensures.value in
+    ap records_of shared ∙ records_of-append earlier later ∙ (λ i. (c.self.view_is i).records ++ (c.later.view_is i).records)
+
+pub returns-clause-joined : goal.returns-clause-joined
+returns-clause-joined c =
     let earlier = trees_of c.self.inside.blocks.items in
     let later = trees_of c.later.inside.blocks.items in
     let shared : trees_of c.share-2.new.shared.items ≡ earlier ++ later =

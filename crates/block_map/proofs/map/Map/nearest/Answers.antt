@@ -1,6 +1,5 @@
 use Rattle.std.proofs.Common.{ap, subst}
 use Rattle.std.specs.Option.{option_and_then}
-use Rattle.std.proofs.lemmas.Result.{IfOk-weaker}
 use Rattle.svn_path.specs.Path.{same_name}
 use Rattle.block_map.specs.Map.{IsNearestOrNone, look_in, revision_in}
 use Rattle.block_map.specs.Standing.{mergeinfo_of, own_mergeinfo_at}
@@ -11,10 +10,7 @@ pub returns-clause-of_revision : goal.returns-clause-of_revision
 returns-clause-of_revision c = λ dump rev map_is end_is.
     let map = c.args.self.now in
     let tick = c.args.tick in
-    IfOk-weaker c.nearest_to.result (IsNearestOrNone (λ above. mergeinfo_of (look_in map tick above)) c.parts.result.now)
-    (IsNearestOrNone (own_mergeinfo_at same_name (revision_in dump rev)) c.args.path.now)
-    (λ nearest is.
+    let nearest = c.in_ok-nearest.nearest in
     subst (λ own. IsNearestOrNone own c.args.path.now nearest)
     (λ i path. ap (option_and_then (λ standing. standing.mergeinfo)) (standing-at_end dump rev map tick map_is end_is c.requires.within path) i)
-    (subst (λ path. IsNearestOrNone (λ above. mergeinfo_of (look_in map tick above)) path nearest) c.parts.ensures is))
-    c.nearest_to.ensures
+    (subst (λ path. IsNearestOrNone (λ above. mergeinfo_of (look_in map tick above)) path nearest) c.parts.ensures c.in_ok-nearest.ensures.1)

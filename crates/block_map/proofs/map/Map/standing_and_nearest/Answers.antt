@@ -5,11 +5,11 @@ use Rattle.std.specs.Global.{Global}
 use Rattle.svn_path.specs.Path.{same_name}
 use Rattle.block_map.specs.Blocks.{AreBlocksBefore, AreBlocksFrom, records_of, trees_of}
 use Rattle.block_map.specs.Look.{look, resolved}
-use Rattle.block_map.specs.Map.{IsNearestOrNone, hi_of, look_in}
-use Rattle.block_map.specs.Standing.{mergeinfo_of}
+use Rattle.block_map.specs.Map.{AreEntryAndNearest, hi_of, look_in}
+use Rattle.block_map.specs.Standing.{standing_of}
 use Rattle.block_map.specs.declared.trees.Trees.{Trees}
 use Rattle.block_map.proofs.BlocksOfMaps.{end_of_blocks, look-only}
-use Rattle.block_map.proofs.map.Map.nearest_to.Goals as goal
+use Rattle.block_map.proofs.map.Map.standing_and_nearest.Goals as goal
 
 -- a list of one element
 only-element : (blocks : List (Arc Trees Global)) (d : Arc Trees Global) → 1 ≤ length blocks → length blocks < 2 → blocks ≡ get_or blocks 0 d ∷ []
@@ -31,8 +31,8 @@ returns-in-len1 c =
     ap trees_of (only-element blocks c.only-item.result c.in-len1.len_at_least c.in-len1.len_below)
     ∙ ap (λ each. arc_value each ∷ []) (sym c.only-item.is) ∙ ap (λ each. each ∷ []) (sym c.deref.ensures) in
     let before = subst (AreBlocksBefore tick all) one c.blocks_before.ensures in
-    subst (λ own. IsNearestOrNone own c.args.path.now c.nearest.result)
-    (λ i above. mergeinfo_of ((look-only lo tick above all only are before within
+    subst (λ standing. AreEntryAndNearest standing c.args.path.now c.entry_and_nearest.result)
+    (λ i above. standing_of ((look-only lo tick above all only are before within
     ∙ ap (λ items. resolved lo (look same_name lo (records_of (trees_of items)) tick above)) c.as_slice.ensures.value
     ∙ ap (λ map. look_in map tick above) c.self.view_is) i))
-    c.nearest.ensures
+    c.entry_and_nearest.ensures
