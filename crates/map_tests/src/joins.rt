@@ -2,13 +2,15 @@
 ghost use Rattle.std.specs.Prelude.{◌≡◌};
 ghost use Rattle.block_map.specs.Ends.{ends_of};
 
-use crate::maps::{Part, look, map_of_part};
+use crate::maps::{COPIES, Part, finds, look, map_of, map_of_part};
+use crate::totals::total_of;
 use block_map::{Ends, Entry, Found, Map};
 use par_scan::Acts;
 use sample_dumps::{NESTED, copies_of_the_root, revision_ends};
 use std::alloc::Global;
 use std::test::Fail;
-use svn_dump::{Dump, read};
+use std::thread::Threads;
+use svn_dump::{Dump, Kind, read};
 use svn_text::push_number;
 
 // Two maps as one, if they meet.
@@ -168,9 +170,34 @@ fn finds_copies(alloc: Global, dump: &Dump, map: &Map, count: u32) -> Result<boo
     Ok(entry?.is_some())
 }
 
+// The map of each record.
+fn single_maps(alloc: Global, dump: &Dump, ends: &Ends) -> Result<Vec<Map>, Fail>
+    requires { ends.now ≡ ends_of dump.now.counts }
+{
+    let mut maps = Vec::new(alloc);
+    for start in 0..dump.records().len() {
+        let end = start.saturating_add(1);
+        maps.push(map_of_part(alloc, dump, ends, Part { start, end })?)?;
+    }
+    Ok(maps)
+}
+
+// All of these as one.
+fn total_map<R: Threads + Sync>(rt: &R, alloc: Global, dump: &Dump) -> Result<Map, Fail> {
+    let ends = revision_ends(alloc, dump)?;
+    let maps = single_maps(alloc, dump, &ends);
+    drop(ends);
+    total_of(rt, alloc, maps?)
+}
+
 // How many nodes the map of so many copies of the root keeps that is joined of a map for each, and whether it finds them.
-fn joined_copies(alloc: Global, dump: &Dump, count: u32) -> Result<(u64, bool), Fail> {
-    let map = joined_map(alloc, dump, 1)?;
+fn joined_copies<R: Threads + Sync>(
+    rt: &R,
+    alloc: Global,
+    dump: &Dump,
+    count: u32,
+) -> Result<(u64, bool), Fail> {
+    let map = total_map(rt, alloc, dump)?;
     let found = finds_copies(alloc, dump, &map, count);
     let nodes = map.nodes();
     drop(map);
@@ -178,12 +205,16 @@ fn joined_copies(alloc: Global, dump: &Dump, count: u32) -> Result<(u64, bool), 
 }
 
 // The same for the dump of so many copies.
-fn copies_of_dump(alloc: Global, count: u32) -> Result<(u64, bool), Fail> {
+fn copies_of_dump<R: Threads + Sync>(
+    rt: &R,
+    alloc: Global,
+    count: u32,
+) -> Result<(u64, bool), Fail> {
     let text = copies_of_the_root(alloc, count)?;
     let dump = read(alloc, text.as_slice());
     drop(text);
     let dump = dump?;
-    let found = joined_copies(alloc, &dump, count);
+    let found = joined_copies(rt, alloc, &dump, count);
     drop(dump);
     found
 }
@@ -191,8 +222,78 @@ fn copies_of_dump(alloc: Global, count: u32) -> Result<(u64, bool), Fail> {
 #[test]
 fn maps_of_many_single_records_share_their_nodes(rt: HostRuntime) -> Result<(), Fail> {
     for (count, most) in [(40, 120), (1100, 3300)] {
-        let (nodes, is_found) = copies_of_dump(rt.alloc(), count)?;
+        let (nodes, is_found) = copies_of_dump(&rt, rt.alloc(), count)?;
         assert!(rt; nodes <= most && is_found, "{count}: {nodes}");
     }
+    Ok(())
+}
+
+// The copy of a map after its unit, whose ticks and number of nodes come beside it.
+fn copy_after_unit(map: &Map) -> Result<(Map, (u32, u32, u64)), Fail> {
+    let unit = map.unit()?;
+    let copy = map.dup()?;
+    let extent = (unit.lo(), unit.hi(), unit.nodes());
+    let both = joined(&unit, &copy);
+    drop(unit);
+    drop(copy);
+    Ok((both?, extent))
+}
+
+// Whether the map of the last two records of `NESTED` finds `p/q/s` before them at `n/q/s`.
+fn finds_source(alloc: Global, dump: &Dump, map: &Map) -> Result<bool, Fail> {
+    let found = look(alloc, dump, map, 7, b"/n/q/s")?;
+    let is_found = finds(&found, alloc, dump, b"/p/q/s", 5, None);
+    drop(found);
+    is_found
+}
+
+// Whether its copy after its unit does so, and the ticks and nodes of the unit.
+fn copy_finds_source(alloc: Global, dump: &Dump) -> Result<(bool, (u32, u32, u64)), Fail> {
+    let map = map_of(alloc, dump, COPIES)?;
+    let copied = copy_after_unit(&map);
+    drop(map);
+    let (both, extent) = copied?;
+    let found = finds_source(alloc, dump, &both);
+    drop(both);
+    Ok((found?, extent))
+}
+
+#[test]
+fn a_unit_has_no_nodes_and_changes_nothing(rt: HostRuntime) -> Result<(), Fail> {
+    let dump = read(rt.alloc(), NESTED)?;
+    let found = copy_finds_source(rt.alloc(), &dump);
+    drop(dump);
+    assert_eq!(rt; found?, (true, (5, 5, 0)));
+    Ok(())
+}
+
+// What stands at some paths after all records of `NESTED`.
+fn nested_standings(alloc: Global, dump: &Dump, map: &Map) -> Result<[Option<Entry>; 3], Fail> {
+    Ok([
+        standing(alloc, dump, map, 7, b"/n/q/s")?,
+        standing(alloc, dump, map, 7, b"/n/q")?,
+        standing(alloc, dump, map, 7, b"/m/q/s")?,
+    ])
+}
+
+// The same in the map that is joined of a map for each record.
+fn total_standings<R: Threads + Sync>(
+    rt: &R,
+    alloc: Global,
+    dump: &Dump,
+) -> Result<[Option<Entry>; 3], Fail> {
+    let map = total_map(rt, alloc, dump)?;
+    let standings = nested_standings(alloc, dump, &map);
+    drop(map);
+    standings
+}
+
+#[test]
+fn copies_of_an_earlier_map_are_those_of_their_own_record(rt: HostRuntime) -> Result<(), Fail> {
+    let dump = read(rt.alloc(), NESTED)?;
+    let found = total_standings(&rt, rt.alloc(), &dump);
+    drop(dump);
+    let [file, dir] = [Kind::File, Kind::Dir].map(|kind| Some(Entry { kind, mi: None }));
+    assert!(rt; found? == [file, dir, None]);
     Ok(())
 }

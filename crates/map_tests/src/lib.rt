@@ -8,3 +8,5 @@
 mod joins;
 #[cfg(test)]
 mod maps;
+#[cfg(test)]
+mod totals;

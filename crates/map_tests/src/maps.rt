@@ -19,7 +19,7 @@ pub(crate) struct Part {
 }
 
 // The records 6 and 7 of `NESTED`, which copy `p` of two revisions, and those before them.
-const COPIES: Part = Part { start: 5, end: 7 };
+pub(crate) const COPIES: Part = Part { start: 5, end: 7 };
 
 const BEFORE_COPIES: Part = Part { start: 0, end: 5 };
 
@@ -46,7 +46,7 @@ fn whole_map(alloc: Global, dump: &Dump, ends: &Ends) -> Result<Map, AllocError>
     Map::build(alloc, dump.records(), 0, ends)
 }
 
-fn map_of(alloc: Global, dump: &Dump, part: Part) -> Result<Map, Fail> {
+pub(crate) fn map_of(alloc: Global, dump: &Dump, part: Part) -> Result<Map, Fail> {
     let ends = revision_ends(alloc, dump)?;
     let map = map_of_part(alloc, dump, &ends, part);
     drop(ends);
@@ -103,7 +103,7 @@ fn is_at(found: &Found, wanted: &Path, at: u32, mergeinfo: Option<ValueId>) -> b
 }
 
 // Whether a map says of a path that it has what stood at another one after so many records.
-fn finds(
+pub(crate) fn finds(
     found: &Found,
     alloc: Global,
     dump: &Dump,

@@ -29,34 +29,41 @@ fn fault_of<R: Threads + Wait + Sync>(
     }
 }
 
-#[test]
-fn the_first_faulty_record_is_named(rt: HostRuntime) {
-    for (dump, number, kind) in [
-        (NO_PARENT, 2, FaultKind::NoParent),
-        (EXISTS, 2, FaultKind::Exists),
-        (MISSING, 1, FaultKind::Missing),
-        (NO_SOURCE, 1, FaultKind::NoSource),
-        (NO_PARENT_OF_COPY, 1, FaultKind::NoParent),
-        (REPLACES_NOTHING, 1, FaultKind::Missing),
-        (REPLACED_BY_NOTHING, 2, FaultKind::NoSource),
-    ] {
-        assert_eq!(rt;
-            fault_of(&rt, rt.alloc(), dump, &[], 1),
-            Some(Fault { number, kind })
-        );
+// Dumps with a faulty record, its number and its first fault.
+const FAULTY: [(&[u8], u32, FaultKind); 7] = [
+    (NO_PARENT, 2, FaultKind::NoParent),
+    (EXISTS, 2, FaultKind::Exists),
+    (MISSING, 1, FaultKind::Missing),
+    (NO_SOURCE, 1, FaultKind::NoSource),
+    (NO_PARENT_OF_COPY, 1, FaultKind::NoParent),
+    (REPLACES_NOTHING, 1, FaultKind::Missing),
+    (REPLACED_BY_NOTHING, 2, FaultKind::NoSource),
+];
+
+// Whether each dump is refused for its first faulty record.
+fn all_are_named<R: Threads + Wait + Sync>(
+    rt: &R,
+    alloc: Global,
+    cuts: &[u32],
+    workers: usize,
+) -> bool
+    requires cuts { All (λ length. 0 < length) cuts.now }
+    requires some_worker { 0 < workers }
+    requires few_workers { workers ≤ most_workers }
+{
+    for (dump, number, kind) in FAULTY {
+        if fault_of(rt, alloc, dump, cuts, workers) != Some(Fault { number, kind }) {
+            return false;
+        }
     }
+    true
 }
 
-// This cannot fail yet: nothing that finds the faulty record uses the cuts and the workers.
 #[test]
-fn every_cutting_names_the_same_record(rt: HostRuntime) {
-    let wanted = Some(Fault {
-        number: 2,
-        kind: FaultKind::NoParent,
-    });
-    for workers in [1, 2, 8] {
-        for cuts in [[].as_slice(), &[1]] {
-            assert_eq!(rt; fault_of(&rt, rt.alloc(), NO_PARENT, cuts, workers), wanted);
+fn every_cutting_names_the_first_faulty_record(rt: HostRuntime) {
+    for workers in [1, 2, 3, 8, 64] {
+        for cuts in [[].as_slice(), &[1], &[2, 1], &[3]] {
+            assert!(rt; all_are_named(&rt, rt.alloc(), cuts, workers), "{workers}");
         }
     }
 }

@@ -224,7 +224,7 @@ fn reports<R: Threads + Wait + Sync>(
     wanted: &[u8],
 ) -> Result<bool, RunError> {
     for cuts in [[].as_slice(), &[1], &[2, 1], &[3]] {
-        for workers in [1, 3] {
+        for workers in [1, 3, 64] {
             let found = report(rt, alloc, dump, queries, cuts, workers, &NoGate)?;
             if found.as_slice() != wanted {
                 return Ok(false);

@@ -25,7 +25,7 @@ fn ten_times(alloc: Global) -> Result<Vec<u8>, AllocError> {
     Ok(all)
 }
 
-// Whether so many workers give this report, with a block for each revision.
+// Whether so many workers give this report, however the history is cut into blocks.
 fn is_report_of_workers<R: Threads + Wait + Sync>(
     rt: &R,
     alloc: Global,
@@ -36,8 +36,13 @@ fn is_report_of_workers<R: Threads + Wait + Sync>(
     requires some_worker { 0 < workers }
     requires few_workers { workers ≤ most_workers }
 {
-    let found = report(rt, alloc, MERGED, queries, &[1], workers, &NoGate)?;
-    Ok(found.as_slice() == wanted)
+    for cuts in [[].as_slice(), &[1], &[2, 1], &[3]] {
+        let found = report(rt, alloc, MERGED, queries, cuts, workers, &NoGate)?;
+        if found.as_slice() != wanted {
+            return Ok(false);
+        }
+    }
+    Ok(true)
 }
 
 #[test]

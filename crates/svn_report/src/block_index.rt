@@ -40,8 +40,8 @@ pub(crate) fn index_of<R: Threads + Sync>(
 }
 
 /// How many records precede each block that `cuts` make of the revisions of a dump, and how many there are. Each join
-/// of indexes copies, so where there are more blocks than workers, neighbouring ones are taken together into as many
-/// groups as workers, as nearly equal in records as whole blocks allow.
+/// of indexes goes through the later one, so where there are more blocks than workers, neighbouring ones are taken
+/// together into as many groups as workers.
 pub(crate) fn record_borders(
     alloc: Global,
     dump: &Dump,

@@ -33,9 +33,9 @@ fn length_of_block(cuts: &[u32], all: usize, block: usize) -> usize
     cuts[block.min(cuts.len() - 1)] as usize
 }
 
-/// Of these numbers of records before each block, and of all records, those that are left where neighbouring blocks are
-/// taken together into at most `most` groups. Where there are more blocks than that, there are exactly `most` groups,
-/// as nearly equal in records as whole blocks allow.
+/// The borders of at most `most` groups of neighbouring blocks, given those of the blocks: how many records come before
+/// each block, and how many there are. Where there are more blocks than that, there are exactly `most` groups. Each ends
+/// as near to the end of its share of all records as the ends allow that leave a block to each group after it.
 pub fn share_out(alloc: Global, borders: &[usize], most: usize) -> Result<Vec<usize>, AllocError>
     requires borders { AreBorders 0 (last_border borders.now) borders.now }
     requires few_records { last_border borders.now < 2 ^ 32 }

@@ -40,9 +40,9 @@ impl From<AllocError> for LoadError {
 
 /// The repository of a dump, or its first faulty record.
 ///
-/// At most `workers` threads at a time make the maps and the indexes of blocks, which are then joined. Blocks take whole revisions
-/// from 1 on by the lengths `cuts` in turn; the last length is repeated, and no lengths mean one block. Neighbouring
-/// blocks are taken together so that there are at most as many as workers.
+/// At most `workers` threads at a time make the maps and the indexes of blocks, which are then joined. Blocks take whole
+/// revisions from 1 on by the lengths `cuts` in turn; the last length is repeated, and no lengths mean one block.
+/// Neighbouring blocks are taken together so that there are at most as many as workers.
 pub fn load_repo<R: Threads + Sync>(
     rt: &R,
     alloc: Global,
