@@ -15,7 +15,7 @@ use Rattle.merge_info.specs.Value.{IsEntry, entry_view}
 use Rattle.merge_info.specs.declared.entry.Entry.{Entry}
 
 -- the parts of a printed path
-components-printed : (path : List ℕ) → IsPrintedPath path → All IsComponent (parts_of path)
+pub components-printed : (path : List ℕ) → IsPrintedPath path → All IsComponent (parts_of path)
 components-printed path printed = components-parts_of path (list_any_none is_dot (parts_of path) printed.no_dot)
 
 -- a path below another
@@ -28,7 +28,7 @@ IsPrintedPath-path_below path rest first second =
 -- ---- a value
 
 -- what a path below inherits of an entry
-IsLine-inherited : (rest : List ℕ) (line : Line) → IsPrintedPath rest → IsEntry line → IsLine (inherited_line rest line)
+pub IsLine-inherited : (rest : List ℕ) (line : Line) → IsPrintedPath rest → IsEntry line → IsLine (inherited_line rest line)
 IsLine-inherited rest line printed entry = record {
   path = IsPrintedPath-path_below line.path rest entry.path printed;
   runs = All-filter (λ (run : Run). run.inheritable) IsRun line.runs (AreRuns-from_canonical line.runs entry.canonical);

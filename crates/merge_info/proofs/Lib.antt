@@ -6,6 +6,7 @@ mod Decimals
 mod Elements
 mod Entries
 mod Inheriting
+pub mod InheritedRevisions
 mod JoinedBytes
 mod LineReads
 mod LinesRead

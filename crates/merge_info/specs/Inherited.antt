@@ -1,6 +1,6 @@
 -- The mergeinfo that a path inherits from a directory above it (Subversion book, "Branching and Merging", "Subtree Merges
 -- and Subtree Mergeinfo").
-use Rattle.std.specs.Prelude.{ℕ, List, ◌++◌, filter, map}
+use Rattle.std.specs.Prelude.{ℕ, Bool, true, false, List, ◌++◌, Option, Some, None, filter, map}
 use Rattle.svn_path.specs.Components.{parts_of, path_text}
 use Rattle.range_list.specs.declared.run.Run.{Run}
 use Rattle.merge_info.specs.Line.{Line}
@@ -19,3 +19,9 @@ inherited_line rest entry = record { path = path_below entry.path rest; runs = i
 
 abbrev pub inherited_lines : List ℕ → MergeInfoValue → List Line
 inherited_lines rest value = map (inherited_line rest) value
+
+-- a revision is inherited if it is inheritable
+abbrev pub inherited_revision : Option Bool → Option Bool
+inherited_revision None = None
+inherited_revision (Some false) = None
+inherited_revision (Some true) = Some true

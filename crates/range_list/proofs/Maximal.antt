@@ -120,7 +120,7 @@ AreMaximal-runs_from sort (suc count) number from to =
 
 -- ---- the canonical list of a set
 
-is_inheritable-out : (runs : List Run) (n : ℕ) → is_in runs n ≡ false → is_inheritable runs n ≡ false
+pub is_inheritable-out : (runs : List Run) (n : ℕ) → is_in runs n ≡ false → is_inheritable runs n ≡ false
 is_inheritable-out [] n absent = refl
 is_inheritable-out (run ∷ runs) n absent =
     let (first, rest) = or_parts (covers run n) (is_in runs n) absent in
