@@ -1,0 +1,9 @@
+//! The tests of the memo of parsed values.
+#![tactic(auto)]
+
+#[cfg(test)]
+mod asking;
+#[cfg(test)]
+mod sharing;
+#[cfg(test)]
+mod threads;

@@ -1,0 +1,119 @@
+-- What the places of a memo's cells show, and what changes where one of them is answered.
+use Rattle.std.proofs.Common.{◌≡◌, ℕ, ◌+◌, ◌<◌, ◌≤◌, arith, Bool, List, [], ◌∷◌, length, map, get_or, zero, suc, cond, true, false, Option, Some, None, is_some, slice_get, slice_set, refl, sym, ap, ◌∙◌}
+use mir.Val.{bool_byte}
+use Rattle.std.specs.Option.{ForSome, option_flatten}
+use Rattle.std.proofs.Math.Seq.{map-set_same}
+use Rattle.std.proofs.lemmas.List.{get_or-set_same, length-map, length-set, map-set, set-get_or}
+use Rattle.std.proofs.lemmas.List.Sums.{sum_by-set, count_by-le-length}
+use Rattle.std.proofs.lemmas.Option.{get_or_from_slice_get, slice_get-get_or, slice_get-map, none-some, slice_get_read, slice_get_within}
+use Rattle.std.proofs.lemmas.Simd.{map-map}
+use Rattle.value_memo.specs.PlaceValue.{PlaceValue, IsAnsweredPlace, unanswered}
+use Rattle.value_memo.specs.SeenValue.{SeenValue, IsAnswered, asked_of, nothing_seen, seen_view, text_at}
+
+-- ---- lists
+
+set_same : {X : Type 0} (xs : List X) (i : ℕ) (x : X) → slice_get xs i ≡ Some x → slice_set xs i x ≡ xs
+set_same xs i x there = ap (slice_set xs i) (sym (get_or_from_slice_get xs i x x there)) ∙ set-get_or xs i x
+
+slice_get-set_same : {X : Type 0} (xs : List X) (i : ℕ) (x y : X) → slice_get xs i ≡ Some x → slice_get (slice_set xs i y) i ≡ Some y
+slice_get-set_same xs i x y there =
+    let within = slice_get_within xs i x there in
+    slice_get-get_or (slice_set xs i y) i x (omega (arith, within, length-set xs i y)) ∙ ap Some (get_or-set_same xs i y x within)
+
+map-unchanged : {X Y : Type 0} (f : X → Y) (xs : List X) (i : ℕ) (x y : X) → slice_get xs i ≡ Some x → f y ≡ f x → map f (slice_set xs i y) ≡ map f xs
+map-unchanged f xs i x y there same = map-set_same f xs i y x (same ∙ ap f (sym (get_or_from_slice_get xs i x x there)))
+
+map-id : (xs : List ℕ) → map (λ x. x) xs ≡ xs
+map-id [] = refl
+map-id (x ∷ xs) = ap (λ l. x ∷ l) (map-id xs)
+
+-- ---- before anything was asked
+
+pub asked_of-nothing_seen : (memo : List ℕ) → asked_of (nothing_seen memo) ≡ 0
+asked_of-nothing_seen [] = refl
+asked_of-nothing_seen (cell ∷ memo) = asked_of-nothing_seen memo
+
+pub seen_view-unanswered : (memo : List ℕ) → seen_view (map unanswered memo) 0 ≡ nothing_seen memo
+seen_view-unanswered memo =
+    rw (map-map (λ place. place.cell) unanswered memo, map-map (λ place. place.text) unanswered memo, map-map (λ place. place.own) unanswered memo, map-id memo) refl
+
+-- ---- one place
+
+module _ (places : List PlaceValue) (parses at : ℕ) (place : PlaceValue) (there : slice_get places at ≡ Some place) where
+  pub text_at-place : text_at (seen_view places parses) at ≡ place.text
+  text_at-place = rw (slice_get-map (λ p. p.text) places at, there) refl
+
+  pub own-place : slice_get (seen_view places parses).own at ≡ Some place.own
+  own-place = rw (slice_get-map (λ p. p.own) places at, there) refl
+
+  pub cell-place : slice_get (seen_view places parses).memo at ≡ Some place.cell
+  cell-place = rw (slice_get-map (λ p. p.cell) places at, there) refl
+
+  module _ (text : List ℕ) (new : PlaceValue) (answered : IsAnsweredPlace place text new) (unknown : place.text ≡ None) where
+    texts-set : map (λ p. p.text) (slice_set places at new) ≡ slice_set (map (λ p. p.text) places) at (Some text)
+    texts-set = map-set (λ p. p.text) places at new ∙ ap (slice_set (map (λ p. p.text) places) at) answered.text
+
+    pub asked_of-answered : (more : ℕ) → asked_of (seen_view (slice_set places at new) more) ≡ asked_of (seen_view places parses) + 1
+    asked_of-answered more =
+        let texts = map (λ p. p.text) places in
+        let here : slice_get texts at ≡ Some None = slice_get-map (λ p. p.text) places at ∙ rw (there, unknown) refl in
+        let changed = sum_by-set (λ o. cond (is_some o) 1 0) texts at (Some text) None (slice_get_within texts at None here) in
+        let before = get_or_from_slice_get texts at None None here in
+        rw texts-set (omega (arith, rw before at changed))
+
+    text_at-answered : (more : ℕ) → text_at (seen_view (slice_set places at new) more) at ≡ Some text
+    text_at-answered more = rw (slice_get-map (λ p. p.text) (slice_set places at new) at, slice_get-set_same places at place new there, answered.text) refl
+
+    pub IsAnswered-place : (more : ℕ) → parses ≤ more → more ≤ parses + 1 → IsAnswered (seen_view places parses) at text (seen_view (slice_set places at new) more)
+    IsAnswered-place more least most = record {
+      memo = map-unchanged (λ p. p.cell) places at place new there answered.cell;
+      texts = texts-set;
+      known = text_at-answered more;
+      again = λ before. absurd (none-some text (sym (text_at-place ∙ unknown) ∙ before));
+      asked = λ _. asked_of-answered more;
+      parses = least;
+      one_parse = most;
+    }
+
+-- ---- a number that was answered for before
+
+slice_get-answered : (texts : List (Option (List ℕ))) (at : ℕ) (text : List ℕ) → option_flatten (slice_get texts at) ≡ Some text → slice_get texts at ≡ Some (Some text)
+slice_get-answered [] at text known = absurd (none-some text known)
+slice_get-answered (first ∷ texts) zero text known = ap Some known
+slice_get-answered (first ∷ texts) (suc at) text known = slice_get-answered texts at text known
+
+pub IsAnswered-again : (seen : SeenValue) (id : ℕ) (text : List ℕ) → text_at seen id ≡ Some text → IsAnswered seen id text seen
+IsAnswered-again seen id text known = record {
+  memo = refl;
+  texts = sym (set_same seen.texts id (Some text) (slice_get-answered seen.texts id text known));
+  known = known;
+  again = λ _. refl;
+  asked = λ unknown. absurd (none-some text (sym unknown ∙ known));
+  parses = omega arith;
+  one_parse = omega arith;
+}
+
+-- a number that may be asked for with the text was answered for with this text, or not at all
+pub MayAsk-cases : (before : Option (List ℕ)) (text : List ℕ) → ForSome before (λ t. t ≡ text) → is_some before ≡ true → before ≡ Some text
+MayAsk-cases None text may answered = cc
+MayAsk-cases (Some t) text may answered = ap Some (may t refl)
+
+pub None-unless : (o : Option (List ℕ)) → false ≡ is_some o → o ≡ None
+None-unless None unknown = refl
+None-unless (Some text) unknown = cc
+
+pub bool_byte-le-1 : (b : Bool) → bool_byte b ≤ 1
+bool_byte-le-1 true = omega arith
+bool_byte-le-1 false = omega arith
+
+-- the place that was read at a number of the memo
+pub place_at : (places : List PlaceValue) (parses : ℕ) (seen : SeenValue) (memo : List ℕ) (at : ℕ) (place : PlaceValue) → seen_view places parses ≡ seen → seen.memo ≡ memo → at < length memo → place ≡ get_or places at place → slice_get places at ≡ Some place
+place_at places parses seen memo at place view same within read =
+    slice_get_read places (length places) at place refl (omega (arith, within, ap length same, ap (λ s. length s.memo) view, length-map places (λ p. p.cell))) read
+
+-- a place that stays as it was
+pub seen_view-same : (places : List PlaceValue) (parses at : ℕ) (place : PlaceValue) → slice_get places at ≡ Some place → seen_view (slice_set places at place) parses ≡ seen_view places parses
+seen_view-same places parses at place there = ap (λ p. seen_view p parses) (set_same places at place there)
+
+pub asked_of-fits : (places : List PlaceValue) (parses : ℕ) → asked_of (seen_view places parses) ≤ length places
+asked_of-fits places parses = let texts = map (λ p. p.text) places in omega (arith, count_by-le-length is_some texts, length-map places (λ p. p.text))

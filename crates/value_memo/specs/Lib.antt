@@ -1,0 +1,5 @@
+pub mod Parsed
+pub mod Place
+pub mod PlaceValue
+pub mod Seen
+pub mod SeenValue

@@ -1,0 +1,57 @@
+//! What all workers share.
+ghost use Rattle.std.specs.Prelude.{◌≡◌, ◌<◌, Some, IfOk, length, map, slice_get};
+ghost use Rattle.once_cell.specs.Once.{cell_name};
+ghost use Rattle.value_memo.specs.PlaceValue.{unanswered};
+
+use crate::place::Place;
+use crate::reading::Reading;
+use once_cell::race::OnceBox;
+use std::alloc::{AllocError, Global};
+use std::marker::Model;
+
+/// Cells for texts by their numbers. Each is set at most once, to a text with what it says, and stays so. A memo is seen
+/// as the list of the names of its cells.
+#[derive(Drop)]
+pub struct Memo<'t> {
+    cells: Vec<OnceBox<Reading<'t>>>,
+}
+
+impl<'t> Model for Memo<'t> {
+    ghost use Rattle.std.specs.Prelude.{List, ℕ, map};
+    ghost use Rattle.once_cell.specs.Once.{cell_name};
+
+    ghost Value = { List ℕ };
+
+    ghost view = { λ memo. map cell_name memo.cells.items };
+}
+
+impl<'t> Memo<'t> {
+    /// A memo of `n` empty cells.
+    pub fn new(alloc: Global, n: usize) -> Result<Self, AllocError>
+        ensures { IfOk result (λ memo. length memo ≡ n) }
+    {
+        let mut cells = Vec::with_capacity(alloc, n)?;
+        for _ in 0..n {
+            cells.push(OnceBox::new(alloc))?;
+        }
+        Ok(Memo { cells })
+    }
+
+    /// What is known of each cell before anything was asked.
+    pub(crate) fn places(&self, alloc: Global) -> Result<Vec<Place<'t>>, AllocError>
+        ensures { IfOk result (λ places. places.items ≡ map unanswered self.now) }
+    {
+        let mut places = Vec::with_capacity(alloc, self.cells.len())?;
+        for cell in &self.cells {
+            places.push(Place::new(cell))?;
+        }
+        Ok(places)
+    }
+
+    pub(crate) fn cell(&self, at: usize) -> &OnceBox<Reading<'t>>
+        requires { at < length self.now }
+        ensures { slice_get self.now at ≡ Some (cell_name result.now) }
+    {
+        &self.cells[at]
+    }
+}

@@ -1,0 +1,9 @@
+//! What a text says.
+
+use merge_info::MergeInfo;
+
+/// What a mergeinfo text says: a value, or that it is malformed.
+pub enum Parsed<'a> {
+    Good(&'a MergeInfo),
+    Malformed,
+}

@@ -1,0 +1,126 @@
+//! What a worker knows of one cell.
+ghost use Rattle.std.specs.Prelude.{◌≡◌, true, false, Some, None, IfSome, IfNone, OnOk, OnErr, IsSome, IsTrue, IsFalse, is_some};
+ghost use Rattle.once_cell.specs.Once.{cell_name};
+ghost use Rattle.value_memo.specs.PlaceValue.{unanswered, IsAnsweredPlace};
+
+use crate::reading::Reading;
+use once_cell::race::{Note, OnceBox};
+use std::alloc::{AllocError, Global};
+use std::marker::Model;
+
+/// Where the reading of a number's text is.
+#[derive(Drop)]
+enum Answer<'t> {
+    Unknown,
+    Shared,
+    Own(Box<Reading<'t>>),
+}
+
+/// What a worker knows of one cell.
+#[derive(Drop)]
+pub(crate) struct Place<'t> {
+    note: Note<Reading<'t>>,
+    answer: Answer<'t>,
+}
+
+impl<'t> Model for Place<'t> {
+    ghost use Rattle.value_memo.specs.PlaceValue.{PlaceValue};
+    ghost use Rattle.value_memo.specs.Place.{answered_text, is_own, IsKnown};
+
+    ghost Value = { PlaceValue };
+
+    ghost view = { λ place. record { cell = place.note.cell; text = answered_text place.note.known place.answer; own = is_own place.answer } };
+
+    ghost invariant = { λ place. IsKnown place.note.known place.answer };
+}
+
+impl<'t> Place<'t> {
+    pub(crate) fn new(cell: &OnceBox<Reading<'t>>) -> Self
+        ensures { result ≡ unanswered (cell_name cell.now) }
+    {
+        Place {
+            note: cell.note(),
+            answer: Answer::Unknown,
+        }
+    }
+
+    pub(crate) fn is_answered(&self) -> bool
+        ensures { result ≡ is_some self.now.text }
+    {
+        match &self.answer {
+            Answer::Unknown => false,
+            Answer::Shared | Answer::Own(_) => true,
+        }
+    }
+
+    /// Learns the reading of a text: the cell's, or one that it makes and offers to the cell. Tells whether it made one.
+    pub(crate) fn learn(
+        &mut self,
+        alloc: Global,
+        cell: &OnceBox<Reading<'t>>,
+        text: &'t [u8],
+    ) -> Result<bool, AllocError>
+        requires cell { self.old.cell ≡ cell_name cell.now }
+        requires new { self.old.text ≡ None }
+        ensures ok { OnOk result (IsAnsweredPlace self.old text.now self.new) }
+        ensures err { OnErr result (self.new ≡ self.old) }
+    {
+        if self.finds(cell, text) {
+            return Ok(false);
+        }
+        let reading = Box::new(alloc, Reading::read(alloc, text)?)?;
+        self.keep(cell, reading);
+        Ok(true)
+    }
+
+    /// Looks in the cell. Its reading becomes the answer where it is one of the text.
+    fn finds(&mut self, cell: &OnceBox<Reading<'t>>, text: &'t [u8]) -> bool
+        requires cell { self.old.cell ≡ cell_name cell.now }
+        requires new { self.old.text ≡ None }
+        ensures found { IsTrue result → IsAnsweredPlace self.old text.now self.new }
+        ensures missed { IsFalse result → self.new ≡ self.old }
+    {
+        match cell.get_as(&mut self.note) {
+            Some(found) if found.text == text => {
+                self.answer = Answer::Shared;
+                true
+            }
+            _ => false,
+        }
+    }
+
+    /// Sets the cell to a reading, or keeps it where the cell holds another.
+    fn keep(&mut self, cell: &OnceBox<Reading<'t>>, reading: Box<Reading<'t>>)
+        requires cell { self.old.cell ≡ cell_name cell.now }
+        ensures { IsAnsweredPlace self.old reading.entry.value.text.now self.new }
+    {
+        self.answer = match cell.set_as(reading, &mut self.note) {
+            Ok(()) => Answer::Shared,
+            Err(own) => Answer::Own(own),
+        };
+    }
+
+    /// The cell's reading, where that is the answer.
+    pub(crate) fn shared<'a>(&mut self, cell: &'a OnceBox<Reading<'t>>) -> Option<&'a Reading<'t>>
+        requires { self.old.cell ≡ cell_name cell.now }
+        ensures same { self.new ≡ self.old }
+        ensures shared { IfSome result (λ reading. self.old.text ≡ Some reading.now.text.now) }
+        ensures own { IfNone result (IsSome self.old.text → self.old.own ≡ true) }
+    {
+        match &self.answer {
+            Answer::Shared => cell.get_as(&mut self.note),
+            Answer::Unknown | Answer::Own(_) => None,
+        }
+    }
+
+    /// The reading that the place keeps itself.
+    pub(crate) fn own(&self) -> &Reading<'t>
+        requires { self.now.own ≡ true }
+        ensures { self.now.text ≡ Some result.now.text.now }
+    {
+        match &self.answer {
+            Answer::Own(reading) => reading,
+            Answer::Unknown | Answer::Shared => unreachable!(),
+        }
+    }
+}
