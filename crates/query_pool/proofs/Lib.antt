@@ -1,5 +1,6 @@
 mod Adding
 mod Counts
 pub mod Gathered
-mod Shares
+mod Recording
+mod Stealing
 mod Unwrapping

@@ -1,4 +1,5 @@
+pub mod Calling
 pub mod Gathering
 pub mod Serving
-pub mod Shares
 pub mod Slots
+pub mod Stealing

@@ -1,11 +1,14 @@
 //! Numbered jobs, done by several workers at once, and their results put in order.
 #![tactic(auto)]
 
+mod caller;
+mod deque;
 mod error;
 mod gate;
 mod gathering;
 mod job;
 mod part;
+mod progress;
 mod serving;
 
 pub use error::GatherError;

@@ -1,12 +1,17 @@
 //! Serving the places of a job by several workers.
-ghost use Rattle.std.specs.Prelude.{ℕ, ◌<◌, ◌≤◌, All, IfOk, length};
+ghost use Rattle.std.specs.Prelude.{ℕ, ◌≡◌, ◌+◌, ◌<◌, ◌≤◌, [], All, IfOk, length};
 ghost use denote.Param.Send.{IsSync, IsSend};
+ghost use Rattle.crossbeam_deque.specs.Handles.{IsPassOf, stealer_deque, view, worker_deque, worker_view};
+ghost use Rattle.query_pool.specs.Calling.{Continues, IsReady};
 ghost use Rattle.query_pool.specs.Serving.{HasEachOnce, results_of, most_places, most_workers};
-ghost use Rattle.query_pool.specs.Shares.{IsServedBelow, IsServedBy};
+ghost use Rattle.query_pool.specs.Stealing.{LooksEmpty, Serves};
 
+use crate::caller::Caller;
+use crate::deque::{Thief, ThiefPass, absorb, filled, split, steal, take};
 use crate::gate::Gate;
 use crate::job::Job;
 use crate::part::Part;
+use crate::progress::{begin, serve_place};
 use std::alloc::{AllocError, Global};
 use std::sync::Wait;
 use std::thread::{self, Threads};
@@ -32,82 +37,110 @@ pub fn serve<R: Threads + Wait + Sync, J: Job, G: Gate>(
     ensures each_once { IfOk result (λ parts. HasEachOnce n (results_of parts.items)) }
     ensures gives { IfOk result (λ parts. All (λ each. J.gives job.now each.0 each.1) (results_of parts.items)) }
 {
-    let workers = (workers as u32).min(n).max(1);
-    serve_first(rt, alloc, job, n, workers, workers, gate)
+    let thieves = (workers as u32).min(n).max(1) - 1;
+    let owner = filled(alloc, n)?;
+    let thief = owner.stealer()?;
+    let caller = Caller {
+        owner,
+        progress: begin(alloc, job)?,
+        parts: Vec::new(alloc),
+    };
+    let caller = serve_with(rt, alloc, job, gate, &thief, caller, thieves)?;
+    let caller = take_all(rt, job, gate, caller)?;
+    caller.into_parts()
 }
 
-/// What the first `count` of the workers do: the calling thread is the first, the others have threads of their own.
-#[cycle(serve_first)]
-fn serve_first<R: Threads + Sync, J: Job, G: Gate>(
+/// What the calling thread and its thieves do, which have threads of their own.
+#[cycle(serve_with)]
+fn serve_with<R: Threads + Wait + Sync, J: Job, G: Gate>(
     rt: &R,
     alloc: Global,
     job: &J,
-    n: u32,
-    workers: u32,
-    count: u32,
     gate: &G,
-) -> Result<Vec<Part<J::Out>>, AllocError>
-    requires places { (place : ℕ) → place < n → J.has job.now place }
-    requires few_places { n ≤ most_places }
-    requires few_workers { workers ≤ most_workers }
-    requires some { 0 < count }
-    requires of_all { count ≤ workers }
-    ensures few { IfOk result (λ parts. length parts.items ≤ count) }
-    ensures places { IfOk result (λ parts. IsServedBelow workers count n (results_of parts.items)) }
-    ensures gives { IfOk result (λ parts. All (λ each. J.gives job.now each.0 each.1) (results_of parts.items)) }
+    thief: &Thief,
+    mut caller: Caller<J::State, J::Out>,
+    thieves: u32,
+) -> Result<Caller<J::State, J::Out>, AllocError>
+    requires ready { IsReady (J.lawful job.now) (J.gives job.now) caller }
+    requires deque { worker_deque caller.owner ≡ stealer_deque thief.now }
+    requires parts { thieves < (worker_view caller.owner).parts }
+    requires places { (place : ℕ) → place < (worker_view caller.owner).puts → J.has job.now place }
+    ensures continues { IfOk result (Continues (J.lawful job.now) (J.gives job.now) caller) }
+    ensures few { IfOk result (λ after. length after.parts.items ≤ length caller.parts.items + thieves) }
 {
-    let worker = count - 1;
-    if worker == 0 {
-        let mut parts = Vec::new(alloc);
-        parts.push(serve_share(alloc, job, n, workers, 0, gate)?)?;
-        return Ok(parts);
+    if thieves == 0 {
+        return take_all(rt, job, gate, caller);
     }
-    let last = || -> Result<Part<J::Out>, AllocError>
-        requires { IsSync J.row × IsSync G.row × IsSend J.Out.row × IsSend J.State.row
-            × ((place : ℕ) → place < n → J.has job.now place) × (n ≤ most_places)
-            × (workers ≤ most_workers) × (worker < workers) }
-        ensures { IfOk result (λ part. IsServedBy workers worker n part.done.items
-            × All (λ each. J.gives job.entry.now each.0 each.1) part.done.items) }
-    { serve_share(alloc, job, n, workers, worker, gate) };
-    let others = || -> Result<Vec<Part<J::Out>>, AllocError>
+    let pass = split(&mut caller.owner);
+    let stealing = move || -> Result<(ThiefPass, Part<J::Out>), AllocError>
+        requires { IsSync R.row × IsSync J.row × IsSync G.row × IsSend J.Out.row
+            × IsPassOf (stealer_deque thief.now) pass × (0 < (view pass).parts) × ((view pass).taken ≡ [])
+            × ((place : ℕ) → place < (view pass).puts → J.has job.now place) }
+        ensures { IfOk result (λ it. IsPassOf (stealer_deque thief.entry.now) it.0
+            × Serves (J.gives job.entry.now) (view pass) (view it.0) it.1.done.items) }
+    { steal_all(rt, alloc, job, gate, thief, pass) };
+    let rest = thieves - 1;
+    let others = move || -> Result<Caller<J::State, J::Out>, AllocError>
         requires { IsSync R.row × IsSync J.row × IsSync G.row × IsSend J.Out.row × IsSend J.State.row
-            × ((place : ℕ) → place < n → J.has job.now place) × (n ≤ most_places)
-            × (workers ≤ most_workers) × (0 < worker) × (worker ≤ workers) }
-        ensures { IfOk result (λ parts. (length parts.items ≤ worker)
-            × IsServedBelow workers worker n (results_of parts.items)
-            × All (λ each. J.gives job.entry.now each.0 each.1) (results_of parts.items)) }
-    { serve_first(rt, alloc, job, n, workers, worker, gate) };
-    let (part, parts) = thread::join(rt, last, others);
-    let mut parts = parts?;
-    parts.push(part?)?;
-    Ok(parts)
+            × IsReady (J.lawful job.now) (J.gives job.now) caller × (worker_deque caller.owner ≡ stealer_deque thief.now)
+            × (rest < (worker_view caller.owner).parts)
+            × ((place : ℕ) → place < (worker_view caller.owner).puts → J.has job.now place) }
+        ensures { IfOk result (λ after. Continues (J.lawful job.entry.now) (J.gives job.entry.now) caller after
+            × (length after.parts.items ≤ length caller.parts.items + rest)) }
+    { serve_with(rt, alloc, job, gate, thief, caller, rest) };
+    let (stolen, served) = thread::join(rt, stealing, others);
+    let (pass, part) = stolen?;
+    let mut caller = served?;
+    absorb(&mut caller.owner, pass);
+    caller.parts.push(part)?;
+    Ok(caller)
 }
 
-/// What one of the workers does: the places whose remainder by the number of workers is its own number.
-fn serve_share<J: Job, G: Gate>(
+/// What the calling thread does: it takes places and serves them until none is left.
+fn take_all<R: Wait, J: Job, G: Gate>(
+    rt: &R,
+    job: &J,
+    gate: &G,
+    mut caller: Caller<J::State, J::Out>,
+) -> Result<Caller<J::State, J::Out>, AllocError>
+    requires ready { IsReady (J.lawful job.now) (J.gives job.now) caller }
+    requires part { 0 < (worker_view caller.owner).parts }
+    requires places { (place : ℕ) → place < (worker_view caller.owner).puts → J.has job.now place }
+    ensures continues { IfOk result (Continues (J.lawful job.now) (J.gives job.now) caller) }
+    ensures parts { IfOk result (λ after. after.parts ≡ caller.parts) }
+    ensures empty { IfOk result (λ after. LooksEmpty (worker_view after.owner)) }
+{
+    for _ in rt.forever() {
+        match take(&mut caller.owner) {
+            Some(place) => serve_place(job, gate, place, &mut caller.progress)?,
+            None => return Ok(caller),
+        }
+    }
+    unreachable!()
+}
+
+/// What a thief does: it steals places and serves them until none is left.
+fn steal_all<R: Wait, J: Job, G: Gate>(
+    rt: &R,
     alloc: Global,
     job: &J,
-    n: u32,
-    workers: u32,
-    worker: u32,
     gate: &G,
-) -> Result<Part<J::Out>, AllocError>
-    requires places { (place : ℕ) → place < n → J.has job.now place }
-    requires few_places { n ≤ most_places }
-    requires few_workers { workers ≤ most_workers }
-    requires worker { worker < workers }
-    ensures places { IfOk result (λ part. IsServedBy workers worker n part.done.items) }
-    ensures gives { IfOk result (λ part. All (λ each. J.gives job.now each.0 each.1) part.done.items) }
+    thief: &Thief,
+    mut pass: ThiefPass,
+) -> Result<(ThiefPass, Part<J::Out>), AllocError>
+    requires pass { IsPassOf (stealer_deque thief.now) pass }
+    requires part { 0 < (view pass).parts }
+    requires fresh { (view pass).taken ≡ [] }
+    requires places { (place : ℕ) → place < (view pass).puts → J.has job.now place }
+    ensures pass { IfOk result (λ it. IsPassOf (stealer_deque thief.now) it.0) }
+    ensures serves { IfOk result (λ it. Serves (J.gives job.now) (view pass) (view it.0) it.1.done.items) }
 {
-    let mut state = job.state()?;
-    let mut done = Vec::new(alloc);
-    let mut place = worker;
-    'places: while place < n {
-        gate.enter(place);
-        let found = job.run(place, &mut state);
-        gate.leave(place);
-        done.push((place, found?))?;
-        place += workers;
+    let mut progress = begin(alloc, job)?;
+    for _ in rt.forever() {
+        match steal(rt, thief, &mut pass) {
+            Some(place) => serve_place(job, gate, place, &mut progress)?,
+            None => break,
+        }
     }
-    Ok(Part { done })
+    Ok((pass, progress.into_part()))
 }

@@ -32,17 +32,55 @@ impl Meeting {
 
     // Whether all of them begin while this call looks.
     fn all_begin(&self) -> bool {
-        for _ in 0..MOST_LOOKS {
-            if self.begun.load(Ordering::SeqCst) >= self.wanted {
-                return true;
-            }
-            yield_now();
-        }
-        false
+        comes_to(&self.begun, self.wanted)
     }
 
     // Whether each of them saw all others.
     pub(crate) fn all_met(&self) -> bool {
         self.met.load(Ordering::SeqCst) == self.wanted
+    }
+}
+
+// Whether the number becomes so high while this call looks.
+fn comes_to(number: &AtomicUsize, wanted: usize) -> bool {
+    for _ in 0..MOST_LOOKS {
+        if number.load(Ordering::SeqCst) >= wanted {
+            return true;
+        }
+        yield_now();
+    }
+    false
+}
+
+// One call waits until `wanted` others have begun.
+#[derive(Drop)]
+pub(crate) struct Others {
+    wanted: usize,
+    begun: AtomicUsize,
+    seen: AtomicUsize,
+}
+
+impl Others {
+    pub(crate) fn of(wanted: usize) -> Others {
+        Others {
+            wanted,
+            begun: AtomicUsize::new(0),
+            seen: AtomicUsize::new(0),
+        }
+    }
+
+    pub(crate) fn begin(&self) {
+        self.begun.fetch_add(1, Ordering::SeqCst);
+    }
+
+    pub(crate) fn wait(&self) {
+        if comes_to(&self.begun, self.wanted) {
+            self.seen.fetch_add(1, Ordering::SeqCst);
+        }
+    }
+
+    // Whether the call that waited saw them.
+    pub(crate) fn were_seen(&self) -> bool {
+        self.seen.load(Ordering::SeqCst) == 1
     }
 }

@@ -2,8 +2,8 @@
 ghost use Rattle.std.specs.Prelude.{◌<◌, ◌≤◌};
 ghost use Rattle.query_pool.specs.Serving.{most_workers};
 
-use crate::tests::meetings::Meeting;
-use crate::{Gate, Job, NoGate, gather, serve};
+use crate::tests::meetings::{Meeting, Others};
+use crate::{Gate, Job, NoGate, Part, gather, serve};
 use std::alloc::{AllocError, Global};
 use std::sync::Wait;
 use std::sync::atomic::{AtomicUsize, Ordering};
@@ -219,7 +219,6 @@ fn nine_are_served<R: Threads + Wait + Sync>(
     rt: &R,
     alloc: Global,
     workers: usize,
-    wanted: &[u32],
 ) -> Result<bool, Fail>
     requires some_worker { 0 < workers }
     requires few_workers { workers ≤ most_workers }
@@ -232,16 +231,119 @@ fn nine_are_served<R: Threads + Wait + Sync>(
         runs_inside: AtomicUsize::new(0),
     };
     let parts = serve(rt, alloc, &job, 9, workers, &gate)?;
+    let kept = parts.len() == workers && counts_are_kept(parts.as_slice());
     let found = gather(alloc, parts, 9)?;
-    let once = job.runs.load(Ordering::SeqCst) == 9;
+    let once = job.runs.load(Ordering::SeqCst) == 9 && found.len() == 9;
     let inside = job.runs_inside.load(Ordering::SeqCst) == 9;
-    let kept = job.states.load(Ordering::SeqCst) == workers;
-    Ok(once && inside && kept && found.as_slice() == wanted)
+    let states = job.states.load(Ordering::SeqCst) == workers;
+    Ok(once && inside && kept && states)
+}
+
+// Whether the results of each part count up from 1.
+fn counts_are_kept(parts: &[Part<u32>]) -> bool {
+    for part in parts {
+        let mut served: u32 = 0;
+        for (_, count) in part.done.iter() {
+            served = served.saturating_add(1);
+            if *count != served {
+                return false;
+            }
+        }
+    }
+    true
 }
 
 #[test]
 fn each_place_is_run_once_with_the_state_of_its_worker(rt: HostRuntime) -> Result<(), Fail> {
-    assert!(rt; nine_are_served(&rt, rt.alloc(), 1, &[1, 2, 3, 4, 5, 6, 7, 8, 9])?);
-    assert!(rt; nine_are_served(&rt, rt.alloc(), 3, &[1, 1, 1, 2, 2, 2, 3, 3, 3])?);
+    assert!(rt; nine_are_served(&rt, rt.alloc(), 1)?);
+    assert!(rt; nine_are_served(&rt, rt.alloc(), 3)?);
+    Ok(())
+}
+
+// Whether two workers serve each of so many places once, many times.
+fn few_places_many_times<R: Threads + Wait + Sync>(
+    rt: &R,
+    alloc: Global,
+    n: u32,
+) -> Result<bool, Fail> {
+    for _ in 0..1000u32 {
+        let job = Attending::of(n, 0);
+        if !serves_in_order(rt, alloc, &job, n, 2, &NoGate)? {
+            return Ok(false);
+        }
+    }
+    Ok(true)
+}
+
+// Of two places, the calling thread and its thief mostly meet at the last.
+#[test]
+fn the_last_place_is_served_once(rt: HostRuntime) -> Result<(), Fail> {
+    assert!(rt; few_places_many_times(&rt, rt.alloc(), 1)?);
+    assert!(rt; few_places_many_times(&rt, rt.alloc(), 2)?);
+    Ok(())
+}
+
+#[test]
+fn many_places_are_served_by_many_workers(rt: HostRuntime) -> Result<(), Fail> {
+    let job = Attending::of(1000, 0);
+    assert!(rt; serves_in_order(&rt, rt.alloc(), &job, 1000, 64, &NoGate)?);
+    Ok(())
+}
+
+// A job of three places, whose call at one of them waits until those at both others have begun.
+#[derive(Drop)]
+struct Waiting {
+    place: u32,
+    others: Others,
+}
+
+impl Job for Waiting {
+    ghost use Rattle.std.specs.Prelude.{⊤};
+
+    type Out = ();
+
+    type State = ();
+
+    ghost has = { λ job place. ⊤ };
+
+    ghost lawful = { λ job state. ⊤ };
+
+    ghost gives = { λ job place found. ⊤ };
+
+    fn state(&self) -> Result<(), AllocError> {
+        Ok(())
+    }
+
+    fn run(&self, place: u32, _state: &mut ()) -> Result<(), AllocError> {
+        if place == self.place {
+            self.others.wait();
+        } else {
+            self.others.begin();
+        }
+        Ok(())
+    }
+}
+
+// Whether a call at this place, of three for two workers, sees both others begin.
+fn sees_both_others<R: Threads + Wait + Sync>(
+    rt: &R,
+    alloc: Global,
+    place: u32,
+) -> Result<bool, Fail> {
+    let job = Waiting {
+        place,
+        others: Others::of(2),
+    };
+    serve(rt, alloc, &job, 3, 2, &NoGate)?;
+    Ok(job.others.were_seen())
+}
+
+// While one worker waits at a place, the other serves both others. With fixed shares one worker has two of the places, and
+// waits for itself at the first of them. One thread alone waits for itself at place 0 too.
+#[test]
+fn a_free_worker_serves_all_other_places(rt: HostRuntime) -> Result<(), Fail> {
+    assert!(rt; sees_both_others(&rt, rt.alloc(), 0)?);
+    assert!(rt; sees_both_others(&rt, rt.alloc(), 1)?);
+    assert!(rt; sees_both_others(&rt, rt.alloc(), 2)?);
     Ok(())
 }

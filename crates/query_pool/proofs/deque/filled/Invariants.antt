@@ -1,0 +1,13 @@
+use Rattle.std.proofs.Common.{◌≡◌, ◌≤◌, []}
+use Rattle.crossbeam_deque.specs.Handles.{worker_capacity, worker_flavor, worker_index, worker_view}
+use Rattle.query_pool.specs.Serving.{most_workers}
+use Rattle.query_pool.specs.Stealing.{tally}
+use Rattle.query_pool.proofs.deque.filled.Given as goal
+
+abbrev pub invariant-loop-place : goal.invariant-loop-place
+invariant-loop-place l = record {
+  fifo : worker_flavor l.owner ≡ 0;
+  room : l.fn.n ≤ worker_capacity l.owner;
+  index : worker_index l.owner ≡ l.place;
+  view : worker_view l.owner ≡ tally most_workers l.place [];
+}
