@@ -1,7 +1,7 @@
 """Builds a copy of the program that ends after one step, so that each step can be measured alone.
 
 The steps are `read`, the records of the dump, and then either `index`, the index of the records, or `map`, the ends of
-the revisions, the map of all records as one block, and the check of each record. The second argument names the last
+the revisions, the map of all records, and the check of each record. The second argument names the last
 step, in place of the queries. The time and the memory of a step are the difference of two runs.
 
 The copy is made in the temporary directory, with what the prover kept of the program, and is proved as the program is.
@@ -61,7 +61,7 @@ pub(crate) fn run_steps<R: Files + Threads + Wait + Sync>(
         make_index(rt, alloc, &dump, asked.block, asked.workers)?;
     }
     if asked.queries == "map" {
-        make_map(rt, alloc, &dump, asked.workers)?;
+        make_map(rt, alloc, &dump, asked.block, asked.workers)?;
     }
     Ok(())
 }
@@ -102,14 +102,18 @@ pub fn make_map<R: Threads + Sync>(
     rt: &R,
     alloc: Global,
     dump: &Dump,
+    block: u32,
     workers: usize,
 ) -> Result<(), LoadError>
     requires some_worker { 0 < workers }
     requires few_workers { workers ≤ 64 }
 {
+    let lengths = [block];
+    let cuts = if block == 0 { &[] } else { lengths.as_slice() };
     let sums = record_ends(rt, alloc, dump, workers)?;
+    let borders = record_borders(alloc, dump, sums.as_slice(), cuts, workers)?;
     let ends = Ends::new(sums);
-    let _ = lawful_map(rt, alloc, dump, &ends)?;
+    let _ = lawful_map(rt, alloc, dump, &ends, borders.as_slice(), workers)?;
     Ok(())
 }
 """
@@ -123,8 +127,8 @@ pub new-ends-requires : goal.new-ends-requires
 new-ends-requires g c =
     ends_view-small c.args.dump.now c.in_ok-sums.ensures.kept c.in_ok-sums.sums.items c.in_ok-sums.ensures.exact
 
-pub lawful_map-requires-after_bounds : goal.lawful_map-requires-after_bounds
-lawful_map-requires-after_bounds g c κs within =
+pub lawful_map-requires-clause-ends : goal.lawful_map-requires-clause-ends
+lawful_map-requires-clause-ends g c κs within =
     c.new-ends.ensures ∙ ends_view-sums c.args.dump.now.counts c.in_ok-sums.sums.items c.in_ok-sums.ensures.exact
 """
 
