@@ -78,11 +78,11 @@ module _ (rest : List (List ℕ)) (components : All IsComponent rest) where
   path_below-other : (path : List ℕ) (parts : List (List ℕ)) → IsPrintedPath path → All IsComponent parts → ((above : List (List ℕ)) → parts ≡ above ++ rest → ⊥)
       → bytes_eq (path_below path (path_text rest)) (path_text parts) ≡ false
   path_below-other path parts printed are none = false_from_ne_true (bytes_eq (path_below path (path_text rest)) (path_text parts)) (λ both.
-    let same : path_text parts ≡ path_below path (path_text rest) = sym (IsSame-bytes_eq.true_is (path_below path (path_text rest)) (path_text parts) both) in
-    none (parts_of path) (
-    sym (parts_of-path_text parts are) ∙ ap parts_of same
-    ∙ parts_of-path_text (parts_of path ++ parts_of (path_text rest)) (All-append IsComponent (parts_of path) (parts_of (path_text rest)) (components-printed path printed) (subst (All IsComponent) (sym (parts_of-path_text rest components)) components))
-    ∙ ap (λ back. parts_of path ++ back) (parts_of-path_text rest components)))
+      let same : path_text parts ≡ path_below path (path_text rest) = sym (IsSame-bytes_eq.true_is (path_below path (path_text rest)) (path_text parts) both) in
+      none (parts_of path) (
+      sym (parts_of-path_text parts are) ∙ ap parts_of same
+      ∙ parts_of-path_text (parts_of path ++ parts_of (path_text rest)) (All-append IsComponent (parts_of path) (parts_of (path_text rest)) (components-printed path printed) (subst (All IsComponent) (sym (parts_of-path_text rest components)) components))
+      ∙ ap (λ back. parts_of path ++ back) (parts_of-path_text rest components)))
 
   -- ---- the runs of lines
 
