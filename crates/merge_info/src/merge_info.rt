@@ -69,7 +69,8 @@ impl MergeInfo {
 
     /// Whether no path has revisions that were merged from it.
     pub fn is_empty(&self) -> bool
-        ensures { IsTrue result ↔ (self.now ≡ []) }
+        ensures empty { IsTrue result ↔ (self.now ≡ []) }
+        ensures canonical { IsMergeInfo self.now }
     {
         self.entries.is_empty()
     }
