@@ -1,2 +1,3 @@
 pub mod Callers
 mod Places
+pub mod SharedMemos

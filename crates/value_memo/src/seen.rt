@@ -47,8 +47,9 @@ impl<'t> Seen<'t> {
         })
     }
 
-    /// What the text of a number says. A text that no worker has read is read and published in the memo. Where the memo has
-    /// another text under the number, the worker reads this one for itself. Later calls with the number read nothing.
+    /// What the text of a number says. Where the memo has no text under the number, the worker reads this one, and
+    /// publishes it unless another worker does so first. Where the memo has another text, the worker keeps its reading for
+    /// itself. Later calls with the number read nothing.
     pub fn value<'a>(
         &'a mut self,
         memo: &'a Memo<'t>,
