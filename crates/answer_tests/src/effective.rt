@@ -2,6 +2,7 @@
 ghost use Rattle.std.specs.Prelude.{IfOk};
 ghost use Rattle.svn_path.specs.Path.{IsPathOf};
 
+use crate::answered::worker_of;
 use crate::repository::repo_of;
 use crate::samples::INHERITED;
 use merge_info::MergeInfo;
@@ -47,7 +48,9 @@ fn is_effective(
 ) -> Result<bool, Fail>
     requires { IsPathOf repo.now.names path.now }
 {
-    let value = effective(alloc, repo, path, rev)?;
+    let memo = repo.memo(alloc)?;
+    let mut seen = worker_of(alloc, repo, &memo)?;
+    let value = effective(alloc, repo, path, rev, &memo, &mut seen)?;
     let found = is_so(alloc, &value, wanted);
     drop(value);
     found

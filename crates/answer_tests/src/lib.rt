@@ -15,3 +15,5 @@ mod queries;
 mod repository;
 #[cfg(test)]
 mod samples;
+#[cfg(test)]
+mod workers;

@@ -26,10 +26,14 @@ use Rattle.svn_dump.specs.declared.record.NodeRecord.{NodeRecord}
 use Rattle.query_answer.specs.Answer.{Answer, IsAnswer, IsLocationOf, HasPathOf, TreesOfBytes, if_both_exist, if_peg_exists, with_effective_mergeinfo, with_value, answer_of, eligible_line, eligible_lines, hit_line, locate_lines, location_line, log_line, log_lines, merged_line, merged_lines, mergeinfo_lines, ok_answer, refused_answer, segment_in_bytes, segment_line, segments_in_bytes, segments_lines}
 use Rattle.query_answer.specs.Peg.{Peg, PegValue, peg_view}
 use Rattle.query_answer.specs.Query.{bad, eligible, locate, log, merged, mergeinfo, segments}
-use Rattle.query_answer.specs.Repo.{IsPair, IsPathFound, IsPegFound, IsRepo, with_peg_in, with_pair_in, effective_in, eligible_answer, eligible_by, index_of, locate_answer, log_answer, merged_answer, merged_by, mergeinfo_answer, peg_found, segments_answer, trees_in_bytes}
+use Rattle.query_answer.specs.Held.{held_value}
+use Rattle.query_answer.specs.Repo.{IsPair, IsPathFound, IsPegFound, IsRepo, with_peg_in, with_pair_in, effective_in, eligible_answer, eligible_in, index_of, locate_answer, log_answer, merged_answer, merged_in, mergeinfo_answer, pair_answer, peg_found, segments_answer, trees_in_bytes}
 use Rattle.query_answer.specs.declared.answers.Answer.TheVariants as kept
 use Rattle.query_answer.specs.declared.merged_revision.MergedRevision.{MergedRevision}
+use Rattle.query_answer.specs.declared.held_mergeinfo.HeldMergeinfo.{HeldMergeinfo}
 use Rattle.query_answer.specs.declared.verbs.pair.Pair.{Pair}
+use Rattle.query_answer.specs.declared.verbs.pair.Wanted.{Wanted}
+use Rattle.query_answer.specs.declared.verbs.pair.Wanted.TheVariants as wanted
 use Rattle.block_map.specs.Map.{MapValue}
 use Rattle.query_answer.specs.declared.status.Status.{Status}
 use Rattle.query_answer.specs.declared.status.Status.TheVariants as status
@@ -81,6 +85,10 @@ module _ (history : HistoryOfBytes) (trees : TreesOfBytes) where
       ≡ if_both_exist trees source target (λ value. ok_answer (eligible_lines history trees source target value))
   unfolding answer_of
   answer_of-eligible source target = refl
+
+-- an answer without result lines
+pub IsAnswer-Refused : (names : List (List ℕ)) (answer : Answer) (status : Status) → answer ≡ refused_answer status → IsAnswer names answer (kept.Refused status)
+IsAnswer-Refused names answer status is = record { names_of = tt; same = sym is }
 
 -- ---- by what was found of the path
 
@@ -197,25 +205,44 @@ module _ (dump : DumpValue) (source target : PegValue) (answer : Peg → Peg →
     with_pair_in-refused status other =
         with_pair_in-target ∙ other (with_effective_mergeinfo (trees_in_bytes dump) (peg_view target) (answer (peg_found dump source path) (peg_view target)))
 
-    pub with_pair_in-value : (to : List NameId) → IsPathFound dump target to → (value : Option MergeInfoValue) → value ≡ effective_in dump to target.rev
-        → with_pair_in dump source target answer ≡ with_value value (answer (peg_found dump source path) (peg_found dump target to))
-    with_pair_in-value to other value is =
+    pub with_pair_in-found : (to : List NameId) → IsPathFound dump target to
+        → with_pair_in dump source target answer ≡ with_value (effective_in dump to target.rev) (answer (peg_found dump source path) (peg_found dump target to))
+    with_pair_in-found to other =
         with_pair_in-target ∙ other.answered (λ each. with_effective_mergeinfo (trees_in_bytes dump) each (answer (peg_found dump source path) each))
-        ∙ ap (λ each. with_value each (answer (peg_found dump source path) (peg_found dump target to))) (sym is)
+
+-- the revisions that are asked for, where a peg or the mergeinfo stands against each answer
+pub IsAnswer-Pair_refused : (dump : DumpValue) (wanted : Wanted) (source target : PegValue) (status : Status)
+    → ((answer : Peg → Peg → MergeInfoValue → Answer) → with_pair_in dump source target answer ≡ refused_answer status)
+    → IsAnswer dump.names (pair_answer dump wanted source target) (kept.Refused status)
+IsAnswer-Pair_refused dump wanted.Merged source target status refused =
+    IsAnswer-Refused dump.names _ status (refused (λ from to value. ok_answer (merged_lines (history_in_bytes dump) (trees_in_bytes dump) from value)))
+IsAnswer-Pair_refused dump wanted.Eligible source target status refused =
+    IsAnswer-Refused dump.names _ status (refused (λ from to value. ok_answer (eligible_lines (history_in_bytes dump) (trees_in_bytes dump) from to value)))
 
 -- the revisions of a pair
 module _ (dump : DumpValue) (source target : PegValue) (pair : Pair) (found : IsPair dump source target pair) where
-  pub IsAnswer-Merged : (revisions : Vec MergedRevision Global) → revisions.items ≡ merged_by dump pair.source source.rev pair.mergeinfo → IsAnswer dump.names (merged_answer dump source target) (kept.Merged revisions)
-  IsAnswer-Merged revisions are = record {
-    names_of = tt;
-    same = ap (λ all. ok_answer (map merged_line all)) are ∙ sym (found.answered (λ from to value. ok_answer (merged_lines (history_in_bytes dump) (trees_in_bytes dump) from value)));
-  }
+  pub with_pair_in-malformed : effective_in dump pair.target.path target.rev ≡ None → (answer : Peg → Peg → MergeInfoValue → Answer)
+      → with_pair_in dump source target answer ≡ refused_answer status.MalformedMergeinfo
+  with_pair_in-malformed none answer =
+      found.answered answer ∙ ap (λ each. with_value each (answer (peg_found dump source pair.source) (peg_found dump target pair.target.path))) none
 
-  pub IsAnswer-Eligible : (revisions : Vec ℕ Global) → revisions.items ≡ eligible_by dump pair.source source.rev pair.target target.rev pair.mergeinfo → IsAnswer dump.names (eligible_answer dump source target) (kept.Eligible revisions)
-  IsAnswer-Eligible revisions are = record {
-    names_of = tt;
-    same = ap (λ all. ok_answer (map eligible_line all)) are ∙ sym (found.answered (λ from to value. ok_answer (eligible_lines (history_in_bytes dump) (trees_in_bytes dump) from to value)));
-  }
+  module _ (held : HeldMergeinfo) (is : effective_in dump pair.target.path target.rev ≡ Some (held_value dump.names held)) where
+    with_pair_in-held : (answer : Peg → Peg → MergeInfoValue → Answer) → with_pair_in dump source target answer
+        ≡ answer (peg_found dump source pair.source) (peg_found dump target pair.target.path) (held_value dump.names held)
+    with_pair_in-held answer =
+        found.answered answer ∙ ap (λ each. with_value each (answer (peg_found dump source pair.source) (peg_found dump target pair.target.path))) is
+
+    pub IsAnswer-Merged : (revisions : Vec MergedRevision Global) → revisions.items ≡ merged_in dump source pair held → IsAnswer dump.names (merged_answer dump source target) (kept.Merged revisions)
+    IsAnswer-Merged revisions are = record {
+      names_of = tt;
+      same = ap (λ all. ok_answer (map merged_line all)) are ∙ sym (with_pair_in-held (λ from to value. ok_answer (merged_lines (history_in_bytes dump) (trees_in_bytes dump) from value)));
+    }
+
+    pub IsAnswer-Eligible : (revisions : Vec ℕ Global) → revisions.items ≡ eligible_in dump source target pair held → IsAnswer dump.names (eligible_answer dump source target) (kept.Eligible revisions)
+    IsAnswer-Eligible revisions are = record {
+      names_of = tt;
+      same = ap (λ all. ok_answer (map eligible_line all)) are ∙ sym (with_pair_in-held (λ from to value. ok_answer (eligible_lines (history_in_bytes dump) (trees_in_bytes dump) from to value)));
+    }
 
 -- ---- what is written
 
@@ -252,7 +279,3 @@ module _ (dump : DumpValue) (index : IndexValue) (kept : MapValue) (ends : List 
   -- what is asked of the index is asked of the dump's records
   pub index-IsRepo : (P : List NodeRecord → Type 0) → P index.records → P dump.records
   index-IsRepo P all = subst (λ each. P each.records) is.index_is all
-
--- an answer without result lines
-pub IsAnswer-Refused : (names : List (List ℕ)) (answer : Answer) (status : Status) → answer ≡ refused_answer status → IsAnswer names answer (kept.Refused status)
-IsAnswer-Refused names answer status is = record { names_of = tt; same = sym is }

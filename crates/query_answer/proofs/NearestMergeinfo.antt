@@ -1,20 +1,19 @@
 -- The nearest mergeinfo of a path: in a renamed tree, step by step from the root, and as a map finds it.
-use Rattle.std.proofs.Common.{◌≡◌, ℕ, zero, suc, ◌+◌, Bool, List, [], Option, None, Some, map, option_map, option_and_then, take, refl, ap, ◌∙◌, ◌≤◌, length, sym, arith, ◌⊎◌, inl, inr, subst, IfOk, Result}
+use Rattle.std.proofs.Common.{◌≡◌, ℕ, zero, suc, ◌+◌, Bool, List, [], Option, None, Some, map, option_map, option_and_then, take, refl, ap, ◌∙◌, ◌≤◌, length, sym, arith, ◌⊎◌, inl, inr, subst, IfSome}
 use Rattle.std.proofs.lemmas.List.{take-map}
 use Rattle.std.proofs.lemmas.Option.{same_Some}
 use Rattle.std.proofs.lemmas.Bool.{cases_lt}
-use Rattle.std.proofs.lemmas.Result.{IfOk-weaker}
-use Rattle.std.specs.declared.alloc.AllocError.{AllocError}
 use Rattle.svn_path.specs.Path.{same_name}
 use Rattle.svn_path.specs.declared.names.NameId.{NameId}
+use Rattle.svn_dump.specs.Dump.{DumpValue}
 use Rattle.svn_dump.specs.Tree.{Tree, Entry, entry_at}
 use Rattle.svn_dump.proofs.Trees.{entry_at-nil}
 use Rattle.svn_dump.proofs.Renaming.Paths.{KeepsSame}
 use Rattle.svn_dump.proofs.Renaming.Trees.{rename_entry, rename_tree, entry_at-rename}
 use Rattle.query_answer.specs.Effective.{NearestMergeinfo, nearest, nearest_from, own_mergeinfo, own_or}
-use Rattle.query_answer.specs.Repo.{nearest_view}
+use Rattle.query_answer.specs.Repo.{IsNearestIn, nearest_view}
 use Rattle.svn_dump.specs.declared.record.ValueId.{ValueId}
-use Rattle.block_map.specs.Map.{HasNoneFrom, IsNearest, IsNearestOrNone}
+use Rattle.block_map.specs.Map.{HasNoneFrom, IsNearest, IsNearestOrNone, revision_in}
 use Rattle.block_map.specs.Standing.{Standing, own_mergeinfo_at}
 use Rattle.block_map.specs.declared.nearest.Nearest.{Nearest}
 
@@ -135,13 +134,16 @@ module _ (tree : Tree NameId ValueId) (path : List NameId) where
   nearest-found None none = sym (nearest_from-none_above (length path) (omega arith) none)
   nearest-found (Some found) (is, none) = sym (nearest_from-found found is none (length path) is.0 (omega arith))
 
-  -- what is found in the tree is the nearest
-  pub nearest-standing : (result : Result (Option Nearest) AllocError) → IfOk result (IsNearestOrNone (own_mergeinfo_at same_name tree) path)
-      → IfOk result (λ found. option_map nearest_view found ≡ nearest same_name tree path)
-  nearest-standing result is =
-      IfOk-weaker result (IsNearestOrNone (own_mergeinfo_at same_name tree) path) (λ found. option_map nearest_view found ≡ nearest same_name tree path)
-      (λ found one. nearest-found found (subst (λ own. IsNearestOrNone own path found) (λ i at. own_mergeinfo-standing same_name tree at i) one))
-      is
+  nearest_depth : (found : Option Nearest) → IsNearestOrNone (own_mergeinfo same_name tree) path found → IfSome found (λ each. each.depth ≤ length path)
+  nearest_depth None none = tt
+  nearest_depth (Some found) (is, none) = is.0
+
+-- what is found in the tree of a revision is the nearest
+pub IsNearestIn-found : (dump : DumpValue) (path : List NameId) (rev : ℕ) (found : Option Nearest)
+    → IsNearestOrNone (own_mergeinfo_at same_name (revision_in dump rev)) path found → IsNearestIn dump path rev found
+IsNearestIn-found dump path rev found is =
+    let one = subst (λ own. IsNearestOrNone own path found) (λ i at. own_mergeinfo-standing same_name (revision_in dump rev) at i) is in
+    record { nearest_is = nearest-found (revision_in dump rev) path found one; depth = nearest_depth (revision_in dump rev) path found one }
 
 -- in a tree without entries there is none
 pub nearest-no_entries : (path : List NameId) → nearest {M = ValueId} same_name [] path ≡ None

@@ -37,11 +37,11 @@ module _ (dump : DumpValue) (index : IndexValue) (kept : MapValue) (ends : List 
     pub IsEndIn-at : (tick : ℕ) → tick ≡ get_or ends rev 0 → IsEndIn dump rev tick
     IsEndIn-at tick at = record { dump_is = repo.dump_is; within = within; end = at ∙ end-at }
 
-    -- which the map has
-    pub end-within : (tick : ℕ) → tick ≡ get_or ends rev 0 → tick ≤ hi_of kept
-    end-within tick at =
-        let few = sum_by-take-le (λ (x : ℕ). x) dump.counts (rev + 1) in
-        omega (arith, at, end-at, few, sum-counts dump repo.dump_is, repo.map_is.whole)
+  -- which the map has
+  pub end-within : (rev tick : ℕ) → IsEndIn dump rev tick → tick ≤ hi_of kept
+  end-within rev tick end =
+      let few = sum_by-take-le (λ (x : ℕ). x) dump.counts (rev + 1) in
+      omega (arith, end.end, few, sum-counts dump repo.dump_is, repo.map_is.whole)
 
 -- what the map says of a path tells whether the path is there
 pub is_there-entry : (tree : Tree NameId ValueId) (path : List NameId) (found : Option kept.Entry)

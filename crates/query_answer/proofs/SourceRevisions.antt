@@ -1,5 +1,6 @@
 -- What is found at the operative revisions of a source, by its kept segments.
-use Rattle.std.proofs.Common.{◌≡◌, ℕ, zero, suc, ◌+◌, ◌<◌, not, ◌&&◌, if◌then◌else◌, List, [], ◌∷◌, Option, Some, None, option_map, is_none, length, map, reverse, bytes_eq, refl, sym, ap, subst, ◌∙◌}
+use Rattle.std.proofs.Common.{◌≡◌, ℕ, zero, suc, ◌+◌, ◌<◌, Bool, true, false, not, ◌&&◌, if◌then◌else◌, List, [], ◌∷◌, Option, Some, None, IfSome, All, option_map, is_none, length, map, reverse, slice_get, bytes_eq, refl, sym, ap, subst, ◌∙◌}
+use Rattle.std.proofs.lemmas.List.Elements.{All-head, All-tail}
 use Rattle.std.specs.List.{range_with_len}
 use Rattle.std.specs.Prelude.{filter_map, option_and_then}
 use Rattle.path_index.specs.History.{history_to, trees_to}
@@ -9,17 +10,21 @@ use Rattle.path_index.specs.Segment.{AreSegments, same_location, segments_of}
 use Rattle.path_index.specs.declared.hit.Hit.{Hit}
 use Rattle.path_index.specs.declared.segment.Segment.{Segment as KeptSegment}
 use Rattle.path_index.proofs.Renaming.{same_location-rename}
-use Rattle.range_list.specs.Rangelist.{inheritability_of}
-use Rattle.range_list.specs.declared.run.Run.{Run}
-use Rattle.svn_path.specs.Components.{path_text}
-use Rattle.svn_path.specs.Path.{components_of, same_name}
+use Rattle.svn_path.specs.Names.{IsTable}
+use Rattle.svn_path.specs.Path.{IsPathOf, components_of, same_name}
 use Rattle.svn_path.specs.declared.names.NameId.{NameId}
 use Rattle.svn_dump.specs.Dump.{DumpValue, IsDump, history_in_bytes, history_view}
 use Rattle.svn_dump.specs.Location.{location}
-use Rattle.merge_info.specs.Value.{MergeInfoValue, ranges_of, runs_at, some_runs}
+use Rattle.merge_info.specs.Inherited.{inherited_revision}
+use Rattle.merge_info.specs.Value.{MergeInfoValue}
+use Rattle.query_answer.specs.Answer.{HasPathOf}
+use Rattle.query_answer.specs.Held.{IsHeldIn, held_ranges_at, held_ranges_in, held_value, is_inherited}
 use Rattle.query_answer.specs.Merged.{eligible_at, found_in, merged_at, merged_revision, operative_location, value_has}
-use Rattle.query_answer.specs.SourceHits.{eligible_hit, hit_has, is_eligible_from, merged_hit, ranges_at, ranges_in}
+use Rattle.query_answer.specs.SourceHits.{eligible_hit, eligible_of_hits, has_in, has_revision, is_eligible_from, lent_ranges, merged_hit, merged_of_hits, segment_path}
+use Rattle.query_answer.specs.declared.held_mergeinfo.HeldMergeinfo.{HeldMergeinfo}
+use Rattle.query_answer.specs.declared.verbs.source.SourceRanges.{SourceRanges}
 use Rattle.query_answer.specs.Repo.{eligible_by, merged_by, location_by, trees_in_bytes}
+use Rattle.query_answer.proofs.HeldRevisions.{held-has, some_have}
 use Rattle.query_answer.proofs.InBytes.{alike, hits-index, location-in_bytes, location-index, name, segments-index, text, trees-renamed, trees_by_number}
 use Rattle.query_answer.proofs.OperativeLocations.{found-operative_of, found_in-rename, found_of_hit}
 
@@ -27,47 +32,75 @@ use Rattle.query_answer.proofs.OperativeLocations.{found-operative_of, found_in-
 abbrev pub found_by : {X : Type 0} → DumpValue → List NameId → ℕ → (List (List ℕ) → ℕ → Option X) → List X
 found_by dump path rev find = found_in bytes_eq (history_in_bytes dump) (trees_in_bytes dump) (components_of dump.names path) rev find
 
--- ---- by the ranges of the segments
+-- ---- by what mergeinfo has of each operative revision
 
-module _ (names : List (List ℕ)) (value : MergeInfoValue) where
-  -- the ranges of a path have a revision if the value has it
-  has-ranges_of : (located : List (List ℕ)) (rev : ℕ) → option_and_then (λ runs. inheritability_of runs rev) (ranges_of value (path_text located)) ≡ value_has value located rev
-  has-ranges_of located rev = by_runs (runs_at value (path_text located))
-    where
-      by_runs : (runs : List Run) → option_and_then (λ all. inheritability_of all rev) (some_runs runs) ≡ inheritability_of runs rev
-      by_runs [] = refl
-      by_runs (run ∷ runs) = refl
+-- the path of a segment
+segment_path-view : (all : List KeptSegment) (n : ℕ) → option_and_then (λ segment. segment.path) (slice_get (map segment_view all) n) ≡ segment_path all n
+segment_path-view [] n = refl
+segment_path-view (segment ∷ all) zero = refl
+segment_path-view (segment ∷ all) (suc n) = segment_path-view all n
 
-  merged_in : (all : List KeptSegment) (n rev : ℕ)
-      → merged_hit (map (ranges_in names value) all) (record { rev = rev; segment = n })
-      ≡ found_of_hit (λ located. merged_at (value_has value) (components_of names located)) (map segment_view all) (record { rev = rev; segment = n })
-  merged_in [] n rev = refl
-  merged_in (segment ∷ all) zero rev = by_path segment.path
+module _ (names : List (List ℕ)) (value : MergeInfoValue) (all : List KeptSegment) (has : Hit → Option Bool)
+    (has_is : (hit : Hit) → has hit ≡ option_and_then (λ located. value_has value (components_of names located) hit.rev) (segment_path all hit.segment)) where
+  merged_in : (hit : Hit) → merged_hit has hit ≡ found_of_hit (λ located. merged_at (value_has value) (components_of names located)) (map segment_view all) hit
+  merged_in hit =
+      ap (option_map (merged_revision hit.rev)) (has_is hit) ∙ by_path (segment_path all hit.segment)
+      ∙ ap (option_and_then (λ located. merged_at (value_has value) (components_of names located) hit.rev)) (sym (segment_path-view all hit.segment))
     where
       by_path : (path : Option (List NameId))
-          → option_map (merged_revision rev) (option_and_then (λ runs. inheritability_of runs rev) (option_and_then (λ each. ranges_of value (path_text (components_of names each))) path))
-          ≡ option_and_then (λ located. merged_at (value_has value) (components_of names located) rev) path
+          → option_map (merged_revision hit.rev) (option_and_then (λ located. value_has value (components_of names located) hit.rev) path)
+          ≡ option_and_then (λ located. merged_at (value_has value) (components_of names located) hit.rev) path
       by_path None = refl
-      by_path (Some located) = ap (option_map (merged_revision rev)) (has-ranges_of (components_of names located) rev)
-  merged_in (segment ∷ all) (suc n) rev = merged_in all n rev
+      by_path (Some located) = refl
 
   module _ (target : ℕ → Option (List NameId)) (other : ℕ → Option (List (List ℕ)))
       (alike_at : (located : List NameId) (rev : ℕ) → same_location bytes_eq (other rev) (Some (components_of names located)) ≡ same_location same_name (target rev) (Some located)) where
-    eligible_in : (all : List KeptSegment) (n rev : ℕ)
-        → eligible_hit (map (ranges_in names value) all) all target (record { rev = rev; segment = n })
-        ≡ found_of_hit (λ located. eligible_at bytes_eq (value_has value) other (components_of names located)) (map segment_view all) (record { rev = rev; segment = n })
-    eligible_in [] n rev = refl
-    eligible_in (segment ∷ all) zero rev = by_path segment.path refl
+    eligible_in : (hit : Hit) → eligible_hit has all target hit ≡ found_of_hit (λ located. eligible_at bytes_eq (value_has value) other (components_of names located)) (map segment_view all) hit
+    eligible_in hit =
+        by_path (segment_path all hit.segment) (has_is hit)
+        ∙ ap (option_and_then (λ located. eligible_at bytes_eq (value_has value) other (components_of names located) hit.rev)) (sym (segment_path-view all hit.segment))
       where
-        by_path : (path : Option (List NameId)) → segment.path ≡ path
-            → (if is_eligible_from (map (ranges_in names value) (segment ∷ all)) target (record { rev = rev; segment = 0 }) path then Some rev else None)
-            ≡ option_and_then (λ located. eligible_at bytes_eq (value_has value) other (components_of names located) rev) path
-        by_path None at = refl
-        by_path (Some located) at =
-            let has : hit_has (map (ranges_in names value) (segment ∷ all)) (record { rev = rev; segment = 0 }) ≡ value_has value (components_of names located) rev =
-            ap (λ path. option_and_then (λ runs. inheritability_of runs rev) (option_and_then (ranges_at names value) path)) at ∙ has-ranges_of (components_of names located) rev in
-            λ i. if is_none (has i) && not (sym (alike_at located rev) i) then Some rev else None
-    eligible_in (segment ∷ all) (suc n) rev = eligible_in all n rev
+        by_path : (path : Option (List NameId)) → has hit ≡ option_and_then (λ located. value_has value (components_of names located) hit.rev) path
+            → (if is_eligible_from has target hit path then Some hit.rev else None)
+            ≡ option_and_then (λ located. eligible_at bytes_eq (value_has value) other (components_of names located) hit.rev) path
+        by_path None is = refl
+        by_path (Some located) is = λ i. if is_none (is i) && not (sym (alike_at located hit.rev) i) then Some hit.rev else None
+
+-- ---- by the ranges of the segments
+
+module _ (names : List (List ℕ)) (table : IsTable names) (held : HeldMergeinfo) (is : IsHeldIn names held) where
+  -- the ranges of a segment have a revision exactly where the mergeinfo has it for the path of the segment
+  has-held : (all : List KeptSegment) → All (HasPathOf names) all → (hit : Hit)
+      → has_revision (is_inherited held) (map (held_ranges_in names held) all) hit
+      ≡ option_and_then (λ located. value_has (held_value names held) (components_of names located) hit.rev) (segment_path all hit.segment)
+  has-held all each hit =
+      ap (λ has. if is_inherited held then inherited_revision has else has) (ranges_at_segment all hit.segment)
+      ∙ by_path (segment_path all hit.segment) (of_segment all each hit.segment)
+    where
+      ranges_at_segment : (some : List KeptSegment) (n : ℕ)
+          → option_and_then (λ ranges. some_have ranges hit.rev) (slice_get (map (held_ranges_in names held) some) n) ≡ some_have (option_and_then (held_ranges_at names held) (segment_path some n)) hit.rev
+      ranges_at_segment [] n = refl
+      ranges_at_segment (segment ∷ some) zero = refl
+      ranges_at_segment (segment ∷ some) (suc n) = ranges_at_segment some n
+
+      of_segment : (some : List KeptSegment) → All (HasPathOf names) some → (n : ℕ) → IfSome (segment_path some n) (IsPathOf names)
+      of_segment [] each n = tt
+      of_segment (segment ∷ some) each zero = All-head (HasPathOf names) segment some each
+      of_segment (segment ∷ some) each (suc n) = of_segment some (All-tail (HasPathOf names) segment some each) n
+
+      nothing : (b : Bool) → (if b then inherited_revision None else None) ≡ None
+      nothing true = refl
+      nothing false = refl
+
+      by_path : (path : Option (List NameId)) → IfSome path (IsPathOf names)
+          → (if is_inherited held then inherited_revision (some_have (option_and_then (held_ranges_at names held) path) hit.rev) else some_have (option_and_then (held_ranges_at names held) path) hit.rev)
+          ≡ option_and_then (λ located. value_has (held_value names held) (components_of names located) hit.rev) path
+      by_path None of = nothing (is_inherited held)
+      by_path (Some located) of = held-has names table held.value.now is.canonical located of hit.rev held.rest.now is.rest
+
+  pub has_in-held : (ranges : SourceRanges) (all : List KeptSegment) → map lent_ranges ranges.by_segment.items ≡ map (held_ranges_in names held) all → ranges.are_inherited ≡ is_inherited held
+      → All (HasPathOf names) all → (hit : Hit) → has_in ranges hit ≡ option_and_then (λ located. value_has (held_value names held) (components_of names located) hit.rev) (segment_path all hit.segment)
+  has_in-held ranges all are inherited each hit = (λ i. has_revision (inherited i) (are i) hit) ∙ has-held all each hit
 
 module _ (dump : DumpValue) (kept : IsDump dump) (path : List NameId) (rev : ℕ) (within : rev < length dump.counts) where
   module _ (segments : List KeptSegment) (hits : List Hit)
@@ -92,23 +125,25 @@ module _ (dump : DumpValue) (kept : IsDump dump) (path : List NameId) (rev : ℕ
         ∙ sym (found_in-rename (name dump kept) (text dump kept) same_name bytes_eq (alike dump kept) (history_view dump) (trees_by_number dump kept) path rev find)
         ∙ ap (λ trees. found_in bytes_eq (history_in_bytes dump) trees (components_of dump.names path) rev find) (sym (trees-renamed dump kept))
 
-    -- the merged revisions
-    pub merged-merged_by : (value : MergeInfoValue) → reverse (filter_map (merged_hit (map (ranges_in dump.names value) segments)) hits) ≡ merged_by dump path rev value
-    merged-merged_by value =
-        (λ i. reverse (filter_map (λ hit. merged_in dump.names value segments hit.segment hit.rev i) hits)) ∙ found-found_by (merged_at (value_has value))
+    module _ (value : MergeInfoValue) (has : Hit → Option Bool)
+        (has_is : (hit : Hit) → has hit ≡ option_and_then (λ located. value_has value (components_of dump.names located) hit.rev) (segment_path segments hit.segment)) where
+      -- the merged revisions
+      pub merged-merged_by : merged_of_hits has hits ≡ merged_by dump path rev value
+      merged-merged_by =
+          (λ i. reverse (filter_map (λ hit. merged_in dump.names value segments has has_is hit i) hits)) ∙ found-found_by (merged_at (value_has value))
 
-    -- the eligible revisions
-    module _ (value : MergeInfoValue) (target : List NameId) (target_rev : ℕ) (target_within : target_rev < length dump.counts) where
-      location_alike : (located : List NameId) (number : ℕ) → same_location bytes_eq (location_by dump target target_rev number) (Some (components_of dump.names located))
-          ≡ same_location same_name (location_in dump.records target target_rev number) (Some located)
-      location_alike located number =
-          ap (λ found. same_location bytes_eq found (Some (components_of dump.names located))) (location-in_bytes dump kept target_rev target_within target number)
-          ∙ same_location-rename (name dump kept) same_name bytes_eq (alike dump kept) (location_in dump.records target target_rev number) (Some located)
+      -- the eligible revisions
+      module _ (target : List NameId) (target_rev : ℕ) (target_within : target_rev < length dump.counts) where
+        location_alike : (located : List NameId) (number : ℕ) → same_location bytes_eq (location_by dump target target_rev number) (Some (components_of dump.names located))
+            ≡ same_location same_name (location_in dump.records target target_rev number) (Some located)
+        location_alike located number =
+            ap (λ found. same_location bytes_eq found (Some (components_of dump.names located))) (location-in_bytes dump kept target_rev target_within target number)
+            ∙ same_location-rename (name dump kept) same_name bytes_eq (alike dump kept) (location_in dump.records target target_rev number) (Some located)
 
-      pub eligible-eligible_by : reverse (filter_map (eligible_hit (map (ranges_in dump.names value) segments) segments (location_in dump.records target target_rev)) hits) ≡ eligible_by dump path rev target target_rev value
-      eligible-eligible_by =
-          (λ i. reverse (filter_map (λ hit. eligible_in dump.names value (location_in dump.records target target_rev) (location_by dump target target_rev) location_alike segments hit.segment hit.rev i) hits))
-          ∙ found-found_by (eligible_at bytes_eq (value_has value) (location_by dump target target_rev))
+        pub eligible-eligible_by : eligible_of_hits has segments (location_in dump.records target target_rev) hits ≡ eligible_by dump path rev target target_rev value
+        eligible-eligible_by =
+            (λ i. reverse (filter_map (λ hit. eligible_in dump.names value segments has has_is (location_in dump.records target target_rev) (location_by dump target target_rev) location_alike hit i) hits))
+            ∙ found-found_by (eligible_at bytes_eq (value_has value) (location_by dump target target_rev))
 
 -- ---- a value without paths
 

@@ -1,7 +1,10 @@
 pub mod Answer
 pub mod Effective
+pub mod Held
+pub mod HeldValue
 pub mod Merged
 pub mod Peg
 pub mod Query
 pub mod Repo
 pub mod SourceHits
+pub mod Worker

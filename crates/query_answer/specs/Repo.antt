@@ -1,22 +1,23 @@
 -- A repository: a dump of a lawful history, and the answers to queries about it.
-use Rattle.std.specs.Prelude.{◌≡◌, ℕ, ◌<◌, List, Option, Some, None, Result, Ok, Err, All, bytes_eq, length, map}
+use Rattle.std.specs.Prelude.{◌≡◌, ℕ, ◌<◌, ◌≤◌, List, Option, Some, None, IfSome, Result, Ok, Err, All, bytes_eq, length, map, option_map}
 use Rattle.path_index.specs.History.{history_to, trees_to}
 use Rattle.path_index.specs.Index.{AreMaximal, AreSegmentsOf, IndexValue, IsThere, segment_view}
 use Rattle.path_index.specs.Operative.{operative_of}
 use Rattle.path_index.specs.declared.hit.Hit.{Hit}
 use Rattle.path_index.specs.declared.segment.Segment.{Segment as KeptSegment}
+use Rattle.svn_path.specs.Components.{parts_of}
 use Rattle.svn_path.specs.Path.{same_name, components_of, IsPathOf}
 use Rattle.svn_path.specs.declared.names.NameId.{NameId}
-use Rattle.svn_dump.specs.Dump.{DumpValue, IsDump, history_in_bytes, history_view, text_of}
+use Rattle.svn_dump.specs.Dump.{DumpValue, IsDump, history_in_bytes, history_view}
 use Rattle.svn_dump.specs.Fault.{first_fault}
 use Rattle.svn_dump.specs.Location.{location}
 use Rattle.svn_dump.specs.Tree.{tree_of, trees_of}
 use Rattle.svn_dump.specs.declared.record.ValueId.{ValueId}
 use Rattle.block_map.specs.Ends.{ends_of}
-use Rattle.block_map.specs.Map.{IsMapOf, MapValue}
+use Rattle.block_map.specs.Map.{IsEndIn, IsMapOf, MapValue, revision_in}
 use Rattle.block_map.specs.declared.nearest.Nearest.{Nearest}
-use Rattle.query_answer.specs.Answer.{Answer, HasPathOf, TreesOfBytes, if_both_exist, if_peg_exists, with_effective_mergeinfo, answer_of, eligible_lines, locate_lines, log_lines, merged_lines, mergeinfo_lines, ok_answer, refused_answer, segments_lines}
-use Rattle.query_answer.specs.Effective.{NearestMergeinfo, effective_of, effective_value}
+use Rattle.query_answer.specs.Answer.{Answer, HasPathOf, TreesOfBytes, if_both_exist, if_peg_exists, with_effective_mergeinfo, with_value, answer_of, eligible_lines, locate_lines, log_lines, merged_lines, mergeinfo_lines, ok_answer, refused_answer, segments_lines}
+use Rattle.query_answer.specs.Effective.{NearestMergeinfo, effective_value, nearest}
 use Rattle.query_answer.specs.Merged.{eligible_revisions, merged_revisions, value_has}
 use Rattle.query_answer.specs.Peg.{Peg, PegValue, peg_view}
 use Rattle.query_answer.specs.Query.{Query}
@@ -24,7 +25,12 @@ use Rattle.merge_info.specs.Value.{MergeInfoValue}
 use Rattle.query_answer.specs.declared.effective_mergeinfo.Effective.{Effective}
 use Rattle.query_answer.specs.declared.effective_mergeinfo.Effective.TheVariants.{Malformed, Value}
 use Rattle.query_answer.specs.declared.merged_revision.MergedRevision.{MergedRevision}
+use Rattle.query_answer.specs.Held.{held_value}
+use Rattle.query_answer.specs.declared.held_mergeinfo.HeldMergeinfo.{HeldMergeinfo}
+use Rattle.query_answer.specs.declared.target.Target.{Target}
 use Rattle.query_answer.specs.declared.verbs.pair.Pair.{Pair}
+use Rattle.query_answer.specs.declared.verbs.pair.Wanted.{Wanted}
+use Rattle.query_answer.specs.declared.verbs.pair.Wanted.TheVariants as wanted
 use Rattle.query_answer.specs.declared.status.Status.{Status}
 
 -- the index of a dump's records
@@ -81,9 +87,24 @@ eligible_answer dump source target =
 
 -- ---- its paths
 
+abbrev pub nearest_view : Nearest → NearestMergeinfo ValueId
+nearest_view found = record { mergeinfo = found.mi; depth = found.depth }
+
 -- the peg of a path of the dump
 abbrev pub peg_found : DumpValue → PegValue → List NameId → Peg
 peg_found dump peg path = record { path = components_of dump.names path; rev = peg.rev }
+
+-- the path spells the bytes of a peg, and the revision of the peg ends at the tick
+pub record IsPegKnown (dump : DumpValue) (peg : PegValue) (path : List NameId) (tick : ℕ) : Type 0 where
+  pub of_names : IsPathOf dump.names path
+  pub spells : components_of dump.names path ≡ parts_of peg.path
+  pub ends : IsEndIn dump peg.rev tick
+
+-- the path of a peg and the end of its revision; or there are none, and this is the status of each answer about the peg
+abbrev pub IsPegLookedUp : DumpValue → PegValue → Result (List NameId × ℕ) Status → Type 0
+IsPegLookedUp dump peg (Ok found) = IsPegKnown dump peg found.0 found.1
+IsPegLookedUp dump peg (Err status) =
+    (answer : Answer) → if_peg_exists (trees_in_bytes dump) (peg_view peg) answer ≡ refused_answer status
 
 -- the path of a peg is in the tree of its revision, so each answer about the peg has its result lines
 pub record IsPathFound (dump : DumpValue) (peg : PegValue) (path : List NameId) : Type 0 where
@@ -100,6 +121,21 @@ IsPegFound dump peg (Ok path) = IsPathFound dump peg path
 IsPegFound dump peg (Err status) =
     (answer : Answer) → if_peg_exists (trees_in_bytes dump) (peg_view peg) answer ≡ refused_answer status
 
+-- the nearest mergeinfo of a path is found, and is that of so many of its components at most
+pub record IsNearestIn (dump : DumpValue) (path : List NameId) (rev : ℕ) (found : Option Nearest) : Type 0 where
+  pub nearest_is : option_map nearest_view found ≡ nearest same_name (revision_in dump rev) path
+  pub depth : IfSome found (λ each. each.depth ≤ length path)
+
+-- the path of a peg is found, and its nearest mergeinfo
+pub record IsTargetFound (dump : DumpValue) (peg : PegValue) (target : Target) : Type 0 where
+  pub path : IsPathFound dump peg target.path
+  pub nearest : IsNearestIn dump target.path peg.rev target.nearest
+
+abbrev pub IsTargetOrNone : DumpValue → PegValue → Result Target Status → Type 0
+IsTargetOrNone dump peg (Ok target) = IsTargetFound dump peg target
+IsTargetOrNone dump peg (Err status) =
+    (answer : Answer) → if_peg_exists (trees_in_bytes dump) (peg_view peg) answer ≡ refused_answer status
+
 -- these are the segments of a path of the dump in a revision
 pub record AreSegmentsIn (dump : DumpValue) (path : List NameId) (rev : ℕ) (segments : List KeptSegment) : Type 0 where
   pub of_names : All (HasPathOf dump.names) segments
@@ -114,9 +150,6 @@ AreHitsIn dump segments hits =
 
 -- ---- effective mergeinfo
 
-abbrev pub nearest_view : Nearest → NearestMergeinfo ValueId
-nearest_view found = record { mergeinfo = found.mi; depth = found.depth }
-
 -- the value, or none if it is malformed
 abbrev pub effective_view : Effective → Option MergeInfoValue
 effective_view (Value value) = Some value
@@ -126,19 +159,14 @@ effective_view Malformed = None
 abbrev pub effective_in : DumpValue → List NameId → ℕ → Option MergeInfoValue
 effective_in dump path rev = effective_value (tree_of (trees_in_bytes dump) rev) (components_of dump.names path)
 
--- the value that holds for a path, given the nearest text
-abbrev pub effective_of_found : DumpValue → List NameId → Nearest → Option MergeInfoValue
-effective_of_found dump path found =
-    effective_of (components_of dump.names path) (Some (record { mergeinfo = text_of dump.values found.mi.0; depth = found.depth }))
-
 -- ---- a source and a target
 
--- both paths are found, and the value is that of the target, so each answer about the two has its result lines
+-- both paths are found, so each answer about the two has its result lines, unless the mergeinfo is malformed
 pub record IsPair (dump : DumpValue) (source target : PegValue) (pair : Pair) : Type 0 where
   pub source_is : IsPathFound dump source pair.source
-  pub target_is : IsPathFound dump target pair.target
+  pub target_is : IsTargetFound dump target pair.target
   pub answered : (answer : Peg → Peg → MergeInfoValue → Answer) → with_pair_in dump source target answer
-      ≡ answer (peg_found dump source pair.source) (peg_found dump target pair.target) pair.mergeinfo
+      ≡ with_value (effective_in dump pair.target.path target.rev) (answer (peg_found dump source pair.source) (peg_found dump target pair.target.path))
 
 -- the pair of two pegs; or there is none, and this is the status of each answer about them
 abbrev pub IsPairFound : DumpValue → PegValue → PegValue → Result Pair Status → Type 0
@@ -147,13 +175,14 @@ IsPairFound dump source target (Err status) =
     (answer : MergeInfoValue → Answer)
     → if_both_exist (trees_in_bytes dump) (peg_view source) (peg_view target) answer ≡ refused_answer status
 
+-- which revisions are asked for
+abbrev pub pair_answer : DumpValue → Wanted → PegValue → PegValue → Answer
+pair_answer dump wanted.Merged source target = merged_answer dump source target
+pair_answer dump wanted.Eligible source target = eligible_answer dump source target
+
 abbrev pub merged_by : DumpValue → List NameId → ℕ → MergeInfoValue → List MergedRevision
 merged_by dump path rev value =
     merged_revisions bytes_eq (history_in_bytes dump) (trees_in_bytes dump) (components_of dump.names path) rev (value_has value)
-
--- the merged revisions of a pair
-abbrev pub merged_in : DumpValue → PegValue → Pair → List MergedRevision
-merged_in dump source pair = merged_by dump pair.source source.rev pair.mergeinfo
 
 -- where a path of the dump was in another revision
 abbrev pub location_by : DumpValue → List NameId → ℕ → ℕ → Option (List (List ℕ))
@@ -163,5 +192,10 @@ abbrev pub eligible_by : DumpValue → List NameId → ℕ → List NameId → �
 eligible_by dump path rev target target_rev value =
     eligible_revisions bytes_eq (history_in_bytes dump) (trees_in_bytes dump) (components_of dump.names path) rev (value_has value) (location_by dump target target_rev)
 
-abbrev pub eligible_in : DumpValue → PegValue → PegValue → Pair → List ℕ
-eligible_in dump source target pair = eligible_by dump pair.source source.rev pair.target target.rev pair.mergeinfo
+-- the merged revisions of a pair, and those that are eligible
+abbrev pub merged_in : DumpValue → PegValue → Pair → HeldMergeinfo → List MergedRevision
+merged_in dump source pair held = merged_by dump pair.source source.rev (held_value dump.names held)
+
+abbrev pub eligible_in : DumpValue → PegValue → PegValue → Pair → HeldMergeinfo → List ℕ
+eligible_in dump source target pair held =
+    eligible_by dump pair.source source.rev pair.target.path target.rev (held_value dump.names held)

@@ -1,29 +1,22 @@
 -- Merged and eligible revisions by the kept segments of a source and their operative revisions.
 use Rattle.std.specs.Prelude.{◌≡◌, ℕ, ◌≤◌, Bool, false, List, Option, None, Some, filter_map, map, option_and_then, option_map, reverse, slice_get, if◌then◌else◌}
 use Rattle.std.specs.Borrow.{Bor}
-use Rattle.svn_path.specs.Components.{path_text}
-use Rattle.svn_path.specs.Path.{components_of, same_name}
+use Rattle.svn_path.specs.Path.{same_name}
 use Rattle.svn_path.specs.declared.names.NameId.{NameId}
 use Rattle.range_list.specs.Rangelist.{inheritability_of}
 use Rattle.range_list.specs.declared.run.Run.{Run}
-use Rattle.merge_info.specs.Value.{MergeInfoValue, ranges_of}
+use Rattle.merge_info.specs.Inherited.{inherited_revision}
 use Rattle.path_index.specs.Index.{segment_view}
 use Rattle.path_index.specs.Segment.{AreSegments}
 use Rattle.path_index.specs.declared.hit.Hit.{Hit}
 use Rattle.path_index.specs.declared.segment.Segment.{Segment as KeptSegment}
 use Rattle.query_answer.specs.Merged.{is_eligible, merged_revision}
 use Rattle.query_answer.specs.declared.merged_revision.MergedRevision.{MergedRevision}
+use Rattle.query_answer.specs.declared.verbs.source.SourceRanges.{SourceRanges}
 
 -- the path of a segment of the list, if there is this segment and it is no gap
 abbrev pub segment_path : List KeptSegment → ℕ → Option (List NameId)
 segment_path segments n = option_and_then (λ segment. segment.path) (slice_get segments n)
-
--- the revisions of a path that a value has, if it has any
-abbrev pub ranges_at : List (List ℕ) → MergeInfoValue → List NameId → Option (List Run)
-ranges_at names value path = ranges_of value (path_text (components_of names path))
-
-abbrev pub ranges_in : List (List ℕ) → MergeInfoValue → KeptSegment → Option (List Run)
-ranges_in names value segment = option_and_then (ranges_at names value) segment.path
 
 -- the runs of a reference
 abbrev pub lent_ranges : Option (Bor (List Run)) → Option (List Run)
@@ -33,27 +26,34 @@ lent_ranges ranges = option_map (λ lent. lent.now) ranges
 abbrev pub hit_has : List (Option (List Run)) → Hit → Option Bool
 hit_has ranges hit = option_and_then (λ some. option_and_then (λ runs. inheritability_of runs hit.rev) some) (slice_get ranges hit.segment)
 
-abbrev pub merged_hit : List (Option (List Run)) → Hit → Option MergedRevision
-merged_hit ranges hit = option_map (merged_revision hit.rev) (hit_has ranges hit)
+-- the same, where only inheritable revisions may count
+abbrev pub has_revision : Bool → List (Option (List Run)) → Hit → Option Bool
+has_revision are_inherited ranges hit = if are_inherited then inherited_revision (hit_has ranges hit) else hit_has ranges hit
+
+abbrev pub has_in : SourceRanges → Hit → Option Bool
+has_in ranges hit = has_revision ranges.are_inherited (map lent_ranges ranges.by_segment.items) hit
+
+abbrev pub merged_hit : (Hit → Option Bool) → Hit → Option MergedRevision
+merged_hit has hit = option_map (merged_revision hit.rev) (has hit)
 
 -- the merged revisions in rising order, where the hits fall
-abbrev pub merged_of_hits : List (Option (List Run)) → List Hit → List MergedRevision
-merged_of_hits ranges hits = reverse (filter_map (merged_hit ranges) hits)
+abbrev pub merged_of_hits : (Hit → Option Bool) → List Hit → List MergedRevision
+merged_of_hits has hits = reverse (filter_map (merged_hit has) hits)
 
--- the ranges of its segment lack it, and the target was not at the path of the segment
-abbrev pub is_eligible_from : List (Option (List Run)) → (ℕ → Option (List NameId)) → Hit → Option (List NameId) → Bool
-is_eligible_from ranges target hit None = false
-is_eligible_from ranges target hit (Some here) = is_eligible same_name (λ path rev. hit_has ranges hit) target here hit.rev
+-- the mergeinfo lacks it, and the target was not at the path of the segment
+abbrev pub is_eligible_from : (Hit → Option Bool) → (ℕ → Option (List NameId)) → Hit → Option (List NameId) → Bool
+is_eligible_from has target hit None = false
+is_eligible_from has target hit (Some here) = is_eligible same_name (λ path rev. has hit) target here hit.rev
 
-abbrev pub is_eligible_hit : List (Option (List Run)) → List KeptSegment → (ℕ → Option (List NameId)) → Hit → Bool
-is_eligible_hit ranges segments target hit = is_eligible_from ranges target hit (segment_path segments hit.segment)
+abbrev pub is_eligible_hit : (Hit → Option Bool) → List KeptSegment → (ℕ → Option (List NameId)) → Hit → Bool
+is_eligible_hit has segments target hit = is_eligible_from has target hit (segment_path segments hit.segment)
 
-abbrev pub eligible_hit : List (Option (List Run)) → List KeptSegment → (ℕ → Option (List NameId)) → Hit → Option ℕ
-eligible_hit ranges segments target hit = if is_eligible_hit ranges segments target hit then Some hit.rev else None
+abbrev pub eligible_hit : (Hit → Option Bool) → List KeptSegment → (ℕ → Option (List NameId)) → Hit → Option ℕ
+eligible_hit has segments target hit = if is_eligible_hit has segments target hit then Some hit.rev else None
 
 -- the eligible revisions in rising order, where the hits fall
-abbrev pub eligible_of_hits : List (Option (List Run)) → List KeptSegment → (ℕ → Option (List NameId)) → List Hit → List ℕ
-eligible_of_hits ranges segments target hits = reverse (filter_map (eligible_hit ranges segments target) hits)
+abbrev pub eligible_of_hits : (Hit → Option Bool) → List KeptSegment → (ℕ → Option (List NameId)) → List Hit → List ℕ
+eligible_of_hits has segments target hits = reverse (filter_map (eligible_hit has segments target) hits)
 
 -- the segments tell where a path was in each revision: nowhere above them
 pub record TellsLocations (located : ℕ → Option (List NameId)) (segments : List KeptSegment) : Type 0 where

@@ -3,19 +3,19 @@ ghost use Rattle.std.specs.Prelude.{◌≡◌, ◌+◌, ◌++◌, OnOk};
 ghost use Rattle.query_answer.specs.Answer.{HasPathsOf, answer_head, answer_in_bytes, text_at};
 
 use crate::merged_revision::MergedRevision;
+use crate::printed_mergeinfo::PrintedMergeinfo;
 use crate::repo::Repo;
 use crate::result_lines::{
     write_eligible, write_location, write_log, write_merged, write_mergeinfo, write_segments,
 };
 use crate::status::Status;
-use merge_info::MergeInfo;
 use path_index::{Hit, Segment};
 use std::alloc::AllocError;
 use svn_path::Path;
 use svn_text::push_number;
 
 /// The answer to a query, with paths by the names of a repository. Contracts see its status and its result lines, and
-/// promise nothing else of the variant, which tests alone compare with the verb.
+/// promise nothing else of the variant.
 #[derive(Drop)]
 pub enum Answer {
     /// There are no result lines, for this reason.
@@ -30,7 +30,7 @@ pub enum Answer {
         hits: Vec<Hit>,
     },
     /// The mergeinfo that holds for it.
-    Mergeinfo(MergeInfo),
+    Mergeinfo(PrintedMergeinfo),
     /// The revisions that were merged into a target, in rising order.
     Merged(Vec<MergedRevision>),
     /// The revisions that are still to be merged into a target, in rising order.

@@ -1,51 +1,65 @@
 //! The mergeinfo that a path has or inherits.
-ghost use Rattle.std.specs.Prelude.{◌≡◌, ◌<◌, ◌≤◌, IfOk, length};
-ghost use Rattle.svn_path.specs.Path.{IsPathOf};
-ghost use Rattle.query_answer.specs.Repo.{effective_in, effective_of_found, effective_view};
+ghost use Rattle.std.specs.Prelude.{◌≡◌, ◌≤◌, IfOk, drop, length};
+ghost use Rattle.merge_info.specs.CanonicalValue.{inherited_value};
+ghost use Rattle.svn_path.specs.Components.{path_text};
+ghost use Rattle.svn_path.specs.Path.{IsPathOf, components_of};
+ghost use Rattle.query_answer.specs.Repo.{effective_in, effective_view};
+ghost use Rattle.query_answer.specs.Worker.{IsSeenOf, Learns};
 
 use crate::effective_mergeinfo::Effective;
 use crate::repo::Repo;
-use block_map::Nearest;
-use merge_info::{MergeError, MergeInfo};
+use merge_info::MergeInfo;
 use std::alloc::{AllocError, Global};
 use svn_path::Path;
+use value_memo::{Memo, Parsed, Seen};
 
 /// The bytes that are reserved for a printed path at first.
 pub(crate) const USUAL_PATH_LENGTH: usize = 64;
 
 /// The mergeinfo that holds for a path in a revision. The path is by the names of the repository. If it is not in the
-/// tree of the revision, this is what it would inherit; above the youngest revision that is nothing.
-pub fn effective(alloc: Global, repo: &Repo, path: &Path, rev: u32) -> Result<Effective, AllocError>
-    requires { IsPathOf repo.now.names path.now }
-    ensures { IfOk result (λ value. effective_view value ≡ effective_in repo.now path.now rev) }
+/// tree of the revision, this is what it would inherit; above the youngest revision that is the empty value.
+///
+/// The memo has a cell for each mergeinfo text of the repository, and the worker was answered for such texts alone.
+pub fn effective<'r>(
+    alloc: Global,
+    repo: &'r Repo,
+    path: &Path,
+    rev: u32,
+    memo: &Memo<'r>,
+    seen: &mut Seen<'r>,
+) -> Result<Effective, AllocError>
+    requires path { IsPathOf repo.now.names path.now }
+    requires seen { IsSeenOf repo.now.values memo.now seen.old }
+    ensures value { IfOk result (λ value. effective_view value ≡ effective_in repo.now path.now rev) }
+    ensures seen { IsSeenOf repo.now.values memo.now seen.new }
+    ensures learns { Learns repo.now.values seen.old seen.new }
 {
-    match repo.nearest(path, rev)? {
-        None => Ok(Effective::Value(MergeInfo::empty(alloc))),
-        Some(found) => effective_of(alloc, repo, path, found),
+    let Some(found) = repo.nearest(path, rev)? else {
+        return Ok(Effective::Value(MergeInfo::empty(alloc)));
+    };
+    match seen.value(memo, found.mi, repo.mergeinfo_text(found.mi))? {
+        Parsed::Malformed => Ok(Effective::Malformed),
+        Parsed::Good(value) if found.depth == path.len() => Ok(Effective::Value(value.dup()?)),
+        Parsed::Good(value) => {
+            Ok(Effective::Value(inherited_by(alloc, repo, path, found.depth, value)?))
+        }
     }
 }
 
-/// What the nearest mergeinfo says of a path.
-fn effective_of(
+/// What a path inherits of the value of its first `depth` components.
+pub(crate) fn inherited_by(
     alloc: Global,
     repo: &Repo,
     path: &Path,
-    found: Nearest,
-) -> Result<Effective, AllocError>
+    depth: usize,
+    value: &MergeInfo,
+) -> Result<MergeInfo, AllocError>
     requires names { IsPathOf repo.now.names path.now }
-    requires value { found.mi.0 < length repo.now.values }
-    requires depth { found.depth ≤ length path.now }
-    ensures { IfOk result (λ value. effective_view value ≡ effective_of_found repo.now path.now found) }
+    requires depth { depth ≤ length path.now }
+    ensures { IfOk result (λ below. below
+        ≡ inherited_value (path_text (drop depth (components_of repo.now.names path.now))) value.now) }
 {
-    let value = match MergeInfo::parse(alloc, repo.mergeinfo_text(found.mi)) {
-        Ok(value) => value,
-        Err(MergeError::Malformed) => return Ok(Effective::Malformed),
-        Err(MergeError::Memory) => return Err(AllocError),
-    };
-    if found.depth == path.len() {
-        return Ok(Effective::Value(value));
-    }
     let mut rest = Vec::with_capacity(alloc, USUAL_PATH_LENGTH)?;
-    path.write_below(found.depth, repo.names(), &mut rest)?;
-    Ok(Effective::Value(value.inherited(&rest)?))
+    path.write_below(depth, repo.names(), &mut rest)?;
+    value.inherited(&rest)
 }

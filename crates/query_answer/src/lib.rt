@@ -3,20 +3,24 @@
 
 mod answers;
 mod effective_mergeinfo;
+mod held_mergeinfo;
 pub mod inheritance;
 mod locations;
 mod merged_revision;
 mod peg;
+mod printed_mergeinfo;
 mod query;
 mod repo;
 mod result_lines;
 mod status;
+mod target;
 mod verbs;
 
 pub use answers::Answer;
 pub use effective_mergeinfo::Effective;
 pub use merged_revision::MergedRevision;
 pub use peg::Peg;
+pub use printed_mergeinfo::PrintedMergeinfo;
 pub use query::Query;
 pub use repo::Repo;
 pub use status::Status;

@@ -9,12 +9,14 @@ ghost use Rattle.path_index.specs.Index.{location_in};
 
 use crate::peg::Peg;
 use crate::status::Status;
+use crate::target::Target;
 use block_map::{Ends, Map, Nearest};
 use path_index::{Hit, Index, Segment};
 use std::alloc::{AllocError, Global};
 use std::marker::Model;
 use svn_dump::{Dump, ValueId};
 use svn_path::{Lookup, Names, Path};
+use value_memo::Memo;
 
 /// A dump of a lawful history, with the index and the map of its records and the ends of its revisions, seen as the
 /// dump.
@@ -38,8 +40,7 @@ impl Model for Repo {
 }
 
 impl Repo {
-    ghost use Rattle.query_answer.specs.Effective.{nearest};
-    ghost use Rattle.query_answer.specs.Repo.{AreHitsIn, AreSegmentsIn, IsPathFound, IsPegFound, nearest_view};
+    ghost use Rattle.query_answer.specs.Repo.{AreHitsIn, AreSegmentsIn, IsNearestIn, IsPathFound, IsPegFound, IsPegLookedUp, IsTargetOrNone};
 
     /// The repository of a dump. The index, the map and the ends are those of the dump.
     pub fn new(dump: Dump, index: Index, map: Map, ends: Ends) -> Self
@@ -68,6 +69,32 @@ impl Repo {
         self.dump.names()
     }
 
+    /// A memo with a cell for each mergeinfo text of the dump, of which none has been read.
+    pub fn memo(&self, alloc: Global) -> Result<Memo<'_>, AllocError>
+        ensures { IfOk result (λ memo. length memo ≡ length self.now.values) }
+    {
+        Memo::new(alloc, self.dump.values())
+    }
+
+    /// The path of a peg and the end of its revision, or the status of each query that asks about the peg.
+    fn look_up(
+        &self,
+        alloc: Global,
+        peg: &Peg<'_>,
+    ) -> Result<Result<(Path, u32), Status>, AllocError>
+        ensures { IfOk result (IsPegLookedUp self.now peg.now) }
+    {
+        let lookup = Path::look_up(alloc, self.dump.names(), peg.path())?;
+        let rev = peg.rev();
+        if rev as usize >= self.dump.counts().len() {
+            return Ok(Err(Status::NoSuchRevision));
+        }
+        match lookup {
+            Lookup::Known(path) => Ok(Ok((path, self.ends.at(rev)))),
+            Lookup::Unknown => Ok(Err(Status::NoSuchPath)),
+        }
+    }
+
     /// The path of a peg, or the status of each query that asks about it.
     pub(crate) fn find(
         &self,
@@ -76,29 +103,38 @@ impl Repo {
     ) -> Result<Result<Path, Status>, AllocError>
         ensures { IfOk result (IsPegFound self.now peg.now) }
     {
-        // No peg has a component `.` or `..`, so this is want of memory.
-        let Ok(lookup) = Path::find(alloc, self.dump.names(), peg.path()) else {
-            return Err(AllocError);
+        let (path, end) = match self.look_up(alloc, peg)? {
+            Ok(found) => found,
+            Err(status) => return Ok(Err(status)),
         };
-        let rev = peg.rev();
-        if rev as usize >= self.dump.counts().len() {
-            return Ok(Err(Status::NoSuchRevision));
+        match self.map.entry(end, &path)? {
+            Some(_) => Ok(Ok(path)),
+            None => Ok(Err(Status::NoSuchPath)),
         }
-        match lookup {
-            Lookup::Known(path) => match self.map.entry(self.ends.at(rev), &path)? {
-                Some(_) => Ok(Ok(path)),
-                None => Ok(Err(Status::NoSuchPath)),
-            },
-            Lookup::Unknown => Ok(Err(Status::NoSuchPath)),
+    }
+
+    /// The same with the nearest mergeinfo of the path.
+    pub(crate) fn find_target(
+        &self,
+        alloc: Global,
+        peg: &Peg<'_>,
+    ) -> Result<Result<Target, Status>, AllocError>
+        ensures { IfOk result (IsTargetOrNone self.now peg.now) }
+    {
+        let (path, end) = match self.look_up(alloc, peg)? {
+            Ok(found) => found,
+            Err(status) => return Ok(Err(status)),
+        };
+        match self.map.entry_and_nearest(end, &path)? {
+            (Some(_), nearest) => Ok(Ok(Target { path, nearest })),
+            (None, _) => Ok(Err(Status::NoSuchPath)),
         }
     }
 
     /// The mergeinfo of the path in the revision, or of the nearest path above it that has some. There is none past the
     /// last revision.
     pub(crate) fn nearest(&self, path: &Path, rev: u32) -> Result<Option<Nearest>, AllocError>
-        ensures found { IfOk result (λ found. option_map nearest_view found
-            ≡ nearest same_name (revision_in self.now rev) path.now) }
-        ensures depth { IfOk result (λ found. IfSome found (λ each. each.depth ≤ length path.now)) }
+        ensures found { IfOk result (IsNearestIn self.now path.now rev) }
         ensures kept { IsDump self.now }
     {
         if rev as usize >= self.dump.counts().len() {

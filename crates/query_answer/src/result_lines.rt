@@ -4,7 +4,7 @@ ghost use Rattle.query_answer.specs.Answer.{HasPathOf, IsLocationOf, eligible_te
 
 use crate::locations::path_at;
 use crate::merged_revision::MergedRevision;
-use merge_info::MergeInfo;
+use crate::printed_mergeinfo::PrintedMergeinfo;
 use path_index::{Hit, Segment};
 use std::alloc::AllocError;
 use svn_path::{Names, Path};
@@ -88,7 +88,7 @@ fn write_hit(
 }
 
 /// Appends the lines of `mergeinfo`.
-pub(crate) fn write_mergeinfo(value: &MergeInfo, out: &mut Vec<u8>) -> Result<(), AllocError>
+pub(crate) fn write_mergeinfo(value: &PrintedMergeinfo, out: &mut Vec<u8>) -> Result<(), AllocError>
     ensures { OnOk result (out.new.items ≡ out.old.items ++ mergeinfo_text value.now) }
 {
     value.write(out)

@@ -3,6 +3,7 @@ ghost use Rattle.std.specs.Prelude.{IfOk};
 ghost use Rattle.query_answer.specs.Answer.{IsAnswer};
 ghost use Rattle.query_answer.specs.Query.{query_view};
 ghost use Rattle.query_answer.specs.Repo.{answer_in};
+ghost use Rattle.query_answer.specs.Worker.{IsSeenOf, Learns};
 
 mod eligible;
 mod locate;
@@ -17,19 +18,37 @@ use crate::answers::Answer;
 use crate::query::Query;
 use crate::repo::Repo;
 use crate::status::Status;
+use pair::{Wanted, answer_pair};
 use std::alloc::{AllocError, Global};
+use value_memo::{Memo, Seen};
 
 /// The answer to a query.
-pub fn answer(alloc: Global, repo: &Repo, query: &Query<'_>) -> Result<Answer, AllocError>
-    ensures { IfOk result (IsAnswer repo.now.names (answer_in repo.now (query_view query.now))) }
+///
+/// The memo has a cell for each mergeinfo text of the repository, and the worker was answered for such texts alone. What
+/// it reads is there for other workers, and for its own next queries.
+pub fn answer<'r>(
+    alloc: Global,
+    repo: &'r Repo,
+    query: &Query<'_>,
+    memo: &Memo<'r>,
+    seen: &mut Seen<'r>,
+) -> Result<Answer, AllocError>
+    requires seen { IsSeenOf repo.now.values memo.now seen.old }
+    ensures answer { IfOk result (IsAnswer repo.now.names (answer_in repo.now (query_view query.now))) }
+    ensures seen { IsSeenOf repo.now.values memo.now seen.new }
+    ensures learns { Learns repo.now.values seen.old seen.new }
 {
     match query {
         Query::Bad => Ok(Answer::Refused(Status::BadQuery)),
         Query::Locate { of, rev } => locate::answer_locate(alloc, repo, of, *rev),
         Query::Segments { of } => segments::answer_segments(alloc, repo, of),
         Query::Log { of } => log::answer_log(alloc, repo, of),
-        Query::Mergeinfo { of } => mergeinfo::answer_mergeinfo(alloc, repo, of),
-        Query::Merged { of, target } => merged::answer_merged(alloc, repo, of, target),
-        Query::Eligible { of, target } => eligible::answer_eligible(alloc, repo, of, target),
+        Query::Mergeinfo { of } => mergeinfo::answer_mergeinfo(alloc, repo, of, memo, seen),
+        Query::Merged { of, target } => {
+            answer_pair(alloc, repo, Wanted::Merged, of, target, memo, seen)
+        }
+        Query::Eligible { of, target } => {
+            answer_pair(alloc, repo, Wanted::Eligible, of, target, memo, seen)
+        }
     }
 }

@@ -1,5 +1,5 @@
 -- The answers to query lines by their places.
-use Rattle.std.specs.Prelude.{◌≡◌, ℕ, ◌+◌, ◌<◌, List, [], length, map, slice_index_or, ⊤}
+use Rattle.std.specs.Prelude.{◌≡◌, ℕ, ◌+◌, ◌<◌, List, [], length, map, slice_index_or}
 use denote.Ref.{Bor}
 use Rattle.svn_dump.specs.Dump.{DumpValue}
 use Rattle.query_answer.specs.Answer.{answer_text}
@@ -17,6 +17,3 @@ HasLine lines place = place < length lines
 abbrev pub IsTextAt : DumpValue → List (Bor (List ℕ)) → ℕ → List ℕ → Type 0
 IsTextAt dump lines place text =
     text ≡ answer_text (place + 1) (answer_in dump (query_of (slice_index_or (lent_lines lines) place [])))
-
-abbrev pub IsAnyState : Type 0
-IsAnyState = ⊤

@@ -1,10 +1,7 @@
 //! Answering the queries of a run by several workers.
-ghost use Rattle.std.specs.Prelude.{◌≡◌, ◌+◌, ◌<◌, ◌≤◌, ◌++◌, IfOk, OnOk, length};
+ghost use Rattle.std.specs.Prelude.{◌≡◌, ◌<◌, ◌≤◌, IfOk, length};
 ghost use Rattle.std.specs.List.{flat_map};
 ghost use Rattle.svn_dump.specs.Dump.{history_in_bytes};
-ghost use Rattle.query_answer.specs.Answer.{answer_text};
-ghost use Rattle.query_answer.specs.Query.{query_of};
-ghost use Rattle.query_answer.specs.Repo.{answer_in};
 ghost use Rattle.svn_report.specs.QueryLines.{query_lines};
 ghost use Rattle.svn_report.specs.Report.{answers, most_queries};
 ghost use Rattle.query_pool.specs.Serving.{most_workers};
@@ -15,45 +12,44 @@ use query_pool::{Gate, GatherError, Job, gather, serve};
 use std::alloc::{AllocError, Global};
 use std::sync::Wait;
 use std::thread::Threads;
+use value_memo::{Memo, Seen};
 
 /// The bytes that are reserved for an answer at first. Most answers are shorter.
 const USUAL_LENGTH: usize = 128;
 
 /// The queries of a run on a repository. The places are those of their lines, and the result at a place is the text of
 /// its answer.
-#[derive(Clone, Copy)]
-struct Answering<'a> {
+#[derive(Drop)]
+struct Answering<'r, 'a> {
     alloc: Global,
-    repo: &'a Repo,
+    repo: &'r Repo,
+    memo: &'a Memo<'r>,
     lines: &'a [&'a [u8]],
+    ghost cells: { length repo.now.values ≤ length memo.now },
 }
 
-impl Job for Answering<'_> {
-    ghost use Rattle.svn_report.specs.Answering.{HasLine, IsAnyState, IsTextAt};
+impl<'r> Job for Answering<'r, '_> {
+    ghost use Rattle.query_answer.specs.Worker.{IsSeenOf};
+    ghost use Rattle.svn_report.specs.Answering.{HasLine, IsTextAt};
 
     type Out = Vec<u8>;
 
-    type State = ();
+    type State = Seen<'r>;
 
     ghost has = { λ job place. HasLine job.lines.now place };
 
-    ghost lawful = { λ job state. IsAnyState };
+    ghost lawful = { λ job seen. IsSeenOf job.repo.now.values job.memo.now seen };
 
     ghost gives = { λ job place text. IsTextAt job.repo.now job.lines.now place text.items };
 
-    fn state(&self) -> Result<(), AllocError> {
-        Ok(())
+    fn state(&self) -> Result<Seen<'r>, AllocError> {
+        Seen::new(self.alloc, self.memo)
     }
 
-    fn run(&self, place: u32, _state: &mut ()) -> Result<Vec<u8>, AllocError> {
+    fn run(&self, place: u32, seen: &mut Seen<'r>) -> Result<Vec<u8>, AllocError> {
+        let query = Query::read(self.lines[place as usize]);
         let mut text = Vec::with_capacity(self.alloc, USUAL_LENGTH)?;
-        answer_line(
-            self.alloc,
-            self.repo,
-            self.lines[place as usize],
-            place,
-            &mut text,
-        )?;
+        answer(self.alloc, self.repo, &query, self.memo, seen)?.write(self.repo, place, &mut text)?;
         Ok(text)
     }
 }
@@ -74,9 +70,11 @@ pub(crate) fn answer_lines<R: Threads + Wait + Sync, G: Gate>(
 {
     let lines = lines_of(alloc, queries)?;
     let n = lines.len() as u32;
+    let memo = repo.memo(alloc)?;
     let job = Answering {
         alloc,
         repo,
+        memo: &memo,
         lines: lines.as_slice(),
     };
     let parts = serve(rt, alloc, &job, n, workers, gate)?;
@@ -85,20 +83,6 @@ pub(crate) fn answer_lines<R: Threads + Wait + Sync, G: Gate>(
         Err(GatherError::Memory) => Err(AllocError),
         Err(_) => unreachable!(),
     }
-}
-
-/// Appends the answer to the query line of a place.
-fn answer_line(
-    alloc: Global,
-    repo: &Repo,
-    line: &[u8],
-    place: u32,
-    out: &mut Vec<u8>,
-) -> Result<(), AllocError>
-    ensures { OnOk result
-        (out.new.items ≡ out.old.items ++ answer_text (place + 1) (answer_in repo.now (query_of line.now))) }
-{
-    answer(alloc, repo, &Query::read(line))?.write(repo, place, out)
 }
 
 /// How many bytes all texts have.

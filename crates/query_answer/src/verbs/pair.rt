@@ -1,22 +1,37 @@
 //! A source and a target.
-ghost use Rattle.std.specs.Prelude.{IfOk};
-ghost use Rattle.query_answer.specs.Repo.{IsPairFound};
+ghost use Rattle.std.specs.Prelude.{◌≡◌, IfOk, Some};
+ghost use Rattle.query_answer.specs.Answer.{IsAnswer};
+ghost use Rattle.query_answer.specs.Repo.{IsPair, IsPairFound, effective_in, pair_answer};
+ghost use Rattle.query_answer.specs.Held.{rest_of};
+ghost use Rattle.query_answer.specs.HeldValue.{own_or_below};
+ghost use Rattle.svn_path.specs.Path.{components_of};
+ghost use Rattle.query_answer.specs.Worker.{IsSeenOf, Learns};
 
-use crate::effective_mergeinfo::Effective;
-use crate::inheritance::effective;
+use super::eligible::eligible_of;
+use super::merged::merged_of;
+use crate::answers::Answer;
+use crate::held_mergeinfo::HeldMergeinfo;
 use crate::peg::Peg;
 use crate::repo::Repo;
 use crate::status::Status;
+use crate::target::Target;
 use merge_info::MergeInfo;
 use std::alloc::{AllocError, Global};
 use svn_path::Path;
+use value_memo::{Memo, Parsed, Seen};
 
-/// What two pegs name, and the effective mergeinfo of the second.
+/// What two pegs name.
 #[derive(Drop)]
 pub(crate) struct Pair {
     pub(crate) source: Path,
-    pub(crate) target: Path,
-    pub(crate) mergeinfo: MergeInfo,
+    pub(crate) target: Target,
+}
+
+/// Which revisions of a source are asked for.
+#[derive(Clone, Copy, Debug, PartialEq, Eq)]
+pub(crate) enum Wanted {
+    Merged,
+    Eligible,
 }
 
 impl Pair {
@@ -33,17 +48,62 @@ impl Pair {
             Ok(path) => path,
             Err(status) => return Ok(Err(status)),
         };
-        let path = match repo.find(alloc, target)? {
-            Ok(path) => path,
-            Err(status) => return Ok(Err(status)),
-        };
-        match effective(alloc, repo, &path, target.rev())? {
-            Effective::Value(mergeinfo) => Ok(Ok(Pair {
-                source,
-                target: path,
-                mergeinfo,
-            })),
-            Effective::Malformed => Ok(Err(Status::MalformedMergeinfo)),
+        match repo.find_target(alloc, target)? {
+            Ok(target) => Ok(Ok(Pair { source, target })),
+            Err(status) => Ok(Err(status)),
+        }
+    }
+}
+
+/// The revisions of a source that are asked for, given a target.
+pub(crate) fn answer_pair<'r>(
+    alloc: Global,
+    repo: &'r Repo,
+    wanted: Wanted,
+    source: &Peg<'_>,
+    target: &Peg<'_>,
+    memo: &Memo<'r>,
+    seen: &mut Seen<'r>,
+) -> Result<Answer, AllocError>
+    requires seen { IsSeenOf repo.now.values memo.now seen.old }
+    ensures answer { IfOk result (IsAnswer repo.now.names (pair_answer repo.now wanted source.now target.now)) }
+    ensures seen { IsSeenOf repo.now.values memo.now seen.new }
+    ensures learns { Learns repo.now.values seen.old seen.new }
+{
+    let pair = match Pair::find(alloc, repo, source, target)? {
+        Ok(pair) => pair,
+        Err(status) => return Ok(Answer::Refused(status)),
+    };
+    let Some(found) = pair.target.nearest else {
+        let empty = MergeInfo::empty(alloc);
+        return revisions(alloc, repo, wanted, source, target, &pair, &empty);
+    };
+    match seen.value(memo, found.mi, repo.mergeinfo_text(found.mi))? {
+        Parsed::Malformed => Ok(Answer::Refused(Status::MalformedMergeinfo)),
+        Parsed::Good(value) => revisions(alloc, repo, wanted, source, target, &pair, value),
+    }
+}
+
+/// The revisions of a pair that are asked for, given the value of the nearest path that has mergeinfo.
+fn revisions(
+    alloc: Global,
+    repo: &Repo,
+    wanted: Wanted,
+    source: &Peg<'_>,
+    target: &Peg<'_>,
+    pair: &Pair,
+    value: &MergeInfo,
+) -> Result<Answer, AllocError>
+    requires pair { IsPair repo.now source.now target.now pair.now }
+    requires value { effective_in repo.now pair.now.target.path target.now.rev
+        ≡ Some (own_or_below (components_of repo.now.names (rest_of pair.now.target)) value.now) }
+    ensures { IfOk result (IsAnswer repo.now.names (pair_answer repo.now wanted source.now target.now)) }
+{
+    let held = HeldMergeinfo::new(value, pair.target.rest());
+    match wanted {
+        Wanted::Merged => Ok(Answer::Merged(merged_of(alloc, repo, source, pair, &held)?)),
+        Wanted::Eligible => {
+            Ok(Answer::Eligible(eligible_of(alloc, repo, source, target, pair, &held)?))
         }
     }
 }

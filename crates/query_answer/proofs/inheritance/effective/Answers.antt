@@ -1,27 +1,94 @@
-use Rattle.std.proofs.Common.{◌≡◌, None, Some, IfOk, option_map, sym, ap, subst, ◌∙◌}
-use Rattle.block_map.specs.Map.{revision_in}
-use Rattle.svn_path.specs.Path.{same_name}
-use Rattle.query_answer.specs.Effective.{nearest}
-use Rattle.query_answer.specs.Repo.{effective_view, nearest_view}
-use Rattle.query_answer.proofs.EffectiveValues.{effective_in-none, effective_in-some, mergeinfo-found}
+use Rattle.std.proofs.Common.{◌≡◌, None, Some, ap, sym, subst, ◌∙◌, arith}
+use Rattle.merge_info.specs.CanonicalValue.{value_of}
+use Rattle.value_memo.specs.Parsed.{parsed_view}
+use Rattle.query_answer.specs.Repo.{IsNearestIn}
+use Rattle.query_answer.proofs.EffectiveValues.{effective_in-inherited, effective_in-malformed, effective_in-none, effective_in-own, mergeinfo-found}
+use Rattle.query_answer.proofs.WorkersSeen.{IsSeenOf-after, Learns-after}
 use Rattle.query_answer.proofs.inheritance.effective.Goals as goal
 
-pub effective_of-requires-clause-value : goal.effective_of-requires-clause-value
-effective_of-requires-clause-value c =
-    let found : Some (nearest_view c.in-Some.found) ≡ nearest same_name (revision_in c.args.repo.now c.args.rev) c.args.path.now =
-    ap (option_map nearest_view) (sym c.in-Some.is) ∙ c.in_ok-nearest.ensures.found in
-    mergeinfo-found c.args.repo.now c.in_ok-nearest.ensures.kept c.args.path.now c.args.rev c.in-Some.found found
+pub returns-in_default-clause-value : goal.returns-in_default-clause-value
+returns-in_default-clause-value c =
+    let near : IsNearestIn c.args.repo.now c.args.path.now c.args.rev None = subst (IsNearestIn c.args.repo.now c.args.path.now c.args.rev) c.in_default.is c.in_ok-found.ensures.found in
+    ap Some c.empty.ensures ∙ sym (effective_in-none c.args.repo.now c.in_ok-found.ensures.kept c.args.path.now c.args.rev near)
 
-pub returns-in-None : goal.returns-in-None
-returns-in-None c =
-    let found : None ≡ nearest same_name (revision_in c.args.repo.now c.args.rev) c.args.path.now =
-    ap (option_map nearest_view) (sym c.in-None.is) ∙ c.in_ok-nearest.ensures.found in
-    ap Some c.empty.ensures ∙ sym (effective_in-none c.args.repo.now c.in_ok-nearest.ensures.kept c.args.path.now c.args.rev found)
+pub mergeinfo_text-requires : goal.mergeinfo_text-requires
+mergeinfo_text-requires c =
+    let near : IsNearestIn c.args.repo.now c.args.path.now c.args.rev (Some c.in-Some.found) = subst (IsNearestIn c.args.repo.now c.args.path.now c.args.rev) c.in-Some.is c.in_ok-found.ensures.found in
+    mergeinfo-found c.args.repo.now c.in_ok-found.ensures.kept c.args.path.now c.args.rev c.in-Some.found near
 
-pub returns-in-Some : goal.returns-in-Some
-returns-in-Some c =
-    let found : Some (nearest_view c.in-Some.found) ≡ nearest same_name (revision_in c.args.repo.now c.args.rev) c.args.path.now =
-    ap (option_map nearest_view) (sym c.in-Some.is) ∙ c.in_ok-nearest.ensures.found in
-    subst (λ all. IfOk c.effective_of.result (λ value. effective_view value ≡ all))
-    (sym (effective_in-some c.args.repo.now c.in_ok-nearest.ensures.kept c.args.path.now c.args.rev c.in-Some.found found))
-    c.effective_of.ensures
+pub returns-in-Malformed-clause-value : goal.returns-in-Malformed-clause-value
+returns-in-Malformed-clause-value c =
+    let near : IsNearestIn c.args.repo.now c.args.path.now c.args.rev (Some c.in-Some.found) = subst (IsNearestIn c.args.repo.now c.args.path.now c.args.rev) c.in-Some.is c.in_ok-found.ensures.found in
+    sym (effective_in-malformed c.args.repo.now c.in_ok-found.ensures.kept c.args.path.now c.args.rev c.in-Some.found near c.mergeinfo_text.result.now c.mergeinfo_text.ensures
+    (sym c.in_ok-value.ensures.reading ∙ ap parsed_view c.in-Malformed.is))
+
+pub returns-in-Malformed-clause-seen : goal.returns-in-Malformed-clause-seen
+returns-in-Malformed-clause-seen c =
+    IsSeenOf-after c.args.repo.now.values c.args.memo.now c.args.seen.now c.requires.seen c.in-Some.found.mi.0 c.mergeinfo_text.result.now c.mergeinfo_text.ensures
+    c.value.result c.value.follows.lender-at-none c.value.follows.holds-at-none
+
+pub returns-in-Malformed-clause-learns : goal.returns-in-Malformed-clause-learns
+returns-in-Malformed-clause-learns c =
+    Learns-after c.args.repo.now.values c.args.memo.now c.args.seen.now c.requires.seen c.in-Some.found.mi.0 c.mergeinfo_text.result.now c.mergeinfo_text.ensures
+    c.value.result c.value.follows.lender-at-none c.value.follows.holds-at-none
+
+pub returns-in_err-dup-in-Good-clause-seen : goal.returns-in_err-dup-in-Good-clause-seen
+returns-in_err-dup-in-Good-clause-seen c =
+    IsSeenOf-after c.args.repo.now.values c.args.memo.now c.args.seen.now c.requires.seen c.in-Some.found.mi.0 c.mergeinfo_text.result.now c.mergeinfo_text.ensures
+    c.value.result c.value.follows.lender-at-none c.value.follows.holds-at-none
+
+pub returns-in_err-dup-in-Good-clause-learns : goal.returns-in_err-dup-in-Good-clause-learns
+returns-in_err-dup-in-Good-clause-learns c =
+    Learns-after c.args.repo.now.values c.args.memo.now c.args.seen.now c.requires.seen c.in-Some.found.mi.0 c.mergeinfo_text.result.now c.mergeinfo_text.ensures
+    c.value.result c.value.follows.lender-at-none c.value.follows.holds-at-none
+
+pub returns-in_ok-dup-in-Good-clause-value : goal.returns-in_ok-dup-in-Good-clause-value
+returns-in_ok-dup-in-Good-clause-value c =
+    let near : IsNearestIn c.args.repo.now c.args.path.now c.args.rev (Some c.in-Some.found) = subst (IsNearestIn c.args.repo.now c.args.path.now c.args.rev) c.in-Some.is c.in_ok-found.ensures.found in
+    let read : value_of c.mergeinfo_text.result.now ≡ Some c.in-Good.value.now = sym c.in_ok-value.ensures.reading ∙ ap parsed_view c.in-Good.is in
+    ap Some c.in_ok-dup-in-Good.ensures
+    ∙ sym (effective_in-own c.args.repo.now c.in_ok-found.ensures.kept c.args.path.now c.args.rev c.in-Some.found near c.mergeinfo_text.result.now c.mergeinfo_text.ensures c.in-Good.value.now read
+    (c.if-found-len.true ∙ c.len.ensures))
+
+pub returns-in_ok-dup-in-Good-clause-seen : goal.returns-in_ok-dup-in-Good-clause-seen
+returns-in_ok-dup-in-Good-clause-seen c =
+    IsSeenOf-after c.args.repo.now.values c.args.memo.now c.args.seen.now c.requires.seen c.in-Some.found.mi.0 c.mergeinfo_text.result.now c.mergeinfo_text.ensures
+    c.value.result c.value.follows.lender-at-none c.value.follows.holds-at-none
+
+pub returns-in_ok-dup-in-Good-clause-learns : goal.returns-in_ok-dup-in-Good-clause-learns
+returns-in_ok-dup-in-Good-clause-learns c =
+    Learns-after c.args.repo.now.values c.args.memo.now c.args.seen.now c.requires.seen c.in-Some.found.mi.0 c.mergeinfo_text.result.now c.mergeinfo_text.ensures
+    c.value.result c.value.follows.lender-at-none c.value.follows.holds-at-none
+
+pub returns-in_err-inherited_by-in-Good-2-clause-seen : goal.returns-in_err-inherited_by-in-Good-2-clause-seen
+returns-in_err-inherited_by-in-Good-2-clause-seen c =
+    IsSeenOf-after c.args.repo.now.values c.args.memo.now c.args.seen.now c.requires.seen c.in-Some.found.mi.0 c.mergeinfo_text.result.now c.mergeinfo_text.ensures
+    c.value.result c.value.follows.lender-at-none c.value.follows.holds-at-none
+
+pub returns-in_err-inherited_by-in-Good-2-clause-learns : goal.returns-in_err-inherited_by-in-Good-2-clause-learns
+returns-in_err-inherited_by-in-Good-2-clause-learns c =
+    Learns-after c.args.repo.now.values c.args.memo.now c.args.seen.now c.requires.seen c.in-Some.found.mi.0 c.mergeinfo_text.result.now c.mergeinfo_text.ensures
+    c.value.result c.value.follows.lender-at-none c.value.follows.holds-at-none
+
+pub returns-in_ok-inherited_by-in-Good-2-clause-value : goal.returns-in_ok-inherited_by-in-Good-2-clause-value
+returns-in_ok-inherited_by-in-Good-2-clause-value c =
+    let near : IsNearestIn c.args.repo.now c.args.path.now c.args.rev (Some c.in-Some.found) = subst (IsNearestIn c.args.repo.now c.args.path.now c.args.rev) c.in-Some.is c.in_ok-found.ensures.found in
+    let read : value_of c.mergeinfo_text.result.now ≡ Some c.in-Good.value.now = sym c.in_ok-value.ensures.reading ∙ ap parsed_view c.in-Good.is in
+    ap Some c.in_ok-inherited_by-in-Good-2.ensures
+    ∙ sym (effective_in-inherited c.args.repo.now c.in_ok-found.ensures.kept c.args.path.now c.args.rev c.in-Some.found near c.mergeinfo_text.result.now c.mergeinfo_text.ensures c.in-Good.value.now read
+    (λ same. c.if-found-len.false (same ∙ sym c.len.ensures)))
+
+pub returns-in_ok-inherited_by-in-Good-2-clause-seen : goal.returns-in_ok-inherited_by-in-Good-2-clause-seen
+returns-in_ok-inherited_by-in-Good-2-clause-seen c =
+    IsSeenOf-after c.args.repo.now.values c.args.memo.now c.args.seen.now c.requires.seen c.in-Some.found.mi.0 c.mergeinfo_text.result.now c.mergeinfo_text.ensures
+    c.value.result c.value.follows.lender-at-none c.value.follows.holds-at-none
+
+pub returns-in_ok-inherited_by-in-Good-2-clause-learns : goal.returns-in_ok-inherited_by-in-Good-2-clause-learns
+returns-in_ok-inherited_by-in-Good-2-clause-learns c =
+    Learns-after c.args.repo.now.values c.args.memo.now c.args.seen.now c.requires.seen c.in-Some.found.mi.0 c.mergeinfo_text.result.now c.mergeinfo_text.ensures
+    c.value.result c.value.follows.lender-at-none c.value.follows.holds-at-none
+
+pub value-requires-clause-number : goal.value-requires-clause-number
+value-requires-clause-number c =
+    let near : IsNearestIn c.args.repo.now c.args.path.now c.args.rev (Some c.in-Some.found) = subst (IsNearestIn c.args.repo.now c.args.path.now c.args.rev) c.in-Some.is c.in_ok-found.ensures.found in
+    omega (arith, mergeinfo-found c.args.repo.now c.in_ok-found.ensures.kept c.args.path.now c.args.rev c.in-Some.found near, c.requires.seen.cells)

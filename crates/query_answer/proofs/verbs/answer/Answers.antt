@@ -1,3 +1,4 @@
+use Rattle.std.proofs.Common.{inl, refl}
 use Rattle.query_answer.specs.Peg.{peg_view}
 use Rattle.query_answer.specs.Repo.{trees_in_bytes}
 use Rattle.query_answer.specs.declared.status.Status.TheVariants as status
@@ -7,19 +8,35 @@ use Rattle.query_answer.proofs.verbs.answer.Goals as goal
 
 pub returns-in-Bad : goal.returns-in-Bad
 returns-in-Bad c =
-    rw c.in-Bad.is (IsAnswer-Refused c.args.repo.now.names _ status.BadQuery (answer_of-bad (history_in_bytes c.args.repo.now) (trees_in_bytes c.args.repo.now)))
+    record {
+      answer = rw c.in-Bad.is (IsAnswer-Refused c.args.repo.now.names _ status.BadQuery (answer_of-bad (history_in_bytes c.args.repo.now) (trees_in_bytes c.args.repo.now)));
+      seen = c.requires.seen;
+      learns = inl refl;
+    }
 
 pub returns-in-Locate : goal.returns-in-Locate
 returns-in-Locate c =
-    rw (c.in-Locate.is, answer_of-locate (history_in_bytes c.args.repo.now) (trees_in_bytes c.args.repo.now) (peg_view c.in-Locate.of) c.in-Locate.rev) c.answer_locate.ensures
+    record {
+      answer = rw (c.in-Locate.is, answer_of-locate (history_in_bytes c.args.repo.now) (trees_in_bytes c.args.repo.now) (peg_view c.in-Locate.of) c.in-Locate.rev) c.answer_locate.ensures;
+      seen = c.requires.seen;
+      learns = inl refl;
+    }
 
 pub returns-in-Segments : goal.returns-in-Segments
 returns-in-Segments c =
-    rw (c.in-Segments.is, answer_of-segments (history_in_bytes c.args.repo.now) (trees_in_bytes c.args.repo.now) (peg_view c.in-Segments.of)) c.answer_segments.ensures
+    record {
+      answer = rw (c.in-Segments.is, answer_of-segments (history_in_bytes c.args.repo.now) (trees_in_bytes c.args.repo.now) (peg_view c.in-Segments.of)) c.answer_segments.ensures;
+      seen = c.requires.seen;
+      learns = inl refl;
+    }
 
 pub returns-in-Log : goal.returns-in-Log
 returns-in-Log c =
-    rw (c.in-Log.is, answer_of-log (history_in_bytes c.args.repo.now) (trees_in_bytes c.args.repo.now) (peg_view c.in-Log.of)) c.answer_log.ensures
+    record {
+      answer = rw (c.in-Log.is, answer_of-log (history_in_bytes c.args.repo.now) (trees_in_bytes c.args.repo.now) (peg_view c.in-Log.of)) c.answer_log.ensures;
+      seen = c.requires.seen;
+      learns = inl refl;
+    }
 
 pub returns-in-Mergeinfo : goal.returns-in-Mergeinfo
 returns-in-Mergeinfo c =
@@ -27,8 +44,8 @@ returns-in-Mergeinfo c =
 
 pub returns-in-Merged : goal.returns-in-Merged
 returns-in-Merged c =
-    rw (c.in-Merged.is, answer_of-merged (history_in_bytes c.args.repo.now) (trees_in_bytes c.args.repo.now) (peg_view c.in-Merged.of) (peg_view c.in-Merged.target)) c.answer_merged.ensures
+    rw (c.in-Merged.is, answer_of-merged (history_in_bytes c.args.repo.now) (trees_in_bytes c.args.repo.now) (peg_view c.in-Merged.of) (peg_view c.in-Merged.target)) c.answer_pair.ensures
 
 pub returns-in-Eligible : goal.returns-in-Eligible
 returns-in-Eligible c =
-    rw (c.in-Eligible.is, answer_of-eligible (history_in_bytes c.args.repo.now) (trees_in_bytes c.args.repo.now) (peg_view c.in-Eligible.of) (peg_view c.in-Eligible.target)) c.answer_eligible.ensures
+    rw (c.in-Eligible.is, answer_of-eligible (history_in_bytes c.args.repo.now) (trees_in_bytes c.args.repo.now) (peg_view c.in-Eligible.of) (peg_view c.in-Eligible.target)) c.answer_pair-in-Eligible.ensures

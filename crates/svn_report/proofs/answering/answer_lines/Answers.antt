@@ -12,6 +12,7 @@ use Rattle.svn_report.specs.Answering.{IsTextAt, lent_lines}
 use Rattle.svn_report.specs.Report.{answers, answers_from}
 use Rattle.svn_report.proofs.AnswerTexts.{answers_from-texts}
 use Rattle.svn_report.proofs.SharedRepos.{repo_sync}
+use Rattle.value_memo.proofs.SharedMemos.{memo_sync}
 use Rattle.svn_report.proofs.answering.answer_lines.Goals as goal
 
 pub returns-in-Ok : goal.returns-in-Ok
@@ -32,4 +33,4 @@ returns-in-Ok g c =
     (λ out joined. joined ∙ same ∙ ap (answers_from 1 (history_in_bytes dump) (trees_in_bytes dump)) (ap lent_lines value ∙ c.in_ok-lines.ensures)) c.joined.ensures
 
 pub serve-requires-sync-J : goal.serve-requires-sync-J
-serve-requires-sync-J g c κs within = search (sendable, crosses, repo_sync) depth 40 fits 100000
+serve-requires-sync-J g c κs within = search (sendable, crosses, repo_sync, memo_sync) depth 40 fits 100000

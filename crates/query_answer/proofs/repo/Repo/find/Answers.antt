@@ -1,100 +1,32 @@
-use Rattle.std.proofs.Common.{◌≡◌, ◌<◌, true, false, is_some, ap, subst, ◌∙◌, arith, bytes_eq, length}
-use Rattle.std.proofs.lemmas.Bool.{false_from_ne_true}
-use Rattle.svn_path.specs.Components.{HasDot, parts_of}
-use Rattle.svn_path.specs.Lookup.{IsLookup}
-use Rattle.svn_path.specs.Path.{HasUnknown, same_name}
-use Rattle.svn_path.specs.declared.path.Lookup.TheVariants.{Known}
-use Rattle.svn_path.proofs.Components.{components-parts_of}
-use Rattle.svn_dump.specs.Tree.{is_there, tree_of}
-use Rattle.block_map.specs.Map.{revision_in}
-use Rattle.query_answer.specs.Peg.{peg_view}
-use Rattle.query_answer.specs.Repo.{trees_in_bytes}
-use Rattle.query_answer.proofs.AnswerTexts.{IsRepo-view, if_peg_exists-late, if_peg_exists-absent, if_peg_exists-present}
-use Rattle.query_answer.proofs.InBytes.{IsThere-there, length-trees_in_bytes, there-in_bytes, unknown-in_bytes}
-use Rattle.query_answer.proofs.RevisionTicks.{IsEndIn-at, end-within, is_there-entry, length-ends}
+use Rattle.std.proofs.Common.{Err, is_some, ap}
+use Rattle.query_answer.specs.Repo.{IsPegKnown, IsPegLookedUp}
+use Rattle.query_answer.proofs.AnswerTexts.{IsRepo-view}
+use Rattle.query_answer.proofs.PegsFound.{IsPathFound-known, refused-known}
+use Rattle.query_answer.proofs.RevisionTicks.{end-within}
 use Rattle.query_answer.proofs.repo.Repo.find.Goals as goal
-
-pub at-requires : goal.at-requires
-at-requires c =
-    let all = length-ends c.self.inside.dump c.self.inside.index c.self.inside.map c.self.inside.ends c.self.invariant in
-    omega (arith, c.if-rev-counts.false, ap length c.counts.ensures.value, all)
 
 pub entry-requires-clause-within : goal.entry-requires-clause-within
 entry-requires-clause-within c =
-    end-within c.self.inside.dump c.self.inside.index c.self.inside.map c.self.inside.ends c.self.invariant c.rev-rev.result
-    (omega (arith, c.if-rev-counts.false, ap length c.counts.ensures.value)) c.at.result c.at.ensures
+    let known : IsPegKnown c.args.self.now c.args.peg.now c.in-Ok.found.0 c.in-Ok.found.1 = rw c.in-Ok.is at c.in_ok-found.ensures in
+    let repo = IsRepo-view c.self.inside.dump c.args.self.now c.self.inside.index c.self.inside.map c.self.inside.ends c.self.view_is c.self.invariant in
+    end-within c.args.self.now c.self.inside.index c.self.inside.map c.self.inside.ends repo c.args.peg.now.rev c.in-Ok.found.1 known.ends
 
-pub returns-then-rev-counts : goal.returns-then-rev-counts
-returns-then-rev-counts c =
-    let dump = c.args.self.now in
-    let repo = IsRepo-view c.self.inside.dump dump c.self.inside.index c.self.inside.map c.self.inside.ends c.self.view_is c.self.invariant in
-    let counts = c.counts.ensures.value ∙ ap (λ each. each.counts) c.self.view_is in
-    λ answer. if_peg_exists-late (trees_in_bytes dump) (peg_view c.args.peg.now) answer
-    (omega (arith, c.if-rev-counts.true, c.rev-rev.ensures, ap length counts, length-trees_in_bytes dump repo.dump_is))
+pub returns-in-Err : goal.returns-in-Err
+returns-in-Err c =
+    let found : IsPegLookedUp c.args.self.now c.args.peg.now (Err c.in-Err.status) = rw c.in-Err.is at c.in_ok-found.ensures in found
 
 pub returns-in-Some : goal.returns-in-Some
 returns-in-Some c =
     let dump = c.args.self.now in
-    let rev = c.args.peg.now.rev in
+    let known : IsPegKnown dump c.args.peg.now c.in-Ok.found.0 c.in-Ok.found.1 = rw c.in-Ok.is at c.in_ok-found.ensures in
     let repo = IsRepo-view c.self.inside.dump dump c.self.inside.index c.self.inside.map c.self.inside.ends c.self.view_is c.self.invariant in
-    let counts = c.counts.ensures.value ∙ ap (λ each. each.counts) c.self.view_is in
-    let within : rev < length dump.counts = omega (arith, c.if-rev-counts.false, c.rev-rev.ensures, ap length counts) in
-    let names = c.names.ensures.value ∙ ap (λ each. each.names) c.self.view_is in
-    let known : IsLookup dump.names (parts_of c.args.peg.now.path) (Known c.in-Known.path) =
-    subst (λ bytes. IsLookup dump.names (parts_of bytes) (Known c.in-Known.path)) c.path.ensures.value
-    (subst (λ all. IsLookup all (parts_of c.path.result.now) (Known c.in-Known.path)) names (rw c.in-Known.is at c.in-Ok.ensures.ok)) in
-    let end = IsEndIn-at dump c.self.inside.index c.self.inside.map c.self.inside.ends repo rev within c.at.result (rw c.rev-rev.ensures at c.at.ensures) in
-    let there : is_there same_name (revision_in dump rev) c.in-Known.path ≡ true =
-    is_there-entry (revision_in dump rev) c.in-Known.path c.in_ok-entry-in-Known.field-0
-    (c.in_ok-entry-in-Known.ensures.of_revision dump rev repo.map_is.first end)
-    ∙ ap is_some c.in-Some.is in
-    record {
-      kept = repo.dump_is;
-      of_names = known.0;
-      within = within;
-      there = IsThere-there dump repo.dump_is c.in-Known.path rev within there;
-      answered = λ answer.
-          let present : is_there bytes_eq (tree_of (trees_in_bytes dump) rev) (parts_of c.args.peg.now.path) ≡ true =
-          rw (← known.1) (there-in_bytes dump repo.dump_is c.in-Known.path rev ∙ there) in
-          rw known.1
-          (if_peg_exists-present (trees_in_bytes dump) (peg_view c.args.peg.now) (answer (peg_view c.args.peg.now))
-          (omega (arith, length-trees_in_bytes dump repo.dump_is, within)) present);
-    }
+    IsPathFound-known dump c.self.inside.index c.self.inside.map c.self.inside.ends repo c.args.peg.now c.in-Ok.found.0 c.in-Ok.found.1 known c.in_ok-entry.field-0
+    (c.in_ok-entry.ensures.of_revision dump c.args.peg.now.rev repo.map_is.first known.ends) (ap is_some c.in-Some.is)
 
 pub returns-in-None : goal.returns-in-None
 returns-in-None c =
     let dump = c.args.self.now in
-    let rev = c.args.peg.now.rev in
+    let known : IsPegKnown dump c.args.peg.now c.in-Ok.found.0 c.in-Ok.found.1 = rw c.in-Ok.is at c.in_ok-found.ensures in
     let repo = IsRepo-view c.self.inside.dump dump c.self.inside.index c.self.inside.map c.self.inside.ends c.self.view_is c.self.invariant in
-    let counts = c.counts.ensures.value ∙ ap (λ each. each.counts) c.self.view_is in
-    let within : rev < length dump.counts = omega (arith, c.if-rev-counts.false, c.rev-rev.ensures, ap length counts) in
-    let names = c.names.ensures.value ∙ ap (λ each. each.names) c.self.view_is in
-    let known : IsLookup dump.names (parts_of c.args.peg.now.path) (Known c.in-Known.path) =
-    subst (λ bytes. IsLookup dump.names (parts_of bytes) (Known c.in-Known.path)) c.path.ensures.value
-    (subst (λ all. IsLookup all (parts_of c.path.result.now) (Known c.in-Known.path)) names (rw c.in-Known.is at c.in-Ok.ensures.ok)) in
-    let end = IsEndIn-at dump c.self.inside.index c.self.inside.map c.self.inside.ends repo rev within c.at.result (rw c.rev-rev.ensures at c.at.ensures) in
-    let absent : is_there same_name (revision_in dump rev) c.in-Known.path ≡ false =
-    is_there-entry (revision_in dump rev) c.in-Known.path c.in_ok-entry-in-Known.field-0
-    (c.in_ok-entry-in-Known.ensures.of_revision dump rev repo.map_is.first end)
-    ∙ ap is_some c.in-None.is in
-    λ answer.
-    if_peg_exists-absent (trees_in_bytes dump) (peg_view c.args.peg.now) answer
-    (omega (arith, length-trees_in_bytes dump repo.dump_is, within))
-    (rw (← known.1) (there-in_bytes dump repo.dump_is c.in-Known.path rev ∙ absent))
-
-pub returns-in-Unknown : goal.returns-in-Unknown
-returns-in-Unknown c =
-    let dump = c.args.self.now in
-    let rev = c.args.peg.now.rev in
-    let repo = IsRepo-view c.self.inside.dump dump c.self.inside.index c.self.inside.map c.self.inside.ends c.self.view_is c.self.invariant in
-    let counts = c.counts.ensures.value ∙ ap (λ each. each.counts) c.self.view_is in
-    let within : rev < length dump.counts = omega (arith, c.if-rev-counts.false, c.rev-rev.ensures, ap length counts) in
-    let names = c.names.ensures.value ∙ ap (λ each. each.names) c.self.view_is in
-    let unknown : HasUnknown dump.names (parts_of c.args.peg.now.path) =
-    subst (λ bytes. HasUnknown dump.names (parts_of bytes)) c.path.ensures.value
-    (subst (λ all. HasUnknown all (parts_of c.path.result.now)) names (rw c.in-Unknown.is at c.in-Ok.ensures.ok)) in
-    λ answer.
-    if_peg_exists-absent (trees_in_bytes dump) (peg_view c.args.peg.now) answer
-    (omega (arith, length-trees_in_bytes dump repo.dump_is, within))
-    (unknown-in_bytes dump repo.dump_is _ rev
-    (components-parts_of c.args.peg.now.path (false_from_ne_true _ (subst (λ bytes. HasDot bytes → ⊥) c.path.ensures.value c.path.ensures.no_dot))) unknown)
+    refused-known dump c.self.inside.index c.self.inside.map c.self.inside.ends repo c.args.peg.now c.in-Ok.found.0 c.in-Ok.found.1 known c.in_ok-entry.field-0
+    (c.in_ok-entry.ensures.of_revision dump c.args.peg.now.rev repo.map_is.first known.ends) (ap is_some c.in-None.is)

@@ -1,14 +1,14 @@
-use Rattle.std.proofs.Common.{ℕ, [], ◌++◌, Global, Some, None, Vec, append-nil, ap, get_or, if◌then◌else◌, map, sym, ◌∙◌}
+use Rattle.std.proofs.Common.{ℕ, [], ◌++◌, Global, Some, None, Vec, append-nil, ap, get_or, if◌then◌else◌, sym, ◌∙◌}
 use Rattle.std.specs.List.{cons_option}
 use Rattle.path_index.specs.declared.hit.Hit.{Hit}
-use Rattle.query_answer.specs.SourceHits.{eligible_hit, lent_ranges}
+use Rattle.query_answer.specs.SourceHits.{eligible_hit, has_in}
 use Rattle.query_answer.proofs.OperativeLocations.{filter_map_more}
 use Rattle.query_answer.proofs.verbs.eligible.eligible_hits.Goals as goal
 use Rattle.query_answer.proofs.verbs.eligible.eligible_hits.Goals.{then-is_eligible+in_ok-push, else-is_eligible}
 
 pub loop-hit-preserved : goal.loop-hit-preserved
 loop-hit-preserved c = λ located tells.
-    let ranges = map lent_ranges c.args.ranges.now in
+    let ranges = has_in c.args.ranges.now in
     let hits = c.args.hits.now in
     let hit : Hit = get_or hits c.loop-hit.hit-index (record { rev = 0; segment = 0 }) in
     let rev = hit.rev in

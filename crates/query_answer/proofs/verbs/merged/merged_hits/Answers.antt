@@ -1,9 +1,9 @@
-use Rattle.std.proofs.Common.{[], ◌++◌, Global, Vec, append-nil, ap, get_or, map, sym, ◌∙◌}
+use Rattle.std.proofs.Common.{[], ◌++◌, Global, Vec, append-nil, ap, get_or, sym, ◌∙◌}
 use Rattle.std.specs.List.{cons_option}
 use Rattle.std.specs.Prelude.{option_map}
 use Rattle.path_index.specs.declared.hit.Hit.{Hit}
 use Rattle.query_answer.specs.Merged.{merged_revision}
-use Rattle.query_answer.specs.SourceHits.{lent_ranges, merged_hit}
+use Rattle.query_answer.specs.SourceHits.{has_in, merged_hit}
 use Rattle.query_answer.specs.declared.merged_revision.MergedRevision.{MergedRevision}
 use Rattle.query_answer.proofs.OperativeLocations.{filter_map_more}
 use Rattle.query_answer.proofs.verbs.merged.merged_hits.Goals as goal
@@ -11,18 +11,18 @@ use Rattle.query_answer.proofs.verbs.merged.merged_hits.Goals.{in-Some+in_ok-pus
 
 pub loop-hit-preserved : goal.loop-hit-preserved
 loop-hit-preserved c =
-    let ranges = map lent_ranges c.args.ranges.now in
+    let ranges = has_in c.args.ranges.now in
     let hits = c.args.hits.now in
     let hit : Hit = get_or hits c.loop-hit.hit-index (record { rev = 0; segment = 0 }) in
     let rev = hit.rev in
     let shown = λ (v : Vec MergedRevision Global). v.items in
     let before = c.loop-hit.found.items in
-    let more = filter_map_more (merged_hit ranges) hits c.loop-hit.hit-index (record { rev = 0; segment = 0 }) c.loop-hit-test.true before c.match-has_hit.found.items c.loop-hit.invariant in
-    elim c.match-has_hit.branch [
+    let more = filter_map_more (merged_hit ranges) hits c.loop-hit.hit-index (record { rev = 0; segment = 0 }) c.loop-hit-test.true before c.match-has.found.items c.loop-hit.invariant in
+    elim c.match-has.branch [
       | in-Some+in_ok-push w ↦
           more (ap shown w.found-is ∙ w.in_ok-push.ensures.items
-          ∙ ap (λ found. before ++ cons_option (option_map (merged_revision rev) found) []) (sym w.in-Some.is ∙ c.has_hit.ensures))
+          ∙ ap (λ found. before ++ cons_option (option_map (merged_revision rev) found) []) (sym w.in-Some.is ∙ c.has.ensures))
       | in_default w ↦
           more (ap shown w.found-is ∙ sym (append-nil before)
-          ∙ ap (λ found. before ++ cons_option (option_map (merged_revision rev) found) []) (sym w.in_default.is ∙ c.has_hit.ensures))
+          ∙ ap (λ found. before ++ cons_option (option_map (merged_revision rev) found) []) (sym w.in_default.is ∙ c.has.ensures))
     ]

@@ -1,32 +1,39 @@
-use Rattle.std.proofs.Common.{◌≡◌, map, reverse, ap, sym, ◌∙◌}
-use Rattle.std.specs.Prelude.{filter_map}
+use Rattle.std.proofs.Common.{◌≡◌, map, ap, sym, ◌∙◌}
 use Rattle.std.proofs.lemmas.Result.{IfOk-weaker}
-use Rattle.query_answer.specs.SourceHits.{lent_ranges, merged_hit, ranges_in}
-use Rattle.query_answer.specs.Repo.{AreHitsIn, merged_by}
-use Rattle.query_answer.proofs.SourceRevisions.{merged-merged_by, merged_by-empty}
+use Rattle.svn_path.specs.Path.{components_of}
+use Rattle.query_answer.specs.Held.{held_ranges_in, held_value}
+use Rattle.query_answer.specs.HeldValue.{own_or_below}
+use Rattle.query_answer.specs.Repo.{AreHitsIn, merged_by, merged_in}
+use Rattle.query_answer.specs.SourceHits.{has_in, lent_ranges, merged_of_hits}
+use Rattle.query_answer.proofs.HeldRevisions.{own_or_below-empty}
+use Rattle.query_answer.proofs.SourceRevisions.{has_in-held, merged-merged_by, merged_by-empty}
 use Rattle.query_answer.proofs.verbs.merged.merged_of.Goals as goal
 
-pub ranges_by_segment-requires : goal.ranges_by_segment-requires
-ranges_by_segment-requires c = rw (c.as_slice-2.ensures.value, c.names.ensures.value) c.in_ok-segments.ensures.of_names
+pub returns-then-is_empty : goal.returns-then-is_empty
+returns-then-is_empty c =
+    let dump = c.args.repo.now in
+    let source = c.args.pair.now.source in
+    let rev = c.args.source.now.rev in
+    let rest = components_of dump.names c.args.held.now.rest.now in
+    let empty = ap (own_or_below rest) (c.is_empty.ensures.empty.0 c.if-is_empty.true) ∙ own_or_below-empty rest in
+    c.new.ensures.items ∙ sym (ap (merged_by dump source rev) empty ∙ merged_by-empty dump source rev)
 
 pub returns : goal.returns
 returns c =
     let dump = c.args.repo.now in
+    let held = c.args.held.now in
     let source = c.args.pair.now.source in
     let rev = c.args.source.now.rev in
-    let value = c.args.pair.now.mergeinfo in
     let segments = c.in_ok-segments.segments.items in
     let hits = c.in_ok-hits.hits.items in
     let so = c.in_ok-segments.ensures in
+    let has = has_in c.in_ok-ranges.ranges in
     let hits_in : AreHitsIn dump segments hits = rw c.as_slice.ensures.value at c.in_ok-hits.ensures in
-    let ranges : map lent_ranges c.as_slice-3.result.now ≡ map (ranges_in dump.names value) segments =
-    rw (c.as_slice-3.ensures.value, ← c.as_slice-2.ensures.value, ← c.names.ensures.value) c.in_ok-ranges.ensures in
-    let are : reverse (filter_map (merged_hit (map lent_ranges c.as_slice-3.result.now)) c.as_slice-4.result.now) ≡ merged_by dump source rev value =
-    rw (ranges, c.as_slice-4.ensures.value)
-    (merged-merged_by dump c.requires.kept source rev c.requires.within segments hits so.exact so.maximal (hits_in source rev c.requires.there so) value) in
-    IfOk-weaker c.merged_hits.result (λ found. found.items ≡ reverse (filter_map (merged_hit (map lent_ranges c.as_slice-3.result.now)) c.as_slice-4.result.now))
-    (λ found. found.items ≡ merged_by dump source rev value) (λ found is. is ∙ are) c.merged_hits.ensures
-
-pub returns-then-is_empty : goal.returns-then-is_empty
-returns-then-is_empty c =
-    c.new.ensures.items ∙ sym (ap (merged_by c.args.repo.now c.args.pair.now.source c.args.source.now.rev) (c.is_empty.ensures.0 c.if-is_empty.true) ∙ merged_by-empty c.args.repo.now c.args.pair.now.source c.args.source.now.rev)
+    let ranges : map lent_ranges c.in_ok-ranges.ranges.by_segment.items ≡ map (held_ranges_in dump.names held) segments =
+    rw (← c.as_slice-2.ensures.value, ← c.names.ensures.value) c.in_ok-ranges.ensures.ranges in
+    let has_is = has_in-held dump.names c.requires.source.kept.names held c.requires.held c.in_ok-ranges.ranges segments ranges c.in_ok-ranges.ensures.inherited so.of_names in
+    let are : merged_of_hits has c.as_slice-3.result.now ≡ merged_in dump c.args.source.now c.args.pair.now held =
+    rw c.as_slice-3.ensures.value
+    (merged-merged_by dump c.requires.source.kept source rev c.requires.source.within segments hits so.exact so.maximal (hits_in source rev c.requires.source.there so) (held_value dump.names held) has has_is) in
+    IfOk-weaker c.merged_hits.result (λ found. found.items ≡ merged_of_hits has c.as_slice-3.result.now)
+    (λ found. found.items ≡ merged_in dump c.args.source.now c.args.pair.now held) (λ found is. is ∙ are) c.merged_hits.ensures

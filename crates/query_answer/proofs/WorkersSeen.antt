@@ -1,0 +1,22 @@
+-- What a worker knows at first, and once a reading that borrows from it has ended.
+use Rattle.std.proofs.Common.{◌≡◌, ℕ, ◌≤◌, List, Some, length, slice_get, inl, inr, refl, sym, subst, ◌∙◌}
+use Rattle.std.specs.Prelude.{Result, Ok, Err, MatchResult}
+use Rattle.value_memo.specs.SeenValue.{IsAnswered, SeenValue, nothing_seen}
+use Rattle.value_memo.proofs.Callers.{AsksOnly-answered, AsksOnly-nothing_seen}
+use Rattle.query_answer.specs.Worker.{IsSeenOf, Learns}
+
+module _ (texts : List (List ℕ)) (memo : List ℕ) (old : SeenValue) (is : IsSeenOf texts memo old) (id : ℕ) (text : List ℕ) (of_id : slice_get texts id ≡ Some text) where
+  -- it still asks for the texts alone
+  pub IsSeenOf-after : {T E : Type 0} (result : Result T E) (new : SeenValue) → MatchResult result (λ _. IsAnswered old id text new) (λ _. new ≡ old) → IsSeenOf texts memo new
+  IsSeenOf-after (Ok value) new answered =
+      record { cells = is.cells; of_memo = answered.memo ∙ is.of_memo; asks = AsksOnly-answered texts old id text new is.asks of_id answered }
+  IsSeenOf-after (Err e) new same = subst (IsSeenOf texts memo) (sym same) is
+
+  -- and has learnt no more than the one text
+  pub Learns-after : {T E : Type 0} (result : Result T E) (new : SeenValue) → MatchResult result (λ _. IsAnswered old id text new) (λ _. new ≡ old) → Learns texts old new
+  Learns-after (Ok value) new answered = inr (record { id = id; text = text; of_id = of_id; answered = answered })
+  Learns-after (Err e) new same = inl same
+
+-- a new worker asked for nothing yet
+pub IsSeenOf-nothing_seen : (texts : List (List ℕ)) (memo : List ℕ) (seen : SeenValue) → length texts ≤ length memo → seen ≡ nothing_seen memo → IsSeenOf texts memo seen
+IsSeenOf-nothing_seen texts memo seen cells is = rw is (record { cells = cells; of_memo = refl; asks = AsksOnly-nothing_seen texts memo })

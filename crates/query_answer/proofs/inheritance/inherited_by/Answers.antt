@@ -1,0 +1,18 @@
+use Rattle.std.proofs.Common.{◌≡◌, ◌++◌, drop, ap, sym, subst, ◌∙◌}
+use Rattle.std.proofs.lemmas.List.Elements.{All-drop}
+use Rattle.svn_path.proofs.Tables.{components_of-components}
+use Rattle.svn_path.specs.Components.{IsComponent, path_text}
+use Rattle.svn_path.specs.Path.{components_of}
+use Rattle.merge_info.proofs.PrintedPaths.{IsPrintedPath-path_text}
+use Rattle.merge_info.specs.Line.{IsPrintedPath}
+use Rattle.query_answer.proofs.inheritance.inherited_by.Goals as goal
+
+pub inherited-requires : goal.inherited-requires
+inherited-requires c =
+    let components = components_of-components c.args.repo.now.names c.args.path.now c.names.ensures.kept.names.components c.requires.names in
+    let rest : c.deref.result.now ≡ path_text (drop c.args.depth (components_of c.args.repo.now.names c.args.path.now)) =
+    c.deref.ensures.value ∙ c.in_ok-write_below.ensures.ok ∙ ap (λ front. front ++ path_text (drop c.args.depth (components_of c.names.result.now c.args.path.now))) c.in_ok-rest.ensures.items
+    ∙ ap (λ each. path_text (drop c.args.depth (components_of each c.args.path.now))) c.names.ensures.value in
+    subst IsPrintedPath (sym rest)
+    (IsPrintedPath-path_text (drop c.args.depth (components_of c.args.repo.now.names c.args.path.now))
+    (All-drop IsComponent c.args.depth (components_of c.args.repo.now.names c.args.path.now) components))

@@ -1,0 +1,32 @@
+use Rattle.std.proofs.Common.{◌≡◌, Some, ap, subst, sym, ◌∙◌}
+use Rattle.svn_path.specs.Path.{IsPathOf, components_of}
+use Rattle.query_answer.specs.Held.{held_value}
+use Rattle.query_answer.specs.HeldValue.{own_or_below}
+use Rattle.query_answer.specs.Repo.{effective_in}
+use Rattle.query_answer.proofs.AnswerTexts.{IsAnswer-Eligible, IsAnswer-Merged}
+use Rattle.query_answer.proofs.PegsFound.{IsPathOf-rest}
+use Rattle.query_answer.proofs.verbs.pair.revisions.Goals as goal
+
+pub merged_of-requires-clause-held : goal.merged_of-requires-clause-held
+merged_of-requires-clause-held c =
+    let names = c.args.repo.now.names in
+    c.new-held.ensures.held names (subst (IsPathOf names) (sym c.rest.ensures) (IsPathOf-rest names c.args.pair.now.target c.requires.pair.target_is.path.of_names))
+
+pub eligible_of-requires-clause-held : goal.eligible_of-requires-clause-held
+eligible_of-requires-clause-held c =
+    let names = c.args.repo.now.names in
+    c.new-held.ensures.held names (subst (IsPathOf names) (sym c.rest.ensures) (IsPathOf-rest names c.args.pair.now.target c.requires.pair.target_is.path.of_names))
+
+pub returns-in_ok-merged_of-in-Merged : goal.returns-in_ok-merged_of-in-Merged
+returns-in_ok-merged_of-in-Merged c =
+    let dump = c.args.repo.now in
+    let is : effective_in dump c.args.pair.now.target.path c.args.target.now.rev ≡ Some (held_value dump.names c.new-held.result) =
+    c.requires.value ∙ ap (λ rest. Some (own_or_below (components_of dump.names rest) c.args.value.now)) (sym c.rest.ensures) ∙ ap Some (sym (c.new-held.ensures.value dump.names)) in
+    rw c.in-Merged.is (IsAnswer-Merged dump c.args.source.now c.args.target.now c.args.pair.now c.requires.pair c.new-held.result is c.in_ok-merged_of-in-Merged.field-0 c.in_ok-merged_of-in-Merged.ensures)
+
+pub returns-in_ok-eligible_of-in-Eligible : goal.returns-in_ok-eligible_of-in-Eligible
+returns-in_ok-eligible_of-in-Eligible c =
+    let dump = c.args.repo.now in
+    let is : effective_in dump c.args.pair.now.target.path c.args.target.now.rev ≡ Some (held_value dump.names c.new-held.result) =
+    c.requires.value ∙ ap (λ rest. Some (own_or_below (components_of dump.names rest) c.args.value.now)) (sym c.rest.ensures) ∙ ap Some (sym (c.new-held.ensures.value dump.names)) in
+    rw c.in-Eligible.is (IsAnswer-Eligible dump c.args.source.now c.args.target.now c.args.pair.now c.requires.pair c.new-held.result is c.in_ok-eligible_of-in-Eligible.field-0 c.in_ok-eligible_of-in-Eligible.ensures)

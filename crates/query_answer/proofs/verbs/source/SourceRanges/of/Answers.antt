@@ -1,0 +1,1 @@
+use Rattle.query_answer.proofs.verbs.source.SourceRanges.of.Goals as goal
