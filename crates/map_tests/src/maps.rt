@@ -186,8 +186,13 @@ fn standing_in(
     let path = path_of(alloc, dump, path)?;
     let entry = map.entry(tick, &path);
     let nearest = map.nearest(tick, &path);
+    let both = map.entry_and_nearest(tick, &path);
     drop(path);
-    Ok((entry?, nearest?))
+    let found = (entry?, nearest?);
+    if both? != found {
+        return Err("entry_and_nearest differs")?;
+    }
+    Ok(found)
 }
 
 // The same in the map of all records.

@@ -126,6 +126,20 @@ fn is_root(alloc: Global, text: &str) -> Result<bool, Fail> {
     is_same(alloc, &names, &Path::root(alloc), text)
 }
 
+fn is_known(alloc: Global, text: &str) -> Result<bool, Fail> {
+    let names = table(alloc)?;
+    let lookup = Path::look_up(alloc, &names, text.as_bytes())?;
+    Ok(matches!(lookup, Lookup::Known(_)))
+}
+
+#[test]
+fn dots_are_unknown_names_to_a_look_up(rt: HostRuntime) -> Result<(), Fail> {
+    for (text, known) in [("/a", true), ("a/zz", false), ("a/.", false)] {
+        assert!(rt; is_known(rt.alloc(), text)? == known, "{text}");
+    }
+    Ok(())
+}
+
 #[test]
 fn paths_of_known_names_are_found(rt: HostRuntime) -> Result<(), Fail> {
     assert!(rt; matches!(look_in_table(rt.alloc(), "a/zz")?, Found::Nothing));
