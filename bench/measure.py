@@ -1,4 +1,6 @@
 """Runs a command and measures it, and generates the dumps."""
+import hashlib
+import math
 import os
 import subprocess
 import sys
@@ -56,6 +58,38 @@ def run(words, feeder=None, file=None):
         output.seek(0)
         errors.seek(0)
         return Run(wall, usage, child.returncode, output.read(), errors.read())
+
+
+class Timed:
+    """A command with its best time so far. Its output must be the same each time; what is kept of it is a checksum and
+    how many bytes, lines and answers it has."""
+
+    def __init__(self, words, status=0):
+        self.words = words
+        self.status = status
+        self.wall = math.inf
+        self.output = None
+
+    def run_once(self):
+        taken = run(self.words, file=os.devnull)
+        if taken.status != self.status:
+            raise Failed("%s ended with %d: %s" % (
+                " ".join(self.words), taken.status, taken.errors.decode("utf-8", "replace").strip()))
+        output = hashlib.sha256(taken.output).digest()
+        if output != (self.output or output):
+            raise Failed("the output of %s differs from run to run" % " ".join(self.words))
+        self.output = output
+        self.size = len(taken.output)
+        self.lines = taken.output.count(b"\n")
+        self.answered = taken.output.count(b" ok\n")
+        self.wall = min(self.wall, taken.wall)
+
+
+def run_in_turns(commands, times):
+    """Runs each command so often, in turns, so that a slow moment of the machine affects all."""
+    for _ in range(times):
+        for command in commands:
+            command.run_once()
 
 
 def peak_of(words, feeder=("true",)):

@@ -83,7 +83,11 @@ def of_bindings(url, lines):
 def growth_dump(path, revisions, runs):
     """A history in which each revision changes `source`, and `target` has so many runs of mergeinfo about it."""
     step = revisions // runs
-    value = b"/source:" + b",".join(b"%d" % (first * step + 2) for first in range(runs))
+    write_source(path, revisions, b"/source:" + b",".join(b"%d" % (first * step + 2) for first in range(runs)))
+
+
+def write_source(path, revisions, value):
+    """A history in which each revision changes `source`, and `target` has this mergeinfo."""
     section = b"K 13\nsvn:mergeinfo\nV %d\n%s\nPROPS-END\n" % (len(value), value)
     with open(path, "wb") as file:
         file.write(b"SVN-fs-dump-format-version: 2\n\nRevision-number: 0\n\nRevision-number: 1\n\n")

@@ -36,6 +36,7 @@ STEPS = """//! The steps of a run up to the index or the map of a dump.
 ghost use Rattle.std.specs.Prelude.{◌<◌, ◌≤◌};
 
 use crate::arguments::Arguments;
+use crate::cuts::cuts_of;
 use devices::{Device, Source};
 use std::alloc::Global;
 use std::fs;
@@ -58,10 +59,10 @@ pub(crate) fn run_steps<R: Files + Threads + Wait + Sync>(
     };
     let dump = read_dump(alloc, &mut Device::new(file))?;
     if asked.queries == "index" {
-        make_index(rt, alloc, &dump, asked.block, asked.workers)?;
+        make_index(rt, alloc, &dump, cuts_of(&asked.block), asked.workers)?;
     }
     if asked.queries == "map" {
-        make_map(rt, alloc, &dump, asked.block, asked.workers)?;
+        make_map(rt, alloc, &dump, cuts_of(&asked.block), asked.workers)?;
     }
     Ok(())
 }
@@ -69,7 +70,7 @@ pub(crate) fn run_steps<R: Files + Threads + Wait + Sync>(
 
 # The functions of `svn_report` that these steps call.
 MAKERS = """//! The index and the map of a dump alone.
-ghost use Rattle.std.specs.Prelude.{◌<◌, ◌≤◌};
+ghost use Rattle.std.specs.Prelude.{◌<◌, ◌≤◌, All};
 
 use crate::block_index::{index_of, record_borders, record_ends};
 use crate::repository::{LoadError, lawful_map};
@@ -83,14 +84,13 @@ pub fn make_index<R: Threads + Sync>(
     rt: &R,
     alloc: Global,
     dump: &Dump,
-    block: u32,
+    cuts: &[u32],
     workers: usize,
 ) -> Result<(), AllocError>
+    requires cuts { All (λ length. 0 < length) cuts.now }
     requires some_worker { 0 < workers }
     requires few_workers { workers ≤ 64 }
 {
-    let lengths = [block];
-    let cuts = if block == 0 { &[] } else { lengths.as_slice() };
     let sums = record_ends(rt, alloc, dump, workers)?;
     let borders = record_borders(alloc, dump, sums.as_slice(), cuts, workers)?;
     let _ = index_of(rt, alloc, dump, borders.as_slice(), workers)?;
@@ -102,14 +102,13 @@ pub fn make_map<R: Threads + Sync>(
     rt: &R,
     alloc: Global,
     dump: &Dump,
-    block: u32,
+    cuts: &[u32],
     workers: usize,
 ) -> Result<(), LoadError>
+    requires cuts { All (λ length. 0 < length) cuts.now }
     requires some_worker { 0 < workers }
     requires few_workers { workers ≤ 64 }
 {
-    let lengths = [block];
-    let cuts = if block == 0 { &[] } else { lengths.as_slice() };
     let sums = record_ends(rt, alloc, dump, workers)?;
     let borders = record_borders(alloc, dump, sums.as_slice(), cuts, workers)?;
     let ends = Ends::new(sums);

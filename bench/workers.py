@@ -1,20 +1,30 @@
-"""How long the answers take with one, two and four workers, on a history whose trees fit into memory.
+"""How long the answers take with one, two and four workers, on even and on uneven work.
 
-The queries are of all verbs, in an order that is drawn once. The program is run with them, and with lines of the same
-lengths that are no queries; the difference is the time of the answers.
+The even work is queries of all verbs, in an order that is drawn once, about a history whose trees fit into memory. The
+uneven work is queries that take a thousand times as long as the others, which follow them. Each list is measured beside
+lines of the same lengths that are no queries; the difference is the time of the answers. All runs are measured in
+turns, with one worker also those of the older build that `--before` names.
 """
 import os
 import random
 
-from measure import Failed, generate, run
-from merges import query
-from questions import GENERATED, QUICK_REVISIONS, REVISIONS, Question, best_of, records_of
+from measure import Failed, Timed, generate, run_in_turns
+from merges import query, write_source
+from questions import GENERATED, QUICK_REVISIONS, REVISIONS, Question, records_of
 
 # The number of queries of each verb, 200,000 in all; the answers to `log` and `eligible` are long.
 ASKED = {"locate": 60000, "segments": 58500, "log": 10500, "mergeinfo": 40000, "merged": 25000, "eligible": 6000}
+# The revisions of the history of the uneven work, and its queries of both kinds. The long ones look at each operative
+# revision of the source, and all but the last ones are merged.
+SOURCE_REVISIONS = 80000
+UNMERGED = 10
+LONG = 600
+SHORT = 300000
+QUICK = 10
 WORKERS = (1, 2, 4)
-# What four workers may take of the time of one.
-MOST_OF_ONE = 0.45
+# What four workers may take of the time of one, and one worker of the time of the older build.
+MOST_OF_ONE = {"even": 0.36, "uneven": 0.4}
+MOST_OF_BEFORE = 1.03
 
 
 def queries_of(records, quick):
@@ -23,7 +33,7 @@ def queries_of(records, quick):
     later = pegs[len(pegs) // 2:]
     lines = []
     for verb, count in ASKED.items():
-        for _ in range(count // 10 if quick else count):
+        for _ in range(count // QUICK if quick else count):
             if verb in ("merged", "eligible"):
                 lines.append(query(verb, lot.choice(later), lot.choice(later)))
             else:
@@ -32,39 +42,100 @@ def queries_of(records, quick):
     return lines
 
 
-def answer(program, dump, path, workers, wanted):
-    taken = run([program, dump, path, "0", str(workers)], file=os.devnull)
-    if taken.status != 0 or taken.output.count(b" ok\n") != wanted:
-        raise Failed("the program did not answer all of %d queries with %d workers" % (wanted, workers))
-    return taken
+def make_even(dump, quick):
+    with open(dump, "wb") as file:
+        generate(GENERATED + ["--revisions", str(QUICK_REVISIONS if quick else REVISIONS)], file)
+    return queries_of(records_of(dump), quick)
+
+
+def long_and_short(quick):
+    """The long queries of the uneven work, and the short ones."""
+    peg = ("source", SOURCE_REVISIONS)
+    scale = QUICK if quick else 1
+    return ([query("eligible", peg, ("target", SOURCE_REVISIONS))] * (LONG // scale),
+            ["locate\t%s@%d\t%d\n" % (peg + (SOURCE_REVISIONS // 2,))] * (SHORT // scale))
+
+
+def make_uneven(dump, quick):
+    write_source(dump, SOURCE_REVISIONS, b"/source:2-%d" % (SOURCE_REVISIONS - UNMERGED))
+    return sum(long_and_short(quick), [])
+
+
+class Work:
+    """A dump and queries about it, and the runs with them and with lines that are no queries, by program and number of
+    workers."""
+
+    def __init__(self, programs, folder, name, lines):
+        self.name = name
+        self.dump = os.path.join(folder, "workers-%s.dump" % name)
+        self.lines = lines
+        asked = self.write(folder, "asked", lines)
+        refused = self.write(folder, "refused", ["-" + line[1:] for line in lines])
+        self.runs = {kind: [self.timed(programs[kind[0]], path, kind[1]) for path in (refused, asked)]
+                     for kind in kinds_of(programs)}
+
+    def write(self, folder, kind, lines):
+        path = os.path.join(folder, "workers-%s-%s.queries" % (self.name, kind))
+        with open(path, "w") as file:
+            file.writelines(lines)
+        return path
+
+    def timed(self, program, queries, workers):
+        return Timed([program, self.dump, queries, "0", str(workers)])
+
+    def measure(self, times):
+        run_in_turns([each for pair in self.runs.values() for each in pair], times)
+        for wanted, found in zip((0, len(self.lines)), zip(*self.runs.values())):
+            if len({each.output for each in found}) > 1 or found[0].answered != wanted:
+                raise Failed("the reports on %s work differ, or do not answer %d queries" % (self.name, wanted))
+
+    def seconds(self, program, workers):
+        refused, asked = self.runs[program, workers]
+        return asked.wall - refused.wall
+
+    def print_rows(self):
+        one = self.seconds("now", 1)
+        for program, workers in self.runs:
+            seconds = self.seconds(program, workers)
+            most = MOST_OF_ONE[self.name] if workers == WORKERS[-1] else None
+            title, ratio = "%d" % workers, seconds / one
+            if program == "before":
+                title, ratio, most = "1, older build", one / seconds, MOST_OF_BEFORE
+            shown = " | " if most is None else "%g | %s" % (most, "met" if ratio <= most else "**not met**")
+            print("| %s | %s | %s | %.1f | %.3f | %.3f | %s |" % (
+                self.name, title, format(len(self.lines), ","), self.runs[program, workers][1].size / 1e6, seconds,
+                ratio, shown), flush=True)
+
+
+def kinds_of(programs):
+    return [("now", workers) for workers in WORKERS] + ([("before", 1)] if programs["before"] else [])
+
+
+def print_length(program, folder, given):
+    """How long the two kinds of queries of the uneven work take."""
+    lists = long_and_short(given.quick)
+    each = []
+    for lines in lists:
+        work = Work({"now": program, "before": None}, folder, "uneven", lines)
+        work.runs = {kind: pair for kind, pair in work.runs.items() if kind == ("now", 1)}
+        work.measure(given.times)
+        each.append(work.seconds("now", 1) / len(lines))
+    print("\nIn the uneven work %s queries take %.4f ms each, and then %s take %.5f ms each: %.0f times as long." % (
+        format(len(lists[0]), ","), each[0] * 1e3, format(len(lists[1]), ","), each[1] * 1e3, each[0] / each[1]))
 
 
 def run_workers(program, folder, given):
     """Prints the time of the answers by the number of workers. Returns the exit status."""
-    dump = os.path.join(folder, "workers.dump")
-    revisions = QUICK_REVISIONS if given.quick else REVISIONS
-    with open(dump, "wb") as file:
-        generate(GENERATED + ["--revisions", str(revisions)], file)
-    lines = queries_of(records_of(dump), given.quick)
-    path = os.path.join(folder, "workers.queries")
-    refused = os.path.join(folder, "refused.queries")
-    with open(path, "w") as file:
-        file.writelines(lines)
-    with open(refused, "w") as file:
-        file.writelines("-" + line[1:] for line in lines)
-    print("## Workers\n\n| workers | queries | report, MB | seconds | relative to one | |\n|---|---|---|---|---|---|")
-    first = None
-    report = None
-    for workers in WORKERS:
-        base = best_of(given.times, lambda: answer(program, dump, refused, workers, 0))
-        taken = best_of(given.times, lambda: answer(program, dump, path, workers, len(lines)))
-        seconds = taken.wall - base.wall
-        if first is None:
-            first, report = seconds, taken.output
-        if taken.output != report:
-            raise Failed("the report of %d workers differs from that of one" % workers)
-        shown = "" if workers != WORKERS[-1] else "met" if seconds <= MOST_OF_ONE * first else "**not met**"
-        print("| %d | %s | %.1f | %.3f | %.2f | %s |"
-              % (workers, format(len(lines), ","), len(report) / 1e6, seconds, seconds / first, shown))
+    programs = {"now": program, "before": given.before}
+    print("## Workers\n\nThe best of %d measurements. In the row of the older build the ratio is that of the program to"
+          " it.\n" % given.times)
+    print("| work | workers | queries | report, MB | seconds | relative to one | at most | |\n"
+          "|---|---|---|---|---|---|---|---|")
+    for name, make in (("even", make_even), ("uneven", make_uneven)):
+        lines = make(os.path.join(folder, "workers-%s.dump" % name), given.quick)
+        work = Work(programs, folder, name, lines)
+        work.measure(given.times)
+        work.print_rows()
+    print_length(program, folder, given)
     print()
     return 0
