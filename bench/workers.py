@@ -1,9 +1,10 @@
 """How long the answers take with one, two and four workers, on even and on uneven work.
 
 The even work is queries of all verbs, in an order that is drawn once, about a history whose trees fit into memory. The
-uneven work is queries that take a thousand times as long as the others, which follow them. Each list is measured beside
-lines of the same lengths that are no queries; the difference is the time of the answers. All runs are measured in
-turns, with one worker also those of the older build that `--before` names.
+uneven work is queries that take a thousand times as long as the others, which follow them, and a few `log` of the root
+among short ones, at each fourth place, so that one of four workers would have them all if it had each fourth place.
+Each list is measured beside lines of the same lengths that are no queries; the difference is the time of the answers.
+All runs are measured in turns, with one and four workers also those of the older build that `--before` names.
 """
 import os
 import random
@@ -20,10 +21,12 @@ SOURCE_REVISIONS = 80000
 UNMERGED = 10
 LONG = 600
 SHORT = 300000
+FEW_LONG = 8
+FEW_SHORT = 1000
 QUICK = 10
 WORKERS = (1, 2, 4)
 # What four workers may take of the time of one, and one worker of the time of the older build.
-MOST_OF_ONE = {"even": 0.36, "uneven": 0.4}
+MOST_OF_ONE = {"even": 0.36, "uneven": 0.4, "few long": 0.4}
 MOST_OF_BEFORE = 1.03
 
 
@@ -59,6 +62,13 @@ def long_and_short(quick):
 def make_uneven(dump, quick):
     write_source(dump, SOURCE_REVISIONS, b"/source:2-%d" % (SOURCE_REVISIONS - UNMERGED))
     return sum(long_and_short(quick), [])
+
+
+def make_few_long(dump, quick):
+    write_source(dump, SOURCE_REVISIONS, b"/source:2-%d" % (SOURCE_REVISIONS - UNMERGED))
+    lines = long_and_short(quick)[1][:FEW_SHORT + FEW_LONG]
+    lines[:WORKERS[-1] * FEW_LONG:WORKERS[-1]] = ["log\t/@%d\n" % SOURCE_REVISIONS] * FEW_LONG
+    return lines
 
 
 class Work:
@@ -100,7 +110,8 @@ class Work:
             most = MOST_OF_ONE[self.name] if workers == WORKERS[-1] else None
             title, ratio = "%d" % workers, seconds / one
             if program == "before":
-                title, ratio, most = "1, older build", one / seconds, MOST_OF_BEFORE
+                title += ", older build"
+                ratio, most = (one / seconds, MOST_OF_BEFORE) if workers == 1 else (seconds / self.seconds(program, 1), None)
             shown = " | " if most is None else "%g | %s" % (most, "met" if ratio <= most else "**not met**")
             print("| %s | %s | %s | %.1f | %.3f | %.3f | %s |" % (
                 self.name, title, format(len(self.lines), ","), self.runs[program, workers][1].size / 1e6, seconds,
@@ -108,7 +119,7 @@ class Work:
 
 
 def kinds_of(programs):
-    return [("now", workers) for workers in WORKERS] + ([("before", 1)] if programs["before"] else [])
+    return [("now", workers) for workers in WORKERS] + ([("before", 1), ("before", WORKERS[-1])] if programs["before"] else [])
 
 
 def print_length(program, folder, given):
@@ -127,11 +138,11 @@ def print_length(program, folder, given):
 def run_workers(program, folder, given):
     """Prints the time of the answers by the number of workers. Returns the exit status."""
     programs = {"now": program, "before": given.before}
-    print("## Workers\n\nThe best of %d measurements. In the row of the older build the ratio is that of the program to"
-          " it.\n" % given.times)
+    print("## Workers\n\nThe best of %d measurements. In the first row of the older build the ratio is that of the program"
+          " to it.\n" % given.times)
     print("| work | workers | queries | report, MB | seconds | relative to one | at most | |\n"
           "|---|---|---|---|---|---|---|---|")
-    for name, make in (("even", make_even), ("uneven", make_uneven)):
+    for name, make in (("even", make_even), ("uneven", make_uneven), ("few long", make_few_long)):
         lines = make(os.path.join(folder, "workers-%s.dump" % name), given.quick)
         work = Work(programs, folder, name, lines)
         work.measure(given.times)
