@@ -1,8 +1,11 @@
 -- Canonical lists of runs.
-use Rattle.std.proofs.Common.{◌≡◌, ℕ, ◌+◌, ◌<◌, ◌≤◌, Bool, true, false, ◌&&◌, ◌||◌, List, [], ◌∷◌, ◌++◌, All, filter, refl, sym, ap, subst, ◌∙◌, inl, inr, arith}
+use Rattle.std.proofs.Common.{◌≡◌, ℕ, suc, get_or, length, ◌+◌, ◌<◌, ◌≤◌, Bool, true, false, ◌&&◌, ◌||◌, List, [], ◌∷◌, ◌++◌, All, filter, refl, sym, ap, subst, ◌∙◌, inl, inr, arith}
 use Rattle.std.proofs.lemmas.Bool.{and_right, cases_Bool, cond-true, cond-false}
-use Rattle.std.proofs.lemmas.List.Elements.{All-nil, All-cons}
-use Rattle.range_list.specs.Rangelist.{covers, is_in, is_inheritable, IsRun, IsApart, IsCanonical, IsInheritablePart}
+use Rattle.std.proofs.lemmas.Bool.Decides.{nat_tests}
+use Rattle.std.proofs.lemmas.List.Elements.{All-nil, All-cons, All-head, All-tail}
+use Rattle.range_list.specs.Rangelist.{covers, is_apart, is_in, is_inheritable, IsRun, IsApart, IsCanonical, IsInheritablePart}
+use Rattle.std.specs.Bool.{OnTrue}
+use Rattle.std.specs.List.{AllAdjacentBelow, IsAllAdjacentAnswer}
 use Rattle.range_list.specs.declared.run.Run.{Run}
 use Rattle.range_list.proofs.Same.{covers-below}
 
@@ -149,3 +152,24 @@ IsInheritablePart-filter (run ∷ runs) n =
             ap (λ part. is_inheritable part n) skipped ∙ rest.1 ∙ ap with_first (sym non_inheritable),
           )
     ]
+
+-- ---- lists in which each run was tested with the next
+
+IsApart-tested : (a b : Run) → is_apart a b ≡ true → IsApart a b
+IsApart-tested a b tested = grind (arith, nat_tests)
+
+-- each run and the next
+IsCanonical-adjacent : (runs : List Run) → All IsRun runs → AllAdjacentBelow (λ a b. is_apart a b ≡ true) runs (length runs) → IsCanonical runs
+IsCanonical-adjacent [] are_runs adjacent = tt
+IsCanonical-adjacent (run ∷ []) are_runs adjacent = All-head IsRun run [] are_runs
+IsCanonical-adjacent (run ∷ next ∷ runs) are_runs adjacent = (
+  All-head IsRun run (next ∷ runs) are_runs,
+  IsApart-tested run next (adjacent 0 run (omega arith)),
+  IsCanonical-adjacent (next ∷ runs) (All-tail IsRun run (next ∷ runs) are_runs) (λ k d within.
+      let second : suc k + 1 ≡ suc (k + 1) = omega arith in
+      subst (λ j. is_apart (get_or (next ∷ runs) k d) (get_or (run ∷ next ∷ runs) j d) ≡ true) second (adjacent (suc k) d (omega arith))),
+)
+
+pub IsCanonical-tested : (runs : List Run) (answer : Bool) → All IsRun runs → IsAllAdjacentAnswer (λ a b r. r ≡ is_apart a b) runs answer → OnTrue answer (IsCanonical runs)
+IsCanonical-tested runs true are_runs each = IsCanonical-adjacent runs are_runs (λ k d within. sym (each k d within))
+IsCanonical-tested runs false are_runs each = tt

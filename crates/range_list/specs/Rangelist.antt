@@ -1,6 +1,7 @@
 -- Rangelists, of which the values of `svn:mergeinfo` are made (Subversion book, "Branching and Merging", "Mergeinfo and
 -- previews"): finite sets of revision numbers, each of which is inheritable or not.
-use Rattle.std.specs.Prelude.{◌≡◌, ◌≢◌, ℕ, ◌+◌, ◌<◌, ◌≤◌, nat_le, Bool, ◌&&◌, List, [], ◌∷◌, ◌++◌, Option, Some, None, if◌then◌else◌}
+use Rattle.std.specs.Prelude.{◌≡◌, ◌≢◌, ℕ, ◌+◌, ◌<◌, ◌≤◌, nat_le, nat_lt, ◌==◌, Bool, ◌&&◌, not, List, [], ◌∷◌, ◌++◌, Option, Some, None, if◌then◌else◌}
+use Rattle.std.specs.Bool.{beq}
 use Rattle.std.specs.List.{list_any}
 use Rattle.svn_text.specs.Number.{greatest_revision}
 use Rattle.range_list.specs.declared.run.Run.{Run}
@@ -29,6 +30,9 @@ pub record IsRun (run : Run) : Type 0 where
 pub record IsApart (a b : Run) : Type 0 where
   pub after : a.hi < b.lo
   pub maximal : a.hi + 1 ≡ b.lo → a.inheritable ≢ b.inheritable
+
+abbrev pub is_apart : Run → Run → Bool
+is_apart a b = nat_lt a.hi b.lo && not ((a.hi + 1 == b.lo) && beq a.inheritable b.inheritable)
 
 -- the runs rise, and are as long as they can be
 abbrev pub IsCanonical : List Run → Type 0

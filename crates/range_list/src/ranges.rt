@@ -1,4 +1,5 @@
 //! A set of revision numbers, each inheritable or not.
+ghost use Rattle.std.specs.Bool.{OnTrue};
 ghost use Rattle.std.specs.Prelude.{◌≡◌, ◌≤◌, ◌<◌, ◌↔◌, List, [], ◌++◌, All, IfOk, OnOk, OnErr, IsTrue};
 ghost use Rattle.range_list.specs.Rangelist.{inheritability_of, IsRun, IsCanonical, HasSameNumbers, IsInheritablePart, IsOnlyCanonical, AddsRun};
 ghost use Rattle.svn_text.specs.Number.{greatest_revision};
@@ -41,19 +42,16 @@ impl Ranges {
     }
 
     /// The union of the runs, which may come in any order and overlap. A number given both ways is inheritable.
-    pub fn of_runs(mut runs: Vec<Run>) -> Result<Self, AllocError>
+    pub fn of_runs(runs: Vec<Run>) -> Result<Self, AllocError>
         requires { All IsRun runs.items }
         ensures same { IfOk result (λ ranges. HasSameNumbers ranges runs.items) }
         ensures exact { IfOk result (λ ranges. ranges ≡ canonical_runs runs.items) }
     {
-        runs.sort_by_key(|run| run.lo)?;
-        let mut sweep = Sweep::new(*runs.allocator());
-        for run in &runs {
-            sweep.take(*run)?;
+        if is_canonical(&runs) {
+            Ok(Ranges { runs })
+        } else {
+            swept(runs)
         }
-        Ok(Ranges {
-            runs: sweep.finish()?,
-        })
     }
 
     /// Adds the numbers from `lo` to `hi`. Each call copies and sorts the whole list; `of_runs` sorts many runs once.
@@ -149,4 +147,28 @@ impl Ranges {
             runs: Vec::from_slice(*self.runs.allocator(), &self.runs)?,
         })
     }
+}
+
+/// Whether the runs rise, and are as long as they can be.
+fn is_canonical(runs: &[Run]) -> bool
+    requires { All IsRun runs.now }
+    ensures { OnTrue result (IsCanonical runs.now) }
+{
+    runs.is_sorted_by(|run, next| run.is_apart_from(*next))
+}
+
+/// The union of the runs, which may come in any order and overlap.
+fn swept(mut runs: Vec<Run>) -> Result<Ranges, AllocError>
+    requires { All IsRun runs.items }
+    ensures same { IfOk result (λ ranges. HasSameNumbers ranges runs.items) }
+    ensures exact { IfOk result (λ ranges. ranges ≡ canonical_runs runs.items) }
+{
+    runs.sort_by_key(|run| run.lo)?;
+    let mut sweep = Sweep::new(*runs.allocator());
+    for run in &runs {
+        sweep.take(*run)?;
+    }
+    Ok(Ranges {
+        runs: sweep.finish()?,
+    })
 }

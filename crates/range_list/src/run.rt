@@ -1,5 +1,6 @@
 //! A run of revision numbers.
 ghost use Rattle.std.specs.Prelude.{◌≡◌, ◌+◌, ◌<◌, ◌↔◌, IsTrue};
+ghost use Rattle.range_list.specs.Rangelist.{is_apart};
 
 /// The revision numbers from `lo` to `hi`, all of them inheritable or none.
 #[derive(Clone, Copy, Debug, PartialEq, Eq)]
@@ -16,5 +17,12 @@ impl Run {
         ensures { IsTrue result ↔ ((self.hi + 1 ≡ next.lo) × (self.inheritable ≡ next.inheritable)) }
     {
         self.hi + 1 == next.lo && self.inheritable == next.inheritable
+    }
+
+    /// Whether a run begins above the end of this one, and does not continue it.
+    pub(crate) fn is_apart_from(self, next: Run) -> bool
+        ensures { result ≡ is_apart self next }
+    {
+        self.hi < next.lo && !self.continues_with(next)
     }
 }
