@@ -48,7 +48,7 @@ fn filled_slots<Out: Drop>(
 fn empty_slots<Out: Drop>(alloc: Global, n: u32) -> Result<Vec<Option<Out>>, AllocError>
     ensures { IfOk result (λ slots. slots.items ≡ replicate n None) }
 {
-    let mut slots = Vec::new(alloc);
+    let mut slots = Vec::with_capacity(alloc, n as usize)?;
     for _ in 0..n {
         slots.push(None)?;
     }
@@ -88,7 +88,7 @@ fn unwrap_all<Out: Drop>(alloc: Global, slots: Vec<Option<Out>>) -> Result<Vec<O
     ensures ok { IfOk result (λ ordered. slots.items ≡ map Some ordered.items) }
     ensures error { IfErr result (IsUnwrapError slots.items) }
 {
-    let mut ordered = Vec::new(alloc);
+    let mut ordered = Vec::with_capacity(alloc, slots.len())?;
     let mut place: u32 = 0;
     for slot in slots {
         match slot {
