@@ -9,13 +9,14 @@ use crate::record::ValueId;
 use crate::refusal::Refusal;
 use indexmap::IndexSet;
 use std::alloc::Global;
+use std::hash::BuildHasherDefault;
 use std::marker::Model;
-use svn_text::HashedText;
+use svn_text::{HashedText, KeptHasher};
 
 /// The distinct mergeinfo texts of a dump, seen as the list of their bytes.
 #[derive(Drop)]
 pub(crate) struct Texts {
-    known: IndexSet<HashedText<'static>>,
+    known: IndexSet<HashedText<'static>, BuildHasherDefault<KeptHasher>>,
 }
 
 impl Model for Texts {
@@ -35,7 +36,7 @@ impl Texts {
         ensures { result ≡ [] }
     {
         Texts {
-            known: IndexSet::new(alloc),
+            known: IndexSet::with_hasher(alloc, BuildHasherDefault::new()),
         }
     }
 

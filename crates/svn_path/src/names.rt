@@ -6,8 +6,9 @@ ghost use Rattle.svn_path.specs.Names.{has_name, with_name, most_names, HasNoRoo
 
 use indexmap::IndexSet;
 use std::alloc::{AllocError, AllocFailed, Global};
+use std::hash::BuildHasherDefault;
 use std::marker::Model;
-use svn_text::HashedText;
+use svn_text::{HashedText, KeptHasher};
 use thiserror::Error;
 
 /// The number of a name in a table. Numbers begin at 0 and follow the order in which names came.
@@ -26,7 +27,7 @@ pub enum NamesError {
 /// The distinct components of a repository's paths, seen as the list of their bytes.
 #[derive(Drop)]
 pub struct Names {
-    known: IndexSet<HashedText<'static>>,
+    known: IndexSet<HashedText<'static>, BuildHasherDefault<KeptHasher>>,
 }
 
 impl Model for Names {
@@ -68,7 +69,7 @@ impl Names {
         ensures { result ≡ [] }
     {
         Names {
-            known: IndexSet::new(alloc),
+            known: IndexSet::with_hasher(alloc, BuildHasherDefault::new()),
         }
     }
 
