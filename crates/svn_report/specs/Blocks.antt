@@ -26,6 +26,11 @@ pub record IsIndexOfBlock (all : List NodeRecord) (borders : List ℕ) (block : 
   pub records : index.records ≡ slice_range all (slice_index borders block) (slice_index borders (block + 1))
   pub first : index.first ≡ slice_index borders block
 
+-- the index is of all records
+pub record IsIndexOf (all : List NodeRecord) (index : IndexValue) : Type 0 where
+  pub records : index.records ≡ all
+  pub first : index.first ≡ 0
+
 -- there is a block of that number, of whose records a map can be made
 pub record HasMapOfBlock (records : List NodeRecord) (ends borders : List ℕ) (block : ℕ) : Type 0 where
   pub has : HasBlock records borders block

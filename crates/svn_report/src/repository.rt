@@ -5,16 +5,18 @@ ghost use Rattle.svn_dump.specs.Dump.{IsDump, history_in_bytes, history_view};
 ghost use Rattle.svn_dump.specs.Fault.{first_fault};
 ghost use Rattle.block_map.specs.Ends.{ends_of};
 ghost use Rattle.block_map.specs.Map.{IsMapOf};
-ghost use Rattle.svn_report.specs.Blocks.{AreBorders};
+ghost use denote.Param.Send.{IsSync};
+ghost use Rattle.svn_report.specs.Blocks.{AreBorders, IsIndexOf};
 ghost use Rattle.svn_report.specs.LoadRepo.{IsLoadError};
 ghost use Rattle.query_pool.specs.Serving.{most_workers};
 
 use crate::block_index::{index_of, record_borders, record_ends};
 use crate::block_maps::map_of;
 use block_map::{Ends, Fault, Map, check};
+use path_index::Index;
 use query_answer::Repo;
 use std::alloc::{AllocError, Global};
-use std::thread::Threads;
+use std::thread::{self, Threads};
 use svn_dump::Dump;
 use thiserror::Error;
 
@@ -60,9 +62,49 @@ pub fn load_repo<R: Threads + Sync>(
     let sums = record_ends(rt, alloc, &dump, workers)?;
     let borders = record_borders(alloc, &dump, sums.as_slice(), cuts, workers)?;
     let ends = Ends::new(sums);
-    let map = lawful_map(rt, alloc, &dump, &ends, borders.as_slice(), workers)?;
-    let index = index_of(rt, alloc, &dump, borders.as_slice(), workers)?;
+    let (map, index) = map_and_index(rt, alloc, &dump, &ends, borders.as_slice(), workers)?;
     Ok(Repo::new(dump, index, map, ends))
+}
+
+/// The map and the index of all records of a dump, or its first faulty record. Where there are several workers, both are
+/// made at the same time. The revisions of the dump end as these say.
+fn map_and_index<R: Threads + Sync>(
+    rt: &R,
+    alloc: Global,
+    dump: &Dump,
+    ends: &Ends,
+    borders: &[usize],
+    workers: usize,
+) -> Result<(Map, Index), LoadError>
+    requires ends { ends.now ≡ ends_of dump.now.counts }
+    requires borders { AreBorders 0 (length dump.now.records) borders.now }
+    requires some_worker { 0 < workers }
+    requires few_workers { workers ≤ most_workers }
+    ensures map { IfOk result (λ both. IsMapOf dump.now both.0) }
+    ensures index { IfOk result (λ both. IsIndexOf dump.now.records both.1) }
+    ensures lawful { OnOk result (first_fault same_name (history_view dump.now) ≡ None) }
+    ensures faulty { IfErr result (IsLoadError dump.now) }
+{
+    if workers == 1 {
+        let map = lawful_map(rt, alloc, dump, ends, borders, workers)?;
+        let index = index_of(rt, alloc, dump, borders, workers)?;
+        return Ok((map, index));
+    }
+    let indexing = move || -> Result<Index, AllocError>
+        requires { IsSync R.row × AreBorders 0 (length dump.now.records) borders.now
+            × (0 < workers) × (workers ≤ most_workers) }
+        ensures { IfOk result (IsIndexOf dump.entry.now.records) }
+    { index_of(rt, alloc, dump, borders, workers) };
+    let mapping = move || -> Result<Map, LoadError>
+        requires { IsSync R.row × (ends.now ≡ ends_of dump.now.counts) × AreBorders 0 (length dump.now.records) borders.now
+            × (0 < workers) × (workers ≤ most_workers) }
+        ensures { IfOk result (IsMapOf dump.entry.now)
+            × OnOk result (first_fault same_name (history_view dump.entry.now) ≡ None)
+            × IfErr result (IsLoadError dump.entry.now) }
+    { lawful_map(rt, alloc, dump, ends, borders, workers) };
+    let (index, map) = thread::join(rt, indexing, mapping);
+    let map = map?;
+    Ok((map, index?))
 }
 
 /// The map of all records of a dump, or its first faulty record. The revisions of the dump end as these say.

@@ -7,8 +7,8 @@ pub new-ends-requires : goal.new-ends-requires
 new-ends-requires g c =
     ends_view-small c.args.dump c.in_ok-sums.ensures.kept c.in_ok-sums.sums.items c.in_ok-sums.ensures.exact
 
-pub lawful_map-requires-clause-ends : goal.lawful_map-requires-clause-ends
-lawful_map-requires-clause-ends g c κs within =
+pub map_and_index-requires-clause-ends : goal.map_and_index-requires-clause-ends
+map_and_index-requires-clause-ends g c κs within =
     c.new-ends.ensures ∙ ends_view-sums c.args.dump.counts c.in_ok-sums.sums.items c.in_ok-sums.ensures.exact
 
 pub new-requires-clause-ends : goal.new-requires-clause-ends
