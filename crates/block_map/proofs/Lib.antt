@@ -19,6 +19,8 @@ pub mod RecordNodes
 pub mod RevisionEnds
 pub mod RevisionStates
 pub mod Sources
+pub mod SettledPaths
 pub mod Standings
+pub mod Stretches
 pub mod TreesLooks
 pub mod TreesNodes

@@ -6,7 +6,7 @@ use Rattle.std.proofs.lemmas.Bool.{cases_lt}
 use Rattle.std.proofs.lemmas.Option.{same_Some}
 use Rattle.svn_path.specs.declared.names.NameId.{NameId}
 use Rattle.svn_dump.specs.declared.record.ValueId.{ValueId}
-use Rattle.block_map.specs.Map.{HasNoneFrom, IsNearestOrNone, nearest_view}
+use Rattle.block_map.specs.Map.{IsNearestOrNone, nearest_view}
 use Rattle.block_map.specs.declared.nearest.Nearest.{Nearest}
 
 -- none of the first components has any
@@ -75,7 +75,7 @@ module _ (own : List NameId → Option ValueId) (path : List NameId) where
 -- ---- from the whole path up
 
 -- the first ones of the first ones
-take_of_take : (m n : ℕ) (xs : List NameId) → m ≤ n → take m (take n xs) ≡ take m xs
+pub take_of_take : (m n : ℕ) (xs : List NameId) → m ≤ n → take m (take n xs) ≡ take m xs
 take_of_take zero n xs less = refl
 take_of_take (suc m) zero xs less = absurd (omega (arith, less))
 take_of_take (suc m) (suc n) [] less = refl
@@ -86,13 +86,3 @@ pub take-parent : (path above parent : List NameId) (last : NameId) → above �
 take-parent path above parent last front split =
     sym (take-append_seam parent (last ∷ [])) ∙ ap (take (length parent)) (sym split ∙ front)
     ∙ take_of_take (length parent) (length above) path (omega (arith, ap length split, length-append parent (last ∷ [])))
-
--- where it has none, none is found from it on
-pub HasNoneFrom-parent : (own : List NameId → Option ValueId) (path above : List NameId) (depth : ℕ) → above ≡ take (length above) path → depth + 1 ≡ length above → own above ≡ None
-    → HasNoneFrom own path (length above + 1) → HasNoneFrom own path (depth + 1)
-HasNoneFrom-parent own path above depth front one_less none below more from upto = elim (cases_lt (length above) more) [
-  | inl past ↦ below more (omega (arith, past)) upto
-  | inr within ↦
-      let same : length above ≡ more = omega (arith, from, within, one_less) in
-      ap (λ n. own (take n path)) (sym same) ∙ ap own (sym front) ∙ none
-]

@@ -10,6 +10,8 @@ pub mod LookThrough
 pub mod Map
 pub mod Node
 pub mod Parts
+pub mod Settled
 pub mod Standing
+pub mod Stretch
 pub mod Trees
 pub mod Trie

@@ -17,7 +17,10 @@ mod numbers;
 mod part;
 mod parts;
 mod position;
+mod reach;
+mod settled;
 mod stored_location;
+mod stretch;
 mod trees;
 mod trie;
 

@@ -9,6 +9,7 @@ ghost use Rattle.block_map.specs.Ends.{HaveSources, ends_of};
 ghost use Rattle.block_map.specs.Look.{IsFoundAtOrBefore, resolved};
 ghost use Rattle.block_map.specs.LookThrough.{IsFoundUpTo, look_through as looked_through};
 ghost use Rattle.block_map.specs.Map.{AreEntryAndNearest, IsEndIn, IsMapOfFirstRecords, IsNearestOrNone, found_view, hi_of, look_in, most_nodes, records_at_ticks, revision_in, state_in};
+ghost use Rattle.block_map.specs.Settled.{IsSettled, own_mergeinfo_in};
 ghost use Rattle.block_map.specs.Standing.{entry_view, mergeinfo_of, own_mergeinfo_at, standing_at, standing_of};
 ghost use Rattle.block_map.specs.Trees.{AreMapTrees};
 
@@ -16,6 +17,7 @@ use crate::ends::Ends;
 use crate::entry::Entry;
 use crate::found::Found;
 use crate::nearest::Nearest;
+use crate::settled::Settled;
 use crate::trees::Trees;
 use std::alloc::{AllocError, Global};
 use std::marker::Model;
@@ -202,7 +204,8 @@ impl Map {
         }
     }
 
-    /// The same by the mergeinfo of each path from this one up to the root.
+    /// The nearest mergeinfo of a path of these components. Each way through the blocks settles it for some of the paths
+    /// from this one up to the root.
     fn nearest_above(&self, tick: u32, path: &[NameId]) -> Result<Option<Nearest>, AllocError>
         requires begins { self.now.lo ≡ 0 }
         requires within { tick ≤ hi_of self.now }
@@ -210,26 +213,15 @@ impl Map {
     {
         let mut above = path;
         loop {
-            if let Some(mi) = self.mergeinfo(tick, above)? {
-                let depth = above.len();
+            let Settled { mi, depth } = settle(self.blocks.as_slice(), tick, above, 0)?;
+            if let Some(mi) = mi {
                 return Ok(Some(Nearest { mi, depth }));
             }
-            let Some((_, parent)) = above.split_last() else {
+            let (front, _) = above.split_at(depth);
+            let Some((_, parent)) = front.split_last() else {
                 return Ok(None);
             };
             above = parent;
-        }
-    }
-
-    /// The mergeinfo of a path of these components at a tick.
-    fn mergeinfo(&self, tick: u32, path: &[NameId]) -> Result<Option<ValueId>, AllocError>
-        requires begins { self.now.lo ≡ 0 }
-        requires within { tick ≤ hi_of self.now }
-        ensures { IfOk result (λ mi. mi ≡ mergeinfo_of (look_in self.now tick path.now)) }
-    {
-        match self.found(tick, path)? {
-            Found::Is { mi, .. } => Ok(mi),
-            _ => Ok(None),
         }
     }
 
@@ -287,6 +279,63 @@ fn blocks_before(blocks: &[Arc<Trees>], tick: u32) -> &[Arc<Trees>]
 {
     let count = blocks.partition_point(|block| block.start < tick);
     &blocks[..count]
+}
+
+/// The mergeinfo of the first components of a path, which it is known that more of them have none, at least `least`
+/// components. The path is looked up in the last block, and what stood at a location there in the blocks before it.
+fn settle(
+    blocks: &[Arc<Trees>],
+    tick: u32,
+    path: &[NameId],
+    least: usize,
+) -> Result<Settled, AllocError>
+    requires in_order { AreBlocksFrom 0 (trees_of blocks.now) }
+    requires within { tick ≤ length (records_of (trees_of blocks.now)) }
+    requires least { least ≤ length path.now }
+    ensures { IfOk result (IsSettled (own_mergeinfo_in (trees_of blocks.now) tick) path.now least) }
+{
+    let blocks = blocks_before(blocks, tick);
+    let Some((last, earlier)) = blocks.split_last() else {
+        return Ok(Settled {
+            mi: None,
+            depth: least,
+        });
+    };
+    let reach = last.reach(tick, path)?;
+    if reach.last < least {
+        return Ok(Settled {
+            mi: None,
+            depth: least,
+        });
+    }
+    match &reach.found {
+        Found::At { path, tick } => {
+            let first = reach.first.max(least);
+            let base = path.len() - (reach.last - first);
+            let Settled { mi, depth } = settle(earlier, *tick, path.parts(), base)?;
+            Ok(Settled {
+                mi,
+                depth: depth - base + first,
+            })
+        }
+        _ => Ok(Settled {
+            mi: mergeinfo_through(earlier, reach.found)?,
+            depth: reach.last,
+        }),
+    }
+}
+
+/// The mergeinfo of what later records found, by these blocks from the beginning of a history.
+fn mergeinfo_through(blocks: &[Arc<Trees>], found: Found) -> Result<Option<ValueId>, AllocError>
+    requires in_order { AreBlocksFrom 0 (trees_of blocks.now) }
+    requires within { IsFoundUpTo (length (records_of (trees_of blocks.now))) (found_view found) }
+    ensures { IfOk result (λ mi. mi
+        ≡ mergeinfo_of (resolved 0 (looked_through same_name 0 (records_of (trees_of blocks.now)) (found_view found)))) }
+{
+    match look_through(blocks, 0, found)? {
+        Found::Is { mi, .. } => Ok(mi),
+        _ => Ok(None),
+    }
 }
 
 /// What the records of these blocks, which follow the first `lo` of their history, say of what later records found.

@@ -10,6 +10,7 @@ ghost use Rattle.block_map.specs.LookThrough.{IsFoundUpTo};
 ghost use Rattle.block_map.specs.Ends.{HasSourceBefore, record_at_tick};
 ghost use Rattle.block_map.specs.Map.{AreEntryAndNearest, found_view};
 ghost use Rattle.block_map.specs.Standing.{standing_of};
+ghost use Rattle.block_map.specs.Stretch.{IsReach};
 ghost use Rattle.block_map.specs.Trie.{IsNodeOf, IsSound};
 
 use crate::ends::Ends;
@@ -19,6 +20,7 @@ use crate::ghost_records::GhostRecords;
 use crate::nearest::Nearest;
 use crate::node::Node;
 use crate::part::NodeId;
+use crate::reach::Reach;
 use crate::trie::Trie;
 use std::alloc::{AllocError, Global};
 use svn_dump::{Act, Kind, Mi, NodeRecord, ValueId};
@@ -239,6 +241,17 @@ impl Trees {
             }
             _ => Ok(found),
         }
+    }
+
+    /// How far down a path there may be mergeinfo at a tick after `start`, and what these records say of it there.
+    pub(crate) fn reach(&self, tick: u32, path: &[NameId]) -> Result<Reach, AllocError>
+        requires trees { AreTrees self.now }
+        requires after { self.now.start < tick }
+        requires within { tick ≤ end_of_trees self.now }
+        ensures exact { IfOk result (IsReach (look_in_trees self.now tick) path.now) }
+        ensures earlier { IfOk result (λ reach. IsFoundUpTo self.now.start (found_view reach.found)) }
+    {
+        self.trie.reach(self.root(tick), path)
     }
 
     /// What stands at a path at a tick after `start`, and its nearest mergeinfo, as far as these records say it.

@@ -3,7 +3,8 @@ ghost use Rattle.std.specs.Prelude.{◌≡◌, ◌+◌, ◌<◌, ◌++◌, ◌�
 ghost use Rattle.block_map.specs.Look.{with_mergeinfo as changed};
 ghost use Rattle.block_map.specs.Map.{AreEntryAndNearest, found_view, nearest_view};
 ghost use Rattle.block_map.specs.Standing.{entry_view, mergeinfo_of, standing_of};
-ghost use Rattle.block_map.specs.Trie.{HasLocation, IsAroundOf, IsRegionAround, IsCopiedNode, ExtendsTrie, IsNodeOf, IsLocationAround, IsPositionOf, IsSound, PutsNode, around_inside, as_at, child_at, child_of, found_at, position_view, standing_below};
+ghost use Rattle.block_map.specs.Stretch.{IsReach, IsStretchUpTo};
+ghost use Rattle.block_map.specs.Trie.{HasLocation, IsAroundOf, IsRegionAround, IsCopiedNode, ExtendsTrie, IsNodeOf, IsLocationAround, IsPositionOf, IsSound, PutsNode, around_view, as_at, at_root, child_at, child_of, found_at, found_below, found_here, position_view, standing_below};
 
 use crate::entry::Entry;
 use crate::found::Found;
@@ -14,7 +15,9 @@ use crate::node::{Here, Node, Region};
 use crate::numbers::next_number;
 use crate::part::NodeId;
 use crate::parts::Parts;
-use crate::position::{Around, Position};
+use crate::position::{Around, Position, inside};
+use crate::reach::Reach;
+use crate::stretch::Stretch;
 use std::alloc::{AllocError, Global};
 use std::marker::Model;
 use svn_dump::ValueId;
@@ -197,16 +200,55 @@ impl Trie {
         ensures { IfOk result (λ found.
             found_view found ≡ found_at self.now (position_view self.now path.now position)) }
     {
-        let Some(node) = position.node else {
-            return Ok(found_around(self.location(position.around, path)?));
-        };
-        let around = inside(node.region, position.around, path.len());
-        match node.here {
+        let Stretch { here, around, .. } = Stretch::at(position, path.len());
+        self.found_with(here, around, path)
+    }
+
+    /// What is found at the end of a path, by what a node says of what is found around it.
+    fn found_with(&self, here: Here, around: Around, path: &[NameId]) -> Result<Found, AllocError>
+        requires { IsAroundOf self.now path.now around }
+        ensures { IfOk result (λ found.
+            found_view found ≡ found_here here (around_view self.now path.now around [])) }
+    {
+        match here {
             Here::Unchanged => Ok(found_around(self.location(around, path)?)),
             Here::WithMergeinfo(mi) => Ok(with_mergeinfo(self.location(around, path)?, mi)),
             Here::Is { kind, mi } => Ok(Found::Is { kind, mi }),
             Here::Absent => Ok(Found::Absent),
         }
+    }
+
+    /// How far down a path below a root there may be mergeinfo, and what is found there.
+    pub(crate) fn reach(&self, root: Node, path: &[NameId]) -> Result<Reach, AllocError>
+        requires { IsNodeOf self.now root }
+        ensures { IfOk result (IsReach (found_below self.now (at_root root)) path.now) }
+    {
+        let Stretch {
+            first,
+            last,
+            here,
+            around,
+        } = self.stretch(root, path);
+        let (front, _) = path.split_at(last);
+        let found = self.found_with(here, around, front)?;
+        Ok(Reach { first, last, found })
+    }
+
+    /// The deepest stretch of a path below a root at which there may be mergeinfo.
+    fn stretch(&self, root: Node, path: &[NameId]) -> Stretch
+        requires { IsNodeOf self.now root }
+        ensures { IsStretchUpTo self.now (found_below self.now (at_root root)) path.now (length path.now) result }
+    {
+        let mut position = Position {
+            node: Some(root),
+            around: Around::Nothing,
+        };
+        let mut stretch = Stretch::at(position, 0);
+        for (depth, name) in path.iter().enumerate() {
+            position = self.step(position, *name, depth);
+            stretch = stretch.then(Stretch::at(position, depth + 1));
+        }
+        stretch
     }
 
     /// The region in which there is what is found around the end of a path. It may add a location.
@@ -293,20 +335,6 @@ impl Trie {
             Some(Entry { mi: Some(mi), .. }) => Some(Nearest { mi, depth }),
             _ => None,
         }
-    }
-}
-
-/// What stands in a region, at a path of so many components.
-fn inside(region: Region, around: Around, depth: usize) -> Around
-    ensures { result ≡ around_inside region around depth }
-{
-    match region {
-        Region::Above => around,
-        Region::Nothing => Around::Nothing,
-        Region::At(location) => Around::At {
-            location,
-            from: depth,
-        },
     }
 }
 

@@ -1,8 +1,7 @@
 use Rattle.std.proofs.Common.{ap, subst}
 use Rattle.std.specs.Option.{option_and_then}
-use Rattle.svn_path.specs.Path.{same_name}
-use Rattle.block_map.specs.Map.{IsNearestOrNone, look_in, revision_in}
-use Rattle.block_map.specs.Standing.{mergeinfo_of, own_mergeinfo_at}
+use Rattle.block_map.specs.Map.{IsNearestOrNone, look_in}
+use Rattle.block_map.specs.Standing.{mergeinfo_of}
 use Rattle.block_map.proofs.MapsOfDumps.{standing-at_end}
 use Rattle.block_map.proofs.map.Map.nearest.Goals as goal
 

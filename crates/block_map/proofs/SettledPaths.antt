@@ -1,0 +1,181 @@
+-- The mergeinfo of the first components of a path, by that of what stood at the first components of another one.
+use Rattle.std.proofs.Common.{◌≡◌, ℕ, ◌+◌, ◌-◌, ◌<◌, ◌≤◌, List, [], ◌∷◌, ◌++◌, Option, Some, None, length, take, inl, inr, refl, sym, ap, subst, ◌∙◌, arith, length-append}
+use Rattle.std.proofs.lemmas.Bool.{cases_lt}
+use Rattle.svn_path.specs.Path.{same_name}
+use Rattle.svn_path.specs.declared.names.NameId.{NameId}
+use Rattle.svn_dump.specs.declared.record.ValueId.{ValueId}
+use Rattle.block_map.specs.Blocks.{AreBlocksBefore, AreBlocksFrom, records_of}
+use Rattle.block_map.specs.Look as found
+use Rattle.block_map.specs.Look.{Found, look, resolved}
+use Rattle.block_map.specs.LookThrough.{look_through}
+use Rattle.block_map.specs.Map.{HasNoneFrom, IsNearestOrNone, MapValue, found_view, look_in}
+use Rattle.block_map.specs.Settled.{IsSettled, own_mergeinfo_in}
+use Rattle.block_map.specs.Standing.{mergeinfo_of}
+use Rattle.block_map.specs.Stretch.{HasNoMergeinfo, IsAlong, IsReach}
+use Rattle.block_map.specs.Trees.{AreTrees, end_of_trees, look_in_trees}
+use Rattle.block_map.specs.Trie.{LookOfNumbers}
+use Rattle.block_map.specs.declared.reach.Reach.{Reach}
+use Rattle.block_map.specs.declared.settled.Settled.{Settled}
+use Rattle.block_map.specs.declared.trees.Trees.{Trees}
+use Rattle.block_map.proofs.BlocksOfMaps.{AreBlocksFrom-back, AreBlocksFrom-front, end-front, end_of_blocks, last-before, last-end, last-start, look-before, look-last, look-none}
+use Rattle.block_map.proofs.LooksThrough.{look_from-within}
+use Rattle.block_map.proofs.NearestFound.{take_of_take}
+
+-- the mergeinfo of what was found, by earlier blocks
+abbrev pub mergeinfo_by : List Trees → Found NameId ValueId → Option ValueId
+mergeinfo_by earlier each = mergeinfo_of (resolved 0 (look_through same_name 0 (records_of earlier) each))
+
+-- before the first record there is none
+own_mergeinfo_in-none : (blocks : List Trees) (tick : ℕ) (path : List NameId) → AreBlocksFrom 0 blocks → AreBlocksBefore tick blocks [] → tick ≤ length (records_of blocks)
+    → own_mergeinfo_in blocks tick path ≡ None
+own_mergeinfo_in-none blocks tick path are before within =
+    ap (λ each. mergeinfo_of (resolved 0 each)) (look-none 0 tick path blocks are before (omega (arith, within))) ∙ by path
+  where
+    by : (path : List NameId) → mergeinfo_of {M = ValueId} (resolved 0 (found.at path tick)) ≡ None
+    by [] = refl
+    by (name ∷ path) = refl
+
+pub IsSettled-none : (blocks : List Trees) (tick : ℕ) (path : List NameId) (least : ℕ) → AreBlocksFrom 0 blocks → AreBlocksBefore tick blocks [] → tick ≤ length (records_of blocks)
+    → least ≤ length path → IsSettled (own_mergeinfo_in blocks tick) path least (record { mi = None; depth = least })
+IsSettled-none blocks tick path least are before within upto = record {
+  from = omega arith;
+  within = upto;
+  mergeinfo = own_mergeinfo_in-none blocks tick (take least path) are before within;
+  none = λ count more short. own_mergeinfo_in-none blocks tick (take count path) are before within;
+}
+
+-- the last of the blocks before a tick, and the earlier ones
+pub record IsLastBefore (blocks earlier : List Trees) (last : Trees) (tick : ℕ) : Type 0 where
+  pub trees : AreTrees last
+  pub earlier_are : AreBlocksFrom 0 earlier
+  pub fewer : length earlier < length blocks
+  pub start : last.start ≡ length (records_of earlier)
+  pub after : last.start < tick
+  pub within : tick ≤ end_of_trees last
+  pub own : (path : List NameId) → own_mergeinfo_in blocks tick path ≡ mergeinfo_by earlier (look_in_trees last tick path)
+
+pub IsLastBefore-split : (blocks front earlier : List Trees) (last : Trees) (tick : ℕ) → AreBlocksFrom 0 blocks → AreBlocksBefore tick blocks front → front ≡ earlier ++ last ∷ []
+    → tick ≤ length (records_of blocks) → IsLastBefore blocks earlier last tick
+IsLastBefore-split blocks front earlier last tick are before split within =
+    let upto : tick ≤ end_of_blocks 0 blocks = omega (arith, within) in
+    let front_are = subst (AreBlocksFrom 0) split (AreBlocksFrom-front 0 front before.more (subst (AreBlocksFrom 0) before.split are)) in
+    record {
+      trees = (AreBlocksFrom-back 0 earlier (last ∷ []) front_are).2.is;
+      earlier_are = AreBlocksFrom-front 0 earlier (last ∷ []) front_are;
+      fewer = omega (arith, ap length before.split, length-append front before.more, ap length split, length-append earlier (last ∷ []));
+      start = omega (arith, last-start 0 earlier last front_are);
+      after = last-before tick blocks front earlier last before split;
+      within = omega (arith, end-front 0 tick [] blocks front are before upto, ap (end_of_blocks 0) split, last-end 0 earlier last front_are);
+      own = λ path.
+          let says = look_in_trees last tick path in
+          ap (λ each. mergeinfo_of (resolved 0 each)) (look-before 0 tick path blocks front are before upto ∙ ap (λ all. look same_name 0 (records_of all) tick path) split)
+          ∙ sym (ap mergeinfo_of (look-last 0 tick path earlier last says (look_through same_name 0 (records_of earlier) says) front_are refl refl));
+    }
+
+-- that of what stood at a path is that of the path
+pub mergeinfo_by-at : (earlier : List Trees) (tick : ℕ) (path : List NameId) → tick ≤ length (records_of earlier) → mergeinfo_by earlier (found.at path tick) ≡ own_mergeinfo_in earlier tick path
+mergeinfo_by-at earlier tick path within =
+    ap (λ each. mergeinfo_of (resolved 0 each)) (look_from-within same_name 0 (records_of earlier) tick path (omega (arith, within)))
+
+mergeinfo_by-none : (earlier : List Trees) (each : Found NameId ValueId) → HasNoMergeinfo each → mergeinfo_by earlier each ≡ None
+mergeinfo_by-none earlier (found.at path tick) has = absurd has
+mergeinfo_by-none earlier (found.at_with path tick mergeinfo) has = absurd has
+mergeinfo_by-none earlier (found.is kind mergeinfo) has = has
+mergeinfo_by-none earlier found.absent has = refl
+
+module _ (earlier : List Trees) (own : List NameId → Option ValueId) (shows : LookOfNumbers) (says : (path : List NameId) → own path ≡ mergeinfo_by earlier (shows path)) (path : List NameId) (reach : Reach)
+    (is : IsReach shows path reach) where
+  none-below : (count : ℕ) → reach.last < count → count ≤ length path → own (take count path) ≡ None
+  none-below count past upto = says (take count path) ∙ mergeinfo_by-none earlier (shows (take count path)) (is.none count past upto)
+
+  -- there is none further down than it may be
+  pub IsSettled-past : (least : ℕ) → least ≤ length path → reach.last < least → IsSettled own path least (record { mi = None; depth = least })
+  IsSettled-past least within past = record {
+    from = omega arith;
+    within = within;
+    mergeinfo = none-below least past within;
+    none = λ count more upto. none-below count (omega (arith, past, more)) upto;
+  }
+
+  -- there it is that of what was found
+  pub IsSettled-last : (least : ℕ) (settled : Settled) → least ≤ reach.last → settled.depth ≡ reach.last → settled.mi ≡ mergeinfo_by earlier (found_view reach.found) → IsSettled own path least settled
+  IsSettled-last least settled from depth mi = record {
+    from = omega (arith, from, depth);
+    within = omega (arith, depth, is.within);
+    mergeinfo = ap (λ n. own (take n path)) depth ∙ says (take reach.last path) ∙ ap (mergeinfo_by earlier) (sym is.found) ∙ sym mi;
+    none = λ count more upto. none-below count (omega (arith, depth, more)) upto;
+  }
+
+  -- where that is what stood at another path, it is that of the first components of this one
+  pub IsSettled-along : (least first base tick : ℕ) (other : List NameId) (settled : Settled) → reach.first ≤ first → least ≤ first → first ≤ reach.last → found_view reach.found ≡ found.at other tick
+      → tick ≤ length (records_of earlier) → base + reach.last ≡ first + length other → IsSettled (own_mergeinfo_in earlier tick) other base settled
+      → IsSettled own path least (record { mi = settled.mi; depth = settled.depth - base + first })
+  IsSettled-along least first base tick other settled from least_is upto stood within long below = record {
+    from = omega (arith, least_is);
+    within = omega (arith, depth_is, below.within, long, is.within);
+    mergeinfo = ap (λ n. own (take n path)) depth_is
+        ∙ own-along (settled.depth - base) (omega (arith, below.from, below.within, long))
+        ∙ ap (λ n. own_mergeinfo_in earlier tick (take n other)) (omega (arith, below.from)) ∙ below.mergeinfo;
+    none = λ count more within_path. elim (cases_lt reach.last count) [
+      | inl past ↦ none-below count past within_path
+      | inr before ↦
+          let over = count - first in
+          let count_is : count ≡ first + over = omega (arith, more) in
+          ap (λ n. own (take n path)) count_is
+          ∙ own-along over (omega (arith, count_is, before))
+          ∙ below.none (base + over) (omega (arith, more, count_is, below.from)) (omega (arith, count_is, before, long))
+    ];
+  }
+    where
+      depth_is : settled.depth - base + first ≡ first + (settled.depth - base)
+      depth_is = omega arith
+
+      along : IsAlong shows path reach.first reach.last other tick
+      along = is.along other tick stood
+
+      own-along : (over : ℕ) → first + over ≤ reach.last → own (take (first + over) path) ≡ own_mergeinfo_in earlier tick (take (base + over) other)
+      own-along over inside =
+          let more = first - reach.first + over in
+          let place : reach.first + more ≡ first + over = omega (arith, from) in
+          let other_place : along.base + more ≡ base + over = omega (arith, from, along.long, long) in
+          says (take (first + over) path)
+          ∙ ap (λ n. mergeinfo_by earlier (shows (take n path))) (sym place)
+          ∙ ap (mergeinfo_by earlier) (along.is more (omega (arith, place, inside)))
+          ∙ ap (λ n. mergeinfo_by earlier (found.at (take n other) tick)) other_place
+          ∙ mergeinfo_by-at earlier tick (take (base + over) other) within
+
+-- ---- from the whole path up
+
+-- the blocks of a map say what it does
+pub own_mergeinfo_in-map : (map : MapValue) (blocks : List Trees) (tick : ℕ) (path : List NameId) → map.lo ≡ 0 → map.records ≡ records_of blocks
+    → own_mergeinfo_in blocks tick path ≡ mergeinfo_of (look_in map tick path)
+own_mergeinfo_in-map map blocks tick path lo records = λ i. mergeinfo_of (resolved (sym lo i) (look same_name (sym lo i) (sym records i) tick path))
+
+module _ (own : List NameId → Option ValueId) (path : List NameId) where
+  -- what is settled of the first components of a path, below which there is none, is settled of the path
+  pub IsSettled-longer : (above : List NameId) (settled : Settled) → length above ≤ length path → above ≡ take (length above) path → HasNoneFrom own path (length above + 1) → IsSettled own above 0 settled
+      → IsSettled own path 0 settled
+  IsSettled-longer above settled upto front below is = record {
+    from = omega arith;
+    within = omega (arith, is.within, upto);
+    mergeinfo = ap own (sym (same settled.depth is.within)) ∙ is.mergeinfo;
+    none = λ count more within. elim (cases_lt (length above) count) [
+      | inl past ↦ below count (omega (arith, past)) within
+      | inr before ↦ ap own (sym (same count before)) ∙ is.none count more before
+    ];
+  }
+    where
+      same : (count : ℕ) → count ≤ length above → take count above ≡ take count path
+      same count within = ap (take count) front ∙ take_of_take count (length above) path within
+
+  pub IsNearest-settled : (settled : Settled) (mi : ValueId) → settled.mi ≡ Some mi → IsSettled own path 0 settled → IsNearestOrNone own path (Some (record { mi = mi; depth = settled.depth }))
+  IsNearest-settled settled mi some is = ((is.within, is.mergeinfo ∙ some), is.none)
+
+  -- where there is none, there is none from there on
+  pub HasNoneFrom-settled : (settled : Settled) → settled.mi ≡ None → IsSettled own path 0 settled → HasNoneFrom own path settled.depth
+  HasNoneFrom-settled settled none is = λ count more within. elim (cases_lt settled.depth count) [
+    | inl past ↦ is.none count (omega (arith, past)) within
+    | inr before ↦
+        let same : settled.depth ≡ count = omega (arith, more, before) in
+        ap (λ n. own (take n path)) (sym same) ∙ is.mergeinfo ∙ none
+  ]

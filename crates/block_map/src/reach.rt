@@ -1,0 +1,12 @@
+//! How far down a path there may be mergeinfo.
+
+use crate::found::Found;
+
+/// What is found at the first `last` components of a path, below which there is known to be no mergeinfo. Where that is
+/// what stood at a location, it is so from `first` components on.
+#[derive(Drop)]
+pub(crate) struct Reach {
+    pub(crate) first: usize,
+    pub(crate) last: usize,
+    pub(crate) found: Found,
+}
