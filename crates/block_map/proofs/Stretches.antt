@@ -1,5 +1,5 @@
 -- Stretches of the way down a path.
-use Rattle.std.proofs.Common.{◌≡◌, ℕ, ◌+◌, ◌-◌, ◌≤◌, List, [], ◌++◌, Option, Some, None, drop, length, take, inl, inr, sym, ap, subst, ◌∙◌, arith, append-nil, length-append, length-drop}
+use Rattle.std.proofs.Common.{◌≡◌, ℕ, ◌+◌, ◌-◌, ◌≤◌, List, [], ◌++◌, Option, Some, None, drop, length, option_map, take, inl, inr, sym, ap, subst, ◌∙◌, arith, append-nil, length-append, length-drop}
 use Rattle.std.specs.Prelude.{slice_get}
 use Rattle.std.proofs.Math.Seq.{take-append-add}
 use Rattle.std.proofs.lemmas.Bool.{cases_lt}
@@ -10,7 +10,9 @@ use Rattle.block_map.specs.Look as shown
 use Rattle.block_map.specs.Look.{at, with_mergeinfo}
 use Rattle.block_map.specs.Map.{found_view}
 use Rattle.block_map.specs.Stretch.{HasNoMergeinfo, IsAlong, IsReach, IsStretchAt, IsStretchUpTo}
+use Rattle.block_map.specs.Standing.{entry_view, standing_of}
 use Rattle.block_map.specs.Trie.{IsAroundOf, IsPositionOf, LookOfNumbers, TrieValue, around_view, as_at, at_root, found_at, found_below, found_here, position_view}
+use Rattle.block_map.specs.declared.entry.Entry.{Entry}
 use Rattle.block_map.specs.declared.found.Found.{Found}
 use Rattle.block_map.specs.declared.location.Location.{Location}
 use Rattle.block_map.specs.declared.node.Here.{Here}
@@ -132,13 +134,14 @@ IsAlong-stretch trie look path other stretch tick upto shows =
     along-by trie look path other stretch.first stretch.last tick upto.order upto.within stretch.here stretch.around upto.around upto.is shows
 
 -- it reaches to its end
-pub IsReach-stretch : (trie : TrieValue) (look : LookOfNumbers) (path : List NameId) (stretch : Stretch) (found : Found) → IsStretchUpTo trie look path (length path) stretch
+pub IsReach-stretch : (trie : TrieValue) (look : LookOfNumbers) (path : List NameId) (stretch : Stretch) (found : Found) (entry : Option Entry) → IsStretchUpTo trie look path (length path) stretch
     → found_view found ≡ found_here stretch.here (around_view trie (take stretch.last path) stretch.around [])
-    → IsReach look path (record { first = stretch.first; last = stretch.last; found = found })
-IsReach-stretch trie look path stretch found upto is = record {
+    → option_map entry_view entry ≡ standing_of (look path) → IsReach look path (record { first = stretch.first; last = stretch.last; found = found; entry = entry })
+IsReach-stretch trie look path stretch found entry upto is stands = record {
   order = upto.order;
   within = upto.within;
   found = is ∙ sym (upto.is stretch.last upto.order (omega arith));
+  entry = stands;
   none = upto.none;
   along = λ other tick shows. IsAlong-stretch trie look path other stretch tick upto (sym is ∙ shows);
 }

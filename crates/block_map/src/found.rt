@@ -1,8 +1,10 @@
 //! What a map says of a path.
-ghost use Rattle.std.specs.Prelude.{◌≡◌};
+ghost use Rattle.std.specs.Prelude.{◌≡◌, option_map};
 ghost use Rattle.block_map.specs.Look.{at_with, from_beginning, with_mergeinfo as changed};
 ghost use Rattle.block_map.specs.Map.{found_view};
+ghost use Rattle.block_map.specs.Standing.{entry_view, standing_of};
 
+use crate::entry::Entry;
 use svn_dump::{Kind, ValueId};
 use svn_path::Path;
 
@@ -40,6 +42,19 @@ impl Found {
             }
             Found::Is { kind, .. } => Found::Is { kind, mi },
             Found::Absent => Found::Absent,
+        }
+    }
+
+    /// What stands there, if it is known.
+    pub(crate) fn entry(&self) -> Option<Entry>
+        ensures { option_map entry_view result ≡ standing_of (found_view self.now) }
+    {
+        match self {
+            Found::Is { kind, mi } => Some(Entry {
+                kind: *kind,
+                mi: *mi,
+            }),
+            _ => None,
         }
     }
 

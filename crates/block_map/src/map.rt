@@ -1,15 +1,15 @@
 //! A map of the paths of a history.
-ghost use Rattle.std.specs.Prelude.{◌≡◌, ℕ, ◌+◌, ◌^◌, ◌<◌, ◌≤◌, ◌++◌, All, List, length, option_map, IfOk};
+ghost use Rattle.std.specs.Prelude.{◌≡◌, ℕ, ◌+◌, ◌^◌, ◌<◌, ◌≤◌, ◌++◌, All, List, length, option_and_then, option_map, IfOk};
 ghost use Rattle.svn_dump.specs.Dump.{DumpValue, IsDump};
 ghost use Rattle.svn_dump.specs.Record.{most_components};
 ghost use Rattle.svn_dump.specs.declared.record.NodeRecord.{NodeRecord};
 ghost use Rattle.svn_path.specs.Path.{same_name};
 ghost use Rattle.block_map.specs.Blocks.{AreBlocksBefore, AreBlocksFrom, nodes_of, records_of, trees_of};
 ghost use Rattle.block_map.specs.Ends.{HaveSources, ends_of};
-ghost use Rattle.block_map.specs.Look.{IsFoundAtOrBefore, resolved};
+ghost use Rattle.block_map.specs.Look.{IsFoundAtOrBefore, at, from_beginning, resolved};
 ghost use Rattle.block_map.specs.LookThrough.{IsFoundUpTo, look_through as looked_through};
 ghost use Rattle.block_map.specs.Map.{AreEntryAndNearest, IsEndIn, IsMapOfFirstRecords, IsNearestOrNone, found_view, hi_of, look_in, most_nodes, records_at_ticks, revision_in, state_in};
-ghost use Rattle.block_map.specs.Settled.{IsSettled, own_mergeinfo_in};
+ghost use Rattle.block_map.specs.Settled.{IsSettled, IsSettledThere, own_mergeinfo_in, standing_in};
 ghost use Rattle.block_map.specs.Standing.{entry_view, mergeinfo_of, own_mergeinfo_at, standing_at, standing_of};
 ghost use Rattle.block_map.specs.Trees.{AreMapTrees};
 
@@ -17,12 +17,13 @@ use crate::ends::Ends;
 use crate::entry::Entry;
 use crate::found::Found;
 use crate::nearest::Nearest;
+use crate::reach::Reach;
 use crate::settled::Settled;
 use crate::trees::Trees;
 use std::alloc::{AllocError, Global};
 use std::marker::Model;
 use std::sync::Arc;
-use svn_dump::{NodeRecord, ValueId};
+use svn_dump::{Kind, NodeRecord, ValueId};
 use svn_path::{NameId, Path};
 
 /// What stands at each path after each of some records. The records are in blocks, which maps share.
@@ -198,30 +199,13 @@ impl Map {
         requires within { tick ≤ hi_of self.now }
         ensures { IfOk result (AreEntryAndNearest (λ above. standing_of (look_in self.now tick above)) path.now) }
     {
-        match blocks_before(self.blocks.as_slice(), tick) {
+        let blocks = self.blocks.as_slice();
+        match blocks_before(blocks, tick) {
             [only] => Ok(only.entry_and_nearest(tick, path)),
-            _ => Ok((self.standing(tick, path)?, self.nearest_above(tick, path)?)),
-        }
-    }
-
-    /// The nearest mergeinfo of a path of these components. Each way through the blocks settles it for some of the paths
-    /// from this one up to the root.
-    fn nearest_above(&self, tick: u32, path: &[NameId]) -> Result<Option<Nearest>, AllocError>
-        requires begins { self.now.lo ≡ 0 }
-        requires within { tick ≤ hi_of self.now }
-        ensures { IfOk result (IsNearestOrNone (λ above. mergeinfo_of (look_in self.now tick above)) path.now) }
-    {
-        let mut above = path;
-        loop {
-            let Settled { mi, depth } = settle(self.blocks.as_slice(), tick, above, 0)?;
-            if let Some(mi) = mi {
-                return Ok(Some(Nearest { mi, depth }));
+            _ => {
+                let settled = settle(blocks, tick, path, 0)?;
+                Ok((settled.entry, nearest_above(blocks, tick, path, settled)?))
             }
-            let (front, _) = above.split_at(depth);
-            let Some((_, parent)) = front.split_last() else {
-                return Ok(None);
-            };
-            above = parent;
         }
     }
 
@@ -232,10 +216,7 @@ impl Map {
         ensures { IfOk result (λ entry.
             option_map entry_view entry ≡ standing_of (look_in self.now tick path.now)) }
     {
-        match self.found(tick, path)? {
-            Found::Is { kind, mi } => Ok(Some(Entry { kind, mi })),
-            _ => Ok(None),
-        }
+        Ok(self.found(tick, path)?.entry())
     }
 }
 
@@ -281,8 +262,35 @@ fn blocks_before(blocks: &[Arc<Trees>], tick: u32) -> &[Arc<Trees>]
     &blocks[..count]
 }
 
-/// The mergeinfo of the first components of a path, which it is known that more of them have none, at least `least`
-/// components. The path is looked up in the last block, and what stood at a location there in the blocks before it.
+/// The nearest mergeinfo of a path, given what is settled of it. Each further way through the blocks settles it for some
+/// of the paths that are left up to the root.
+fn nearest_above(
+    blocks: &[Arc<Trees>],
+    tick: u32,
+    path: &[NameId],
+    settled: Settled,
+) -> Result<Option<Nearest>, AllocError>
+    requires in_order { AreBlocksFrom 0 (trees_of blocks.now) }
+    requires within { tick ≤ length (records_of (trees_of blocks.now)) }
+    requires settled { IsSettled (own_mergeinfo_in (trees_of blocks.now) tick) path.now 0 settled }
+    ensures { IfOk result (IsNearestOrNone (own_mergeinfo_in (trees_of blocks.now) tick) path.now) }
+{
+    let mut settled = settled;
+    loop {
+        let Settled { mi, depth, .. } = settled;
+        if let Some(mi) = mi {
+            return Ok(Some(Nearest { mi, depth }));
+        }
+        let (front, _) = path.split_at(depth);
+        let Some((_, parent)) = front.split_last() else {
+            return Ok(None);
+        };
+        settled = settle(blocks, tick, parent, 0)?;
+    }
+}
+
+/// What stands at a path, and the mergeinfo of at least `least` of its first components, with more of which there is none.
+/// The path is looked up in the last block, and what stood at a location there in the blocks before it.
 fn settle(
     blocks: &[Arc<Trees>],
     tick: u32,
@@ -292,11 +300,14 @@ fn settle(
     requires in_order { AreBlocksFrom 0 (trees_of blocks.now) }
     requires within { tick ≤ length (records_of (trees_of blocks.now)) }
     requires least { least ≤ length path.now }
-    ensures { IfOk result (IsSettled (own_mergeinfo_in (trees_of blocks.now) tick) path.now least) }
+    ensures settled { IfOk result (IsSettled (own_mergeinfo_in (trees_of blocks.now) tick) path.now least) }
+    ensures entry { IfOk result (λ settled.
+        option_map entry_view settled.entry ≡ standing_in (trees_of blocks.now) tick path.now) }
 {
     let blocks = blocks_before(blocks, tick);
     let Some((last, earlier)) = blocks.split_last() else {
         return Ok(Settled {
+            entry: at_beginning(path),
             mi: None,
             depth: least,
         });
@@ -304,38 +315,69 @@ fn settle(
     let reach = last.reach(tick, path)?;
     if reach.last < least {
         return Ok(Settled {
+            entry: reach.entry,
             mi: None,
             depth: least,
         });
     }
-    match &reach.found {
-        Found::At { path, tick } => {
-            let first = reach.first.max(least);
-            let base = path.len() - (reach.last - first);
-            let Settled { mi, depth } = settle(earlier, *tick, path.parts(), base)?;
-            Ok(Settled {
-                mi,
-                depth: depth - base + first,
-            })
-        }
-        _ => Ok(Settled {
-            mi: mergeinfo_through(earlier, reach.found)?,
-            depth: reach.last,
-        }),
+    let Found::At { path: other, tick } = &reach.found else {
+        return settle_found(earlier, reach, path.len());
+    };
+    let first = reach.first.max(least);
+    let base = other.len() - (reach.last - first);
+    let settled = settle(earlier, *tick, other.parts(), base)?;
+    Ok(Settled {
+        entry: if reach.last == path.len() {
+            settled.entry
+        } else {
+            reach.entry
+        },
+        mi: settled.mi,
+        depth: settled.depth - base + first,
+    })
+}
+
+/// The same of a path of so many components, where these blocks say of what a later one found that it is no location.
+fn settle_found(blocks: &[Arc<Trees>], reach: Reach, size: usize) -> Result<Settled, AllocError>
+    requires in_order { AreBlocksFrom 0 (trees_of blocks.now) }
+    requires within { IsFoundUpTo (length (records_of (trees_of blocks.now))) (found_view reach.found) }
+    ensures { IfOk result (IsSettledThere (trees_of blocks.now) reach size) }
+{
+    let Reach {
+        last,
+        found,
+        entry,
+        ..
+    } = reach;
+    let there = look_through(blocks, 0, found)?.entry();
+    Ok(Settled {
+        entry: if last == size { there } else { entry },
+        mi: mergeinfo(there),
+        depth: last,
+    })
+}
+
+/// The mergeinfo of what stands at a path.
+fn mergeinfo(entry: Option<Entry>) -> Option<ValueId>
+    ensures { result ≡ option_and_then (λ each. each.mergeinfo) (option_map entry_view entry) }
+{
+    match entry {
+        Some(Entry { mi, .. }) => mi,
+        None => None,
     }
 }
 
-/// The mergeinfo of what later records found, by these blocks from the beginning of a history.
-fn mergeinfo_through(blocks: &[Arc<Trees>], found: Found) -> Result<Option<ValueId>, AllocError>
-    requires in_order { AreBlocksFrom 0 (trees_of blocks.now) }
-    requires within { IsFoundUpTo (length (records_of (trees_of blocks.now))) (found_view found) }
-    ensures { IfOk result (λ mi. mi
-        ≡ mergeinfo_of (resolved 0 (looked_through same_name 0 (records_of (trees_of blocks.now)) (found_view found)))) }
+/// What stands at a path where a history begins: a directory at the root, and nothing else.
+fn at_beginning(path: &[NameId]) -> Option<Entry>
+    ensures { (tick : _) → option_map entry_view result ≡ standing_of (from_beginning (at path.now tick)) }
 {
-    match look_through(blocks, 0, found)? {
-        Found::Is { mi, .. } => Ok(mi),
-        _ => Ok(None),
+    if !path.is_empty() {
+        return None;
     }
+    Some(Entry {
+        kind: Kind::Dir,
+        mi: None,
+    })
 }
 
 /// What the records of these blocks, which follow the first `lo` of their history, say of what later records found.

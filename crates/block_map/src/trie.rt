@@ -223,21 +223,22 @@ impl Trie {
         requires { IsNodeOf self.now root }
         ensures { IfOk result (IsReach (found_below self.now (at_root root)) path.now) }
     {
-        let Stretch {
-            first,
-            last,
-            here,
-            around,
-        } = self.stretch(root, path);
-        let (front, _) = path.split_at(last);
-        let found = self.found_with(here, around, front)?;
-        Ok(Reach { first, last, found })
+        let (stretch, entry) = self.stretch(root, path);
+        let (front, _) = path.split_at(stretch.last);
+        let found = self.found_with(stretch.here, stretch.around, front)?;
+        Ok(Reach {
+            first: stretch.first,
+            last: stretch.last,
+            found,
+            entry,
+        })
     }
 
-    /// The deepest stretch of a path below a root at which there may be mergeinfo.
-    fn stretch(&self, root: Node, path: &[NameId]) -> Stretch
+    /// The deepest stretch of a path below a root at which there may be mergeinfo, and what is known to stand at the path.
+    fn stretch(&self, root: Node, path: &[NameId]) -> (Stretch, Option<Entry>)
         requires { IsNodeOf self.now root }
-        ensures { IsStretchUpTo self.now (found_below self.now (at_root root)) path.now (length path.now) result }
+        ensures stretch { IsStretchUpTo self.now (found_below self.now (at_root root)) path.now (length path.now) result.0 }
+        ensures entry { option_map entry_view result.1 ≡ standing_below self.now root path.now }
     {
         let mut position = Position {
             node: Some(root),
@@ -248,7 +249,7 @@ impl Trie {
             position = self.step(position, *name, depth);
             stretch = stretch.then(Stretch::at(position, depth + 1));
         }
-        stretch
+        (stretch, self.entry(position))
     }
 
     /// The region in which there is what is found around the end of a path. It may add a location.

@@ -1,17 +1,20 @@
-use Rattle.std.proofs.Common.{◌≡◌, ℕ, ◌-◌, ◌≤◌, List, [], ◌∷◌, ◌++◌, length, refl, ap, subst, arith}
+use Rattle.std.proofs.Common.{◌≡◌, ℕ, ◌-◌, ◌≤◌, List, [], ◌∷◌, ◌++◌, length, option_map, sym, ap, subst, ◌∙◌, arith}
 use Rattle.std.specs.Arc.{arc_value}
 use Rattle.std.specs.declared.sync.Arc.{Arc}
 use Rattle.std.specs.Global.{Global}
+use Rattle.std.proofs.lemmas.Result.{IfOk-weaker}
 use Rattle.std.proofs.lemmas.List.{length-map, nil_from_length}
 use Rattle.block_map.specs.Blocks.{AreBlocksBefore, AreBlocksFrom, records_of, trees_of}
 use Rattle.block_map.specs.LookThrough.{IsFoundUpTo}
 use Rattle.block_map.specs.Map.{found_view}
-use Rattle.block_map.specs.Settled.{IsSettled, own_mergeinfo_in}
+use Rattle.block_map.specs.Settled.{IsSettled, IsSettledThere, own_mergeinfo_in, standing_in, standing_through}
+use Rattle.block_map.specs.Standing.{entry_view, mergeinfo_of}
 use Rattle.block_map.specs.Trees.{look_in_trees}
 use Rattle.block_map.specs.declared.trees.Trees.{Trees}
 use Rattle.block_map.proofs.BlocksOfMaps.{trees-last}
-use Rattle.block_map.proofs.SettledPaths.{IsLastBefore, IsLastBefore-split, IsSettled-along, IsSettled-last, IsSettled-none, IsSettled-past}
+use Rattle.block_map.proofs.SettledPaths.{IsLastBefore, IsLastBefore-split, IsSettled-along, IsSettled-none, IsSettled-past, IsSettled-there, standing_in-beginning, standing_in-known, standing_in-settled, standing_in-there, standing_through-at}
 use Rattle.block_map.proofs.map.+settle.Goals as goal
+use Rattle.block_map.proofs.map.+settle.Goals.{else-reach-path, then-reach-path}
 
 -- the trees of the last block before a tick
 last_of : (blocks front earlier : List (Arc Trees Global)) (last : Arc Trees Global) (block : Trees) (tick : ℕ) → AreBlocksFrom 0 (trees_of blocks) → tick ≤ length (records_of (trees_of blocks))
@@ -19,11 +22,18 @@ last_of : (blocks front earlier : List (Arc Trees Global)) (last : Arc Trees Glo
 last_of blocks front earlier last block tick are within before split is =
     IsLastBefore-split (trees_of blocks) (trees_of front) (trees_of earlier) block tick are before (trees-last front earlier last block split is) within
 
-pub returns-in_default : goal.returns-in_default
-returns-in_default t c =
+pub returns-in_default-clause-settled : goal.returns-in_default-clause-settled
+returns-in_default-clause-settled t c =
     let none : trees_of c.blocks_before-blocks.result.now ≡ [] = ap trees_of (nil_from_length c.blocks_before-blocks.result.now c.in_default.ensures.cases) in
-    IsSettled-none (trees_of c.args.blocks.now) c.args.tick c.args.path.now c.args.least c.requires.in_order
+    IsSettled-none (trees_of c.args.blocks.now) c.args.tick c.args.path.now c.args.least c.at_beginning.result c.requires.in_order
     (subst (AreBlocksBefore c.args.tick (trees_of c.args.blocks.now)) none c.blocks_before-blocks.ensures) c.requires.within c.requires.least
+
+pub returns-in_default-clause-entry : goal.returns-in_default-clause-entry
+returns-in_default-clause-entry t c =
+    let none : trees_of c.blocks_before-blocks.result.now ≡ [] = ap trees_of (nil_from_length c.blocks_before-blocks.result.now c.in_default.ensures.cases) in
+    c.at_beginning.ensures c.args.tick
+    ∙ sym (standing_in-beginning (trees_of c.args.blocks.now) c.args.tick c.args.path.now c.requires.in_order
+    (subst (AreBlocksBefore c.args.tick (trees_of c.args.blocks.now)) none c.blocks_before-blocks.ensures) c.requires.within)
 
 pub reach-requires-clause-trees : goal.reach-requires-clause-trees
 reach-requires-clause-trees t c =
@@ -40,18 +50,25 @@ reach-requires-clause-within t c =
     (last_of c.args.blocks.now c.blocks_before-blocks.result.now c.in-Some.earlier.now c.in-Some.last.now c.deref.result.now c.args.tick c.requires.in_order c.requires.within
     c.blocks_before-blocks.ensures c.in-Some.ensures.cases.0 c.deref.ensures).within
 
-pub returns-then-reach-least : goal.returns-then-reach-least
-returns-then-reach-least t c =
+pub returns-then-reach-least-clause-settled : goal.returns-then-reach-least-clause-settled
+returns-then-reach-least-clause-settled t c =
     let is = last_of c.args.blocks.now c.blocks_before-blocks.result.now c.in-Some.earlier.now c.in-Some.last.now c.deref.result.now c.args.tick c.requires.in_order c.requires.within
     c.blocks_before-blocks.ensures c.in-Some.ensures.cases.0 c.deref.ensures in
-    IsSettled-past (trees_of c.in-Some.earlier.now) (own_mergeinfo_in (trees_of c.args.blocks.now) c.args.tick) (look_in_trees c.deref.result.now c.args.tick) is.own
-    c.args.path.now c.in_ok-reach.reach c.in_ok-reach.ensures.exact c.args.least c.requires.least c.if-reach-least.true
+    IsSettled-past (trees_of c.in-Some.earlier.now) (own_mergeinfo_in (trees_of c.args.blocks.now) c.args.tick) (look_in_trees c.deref.result.now c.args.tick) (λ path. ap mergeinfo_of (is.shows path))
+    c.args.path.now c.in_ok-reach.reach c.in_ok-reach.ensures.exact c.args.least c.in_ok-reach.reach.entry c.requires.least c.if-reach-least.true
 
-pub overflow_sub-base-in-At : goal.overflow_sub-base-in-At
-overflow_sub-base-in-At t c =
+pub returns-then-reach-least-clause-entry : goal.returns-then-reach-least-clause-entry
+returns-then-reach-least-clause-entry t c =
+    let is = last_of c.args.blocks.now c.blocks_before-blocks.result.now c.in-Some.earlier.now c.in-Some.last.now c.deref.result.now c.args.tick c.requires.in_order c.requires.within
+    c.blocks_before-blocks.ensures c.in-Some.ensures.cases.0 c.deref.ensures in
+    standing_in-known (trees_of c.args.blocks.now) (trees_of c.in-Some.earlier.now) c.deref.result.now c.args.tick is c.args.path.now c.in_ok-reach.reach c.in_ok-reach.ensures.exact
+    (omega (arith, c.if-reach-least.true, c.requires.least))
+
+pub overflow_sub-base-2 : goal.overflow_sub-base-2
+overflow_sub-base-2 t c =
     let max = c.max-first.ensures in
     let reach = c.in_ok-reach.ensures.exact in
-    let along = reach.along c.in-At.path c.in-At.tick (ap found_view c.in-At.is) in
+    let along = reach.along c.in-At.other c.in-At.tick (ap found_view c.in-At.is) in
     omega (arith, c.len.ensures, along.long, reach.order, max)
 
 pub settle-requires : goal.settle-requires
@@ -64,8 +81,8 @@ settle-requires t c =
       (is.earlier_are, (omega (arith, upto, is.start), omega (arith, c.len.ensures, ap length c.parts.ensures))),
     )
 
-pub mergeinfo_through-requires : goal.mergeinfo_through-requires
-mergeinfo_through-requires t c =
+pub settle_found-requires : goal.settle_found-requires
+settle_found-requires t c =
     let is = last_of c.args.blocks.now c.blocks_before-blocks.result.now c.in-Some.earlier.now c.in-Some.last.now c.deref.result.now c.args.tick c.requires.in_order c.requires.within
     c.blocks_before-blocks.ensures c.in-Some.ensures.cases.0 c.deref.ensures in
     record {
@@ -73,25 +90,59 @@ mergeinfo_through-requires t c =
       within = subst (λ start. IsFoundUpTo start (found_view c.in_ok-reach.reach.found)) is.start c.in_ok-reach.ensures.earlier;
     }
 
-pub returns-in_ok-mi-in-At : goal.returns-in_ok-mi-in-At
-returns-in_ok-mi-in-At t c =
+pub returns-in_default-found-clause-settled : goal.returns-in_default-found-clause-settled
+returns-in_default-found-clause-settled t c =
+    let is = last_of c.args.blocks.now c.blocks_before-blocks.result.now c.in-Some.earlier.now c.in-Some.last.now c.deref.result.now c.args.tick c.requires.in_order c.requires.within
+    c.blocks_before-blocks.ensures c.in-Some.ensures.cases.0 c.deref.ensures in
+    let own = own_mergeinfo_in (trees_of c.args.blocks.now) c.args.tick in
+    IfOk-weaker c.settle_found.result (IsSettledThere (trees_of c.in-Some.earlier.now) c.in_ok-reach.reach (length c.args.path.now)) (IsSettled own c.args.path.now c.args.least)
+    (λ settled there. IsSettled-there (trees_of c.args.blocks.now) (trees_of c.in-Some.earlier.now) c.deref.result.now c.args.tick is c.args.path.now c.in_ok-reach.reach c.in_ok-reach.ensures.exact
+    settled there c.args.least c.if-reach-least.false)
+    c.settle_found.ensures
+
+pub returns-in_default-found-clause-entry : goal.returns-in_default-found-clause-entry
+returns-in_default-found-clause-entry t c =
+    let is = last_of c.args.blocks.now c.blocks_before-blocks.result.now c.in-Some.earlier.now c.in-Some.last.now c.deref.result.now c.args.tick c.requires.in_order c.requires.within
+    c.blocks_before-blocks.ensures c.in-Some.ensures.cases.0 c.deref.ensures in
+    IfOk-weaker c.settle_found.result (IsSettledThere (trees_of c.in-Some.earlier.now) c.in_ok-reach.reach (length c.args.path.now))
+    (λ settled. option_map entry_view settled.entry ≡ standing_in (trees_of c.args.blocks.now) c.args.tick c.args.path.now)
+    (λ settled there. standing_in-settled (trees_of c.args.blocks.now) (trees_of c.in-Some.earlier.now) c.deref.result.now c.args.tick is c.args.path.now c.in_ok-reach.reach c.in_ok-reach.ensures.exact
+    settled there)
+    c.settle_found.ensures
+
+pub returns-clause-settled : goal.returns-clause-settled
+returns-clause-settled t c =
     let max = c.max-first.ensures in
     let reach = c.in_ok-reach.ensures.exact in
     let shows = ap found_view c.in-At.is in
-    let along = reach.along c.in-At.path c.in-At.tick shows in
+    let along = reach.along c.in-At.other c.in-At.tick shows in
     let base = c.len.result - (c.in_ok-reach.reach.last - c.max-first.result) in
     let is = last_of c.args.blocks.now c.blocks_before-blocks.result.now c.in-Some.earlier.now c.in-Some.last.now c.deref.result.now c.args.tick c.requires.in_order c.requires.within
     c.blocks_before-blocks.ensures c.in-Some.ensures.cases.0 c.deref.ensures in
     let upto : c.in-At.tick ≤ c.deref.result.now.start =
     subst (λ found. IsFoundUpTo c.deref.result.now.start (found_view found)) c.in-At.is c.in_ok-reach.ensures.earlier in
-    let below = subst (λ path. IsSettled (own_mergeinfo_in (trees_of c.in-Some.earlier.now) c.in-At.tick) path base c.in_ok-mi-in-At.field-0) c.parts.ensures c.in_ok-mi-in-At.ensures in
-    IsSettled-along (trees_of c.in-Some.earlier.now) (own_mergeinfo_in (trees_of c.args.blocks.now) c.args.tick) (look_in_trees c.deref.result.now c.args.tick) is.own
-    c.args.path.now c.in_ok-reach.reach reach c.args.least c.max-first.result base c.in-At.tick c.in-At.path c.in_ok-mi-in-At.field-0 (omega (arith, max)) (omega (arith, max))
+    let below = subst (λ path. IsSettled (own_mergeinfo_in (trees_of c.in-Some.earlier.now) c.in-At.tick) path base c.in_ok-settled.settled) c.parts.ensures c.in_ok-settled.ensures.settled in
+    IsSettled-along (trees_of c.in-Some.earlier.now) (own_mergeinfo_in (trees_of c.args.blocks.now) c.args.tick) (look_in_trees c.deref.result.now c.args.tick) (λ path. ap mergeinfo_of (is.shows path))
+    c.args.path.now c.in_ok-reach.reach reach c.args.least c.max-first.result base c.in-At.tick c.in-At.other c.in_ok-settled.settled c.if-reach-path.result (omega (arith, max)) (omega (arith, max))
     (omega (arith, max, reach.order, c.if-reach-least.false)) shows (omega (arith, upto, is.start)) (omega (arith, c.len.ensures, along.long, reach.order, max, c.if-reach-least.false)) below
 
-pub returns-in_ok-mergeinfo_through-in_default-found : goal.returns-in_ok-mergeinfo_through-in_default-found
-returns-in_ok-mergeinfo_through-in_default-found t c =
+pub returns-clause-entry : goal.returns-clause-entry
+returns-clause-entry t c =
+    let blocks = trees_of c.args.blocks.now in
+    let earlier = trees_of c.in-Some.earlier.now in
+    let block = c.deref.result.now in
+    let reach = c.in_ok-reach.reach in
+    let reached = c.in_ok-reach.ensures.exact in
     let is = last_of c.args.blocks.now c.blocks_before-blocks.result.now c.in-Some.earlier.now c.in-Some.last.now c.deref.result.now c.args.tick c.requires.in_order c.requires.within
     c.blocks_before-blocks.ensures c.in-Some.ensures.cases.0 c.deref.ensures in
-    IsSettled-last (trees_of c.in-Some.earlier.now) (own_mergeinfo_in (trees_of c.args.blocks.now) c.args.tick) (look_in_trees c.deref.result.now c.args.tick) is.own
-    c.args.path.now c.in_ok-reach.reach c.in_ok-reach.ensures.exact c.args.least _ c.if-reach-least.false refl c.in_ok-mergeinfo_through-in_default-found.ensures
+    let upto : c.in-At.tick ≤ block.start = subst (λ found. IsFoundUpTo block.start (found_view found)) c.in-At.is c.in_ok-reach.ensures.earlier in
+    elim c.if-reach-path.branch [
+      | then-reach-path w ↦
+          ap (option_map entry_view) w.result-is ∙ c.in_ok-settled.ensures.entry ∙ ap (standing_in earlier c.in-At.tick) c.parts.ensures
+          ∙ sym (standing_through-at earlier c.in-At.tick c.in-At.other (omega (arith, upto, is.start)))
+          ∙ ap (λ found. standing_through earlier (found_view found)) (sym c.in-At.is)
+          ∙ standing_in-there blocks earlier block c.args.tick is c.args.path.now reach reached w.if-reach-path.true
+      | else-reach-path w ↦
+          ap (option_map entry_view) w.result-is
+          ∙ standing_in-known blocks earlier block c.args.tick is c.args.path.now reach reached (omega (arith, reached.within, w.if-reach-path.false))
+    ]

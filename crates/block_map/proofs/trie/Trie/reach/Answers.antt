@@ -7,8 +7,8 @@ use Rattle.block_map.proofs.trie.Trie.reach.Goals as goal
 pub found_with-requires : goal.found_with-requires
 found_with-requires c =
     let path = c.args.path.now in
-    let stretch = c.stretch-first.result in
-    let upto = c.stretch-first.ensures in
+    let stretch = c.stretch-entry.result.0 in
+    let upto = c.stretch-entry.ensures.stretch in
     subst (λ front. IsAroundOf c.args.self.now front stretch.around) (sym c.split_at.ensures.front)
     (IsAroundOf-longer c.args.self.now (take stretch.first path) (take stretch.last path) stretch.around
     (omega (arith, upto.order, length-take-le stretch.last path upto.within, length-take-le stretch.first path (omega (arith, upto.order, upto.within)))) upto.around)
@@ -16,6 +16,6 @@ found_with-requires c =
 pub returns : goal.returns
 returns c =
     let trie = c.args.self.now in
-    let stretch = c.stretch-first.result in
-    IsReach-stretch trie (found_below trie (at_root c.args.root)) c.args.path.now stretch c.in_ok-found.found c.stretch-first.ensures
-    (c.in_ok-found.ensures ∙ ap (λ front. found_here stretch.here (around_view trie front stretch.around [])) c.split_at.ensures.front)
+    let stretch = c.stretch-entry.result.0 in
+    IsReach-stretch trie (found_below trie (at_root c.args.root)) c.args.path.now stretch c.in_ok-found.found c.stretch-entry.result.1 c.stretch-entry.ensures.stretch
+    (c.in_ok-found.ensures ∙ ap (λ front. found_here stretch.here (around_view trie front stretch.around [])) c.split_at.ensures.front) c.stretch-entry.ensures.entry
