@@ -1,6 +1,5 @@
 -- The nearest mergeinfo among the first components of a path.
-use Rattle.std.proofs.Common.{◌≡◌, ℕ, zero, suc, ◌+◌, ◌≤◌, ◌⊎◌, List, [], ◌∷◌, ◌++◌, Option, None, Some, option_map, length, take, inl, inr, refl, sym, ap, ◌∙◌, arith, length-append}
-use Rattle.std.proofs.Math.Seq.{take-append_seam}
+use Rattle.std.proofs.Common.{◌≡◌, ℕ, ◌+◌, ◌≤◌, ◌⊎◌, List, Option, None, Some, option_map, length, take, inl, inr, refl, sym, ap, ◌∙◌, arith}
 use Rattle.std.specs.Option.{option_or}
 use Rattle.std.proofs.lemmas.Bool.{cases_lt}
 use Rattle.std.proofs.lemmas.Option.{same_Some}
@@ -71,18 +70,3 @@ module _ (own : List NameId → Option ValueId) (path : List NameId) where
   pub IsNearestOrNone-all : (depth : ℕ) (found : Option Nearest) → depth ≡ length path → IsNearestUpTo own path depth found → IsNearestOrNone own path found
   IsNearestOrNone-all depth None all up = λ more from upto. up more from (omega (arith, upto, all))
   IsNearestOrNone-all depth (Some nearest) all up = ((omega (arith, up.0, all), up.1), λ more from upto. up.2 more from (omega (arith, upto, all)))
-
--- ---- from the whole path up
-
--- the first ones of the first ones
-pub take_of_take : (m n : ℕ) (xs : List NameId) → m ≤ n → take m (take n xs) ≡ take m xs
-take_of_take zero n xs less = refl
-take_of_take (suc m) zero xs less = absurd (omega (arith, less))
-take_of_take (suc m) (suc n) [] less = refl
-take_of_take (suc m) (suc n) (x ∷ xs) less = ap (λ rest. x ∷ rest) (take_of_take m n xs (omega (arith, less)))
-
--- the path above one that is the first components of a path is the first ones, too
-pub take-parent : (path above parent : List NameId) (last : NameId) → above ≡ take (length above) path → above ≡ parent ++ last ∷ [] → parent ≡ take (length parent) path
-take-parent path above parent last front split =
-    sym (take-append_seam parent (last ∷ [])) ∙ ap (take (length parent)) (sym split ∙ front)
-    ∙ take_of_take (length parent) (length above) path (omega (arith, ap length split, length-append parent (last ∷ [])))

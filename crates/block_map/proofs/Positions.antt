@@ -1,5 +1,5 @@
 -- Positions of paths below a root.
-use Rattle.std.proofs.Common.{◌≡◌, ℕ, ◌+◌, ◌<◌, List, [], ◌∷◌, ◌++◌, Option, None, Some, IfSome, drop, get_or, length, option_map, take, append_assoc, refl, sym, ap, subst, ◌∙◌, arith}
+use Rattle.std.proofs.Common.{◌≡◌, ℕ, ◌+◌, ◌<◌, List, [], ◌∷◌, ◌++◌, Option, None, Some, IfSome, drop, get_or, length, option_map, take, append_assoc, refl, sym, ap, subst, ◌∙◌}
 use Rattle.std.specs.Prelude.{slice_get}
 use Rattle.std.proofs.Math.Seq.{drop-length}
 use Rattle.std.proofs.lemmas.List.{take_more}
@@ -7,8 +7,7 @@ use Rattle.std.proofs.lemmas.List.Sums.{fold-append}
 use Rattle.svn_path.specs.declared.names.NameId.{NameId}
 use Rattle.block_map.specs.Locations.{AddsBelow, IsLocationBelow, location_below}
 use Rattle.block_map.specs.Look.{at}
-use Rattle.block_map.specs.Trie.{At, HasLocation, IsLocationAround, IsAroundOf, IsNodeOf, IsPositionOf, IsRegionAround, TrieValue, around_inside, around_view, as_at, at_path, at_root, child_at, found_at, found_here, inside, position_view}
-use Rattle.block_map.specs.declared.node.Here.{Here}
+use Rattle.block_map.specs.Trie.{At, IsLocationAround, IsAroundOf, IsNodeOf, IsPositionOf, IsRegionAround, TrieValue, around_inside, around_view, as_at, at_path, at_root, child_at, inside, position_view}
 use Rattle.block_map.specs.declared.node.Node.{Node}
 use Rattle.block_map.specs.declared.node.Region.{Region}
 use Rattle.block_map.specs.declared.node.Region.TheVariants as region
@@ -38,16 +37,6 @@ IsPositionOf-step trie root path depth d position next within before node around
     } in
     subst (λ whole. IsPositionOf trie root whole next) (sym (take_more path depth d within)) position_is
 
--- inside the region of a sound node there is a location of the trie
-pub IsAroundOf-inside : (trie : TrieValue) (node : Node) (path : List NameId) (outside : Around) → IsNodeOf trie node → IsAroundOf trie path outside
-    → IsAroundOf trie path (around_inside node.region outside (length path))
-IsAroundOf-inside trie node path outside sound is = by node.region sound.1
-  where
-    by : (region : Region) → HasLocation trie region → IsAroundOf trie path (around_inside region outside (length path))
-    by region.Above has = is
-    by region.Nothing has = tt
-    by (region.At id) has = (has, omega arith)
-
 -- what is found inside a region is what its location shows
 pub around_view-inside : (trie : TrieValue) (region : Region) (path : List NameId) (outside : Around)
     → around_view trie path (around_inside region outside (length path)) ≡ inside trie region (around_view trie path outside)
@@ -71,21 +60,6 @@ pub IsRegionAround-below : (old new : TrieValue) (path : List NameId) (id : Loca
 IsRegionAround-below old new path id from last is adds = λ outside i rest.
     (ap (λ locations. as_at (slice_get locations last.0) rest) adds.added ∙ ap (λ found. as_at found rest) (slice_get_last old.locations adds.location last.0 is)
     ∙ IsLocationAround-below old path id from adds.location adds.below rest) i
-
--- what is found at a node that is there, by what it says of itself
-pub found_at-node : (trie : TrieValue) (path : List NameId) (position : Position) (node : Node) (says : Here) (around : Around) → position.node ≡ Some node → node.here ≡ says
-    → around ≡ around_inside node.region position.around (length path)
-    → found_at trie (position_view trie path position) ≡ found_here says (around_view trie path around [])
-found_at-node trie path position node says around there here is =
-    ap (λ found. found_at trie (record { node = found; outside = around_view trie path position.around })) there
-    ∙ ap (λ what. found_here what (inside trie node.region (around_view trie path position.around) [])) here
-    ∙ ap (λ look. found_here says (look [])) (sym (around_view-inside trie node.region path position.around))
-    ∙ ap (λ outside. found_here says (around_view trie path outside [])) (sym is)
-
--- and where there is none
-pub found_at-none : (trie : TrieValue) (path : List NameId) (position : Position) → position.node ≡ None
-    → found_at trie (position_view trie path position) ≡ around_view trie path position.around []
-found_at-none trie path position none = ap (λ found. found_at trie (record { node = found; outside = around_view trie path position.around })) none
 
 -- the position of the root
 pub IsPositionOf-root : (trie : TrieValue) (root : Node) → IsNodeOf trie root → IsPositionOf trie root [] (record { node = Some root; around = around.Nothing })

@@ -1,7 +1,8 @@
 -- The mergeinfo of the first components of a path, by that of what stood at the first components of another one.
-use Rattle.std.proofs.Common.{◌≡◌, ℕ, ◌+◌, ◌-◌, ◌<◌, ◌≤◌, List, [], ◌∷◌, ◌++◌, Option, Some, None, length, option_map, take, inl, inr, refl, sym, ap, subst, ◌∙◌, arith, length-append}
+use Rattle.std.proofs.Common.{◌≡◌, ℕ, ◌+◌, ◌-◌, ◌<◌, ◌≤◌, List, [], ◌∷◌, ◌++◌, Option, None, length, option_map, take, inl, inr, refl, sym, ap, subst, ◌∙◌, arith, length-append}
+use Rattle.std.proofs.Math.Seq.{take-append_seam}
 use Rattle.std.proofs.lemmas.Bool.{cases_lt}
-use Rattle.std.proofs.lemmas.List.{take_all}
+use Rattle.std.proofs.lemmas.List.{length-take-le, take_all}
 use Rattle.svn_path.specs.Path.{same_name}
 use Rattle.svn_path.specs.declared.names.NameId.{NameId}
 use Rattle.svn_dump.specs.declared.record.ValueId.{ValueId}
@@ -9,7 +10,7 @@ use Rattle.block_map.specs.Blocks.{AreBlocksBefore, AreBlocksFrom, records_of}
 use Rattle.block_map.specs.Look as found
 use Rattle.block_map.specs.Look.{Found, from_beginning, look, resolved}
 use Rattle.block_map.specs.LookThrough.{look_through}
-use Rattle.block_map.specs.Map.{HasNoneFrom, IsNearestOrNone, MapValue, found_view, look_in}
+use Rattle.block_map.specs.Map.{found_view}
 use Rattle.block_map.specs.Settled.{IsSettled, IsSettledThere, mergeinfo_through, own_mergeinfo_in, standing_in, standing_through}
 use Rattle.block_map.specs.Standing.{entry_view, mergeinfo_of, standing_of}
 use Rattle.block_map.specs.Stretch.{HasNoMergeinfo, IsAlong, IsReach}
@@ -21,7 +22,7 @@ use Rattle.block_map.specs.declared.settled.Settled.{Settled}
 use Rattle.block_map.specs.declared.trees.Trees.{Trees}
 use Rattle.block_map.proofs.BlocksOfMaps.{AreBlocksFrom-back, AreBlocksFrom-front, end-front, end_of_blocks, last-before, last-end, last-start, look-before, look-last, look-none}
 use Rattle.block_map.proofs.LooksThrough.{look_from-within}
-use Rattle.block_map.proofs.NearestFound.{take_of_take}
+use Rattle.block_map.proofs.Stretches.{take_of_take}
 
 -- before the first record
 look-beginning : (blocks : List Trees) (tick : ℕ) (path : List NameId) → AreBlocksFrom 0 blocks → AreBlocksBefore tick blocks [] → tick ≤ length (records_of blocks)
@@ -195,36 +196,31 @@ module _ (blocks earlier : List Trees) (last : Trees) (tick : ℕ) (before : IsL
 
 -- ---- from the whole path up
 
--- the blocks of a map say what it does
-pub own_mergeinfo_in-map : (map : MapValue) (blocks : List Trees) (tick : ℕ) (path : List NameId) → map.lo ≡ 0 → map.records ≡ records_of blocks
-    → own_mergeinfo_in blocks tick path ≡ mergeinfo_of (look_in map tick path)
-own_mergeinfo_in-map map blocks tick path lo records = λ i. mergeinfo_of (resolved (sym lo i) (look same_name (sym lo i) (sym records i) tick path))
+-- what is settled of the path above the first components of a path, which have none, is settled of the path
+pub IsSettled-above : (own : List NameId → Option ValueId) (path front parent : List NameId) (last : NameId) (settled next : Settled) → IsSettled own path 0 settled → settled.mi ≡ None
+    → front ≡ take settled.depth path → front ≡ parent ++ last ∷ [] → IsSettled own parent 0 next → IsSettled own path 0 next
+IsSettled-above own path front parent last settled next was no_mi front_is split is = record {
+  from = omega arith;
+  within = omega (arith, is.within, depth_is, was.within);
+  mergeinfo = ap own (sym (same next.depth is.within)) ∙ is.mergeinfo;
+  none = λ count more within. elim (cases_lt settled.depth count) [
+    | inl past ↦ was.none count (omega (arith, past)) within
+    | inr before ↦ elim (cases_lt (length parent) count) [
+      | inl last_one ↦
+          let at : settled.depth ≡ count = omega (arith, before, last_one, depth_is) in
+          ap (λ n. own (take n path)) (sym at) ∙ was.mergeinfo ∙ no_mi
+      | inr above ↦ ap own (sym (same count above)) ∙ is.none count more above
+    ]
+  ];
+}
+  where
+    depth_is : length parent + 1 ≡ settled.depth
+    depth_is = omega (arith, ap length front_is, ap length split, length-append parent (last ∷ []), length-take-le settled.depth path was.within)
 
-module _ (own : List NameId → Option ValueId) (path : List NameId) where
-  -- what is settled of the first components of a path, below which there is none, is settled of the path
-  pub IsSettled-longer : (above : List NameId) (settled : Settled) → length above ≤ length path → above ≡ take (length above) path → HasNoneFrom own path (length above + 1) → IsSettled own above 0 settled
-      → IsSettled own path 0 settled
-  IsSettled-longer above settled upto front below is = record {
-    from = omega arith;
-    within = omega (arith, is.within, upto);
-    mergeinfo = ap own (sym (same settled.depth is.within)) ∙ is.mergeinfo;
-    none = λ count more within. elim (cases_lt (length above) count) [
-      | inl past ↦ below count (omega (arith, past)) within
-      | inr before ↦ ap own (sym (same count before)) ∙ is.none count more before
-    ];
-  }
-    where
-      same : (count : ℕ) → count ≤ length above → take count above ≡ take count path
-      same count within = ap (take count) front ∙ take_of_take count (length above) path within
+    parent_is : parent ≡ take (length parent) path
+    parent_is =
+        sym (take-append_seam parent (last ∷ [])) ∙ ap (take (length parent)) (sym split ∙ front_is)
+        ∙ take_of_take (length parent) settled.depth path (omega (arith, depth_is))
 
-  pub IsNearest-settled : (settled : Settled) (mi : ValueId) → settled.mi ≡ Some mi → IsSettled own path 0 settled → IsNearestOrNone own path (Some (record { mi = mi; depth = settled.depth }))
-  IsNearest-settled settled mi some is = ((is.within, is.mergeinfo ∙ some), is.none)
-
-  -- where there is none, there is none from there on
-  pub HasNoneFrom-settled : (settled : Settled) → settled.mi ≡ None → IsSettled own path 0 settled → HasNoneFrom own path settled.depth
-  HasNoneFrom-settled settled none is = λ count more within. elim (cases_lt settled.depth count) [
-    | inl past ↦ is.none count (omega (arith, past)) within
-    | inr before ↦
-        let same : settled.depth ≡ count = omega (arith, more, before) in
-        ap (λ n. own (take n path)) (sym same) ∙ is.mergeinfo ∙ none
-  ]
+    same : (count : ℕ) → count ≤ length parent → take count parent ≡ take count path
+    same count within = ap (take count) parent_is ∙ take_of_take count (length parent) path within

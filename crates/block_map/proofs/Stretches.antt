@@ -1,5 +1,5 @@
 -- Stretches of the way down a path.
-use Rattle.std.proofs.Common.{◌≡◌, ℕ, ◌+◌, ◌-◌, ◌≤◌, List, [], ◌++◌, Option, Some, None, drop, length, option_map, take, inl, inr, sym, ap, subst, ◌∙◌, arith, append-nil, length-append, length-drop}
+use Rattle.std.proofs.Common.{◌≡◌, ℕ, zero, suc, ◌+◌, ◌-◌, ◌≤◌, List, [], ◌∷◌, ◌++◌, Option, Some, None, drop, length, option_map, take, inl, inr, refl, sym, ap, subst, ◌∙◌, arith, append-nil, length-append, length-drop}
 use Rattle.std.specs.Prelude.{slice_get}
 use Rattle.std.proofs.Math.Seq.{take-append-add}
 use Rattle.std.proofs.lemmas.Bool.{cases_lt}
@@ -22,7 +22,6 @@ use Rattle.block_map.specs.declared.position.Around.{Around}
 use Rattle.block_map.specs.declared.position.Around.TheVariants as around
 use Rattle.block_map.specs.declared.position.Position.{Position}
 use Rattle.block_map.specs.declared.stretch.Stretch.{Stretch}
-use Rattle.block_map.proofs.NearestFound.{take_of_take}
 
 module _ (trie : TrieValue) (look : LookOfNumbers) (path : List NameId) (depth : ℕ) where
   -- what is found at one number of components
@@ -71,6 +70,13 @@ module _ (trie : TrieValue) (look : LookOfNumbers) (path : List NameId) (depth :
   }
 
 -- ---- what stood at a location
+
+-- the first ones of the first ones
+pub take_of_take : (m n : ℕ) (xs : List NameId) → m ≤ n → take m (take n xs) ≡ take m xs
+take_of_take zero n xs less = refl
+take_of_take (suc m) zero xs less = absurd (omega (arith, less))
+take_of_take (suc m) (suc n) [] less = refl
+take_of_take (suc m) (suc n) (x ∷ xs) less = ap (λ rest. x ∷ rest) (take_of_take m n xs (omega (arith, less)))
 
 -- the first components of a path below a location, and those of the path that leads there
 take-below : (front path other : List NameId) (from over last more : ℕ) → other ≡ front ++ drop from (take last path) → from + over + more ≤ last

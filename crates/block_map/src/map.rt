@@ -171,7 +171,7 @@ impl Map {
         Ok(nearest)
     }
 
-    /// What `entry` and `nearest` find. Where one block has all records up to the tick, that is one way from the root.
+    /// What `entry` and `nearest` find, mostly in one way down each block.
     pub fn entry_and_nearest(
         &self,
         tick: u32,
@@ -337,7 +337,8 @@ fn settle(
     })
 }
 
-/// The same of a path of so many components, where these blocks say of what a later one found that it is no location.
+/// The same of a path of so many components, by what a later block found at the first ones of it, which is not what stood
+/// at a location.
 fn settle_found(blocks: &[Arc<Trees>], reach: Reach, size: usize) -> Result<Settled, AllocError>
     requires in_order { AreBlocksFrom 0 (trees_of blocks.now) }
     requires within { IsFoundUpTo (length (records_of (trees_of blocks.now))) (found_view reach.found) }
