@@ -5,6 +5,9 @@ a file of a release branch that inherits a value of about 20 KB, in a revision o
 file of the trunk, in the last revision that has it. A time is that of a run with the queries less that of a run
 without, in turns, also by the older build that `--before` names. The memory is the difference of the peaks.
 
+Four workers are compared with one on the `mergeinfo` of these targets, and on `merged` and `eligible` of them ten times
+over, since otherwise their answers take no longer than runs differ.
+
 What printing takes is that of a C program that holds the report. It writes each line as it is, or each number of a line
 by `printf`.
 """
@@ -33,11 +36,13 @@ LEAST_SHARE = 0.9
 FILE = "/unit-"
 # How many pairs are drawn for each that is asked about, since a few do not exist.
 DRAWN = 2
+# How often queries are asked where workers are compared and the answers are short.
+OFTEN = 10
 WORKERS = (1, 4)
 # The limits: the time relative to that of the older build, that of four workers relative to one, and that of the
 # mergeinfo relative to printing it.
 MOST_OF_BEFORE = {"merged": 0.2, "eligible": 0.2, "mergeinfo": 1 / 3, "mixed, about the targets": 0.6}
-MOST_OF_ONE = 0.35
+MOST_OF_ONE = {"merged, ten times": 0.35, "eligible, ten times": 0.35, "mergeinfo": 0.35}
 MOST_OF_PRINTING = 2
 
 PRINTER = r"""
@@ -196,9 +201,12 @@ def works_of(targets, scale):
     print("%s targets with %s distinct values of %s to %s bytes, of %s in the history.\n" % tuple(
         format(number, ",") for number in (len(pairs), len(values), targets.least, targets.most, len(targets.values))))
     mixed = MIXED // scale
+    merged, eligible = ([query(verb, *pair) for pair in pairs] for verb in ("merged", "eligible"))
     return {
-        "merged": [query("merged", *pair) for pair in pairs],
-        "eligible": [query("eligible", *pair) for pair in pairs],
+        "merged": merged,
+        "eligible": eligible,
+        "merged, ten times": OFTEN * merged,
+        "eligible, ten times": OFTEN * eligible,
         "mergeinfo": ["mergeinfo\t%s@%d\n" % target for _, target in pairs],
         "mixed, about the targets": mixed_lines(pairs, lot, mixed),
         "mixed, about any path": drawn_lines(pegs_at_ends(targets.records), list(VERBS) * (mixed // len(VERBS))),
@@ -244,12 +252,17 @@ class Work:
             cells += [""] * 4
         four = self.seconds("now", 4)
         cells += ["%.3f" % four, "%.2f" % (four / one)]
-        cells += limit(four / one, MOST_OF_ONE if self.name in VERBS else None)
+        cells += limit(four / one, MOST_OF_ONE.get(self.name))
         print("| %s |" % " | ".join(cells), flush=True)
 
     def print_memory(self):
         cells = ["%.1f" % (self.memory(*kind) / 1e6) for kind in self.runs]
         print("| %s | %s |" % (self.name, " | ".join(cells)), flush=True)
+
+
+def bases_of(name, bases):
+    """The runs without queries that a list is measured beside: the older build is asked each query once."""
+    return {kind: base for kind, base in bases.items() if kind[0] == "now" or not name.endswith("ten times")}
 
 
 def limit(value, most):
@@ -297,7 +310,7 @@ def run_memo(program, folder, given):
     bases = {kind: Timed([programs[kind[0]], dump, os.devnull, "0", str(kind[1])]) for kind in kinds}
     print("## Long values of mergeinfo\n\nThe best of %d measurements." % given.times, end=" ")
     lists = works_of(Targets(program, dump, folder), QUICK if given.quick else 1)
-    works = {name: Work(programs, dump, folder, name, lines, bases) for name, lines in lists.items()}
+    works = {name: Work(programs, dump, folder, name, lines, bases_of(name, bases)) for name, lines in lists.items()}
     print("| queries | number | answer lines | report, MB | seconds | seconds, older build | relative | at most | |"
           " seconds, 4 workers | relative | at most | |\n|---|---|---|---|---|---|---|---|---|---|---|---|---|")
     for work in works.values():
@@ -308,6 +321,7 @@ def run_memo(program, folder, given):
         "more MB, %d workers%s" % (workers, ", older build" if name == "before" else "") for name, workers in kinds),
         "---|" * len(kinds)))
     for work in works.values():
-        work.print_memory()
+        if len(work.runs) == len(kinds):
+            work.print_memory()
     print(flush=True)
     return 0
