@@ -2,16 +2,16 @@
 memory by BLOCK, and the answers from four blocks.
 
 The histories are those of `maps.py` and the one with much mergeinfo of `pieces.py`, of 120,000 revisions each. The
-steps are made alone by a copy of the program (`steps.py`). All runs that are compared are measured in turns.
+index, the map and its check are what a run without queries takes longer than one on the dump with a faulty block at its
+end, which the program reads and refuses. All runs that are compared are measured in turns.
 """
 import os
 import random
 
-from maps import MIXES, RECORDS, SIZES, VERBS, drawn_lines, pegs_at_ends
+from maps import MIXES, RECORDS, REFUSED, SIZES, VERBS, drawn_lines, pegs_at_ends, write_faulty
 from measure import Failed, Timed, generate, peak_of, run_in_turns
 from pieces import DUMPS
 from questions import records_of
-from steps import build, words
 from verbs import VERBS as ASKED_VERBS, questions_of
 
 REVISIONS = SIZES[-1]
@@ -22,15 +22,14 @@ BLOCKS = (1000, 10000, 30000, 60000, 120000)
 WORKERS = (4, 1)
 # The block with which as many blocks are made as there are workers.
 QUARTER = 30000
-STEPS = ("index", "map")
-# Workers and BLOCK of each run up to a step, of which the second one is judged relative to the first.
-STEP_KINDS = ((1, 0), (4, QUARTER))
+# Workers and BLOCK of the runs without queries, which are judged relative to the first one.
+MADE_KINDS = ((1, 0), (4, 0), (4, QUARTER))
 # The questions are repeated until they are so many, or their report has about so many bytes.
 LEAST_ASKED = 300000
 MOST_REPORT = 1 << 26
-# The limits: the steps relative to those of one block and one worker, a whole run and its memory relative to those of
-# one block, and the answers from four blocks relative to those from one.
-MOST_OF_STEPS = 0.6
+# The limits: the index, the map and its check of the additions relative to those of one block and one worker, a whole run
+# and its memory relative to those of one block, and the answers from four blocks relative to those from one.
+MOST_OF_MADE = {("additions", 4, QUARTER): 0.6}
 MOST_OF_RUN = 1.15
 MOST_OF_MEMORY = 1.1
 MOST_OF_ANSWERS = 1.3
@@ -65,18 +64,22 @@ class History:
         os.remove(self.dump)
 
 
-# ---- the steps
+# ---- the index, the map and its check
 
-def print_steps(history, steps):
-    """The times of the steps, with one worker and one block and with as many blocks as workers."""
-    reading = Timed(words(steps, history.dump, "read"))
-    found = {(step, kind): Timed(words(steps, history.dump, step, kind[1] // history.scale, kind[0]))
-             for step in STEPS for kind in STEP_KINDS}
+def print_made(history):
+    """The time of the index, the map and its check, with one worker and one block and with as many blocks as workers."""
+    faulty = history.dump + "-faulty"
+    write_faulty(history.dump, faulty)
+    reading = Timed([history.program, faulty, os.devnull, "0", "1"], REFUSED)
+    found = {kind: history.timed("none", [], *kind) for kind in MADE_KINDS}
     run_in_turns([reading] + list(found.values()), history.times)
-    seconds = [[found[step, kind].wall - reading.wall for kind in STEP_KINDS] for step in STEPS]
-    for title, (one, four) in zip(("index", "map and check", "together"), seconds + [map(sum, zip(*seconds))]):
-        shown = verdict(four / one, MOST_OF_STEPS) if title == "together" else "%.2f" % (four / one)
-        print("| %s | %s | %.3f | %.3f | %s |" % (history.name, title, one, four, shown), flush=True)
+    os.remove(faulty)
+    one = found[MADE_KINDS[0]].wall - reading.wall
+    for (workers, block), each in found.items():
+        seconds = each.wall - reading.wall
+        most = MOST_OF_MADE.get((history.name, workers, block))
+        shown = "%.2f" % (seconds / one) if most is None else verdict(seconds / one, most)
+        print("| %s | %d | %s | %.3f | %s |" % (history.name, workers, format(block, ","), seconds, shown), flush=True)
 
 
 # ---- whole runs
@@ -126,13 +129,11 @@ def print_answers(history):
 
 
 def run_blocks(program, folder, given):
-    steps = build(folder)
     histories = [History(program, folder, name, given) for name in HISTORIES]
     print("## Blocks\n\nThe best of %d measurements.\n" % given.times)
-    print("| history | step | one block, 1 worker, s | four blocks, 4 workers, s | relative, at most %g |\n"
-          "|---|---|---|---|---|" % MOST_OF_STEPS)
+    print("| history | workers | BLOCK | index, map and check, s | relative to one block and worker |\n|---|---|---|---|---|")
     for history in histories:
-        print_steps(history, steps)
+        print_made(history)
     print("\n| history | workers | BLOCK | seconds | relative to BLOCK 0, at most %g | peak MB |"
           " relative to BLOCK 0, at most %g |\n|---|---|---|---|---|---|---|" % (MOST_OF_RUN, MOST_OF_MEMORY))
     for history in histories:
