@@ -262,8 +262,8 @@ fn blocks_before(blocks: &[Arc<Trees>], tick: u32) -> &[Arc<Trees>]
     &blocks[..count]
 }
 
-/// The nearest mergeinfo of a path, given what is settled of it. Each further way through the blocks settles it for some
-/// of the paths that are left up to the root.
+/// The nearest mergeinfo of a path, given what is settled of it. Each further way through the blocks settles it for
+/// some of the paths that are left up to the root.
 fn nearest_above(
     blocks: &[Arc<Trees>],
     tick: u32,
@@ -289,8 +289,8 @@ fn nearest_above(
     }
 }
 
-/// What stands at a path, and the mergeinfo of at least `least` of its first components, with more of which there is none.
-/// The path is looked up in the last block, and what stood at a location there in the blocks before it.
+/// What stands at a path, and the mergeinfo of at least `least` of its first components, with more of which there is
+/// none. The path is looked up in the last block, and what stood at a location there in the blocks before it.
 fn settle(
     blocks: &[Arc<Trees>],
     tick: u32,
@@ -337,8 +337,8 @@ fn settle(
     })
 }
 
-/// The same of a path of so many components, by what a later block found at the first ones of it, which is not what stood
-/// at a location.
+/// The same of a path of so many components, by what a later block found at the first ones of it, which is not what
+/// stood at a location.
 fn settle_found(blocks: &[Arc<Trees>], reach: Reach, size: usize) -> Result<Settled, AllocError>
     requires in_order { AreBlocksFrom 0 (trees_of blocks.now) }
     requires within { IsFoundUpTo (length (records_of (trees_of blocks.now))) (found_view reach.found) }

@@ -6,8 +6,8 @@ ghost use Rattle.block_map.specs.Trie.{IsAroundOf, IsNodeOf, around_view, found_
 use crate::node::Here;
 use crate::position::{Around, Position, inside};
 
-/// Some of the first components of a path, from `first` many to `last` many, at each of which a node says the same of what
-/// is found around it.
+/// Some of the first components of a path, from `first` many to `last` many, at each of which a node says the same of
+/// what is found around it.
 #[derive(Clone, Copy)]
 pub(crate) struct Stretch {
     pub(crate) first: usize,

@@ -234,10 +234,12 @@ impl Trie {
         })
     }
 
-    /// The deepest stretch of a path below a root at which there may be mergeinfo, and what is known to stand at the path.
+    /// The deepest stretch of a path below a root at which there may be mergeinfo, and what is known to stand at the
+    /// path.
     fn stretch(&self, root: Node, path: &[NameId]) -> (Stretch, Option<Entry>)
         requires { IsNodeOf self.now root }
-        ensures stretch { IsStretchUpTo self.now (found_below self.now (at_root root)) path.now (length path.now) result.0 }
+        ensures stretch { IsStretchUpTo self.now (found_below self.now (at_root root)) path.now
+            (length path.now) result.0 }
         ensures entry { option_map entry_view result.1 ≡ standing_below self.now root path.now }
     {
         let mut position = Position {
