@@ -27,15 +27,15 @@ standing_through blocks found = standing_of (resolved 0 (look_through same_name 
 abbrev pub mergeinfo_through : List Trees → Found NameId ValueId → Option ValueId
 mergeinfo_through blocks found = mergeinfo_of (resolved 0 (look_through same_name 0 (records_of blocks) found))
 
--- the mergeinfo is that of the first so many components of the path, of which there are not fewer than that; with more of them there
--- is none
+-- the mergeinfo is that of the first so many components of the path, of which there are not fewer than that; with more
+-- of them there is none
 pub record IsSettled (own : List NameId → Option ValueId) (path : List NameId) (least : ℕ) (settled : Settled) : Type 0 where
   pub from : least ≤ settled.depth
   pub within : settled.depth ≤ length path
   pub mergeinfo : own (take settled.depth path) ≡ settled.mi
   pub none : HasNoneFrom own path (settled.depth + 1)
 
--- it is so of a path of so many components by what is found at the first ones of it
+-- so it is where a later block found something at the first ones of so many components, which earlier blocks explain
 pub record IsSettledThere (blocks : List Trees) (reach : Reach) (size : ℕ) (settled : Settled) : Type 0 where
   pub depth : settled.depth ≡ reach.last
   pub mergeinfo : settled.mi ≡ mergeinfo_through blocks (found_view reach.found)
