@@ -1,9 +1,9 @@
 -- Canonical lists of runs.
-use Rattle.std.proofs.Common.{◌≡◌, ℕ, suc, get_or, length, ◌+◌, ◌<◌, ◌≤◌, Bool, true, false, ◌&&◌, ◌||◌, List, [], ◌∷◌, ◌++◌, All, filter, refl, sym, ap, subst, ◌∙◌, inl, inr, arith}
+use Rattle.std.proofs.Common.{◌≡◌, ℕ, suc, get_or, length, ◌+◌, ◌<◌, ◌≤◌, Bool, true, false, ◌&&◌, ◌||◌, List, [], ◌∷◌, ◌++◌, All, refl, sym, ap, subst, ◌∙◌, inl, inr, arith}
 use Rattle.std.proofs.lemmas.Bool.{and_right, cases_Bool, cond-true, cond-false}
 use Rattle.std.proofs.lemmas.Bool.Decides.{nat_tests}
 use Rattle.std.proofs.lemmas.List.Elements.{All-nil, All-cons, All-head, All-tail}
-use Rattle.range_list.specs.Rangelist.{covers, is_apart, is_in, is_inheritable, IsRun, IsApart, IsCanonical, IsInheritablePart}
+use Rattle.range_list.specs.Rangelist.{covers, inheritable_runs, is_apart, is_in, is_inheritable, IsRun, IsApart, IsCanonical, IsInheritablePart}
 use Rattle.std.specs.Bool.{OnTrue}
 use Rattle.std.specs.List.{AllAdjacentBelow, IsAllAdjacentAnswer}
 use Rattle.range_list.specs.declared.run.Run.{Run}
@@ -90,9 +90,6 @@ IsCanonical-last (first ∷ second ∷ front) run last canonical is_run same_lo 
     (canonical.0, canonical.1, IsCanonical-last (second ∷ front) run last canonical.2 is_run same_lo same_sort)
 
 -- ---- the inheritable runs
-
-abbrev pub inheritable_runs : List Run → List Run
-inheritable_runs runs = filter (λ run. run.inheritable) runs
 
 -- the list of a first run that is inheritable, and of one that is not
 inheritable_runs-kept : (run : Run) (runs : List Run) → run.inheritable ≡ true → inheritable_runs (run ∷ runs) ≡ run ∷ inheritable_runs runs

@@ -1,6 +1,6 @@
 -- Rangelists, of which the values of `svn:mergeinfo` are made (Subversion book, "Branching and Merging", "Mergeinfo and
 -- previews"): finite sets of revision numbers, each of which is inheritable or not.
-use Rattle.std.specs.Prelude.{◌≡◌, ◌≢◌, ℕ, ◌+◌, ◌<◌, ◌≤◌, nat_le, nat_lt, ◌==◌, Bool, ◌&&◌, not, List, [], ◌∷◌, ◌++◌, Option, Some, None, if◌then◌else◌}
+use Rattle.std.specs.Prelude.{◌≡◌, ◌≢◌, ℕ, ◌+◌, ◌<◌, ◌≤◌, nat_le, nat_lt, ◌==◌, Bool, ◌&&◌, not, List, [], ◌∷◌, ◌++◌, Option, Some, None, filter, if◌then◌else◌}
 use Rattle.std.specs.Bool.{beq}
 use Rattle.std.specs.List.{list_any}
 use Rattle.svn_text.specs.Number.{greatest_revision}
@@ -43,6 +43,9 @@ IsCanonical (run ∷ next ∷ runs) = IsRun run × IsApart run next × IsCanonic
 -- the two lists have the same numbers, inheritable in both or in neither
 abbrev pub HasSameNumbers : List Run → List Run → Type 0
 HasSameNumbers a b = (n : ℕ) → (is_in a n ≡ is_in b n) × (is_inheritable a n ≡ is_inheritable b n)
+
+abbrev pub inheritable_runs : List Run → List Run
+inheritable_runs runs = filter (λ run. run.inheritable) runs
 
 -- the part has the inheritable numbers of all, and those alone
 abbrev pub IsInheritablePart : List Run → List Run → Type 0

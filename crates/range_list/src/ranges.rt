@@ -1,7 +1,8 @@
 //! A set of revision numbers, each inheritable or not.
 ghost use Rattle.std.specs.Bool.{OnTrue};
+ghost use Rattle.std.specs.List.{list_any};
 ghost use Rattle.std.specs.Prelude.{◌≡◌, ◌≤◌, ◌<◌, ◌↔◌, List, [], ◌++◌, All, IfOk, OnOk, OnErr, IsTrue};
-ghost use Rattle.range_list.specs.Rangelist.{inheritability_of, IsRun, IsCanonical, HasSameNumbers, IsInheritablePart, IsOnlyCanonical, AddsRun};
+ghost use Rattle.range_list.specs.Rangelist.{inheritability_of, inheritable_runs, IsRun, IsCanonical, HasSameNumbers, IsInheritablePart, IsOnlyCanonical, AddsRun};
 ghost use Rattle.svn_text.specs.Number.{greatest_revision};
 ghost use Rattle.range_list.specs.Canonical.{canonical_runs};
 ghost use Rattle.range_list.specs.Text.{rangelist_text};
@@ -134,6 +135,31 @@ impl Ranges {
         write_run(*first, out)?;
         for run in others {
             out.push(b',')?;
+            write_run(*run, out)?;
+        }
+        Ok(())
+    }
+
+    /// Whether some number is inheritable.
+    pub fn has_inheritable(&self) -> bool
+        ensures { result ≡ list_any (λ run. run.inheritable) self.now }
+    {
+        self.runs.iter().any(|run| run.inheritable)
+    }
+
+    /// Appends the inheritable runs, separated by commas.
+    pub fn write_inheritable(&self, out: &mut Vec<u8>) -> Result<(), AllocError>
+        ensures { OnOk result (out.new.items ≡ out.old.items ++ rangelist_text (inheritable_runs self.now)) }
+    {
+        let mut is_first = true;
+        for run in self.runs() {
+            if !run.inheritable {
+                continue;
+            }
+            if !is_first {
+                out.push(b',')?;
+            }
+            is_first = false;
             write_run(*run, out)?;
         }
         Ok(())

@@ -1,5 +1,6 @@
 use Rattle.std.proofs.Common.{◌≡◌, rules}
-use Rattle.range_list.proofs.Canonical.{inheritable_runs, IsCanonical-filter, IsInheritablePart-filter}
+use Rattle.range_list.specs.Rangelist.{inheritable_runs}
+use Rattle.range_list.proofs.Canonical.{IsCanonical-filter, IsInheritablePart-filter}
 use Rattle.range_list.proofs.ranges.Ranges.inheritable.Goals as goal
 
 pub invariant_of-result : goal.invariant_of-result
