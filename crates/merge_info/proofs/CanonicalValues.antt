@@ -17,7 +17,7 @@ use Rattle.range_list.proofs.Maximal.{canonical_runs-HasSameNumbers, canonical_r
 use Rattle.merge_info.specs.CanonicalValue.{canonical_value, has_runs, insert_path, is_some_run, entry_at, paths_of}
 use Rattle.merge_info.specs.Line.{IsLine, IsPrintedPath, Line}
 use Rattle.merge_info.specs.Value.{AreRising, HasSameRevisions, IsEntry, IsMergeInfo, runs_at}
-use Rattle.merge_info.proofs.OnlyValues.{IsPathBefore, same_values}
+use Rattle.merge_info.proofs.OnlyValues.{AreRising-cons, IsPathBefore, same_values}
 use Rattle.merge_info.proofs.RunsAt.{runs_at-cons, runs_of}
 
 -- ---- paths in order
@@ -102,11 +102,11 @@ runs_at-absent (line ∷ lines) path absent =
 
 -- ---- the runs of the canonical value
 
-is_some_run-none : (runs : List Run) → is_some_run runs ≡ false → runs ≡ []
+pub is_some_run-none : (runs : List Run) → is_some_run runs ≡ false → runs ≡ []
 is_some_run-none [] none = refl
 is_some_run-none (run ∷ runs) none = cc
 
-is_some_run-some : (runs : List Run) → is_some_run runs ≡ true → runs ≢ []
+pub is_some_run-some : (runs : List Run) → is_some_run runs ≡ true → runs ≢ []
 is_some_run-some runs some none = let nothing : is_some_run runs ≡ false = ap is_some_run none in cc
 
 AreRuns-runs_at : (lines : List Line) (path : List ℕ) → All IsLine lines → All IsRun (runs_at lines path)
@@ -149,10 +149,6 @@ module _ (lines : List Line) where
       by false none false same rest = rest
 
   -- its paths rise
-  AreRising-cons : (line : Line) (others : List Line) → All (IsPathBefore line.path) others → AreRising others → AreRising (line ∷ others)
-  AreRising-cons line [] before rising = tt
-  AreRising-cons line (next ∷ others) before rising = (All-head (IsPathBefore line.path) next others before, rising)
-
   AreRising-kept : (paths : List (List ℕ)) → ArePathsRising paths → AreRising (kept paths)
   AreRising-kept [] rising = tt
   AreRising-kept (first ∷ paths) rising = by (has_runs (entry_at lines first)) (AreRising-kept paths rising.1)

@@ -160,6 +160,13 @@ IsEntry-at entries i entry are_entries below is =
     (All-get_or IsEntry (map entry_view entries) i (entry_view entry)
     (subst (λ n. i < n) (sym (length-map entries entry_view)) below) are_entries)
 
+-- the entry of an index in the value
+pub entry_view-at : (entries : List Entry) (value : List Line) (i : ℕ) (entry : Entry) → map entry_view entries ≡ value
+    → i < length entries → entry ≡ get_or entries i entry → get_or value i (entry_view entry) ≡ entry_view entry
+entry_view-at entries value i entry view within is =
+    ap (λ lines. get_or lines i (entry_view entry)) (sym view)
+    ∙ get_or-map entry_view entries i entry (entry_view entry) within ∙ ap entry_view (sym is)
+
 -- a path before another is not that one
 apart_from-before : (a b : List ℕ) → slice_cmp nat_cmp a b ≡ Less → bytes_eq a b ≡ false
 apart_from-before a b before = sym (is_eq-slice_cmp a b) ∙ ap is_eq before

@@ -5,6 +5,7 @@ mod Collected
 mod Decimals
 mod Elements
 mod Entries
+mod InheritedEntries
 mod Inheriting
 pub mod InheritedRevisions
 mod JoinedBytes
@@ -12,6 +13,7 @@ mod LineReads
 mod LinesRead
 mod OneLine
 mod OnlyValues
+mod PathOrder
 pub mod PrintedPaths
 mod ReadsBack
 mod RunTexts

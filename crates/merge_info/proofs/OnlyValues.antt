@@ -36,12 +36,18 @@ runs_at-before (line ∷ lines) path before =
     ∙ runs_at-before lines path (All-tail (IsPathBefore path) line lines before)
 
 -- the first path is before all the others
-AreRising-first : (line : Line) (lines : List Line) → AreRising (line ∷ lines) → All (IsPathBefore line.path) lines
+pub AreRising-first : (line : Line) (lines : List Line) → AreRising (line ∷ lines) → All (IsPathBefore line.path) lines
 AreRising-first line [] rising = All-nil (IsPathBefore line.path)
 AreRising-first line (next ∷ lines) rising =
     let rest = AreRising-first next lines rising.1 in
     All-cons (IsPathBefore line.path) next lines rising.0
     (λ k d below. nat_list_cmp_total.trans line.path next.path _ rising.0 (rest k d below))
+
+-- a path before all the others is the first
+pub AreRising-cons : (line : Line) (lines : List Line) → All (IsPathBefore line.path) lines → AreRising lines
+    → AreRising (line ∷ lines)
+AreRising-cons line [] before rising = tt
+AreRising-cons line (next ∷ lines) before rising = (All-head (IsPathBefore line.path) next lines before, rising)
 
 -- its runs are those of its line
 runs_at-first : (line : Line) (lines : List Line) → AreRising (line ∷ lines)

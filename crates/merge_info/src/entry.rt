@@ -3,11 +3,11 @@ ghost use Rattle.std.specs.Prelude.{◌≡◌, ◌++◌, IfOk, OnOk};
 ghost use Rattle.svn_text.specs.Line.{line_text};
 ghost use Rattle.merge_info.specs.Inherited.{inherited_line};
 ghost use Rattle.merge_info.specs.Line.{IsPrintedPath, line_view};
-ghost use Rattle.merge_info.specs.Text.{printed_entry};
+ghost use Rattle.merge_info.specs.Text.{inherited_text, printed_entry};
 ghost use Rattle.merge_info.specs.Value.{entry_view};
 
 use crate::line::Line;
-use crate::source_path::path_below;
+use crate::source_path::{path_below, push_path_below};
 use range_list::Ranges;
 use std::alloc::{AllocError, Global};
 
@@ -44,6 +44,19 @@ impl Entry {
         out.extend_from_slice(&self.path)?;
         out.push(b':')?;
         self.ranges.write(out)?;
+        out.push(b'\n')?;
+        Ok(())
+    }
+
+    /// Appends the line of what a path inherits of this entry, given `rest`.
+    pub(crate) fn write_inherited(&self, rest: &[u8], out: &mut Vec<u8>) -> Result<(), AllocError>
+        requires path { IsPrintedPath self.now.path.items }
+        requires rest { IsPrintedPath rest.now }
+        ensures { OnOk result (out.new.items ≡ out.old.items ++ inherited_text rest.now (entry_view self.now)) }
+    {
+        push_path_below(&self.path, rest, out)?;
+        out.push(b':')?;
+        self.ranges.write_inheritable(out)?;
         out.push(b'\n')?;
         Ok(())
     }

@@ -1,16 +1,17 @@
 //! The values of `svn:mergeinfo`.
+ghost use Rattle.std.specs.Bool.{OnTrue};
 ghost use Rattle.std.specs.Prelude.{◌≡◌, ◌↔◌, [], ◌++◌, IsTrue, None, All, Some, IfOk, OnOk, IsErrOf, option_map, map};
 ghost use Rattle.merge_info.specs.CanonicalValue.{canonical_value, inherited_value, value_of};
-ghost use Rattle.merge_info.specs.Inherited.{inherited_lines};
+ghost use Rattle.merge_info.specs.Inherited.{KeepTheirOrder, inherited_lines};
 ghost use Rattle.merge_info.specs.Line.{IsLine, IsPrintedPath, line_view};
 ghost use Rattle.merge_info.specs.Text.{value_text};
-ghost use Rattle.merge_info.specs.Value.{HasSameRevisions, IsMergeInfo, IsOnlyMergeInfo, IsOnOneLine, IsTextOf, lines_of, ranges_of};
+ghost use Rattle.merge_info.specs.Value.{HasSameRevisions, IsEntry, IsMergeInfo, IsOnlyMergeInfo, IsOnOneLine, IsTextOf, entry_view, lines_of, ranges_of};
 
 use crate::entry::Entry;
 use crate::error::MergeError;
 use crate::line::Line;
 use crate::lines::read_lines;
-use crate::source_path::path_below;
+use crate::source_path::is_before_below;
 use crate::united::united;
 use range_list::Ranges;
 use std::alloc::{AllocError, Global};
@@ -102,6 +103,22 @@ impl MergeInfo {
         Ok(())
     }
 
+    /// Appends the lines of what a path inherits, given what follows the path that has this value.
+    pub fn write_inherited(&self, rest: &[u8], out: &mut Vec<u8>) -> Result<(), AllocError>
+        requires { IsPrintedPath rest.now }
+        ensures { OnOk result (out.new.items ≡ out.old.items ++ value_text (inherited_value rest.now self.now)) }
+    {
+        if !keep_their_order(&self.entries) {
+            return self.inherited(rest)?.write(out);
+        }
+        for entry in &self.entries {
+            if entry.ranges.has_inheritable() {
+                entry.write_inherited(rest, out)?;
+            }
+        }
+        Ok(())
+    }
+
     /// An equal value.
     pub fn dup(&self) -> Result<Self, AllocError>
         ensures { IfOk result (λ same. same ≡ self.now) }
@@ -130,4 +147,12 @@ impl MergeInfo {
         }
         Ok(MergeInfo { entries })
     }
+}
+
+/// Whether it is certain that the paths are in the same order whatever follows them.
+fn keep_their_order(entries: &[Entry]) -> bool
+    requires { All IsEntry (map entry_view entries.now) }
+    ensures { OnTrue result (KeepTheirOrder (map entry_view entries.now)) }
+{
+    entries.is_sorted_by(|entry, next| is_before_below(&entry.path, &next.path))
 }

@@ -1,7 +1,7 @@
 //! Source paths.
-ghost use Rattle.std.specs.Prelude.{◌≡◌, IfOk};
+ghost use Rattle.std.specs.Prelude.{◌≡◌, ◌++◌, IfOk, OnOk};
 ghost use Rattle.svn_path.specs.Components.{parts_of, path_text};
-ghost use Rattle.merge_info.specs.Inherited.{path_below};
+ghost use Rattle.merge_info.specs.Inherited.{is_before_below, path_below, stays_before};
 ghost use Rattle.merge_info.specs.Line.{IsPrintedPath};
 
 use std::alloc::{AllocError, Global};
@@ -28,13 +28,44 @@ pub(crate) fn path_below(alloc: Global, path: &[u8], rest: &[u8]) -> Result<Vec<
     requires rest { IsPrintedPath rest.now }
     ensures { IfOk result (λ both. both.items ≡ path_below path.now rest.now) }
 {
-    if path == b"/".as_slice() {
-        return Vec::from_slice(alloc, rest);
-    }
     let mut both = Vec::with_capacity(alloc, path.len() + rest.len())?;
-    both.extend_from_slice(path)?;
-    if rest != b"/".as_slice() {
-        both.extend_from_slice(rest)?;
-    }
+    push_path_below(path, rest, &mut both)?;
     Ok(both)
+}
+
+/// Appends a path followed by the rest of another.
+pub(crate) fn push_path_below(path: &[u8], rest: &[u8], out: &mut Vec<u8>) -> Result<(), AllocError>
+    requires path { IsPrintedPath path.now }
+    requires rest { IsPrintedPath rest.now }
+    ensures { OnOk result (out.new.items ≡ out.old.items ++ path_below path.now rest.now) }
+{
+    if path == b"/".as_slice() {
+        return out.extend_from_slice(rest);
+    }
+    out.extend_from_slice(path)?;
+    if rest != b"/".as_slice() {
+        out.extend_from_slice(rest)?;
+    }
+    Ok(())
+}
+
+/// Whether it is certain that a path is before the next one whatever follows both. Of the root it never is.
+pub(crate) fn is_before_below(path: &[u8], next: &[u8]) -> bool
+    ensures { result ≡ is_before_below path.now next.now }
+{
+    path != b"/".as_slice() && stays_before(path, next)
+}
+
+/// The same for paths that are not the root.
+fn stays_before(path: &[u8], next: &[u8]) -> bool
+    ensures { result ≡ stays_before path.now next.now }
+{
+    let mut i = 0;
+    while i < path.len() && i < next.len() {
+        if path[i] != next[i] {
+            return path[i] < next[i];
+        }
+        i += 1;
+    }
+    i < next.len() && b'/' < next[i]
 }

@@ -1,10 +1,10 @@
 use Rattle.std.proofs.Common.{◌≡◌, ℕ, ◌+◌, ◌<◌, List, ◌∷◌, [], ◌++◌, length, get_or, map, take, sym, ap, subst, ◌∙◌, arith}
-use Rattle.std.proofs.lemmas.List.{flat_map_more, get_or-map, length-map, take_more}
+use Rattle.std.proofs.lemmas.List.{flat_map_more, length-map, take_more}
 use Rattle.svn_text.specs.Line.{line_text}
 use Rattle.merge_info.specs.Text.{printed_entry, value_text}
 use Rattle.merge_info.specs.Value.{IsMergeInfo, entry_view}
 use Rattle.merge_info.specs.Line.{Line}
-use Rattle.merge_info.specs.declared.entry.Entry.{Entry}
+use Rattle.merge_info.proofs.Entries.{entry_view-at}
 use Rattle.merge_info.proofs.OnlyValues.{only_value}
 use Rattle.merge_info.proofs.ReadsBack.{lines_of-value_text}
 use Rattle.merge_info.proofs.merge_info.MergeInfo.write.Goals as goal
@@ -19,13 +19,6 @@ value_text-more value i line old before after within at so_far written =
     ∙ flat_map_more (λ each. line_text (printed_entry each)) old (take i value) line
     ∙ ap (λ lines. old ++ value_text lines)
     (sym (take_more value i line within ∙ ap (λ last. take i value ++ last ∷ []) at))
-
--- the line of an entry is that of its index in the value
-entry_view-at : (entries : List Entry) (value : List Line) (i : ℕ) (entry : Entry) → map entry_view entries ≡ value
-    → i < length entries → entry ≡ get_or entries i entry → get_or value i (entry_view entry) ≡ entry_view entry
-entry_view-at entries value i entry view within is =
-    ap (λ lines. get_or lines i (entry_view entry)) (sym view)
-    ∙ get_or-map entry_view entries i entry (entry_view entry) within ∙ ap entry_view (sym is)
 
 pub loop-entry-preserved : goal.loop-entry-preserved
 loop-entry-preserved c =
