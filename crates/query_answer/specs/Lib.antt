@@ -4,6 +4,7 @@ pub mod Held
 pub mod HeldValue
 pub mod Merged
 pub mod Peg
+pub mod PrintedMergeinfo
 pub mod Query
 pub mod Repo
 pub mod SourceHits

@@ -1,6 +1,7 @@
 //! The mergeinfo that a path has or inherits.
 ghost use Rattle.std.specs.Prelude.{◌≡◌, ◌≤◌, IfOk, drop, length};
 ghost use Rattle.merge_info.specs.CanonicalValue.{inherited_value};
+ghost use Rattle.merge_info.specs.Line.{IsPrintedPath};
 ghost use Rattle.svn_path.specs.Components.{path_text};
 ghost use Rattle.svn_path.specs.Path.{IsPathOf, components_of};
 ghost use Rattle.query_answer.specs.Repo.{effective_in, effective_view};
@@ -59,7 +60,23 @@ pub(crate) fn inherited_by(
     ensures { IfOk result (λ below. below
         ≡ inherited_value (path_text (drop depth (components_of repo.now.names path.now))) value.now) }
 {
+    let rest = rest_below(alloc, repo, path, depth)?;
+    value.inherited(&rest)
+}
+
+/// What a path has below its first `depth` components.
+pub(crate) fn rest_below(
+    alloc: Global,
+    repo: &Repo,
+    path: &Path,
+    depth: usize,
+) -> Result<Vec<u8>, AllocError>
+    requires names { IsPathOf repo.now.names path.now }
+    requires depth { depth ≤ length path.now }
+    ensures text { IfOk result (λ rest. rest.items ≡ path_text (drop depth (components_of repo.now.names path.now))) }
+    ensures printed { IfOk result (λ rest. IsPrintedPath rest.items) }
+{
     let mut rest = Vec::with_capacity(alloc, USUAL_PATH_LENGTH)?;
     path.write_below(depth, repo.names(), &mut rest)?;
-    value.inherited(&rest)
+    Ok(rest)
 }

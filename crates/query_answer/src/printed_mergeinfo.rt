@@ -1,5 +1,7 @@
 //! The lines of a value.
 ghost use Rattle.std.specs.Prelude.{◌≡◌, ◌++◌, IfOk, OnOk};
+ghost use Rattle.merge_info.specs.CanonicalValue.{inherited_value};
+ghost use Rattle.merge_info.specs.Line.{IsPrintedPath};
 ghost use Rattle.merge_info.specs.Text.{value_text};
 
 use merge_info::MergeInfo;
@@ -7,23 +9,27 @@ use std::alloc::{AllocError, Global};
 use std::marker::Model;
 use std::snapshot::Snapshot;
 
-/// A value of mergeinfo as it is printed, seen as the value.
+/// The lines of the mergeinfo that holds for a path, seen as its value. What is inherited has no other form.
 #[derive(Drop)]
 pub struct PrintedMergeinfo {
     text: Vec<u8>,
+    /// The path's own value, or that of a path above it.
     value: Snapshot<MergeInfo>,
+    /// What follows the path above.
+    rest: Option<Snapshot<Vec<u8>>>,
 }
 
 impl Model for PrintedMergeinfo {
     ghost use Rattle.std.specs.Prelude.{◌≡◌};
     ghost use Rattle.merge_info.specs.Text.{value_text};
     ghost use Rattle.merge_info.specs.Value.{MergeInfoValue};
+    ghost use Rattle.query_answer.specs.PrintedMergeinfo.{printed_value};
 
     ghost Value = { MergeInfoValue };
 
-    ghost view = { λ printed. printed.value.value };
+    ghost view = { λ printed. printed_value printed.value printed.rest };
 
-    ghost invariant = { λ printed. printed.text.items ≡ value_text printed.value.value };
+    ghost invariant = { λ printed. printed.text.items ≡ value_text (printed_value printed.value printed.rest) };
 }
 
 impl PrintedMergeinfo {
@@ -36,6 +42,25 @@ impl PrintedMergeinfo {
         Ok(PrintedMergeinfo {
             text,
             value: Snapshot::of(value),
+            rest: None,
+        })
+    }
+
+    /// The lines of what a path inherits of a value, given what follows the path that has it.
+    pub(crate) fn inherited(
+        alloc: Global,
+        value: &MergeInfo,
+        rest: &Vec<u8>,
+    ) -> Result<Self, AllocError>
+        requires { IsPrintedPath rest.now.items }
+        ensures { IfOk result (λ printed. printed ≡ inherited_value rest.now.items value.now) }
+    {
+        let mut text = Vec::new(alloc);
+        value.write_inherited(rest, &mut text)?;
+        Ok(PrintedMergeinfo {
+            text,
+            value: Snapshot::of(value),
+            rest: Some(Snapshot::of(rest)),
         })
     }
 

@@ -5,7 +5,7 @@ ghost use Rattle.query_answer.specs.Repo.{IsTargetFound, effective_in, mergeinfo
 ghost use Rattle.query_answer.specs.Worker.{IsSeenOf, Learns};
 
 use crate::answers::Answer;
-use crate::inheritance::inherited_by;
+use crate::inheritance::rest_below;
 use crate::peg::Peg;
 use crate::printed_mergeinfo::PrintedMergeinfo;
 use crate::repo::Repo;
@@ -62,8 +62,8 @@ fn printed<'r>(
             Ok(Some(PrintedMergeinfo::of(alloc, value)?))
         }
         Parsed::Good(value) => {
-            let inherited = inherited_by(alloc, repo, &target.path, found.depth, value)?;
-            Ok(Some(PrintedMergeinfo::of(alloc, &inherited)?))
+            let rest = rest_below(alloc, repo, &target.path, found.depth)?;
+            Ok(Some(PrintedMergeinfo::inherited(alloc, value, &rest)?))
         }
     }
 }

@@ -1,5 +1,5 @@
 use Rattle.std.proofs.Common.{◌≡◌, None, Some, ap, sym, subst, ◌∙◌, arith}
-use Rattle.merge_info.specs.CanonicalValue.{value_of}
+use Rattle.merge_info.specs.CanonicalValue.{inherited_value, value_of}
 use Rattle.value_memo.specs.Parsed.{parsed_view}
 use Rattle.query_answer.specs.Repo.{IsNearestIn}
 use Rattle.query_answer.proofs.EffectiveValues.{effective_in-inherited, effective_in-malformed, effective_in-none, effective_in-own, mergeinfo-found}
@@ -32,11 +32,11 @@ returns-in_ok-of-in-Good-clause-value c =
     let read : value_of c.mergeinfo_text.result.now ≡ Some c.in-Good.value.now = sym c.in_ok-value.ensures.reading ∙ ap parsed_view c.in-Good.is in
     ap Some c.in_ok-of-in-Good.ensures ∙ sym (effective_in-own c.args.repo.now c.requires.target.path.kept c.args.target.now.path c.args.peg.now.rev c.in-Some.found near c.mergeinfo_text.result.now c.mergeinfo_text.ensures c.in-Good.value.now read (c.if-found-len.true ∙ c.len.ensures))
 
-pub returns-in_ok-of-in-Good-2-clause-value : goal.returns-in_ok-of-in-Good-2-clause-value
-returns-in_ok-of-in-Good-2-clause-value c =
+pub returns-in_ok-inherited-in-Good-2-clause-value : goal.returns-in_ok-inherited-in-Good-2-clause-value
+returns-in_ok-inherited-in-Good-2-clause-value c =
     let near : IsNearestIn c.args.repo.now c.args.target.now.path c.args.peg.now.rev (Some c.in-Some.found) = subst (IsNearestIn c.args.repo.now c.args.target.now.path c.args.peg.now.rev) c.in-Some.is c.requires.target.nearest in
     let read : value_of c.mergeinfo_text.result.now ≡ Some c.in-Good.value.now = sym c.in_ok-value.ensures.reading ∙ ap parsed_view c.in-Good.is in
-    ap Some (c.in_ok-of-in-Good-2.ensures ∙ c.in_ok-inherited-in-Good-2.ensures)
+    ap Some (c.in_ok-inherited-in-Good-2.ensures ∙ ap (λ rest. inherited_value rest c.in-Good.value.now) c.in_ok-rest-in-Good-2.ensures.text)
     ∙ sym (effective_in-inherited c.args.repo.now c.requires.target.path.kept c.args.target.now.path c.args.peg.now.rev c.in-Some.found near c.mergeinfo_text.result.now c.mergeinfo_text.ensures c.in-Good.value.now read (λ same. c.if-found-len.false (same ∙ sym c.len.ensures)))
 
 pub returns-in-Malformed-clause-seen : goal.returns-in-Malformed-clause-seen
@@ -69,6 +69,16 @@ returns-in_ok-of-in-Good-clause-learns c =
     Learns-after c.args.repo.now.values c.args.memo.now c.args.seen.now c.requires.seen c.in-Some.found.mi.0 c.mergeinfo_text.result.now c.mergeinfo_text.ensures
     c.value.result c.value.follows.lender-at-none c.value.follows.holds-at-none
 
+pub returns-in_err-rest-in-Good-2-clause-seen : goal.returns-in_err-rest-in-Good-2-clause-seen
+returns-in_err-rest-in-Good-2-clause-seen c =
+    IsSeenOf-after c.args.repo.now.values c.args.memo.now c.args.seen.now c.requires.seen c.in-Some.found.mi.0 c.mergeinfo_text.result.now c.mergeinfo_text.ensures
+    c.value.result c.value.follows.lender-at-none c.value.follows.holds-at-none
+
+pub returns-in_err-rest-in-Good-2-clause-learns : goal.returns-in_err-rest-in-Good-2-clause-learns
+returns-in_err-rest-in-Good-2-clause-learns c =
+    Learns-after c.args.repo.now.values c.args.memo.now c.args.seen.now c.requires.seen c.in-Some.found.mi.0 c.mergeinfo_text.result.now c.mergeinfo_text.ensures
+    c.value.result c.value.follows.lender-at-none c.value.follows.holds-at-none
+
 pub returns-in_err-inherited-in-Good-2-clause-seen : goal.returns-in_err-inherited-in-Good-2-clause-seen
 returns-in_err-inherited-in-Good-2-clause-seen c =
     IsSeenOf-after c.args.repo.now.values c.args.memo.now c.args.seen.now c.requires.seen c.in-Some.found.mi.0 c.mergeinfo_text.result.now c.mergeinfo_text.ensures
@@ -79,22 +89,12 @@ returns-in_err-inherited-in-Good-2-clause-learns c =
     Learns-after c.args.repo.now.values c.args.memo.now c.args.seen.now c.requires.seen c.in-Some.found.mi.0 c.mergeinfo_text.result.now c.mergeinfo_text.ensures
     c.value.result c.value.follows.lender-at-none c.value.follows.holds-at-none
 
-pub returns-in_err-of-in-Good-2-clause-seen : goal.returns-in_err-of-in-Good-2-clause-seen
-returns-in_err-of-in-Good-2-clause-seen c =
+pub returns-in_ok-inherited-in-Good-2-clause-seen : goal.returns-in_ok-inherited-in-Good-2-clause-seen
+returns-in_ok-inherited-in-Good-2-clause-seen c =
     IsSeenOf-after c.args.repo.now.values c.args.memo.now c.args.seen.now c.requires.seen c.in-Some.found.mi.0 c.mergeinfo_text.result.now c.mergeinfo_text.ensures
     c.value.result c.value.follows.lender-at-none c.value.follows.holds-at-none
 
-pub returns-in_err-of-in-Good-2-clause-learns : goal.returns-in_err-of-in-Good-2-clause-learns
-returns-in_err-of-in-Good-2-clause-learns c =
-    Learns-after c.args.repo.now.values c.args.memo.now c.args.seen.now c.requires.seen c.in-Some.found.mi.0 c.mergeinfo_text.result.now c.mergeinfo_text.ensures
-    c.value.result c.value.follows.lender-at-none c.value.follows.holds-at-none
-
-pub returns-in_ok-of-in-Good-2-clause-seen : goal.returns-in_ok-of-in-Good-2-clause-seen
-returns-in_ok-of-in-Good-2-clause-seen c =
-    IsSeenOf-after c.args.repo.now.values c.args.memo.now c.args.seen.now c.requires.seen c.in-Some.found.mi.0 c.mergeinfo_text.result.now c.mergeinfo_text.ensures
-    c.value.result c.value.follows.lender-at-none c.value.follows.holds-at-none
-
-pub returns-in_ok-of-in-Good-2-clause-learns : goal.returns-in_ok-of-in-Good-2-clause-learns
-returns-in_ok-of-in-Good-2-clause-learns c =
+pub returns-in_ok-inherited-in-Good-2-clause-learns : goal.returns-in_ok-inherited-in-Good-2-clause-learns
+returns-in_ok-inherited-in-Good-2-clause-learns c =
     Learns-after c.args.repo.now.values c.args.memo.now c.args.seen.now c.requires.seen c.in-Some.found.mi.0 c.mergeinfo_text.result.now c.mergeinfo_text.ensures
     c.value.result c.value.follows.lender-at-none c.value.follows.holds-at-none

@@ -5,13 +5,13 @@ use Rattle.svn_path.specs.Components.{IsComponent, path_text}
 use Rattle.svn_path.specs.Path.{components_of}
 use Rattle.merge_info.proofs.PrintedPaths.{IsPrintedPath-path_text}
 use Rattle.merge_info.specs.Line.{IsPrintedPath}
-use Rattle.query_answer.proofs.inheritance.inherited_by.Goals as goal
+use Rattle.query_answer.proofs.inheritance.rest_below.Goals as goal
 
-pub inherited-requires : goal.inherited-requires
-inherited-requires c =
+pub returns-clause-printed : goal.returns-clause-printed
+returns-clause-printed c =
     let components = components_of-components c.args.repo.now.names c.args.path.now c.names.ensures.kept.names.components c.requires.names in
-    let rest : c.deref.result.now ≡ path_text (drop c.args.depth (components_of c.args.repo.now.names c.args.path.now)) =
-    c.deref.ensures.value ∙ c.in_ok-write_below.ensures.ok ∙ ap (λ front. front ++ path_text (drop c.args.depth (components_of c.names.result.now c.args.path.now))) c.in_ok-rest.ensures.items
+    let rest : c.write_below.new.out.items ≡ path_text (drop c.args.depth (components_of c.args.repo.now.names c.args.path.now)) =
+    c.in_ok-write_below.ensures.ok ∙ ap (λ front. front ++ path_text (drop c.args.depth (components_of c.names.result.now c.args.path.now))) c.in_ok-rest.ensures.items
     ∙ ap (λ each. path_text (drop c.args.depth (components_of each c.args.path.now))) c.names.ensures.value in
     subst IsPrintedPath (sym rest)
     (IsPrintedPath-path_text (drop c.args.depth (components_of c.args.repo.now.names c.args.path.now))
