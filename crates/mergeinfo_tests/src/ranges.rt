@@ -117,6 +117,33 @@ fn the_inheritable_numbers_are_a_part(rt: HostRuntime) -> Result<(), Fail> {
     Ok(())
 }
 
+// These bytes, after which the inheritable runs of a set are written.
+fn inheritable_after(alloc: Global, before: &[u8], given: &[Run]) -> Result<Vec<u8>, Fail> {
+    let ranges = union_of(alloc, given)?;
+    let mut out = Vec::from_slice(alloc, before)?;
+    ranges.write_inheritable(&mut out)?;
+    Ok(out)
+}
+
+fn has_inheritable(alloc: Global, given: &[Run]) -> Result<bool, Fail> {
+    Ok(union_of(alloc, given)?.has_inheritable())
+}
+
+#[test]
+fn the_inheritable_runs_are_printed(rt: HostRuntime) -> Result<(), Fail> {
+    let given = [
+        run(1, 1, false),
+        run(3, 5, true),
+        run(6, 7, false),
+        run(9, 9, true),
+    ];
+    let wanted = b"/a:3-5,9".as_slice();
+    assert!(rt; inheritable_after(rt.alloc(), b"/a:", given.as_slice())?.as_slice() == wanted);
+    assert!(rt; has_inheritable(rt.alloc(), given.as_slice())?);
+    assert!(rt; !has_inheritable(rt.alloc(), &[run(6, 7, false)])?);
+    Ok(())
+}
+
 // The set and an inheritable 9.
 fn union_with_nine(alloc: Global, ranges: &Ranges) -> Result<Ranges, Fail> {
     let mut nine = Ranges::new(alloc);

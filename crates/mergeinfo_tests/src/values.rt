@@ -123,6 +123,38 @@ fn inherited_paths_are_in_their_own_order(rt: HostRuntime) -> Result<(), Fail> {
     Ok(())
 }
 
+// The lines of what a value gives to a path below.
+fn inherited_text(alloc: Global, value: &MergeInfo, rest: &str) -> Result<Vec<u8>, Fail>
+    requires { IsPrintedPath rest.now }
+{
+    let mut text = Vec::new(alloc);
+    value.write_inherited(rest.as_bytes(), &mut text)?;
+    Ok(text)
+}
+
+fn gives(alloc: Global, text: &str, rest: &str, wanted: &str) -> Result<bool, Fail>
+    requires { IsPrintedPath rest.now }
+{
+    let value = MergeInfo::parse(alloc, text.as_bytes())?;
+    Ok(inherited_text(alloc, &value, rest)?.as_slice() == wanted.as_bytes())
+}
+
+const GIVEN_TO_B: [(&str, &str); 5] = [
+    ("", ""),
+    ("/:2,3*", "/b:2\n"),
+    ("/:1\n/a:2", "/a/b:2\n/b:1\n"),
+    ("/a:1\n/a-b:2", "/a-b/b:2\n/a/b:1\n"),
+    ("/a:1-3,4*,7\n/a/c:5*\n/b:6", "/a/b:1-3,7\n/b/b:6\n"),
+];
+
+#[test]
+fn inherited_lines_are_printed(rt: HostRuntime) -> Result<(), Fail> {
+    for (text, wanted) in GIVEN_TO_B {
+        assert!(rt; gives(rt.alloc(), text, "/b", wanted)?, "{text}");
+    }
+    Ok(())
+}
+
 // How the value has a path, and how that has a revision.
 fn inheritability_of(alloc: Global, path: &str, rev: u32) -> Result<Option<Option<bool>>, Fail> {
     let value = MergeInfo::parse(alloc, b"/a:1\n/a/b:2-4,9*\n/z:3")?;
