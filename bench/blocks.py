@@ -25,7 +25,7 @@ QUARTER = 30000
 # Workers and BLOCK of the runs without queries, which are judged relative to the first one.
 MADE_KINDS = ((1, 0), (4, 0), (4, QUARTER))
 # The questions are repeated until they are so many, or their report has about so many bytes.
-LEAST_ASKED = 300000
+LEAST_ASKED = 900000
 MOST_REPORT = 1 << 26
 # The limits: the index, the map and its check of the additions relative to those of one block and one worker, a whole run
 # and its memory relative to those of one block, and the answers from four blocks relative to those from one.

@@ -21,8 +21,8 @@ SOURCE_REVISIONS = 80000
 UNMERGED = 10
 LONG = 600
 SHORT = 300000
-FEW_LONG = 8
-FEW_SHORT = 1000
+FEW_LONG = 80
+FEW_SHORT = 10000
 QUICK = 10
 WORKERS = (1, 2, 4)
 # What four workers may take of the time of one, and one worker of the time of the older build.
