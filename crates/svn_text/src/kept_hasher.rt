@@ -2,8 +2,8 @@
 
 use std::hash::Hasher;
 
-/// Answers the number that is written to it, with its bytes in reverse order: a table whose keys write a hash has no
-/// need to hash that again.
+/// Answers the eight bytes that were written last as a number, the first of them highest. A key that keeps its hash
+/// writes it with `write_u64`, and so is not hashed again.
 #[derive(Clone, Copy)]
 pub struct KeptHasher {
     hash: u64,
