@@ -26,13 +26,16 @@ rangelist_text-written old front out runs others first is at_first at_others =
 
 -- ---- the inheritable runs
 
-abbrev pub is_none : List Run → Bool
-is_none [] = true
-is_none (run ∷ runs) = false
+abbrev pub is_some : List Run → Bool
+is_some [] = false
+is_some (run ∷ runs) = true
 
--- a last run follows a comma, if it is not the only one
+-- what stands before a run that comes after these
+abbrev comma : Bool → List ℕ
+comma follows = cond follows (44 ∷ []) []
+
 rangelist_text-push : (runs : List Run) (run : Run)
-    → rangelist_text (runs ++ run ∷ []) ≡ cond (is_none runs) [] (rangelist_text runs ++ 44 ∷ []) ++ run_text run
+    → rangelist_text (runs ++ run ∷ []) ≡ rangelist_text runs ++ comma (is_some runs) ++ run_text run
 rangelist_text-push [] run = refl
 rangelist_text-push (first ∷ runs) run =
     rangelist_text-cons first (runs ++ run ∷ [])
@@ -41,48 +44,36 @@ rangelist_text-push (first ∷ runs) run =
     ∙ ap (λ front. front ++ next_text run) (sym (rangelist_text-cons first runs))
     ∙ sym (append_assoc (rangelist_text (first ∷ runs)) (44 ∷ []) (run_text run))
 
--- of these runs the inheritable ones were written, or there is none yet
-pub record AreWritten (old : List ℕ) (runs : List Run) (out : List ℕ) (is_first : Bool) : Type 0 where
+-- of these runs the inheritable ones were written, and another one follows them or is the first
+pub record AreWritten (old : List ℕ) (runs : List Run) (out : List ℕ) (follows : Bool) : Type 0 where
   pub text : out ≡ old ++ rangelist_text (inheritable_runs runs)
-  pub first : is_first ≡ is_none (inheritable_runs runs)
+  pub some : follows ≡ is_some (inheritable_runs runs)
 
 inheritable_runs-push : (runs : List Run) (run : Run)
     → inheritable_runs (runs ++ run ∷ []) ≡ inheritable_runs runs ++ cond run.inheritable (run ∷ []) []
 inheritable_runs-push runs run = filter-append (λ (each : Run). each.inheritable) runs (run ∷ [])
 
-module _ (old : List ℕ) (runs : List Run) (out : List ℕ) (is_first : Bool) (written : AreWritten old runs out is_first) (run : Run) where
-  pub AreWritten-skip : run.inheritable ≡ false → AreWritten old (runs ++ run ∷ []) out is_first
+module _ (old : List ℕ) (runs : List Run) (out : List ℕ) (follows : Bool) (written : AreWritten old runs out follows) (run : Run) where
+  pub AreWritten-skip : run.inheritable ≡ false → AreWritten old (runs ++ run ∷ []) out follows
   AreWritten-skip skipped =
       let same : inheritable_runs (runs ++ run ∷ []) ≡ inheritable_runs runs =
       inheritable_runs-push runs run ∙ ap (λ b. inheritable_runs runs ++ cond b (run ∷ []) []) skipped ∙ append-nil (inheritable_runs runs) in
-      record { text = written.text ∙ ap (λ kept. old ++ rangelist_text kept) (sym same); first = written.first ∙ ap is_none (sym same) }
+      record { text = written.text ∙ ap (λ kept. old ++ rangelist_text kept) (sym same); some = written.some ∙ ap is_some (sym same) }
 
-  pub AreWritten-push : (front new : List ℕ) → run.inheritable ≡ true → front ≡ cond is_first out (out ++ 44 ∷ []) → new ≡ front ++ run_text run
-      → AreWritten old (runs ++ run ∷ []) new false
-  AreWritten-push front new kept before after =
+  pub AreWritten-push : (new : List ℕ) → run.inheritable ≡ true → new ≡ out ++ comma follows ++ run_text run → AreWritten old (runs ++ run ∷ []) new true
+  AreWritten-push new kept after =
       let same : inheritable_runs (runs ++ run ∷ []) ≡ inheritable_runs runs ++ run ∷ [] =
       inheritable_runs-push runs run ∙ ap (λ b. inheritable_runs runs ++ cond b (run ∷ []) []) kept in
       record {
-        text = after ∙ ap (λ bytes. bytes ++ run_text run) (before ∙ begun is_first written.first)
-            ∙ append_assoc old (cond (is_none (inheritable_runs runs)) [] (rangelist_text (inheritable_runs runs) ++ 44 ∷ [])) (run_text run)
+        text = after
+            ∙ ap (λ b. out ++ comma b ++ run_text run) written.some
+            ∙ ap (λ bytes. bytes ++ comma (is_some (inheritable_runs runs)) ++ run_text run) written.text
+            ∙ ap (λ front. front ++ run_text run) (append_assoc old (rangelist_text (inheritable_runs runs)) (comma (is_some (inheritable_runs runs))))
+            ∙ append_assoc old (rangelist_text (inheritable_runs runs) ++ comma (is_some (inheritable_runs runs))) (run_text run)
             ∙ ap (λ text. old ++ text) (sym (ap rangelist_text same ∙ rangelist_text-push (inheritable_runs runs) run));
-        first = sym (ap is_none same ∙ some (inheritable_runs runs));
+        some = sym (ap is_some same ∙ some (inheritable_runs runs));
       }
     where
-      some : (kept : List Run) → is_none (kept ++ run ∷ []) ≡ false
+      some : (kept : List Run) → is_some (kept ++ run ∷ []) ≡ true
       some [] = refl
       some (each ∷ kept) = refl
-
-      none : (kept : List Run) → is_none kept ≡ true → rangelist_text kept ≡ []
-      none [] is = refl
-      none (each ∷ kept) is = cc
-
-      begun : (b : Bool) → b ≡ is_none (inheritable_runs runs)
-          → cond b out (out ++ 44 ∷ []) ≡ old ++ cond (is_none (inheritable_runs runs)) [] (rangelist_text (inheritable_runs runs) ++ 44 ∷ [])
-      begun true is =
-          written.text ∙ ap (λ text. old ++ text) (none (inheritable_runs runs) (sym is))
-          ∙ ap (λ b. old ++ cond b [] (rangelist_text (inheritable_runs runs) ++ 44 ∷ [])) is
-      begun false is =
-          ap (λ bytes. bytes ++ 44 ∷ []) written.text
-          ∙ append_assoc old (rangelist_text (inheritable_runs runs)) (44 ∷ [])
-          ∙ ap (λ b. old ++ cond b [] (rangelist_text (inheritable_runs runs) ++ 44 ∷ [])) is

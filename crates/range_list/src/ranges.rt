@@ -55,7 +55,7 @@ impl Ranges {
         }
     }
 
-    /// Adds the numbers from `lo` to `hi`. Each call copies and sorts the whole list; `of_runs` sorts many runs once.
+    /// Adds the numbers from `lo` to `hi`. Each call copies the whole list; `of_runs` takes many runs at once.
     pub fn add(&mut self, lo: u32, hi: u32, inheritable: bool) -> Result<(), AllocError>
         requires first { 1 ≤ lo }
         requires ordered { lo ≤ hi }
@@ -132,10 +132,9 @@ impl Ranges {
         let Some((first, others)) = self.runs().split_first() else {
             return Ok(());
         };
-        write_run(*first, out)?;
+        write_run(*first, false, out)?;
         for run in others {
-            out.push(b',')?;
-            write_run(*run, out)?;
+            write_run(*run, true, out)?;
         }
         Ok(())
     }
@@ -151,16 +150,12 @@ impl Ranges {
     pub fn write_inheritable(&self, out: &mut Vec<u8>) -> Result<(), AllocError>
         ensures { OnOk result (out.new.items ≡ out.old.items ++ rangelist_text (inheritable_runs self.now)) }
     {
-        let mut is_first = true;
+        let mut follows = false;
         for run in self.runs() {
-            if !run.inheritable {
-                continue;
+            if run.inheritable {
+                write_run(*run, follows, out)?;
+                follows = true;
             }
-            if !is_first {
-                out.push(b',')?;
-            }
-            is_first = false;
-            write_run(*run, out)?;
         }
         Ok(())
     }

@@ -3,4 +3,4 @@ use Rattle.range_list.proofs.Texts.{AreWritten}
 use Rattle.range_list.proofs.ranges.Ranges.write_inheritable.Given as goal
 
 abbrev pub invariant-loop-run : goal.invariant-loop-run
-invariant-loop-run l = AreWritten l.fn.out.items (take l.run-index l.run-items) l.out.items l.is_first
+invariant-loop-run l = AreWritten l.fn.out.items (take l.run-index l.run-items) l.out.items l.follows
