@@ -128,12 +128,12 @@ resolved-later (suc lo) each later = refl
 
 -- other mergeinfo lies over what a block says of a tick
 pub with_mergeinfo-through : (lo tick : ℕ) (path : List NameId) (mergeinfo : Option ValueId) (records : List (Record NameId ValueId)) (says : Found NameId ValueId) → tick ≤ lo + length records
-    → says ≡ resolved lo (look same_name lo records tick path)
+    → resolved lo says ≡ resolved lo (look same_name lo records tick path)
     → resolved lo (with_mergeinfo mergeinfo says) ≡ resolved lo (look_through same_name lo records (found.at_with path tick mergeinfo))
 with_mergeinfo-through lo tick path mergeinfo records says within is =
     let own = look same_name lo records tick path in
     resolved-with_mergeinfo lo mergeinfo says
-    ∙ ap (with_mergeinfo mergeinfo) (ap (resolved lo) is ∙ resolved-again lo own)
+    ∙ ap (with_mergeinfo mergeinfo) is
     ∙ sym (resolved-with_mergeinfo lo mergeinfo own)
     ∙ sym (ap (λ each. resolved lo (with_mergeinfo mergeinfo each)) (look_from-within same_name lo records tick path within))
 

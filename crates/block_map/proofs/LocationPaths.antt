@@ -1,5 +1,5 @@
 -- The paths of locations that are kept without the path of the one above them.
-use Rattle.std.proofs.Common.{◌≡◌, ℕ, zero, suc, ◌+◌, ◌<◌, inl, inr, List, [], ◌∷◌, ◌++◌, reverse, Option, Some, None, IfSome, fold, get_or, length, option_map, append_assoc, refl, sym, ap, subst, ◌∙◌, arith}
+use Rattle.std.proofs.Common.{◌≡◌, ℕ, zero, suc, ◌+◌, ◌<◌, inl, inr, List, [], ◌∷◌, ◌++◌, reverse, Option, Some, None, IfSome, false, is_some, fold, get_or, length, option_map, append_assoc, refl, sym, ap, subst, ◌∙◌, arith}
 use Rattle.std.specs.Prelude.{slice_get}
 use Rattle.std.proofs.lemmas.Bool.{cases_lt}
 use Rattle.std.proofs.lemmas.List.{length_push, reverse-append, reverse-reverse}
@@ -96,6 +96,19 @@ slice_get-locations_of items index stored are at =
 pub path_of-stored : (items : List StoredLocation) (id : LocationId) (stored : StoredLocation) → AreAfterThoseAbove items → slice_get items id.0 ≡ Some stored
     → path_of (locations_of items) id ≡ path_above (locations_of items) stored.above ++ stored.rest
 path_of-stored items id stored are at = ap path_at (slice_get-locations_of items id.0 stored are at)
+
+-- no location is above it
+pub none_above : (above : Option LocationId) → is_some above ≡ false → above ≡ None
+none_above None is = refl
+none_above (Some id) is = cc
+
+-- one that is above none and has no components is at the root
+pub at_root-stored : (items : List StoredLocation) (id : LocationId) (stored : StoredLocation) → AreAfterThoseAbove items → slice_get items id.0 ≡ Some stored
+    → is_some stored.above ≡ false → stored.rest ≡ [] → slice_get (locations_of items) id.0 ≡ Some (record { path = []; tick = stored.tick })
+at_root-stored items id stored are at above rest =
+    slice_get-locations_of items id.0 stored are at
+    ∙ ap (λ outer. Some (record { path = path_above (locations_of items) outer ++ stored.rest; tick = stored.tick })) (none_above stored.above above)
+    ∙ ap (λ path. Some (record { path = path; tick = stored.tick })) rest
 
 -- and the tick that is kept
 pub IsLocationBelow-stored : (items : List StoredLocation) (id : LocationId) (stored : StoredLocation) (rest path : List NameId) → AreAfterThoseAbove items

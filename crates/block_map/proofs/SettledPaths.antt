@@ -10,7 +10,7 @@ use Rattle.block_map.specs.Blocks.{AreBlocksBefore, AreBlocksFrom, records_of}
 use Rattle.block_map.specs.Look as found
 use Rattle.block_map.specs.Look.{Found, from_beginning, look, resolved}
 use Rattle.block_map.specs.LookThrough.{look_through}
-use Rattle.block_map.specs.Map.{found_view}
+use Rattle.block_map.specs.Looked.{looked_view}
 use Rattle.block_map.specs.Settled.{IsSettled, IsSettledThere, mergeinfo_through, own_mergeinfo_in, standing_in, standing_through}
 use Rattle.block_map.specs.Standing.{entry_view, mergeinfo_of, standing_of}
 use Rattle.block_map.specs.Stretch.{HasNoMergeinfo, IsAlong, IsReach}
@@ -109,7 +109,7 @@ module _ (blocks earlier : List Trees) (last : Trees) (tick : ℕ) (before : IsL
       is.entry ∙ sym (standing_through-known (look_in_trees last tick path) has) ∙ sym (ap standing_of (before.shows path))
 
   -- otherwise it is what is found there
-  pub standing_in-there : reach.last ≡ length path → standing_through earlier (found_view reach.found) ≡ standing_in blocks tick path
+  pub standing_in-there : reach.last ≡ length path → standing_through earlier (looked_view (take reach.last path) reach.looked) ≡ standing_in blocks tick path
   standing_in-there all =
       ap (standing_through earlier) (is.found ∙ ap (look_in_trees last tick) (take_all reach.last path (omega (arith, all)))) ∙ sym (ap standing_of (before.shows path))
 
@@ -133,7 +133,7 @@ module _ (earlier : List Trees) (own : List NameId → Option ValueId) (shows : 
   }
 
   -- there it is that of what was found
-  IsSettled-last : (least : ℕ) (settled : Settled) → least ≤ reach.last → settled.depth ≡ reach.last → settled.mi ≡ mergeinfo_through earlier (found_view reach.found) → IsSettled own path least settled
+  IsSettled-last : (least : ℕ) (settled : Settled) → least ≤ reach.last → settled.depth ≡ reach.last → settled.mi ≡ mergeinfo_through earlier (looked_view (take reach.last path) reach.looked) → IsSettled own path least settled
   IsSettled-last least settled from depth mi = record {
     from = omega (arith, from, depth);
     within = omega (arith, depth, is.within);
@@ -142,7 +142,7 @@ module _ (earlier : List Trees) (own : List NameId → Option ValueId) (shows : 
   }
 
   -- where that is what stood at another path, it is that of the first components of this one
-  pub IsSettled-along : (least first base tick : ℕ) (other : List NameId) (settled : Settled) (entry : Option Entry) → reach.first ≤ first → least ≤ first → first ≤ reach.last → found_view reach.found ≡ found.at other tick
+  pub IsSettled-along : (least first base tick : ℕ) (other : List NameId) (settled : Settled) (entry : Option Entry) → reach.first ≤ first → least ≤ first → first ≤ reach.last → looked_view (take reach.last path) reach.looked ≡ found.at other tick
       → tick ≤ length (records_of earlier) → base + reach.last ≡ first + length other → IsSettled (own_mergeinfo_in earlier tick) other base settled
       → IsSettled own path least (record { entry = entry; mi = settled.mi; depth = settled.depth - base + first })
   IsSettled-along least first base tick other settled entry from least_is upto stood within long below = record {
@@ -181,7 +181,7 @@ module _ (earlier : List Trees) (own : List NameId → Option ValueId) (shows : 
 
 -- what is settled where it is found
 module _ (blocks earlier : List Trees) (last : Trees) (tick : ℕ) (before : IsLastBefore blocks earlier last tick) (path : List NameId) (reach : Reach)
-    (is : IsReach (look_in_trees last tick) path reach) (settled : Settled) (there : IsSettledThere earlier reach (length path) settled) where
+    (is : IsReach (look_in_trees last tick) path reach) (settled : Settled) (there : IsSettledThere earlier reach path settled) where
   pub IsSettled-there : (least : ℕ) → least ≤ reach.last → IsSettled (own_mergeinfo_in blocks tick) path least settled
   IsSettled-there least from =
       IsSettled-last earlier (own_mergeinfo_in blocks tick) (look_in_trees last tick) (λ each. ap mergeinfo_of (before.shows each)) path reach is least settled from there.depth there.mergeinfo

@@ -8,13 +8,13 @@ use Rattle.svn_path.specs.declared.names.NameId.{NameId}
 use Rattle.svn_dump.specs.declared.record.ValueId.{ValueId}
 use Rattle.block_map.specs.Look as shown
 use Rattle.block_map.specs.Look.{at, with_mergeinfo}
-use Rattle.block_map.specs.Map.{found_view}
+use Rattle.block_map.specs.Looked.{looked_view}
 use Rattle.block_map.specs.Stretch.{HasNoMergeinfo, IsAlong, IsReach, IsStretchAt, IsStretchUpTo}
 use Rattle.block_map.specs.Standing.{entry_view, standing_of}
 use Rattle.block_map.specs.Trie.{IsAroundOf, IsPositionOf, LookOfNumbers, TrieValue, around_view, as_at, at_root, found_at, found_below, found_here, position_view}
 use Rattle.block_map.specs.declared.entry.Entry.{Entry}
-use Rattle.block_map.specs.declared.found.Found.{Found}
 use Rattle.block_map.specs.declared.location.Location.{Location}
+use Rattle.block_map.specs.declared.looked.Looked.{Looked}
 use Rattle.block_map.specs.declared.node.Here.{Here}
 use Rattle.block_map.specs.declared.node.Here.TheVariants as here
 use Rattle.block_map.specs.declared.node.Node.{Node}
@@ -140,10 +140,10 @@ IsAlong-stretch trie look path other stretch tick upto shows =
     along-by trie look path other stretch.first stretch.last tick upto.order upto.within stretch.here stretch.around upto.around upto.is shows
 
 -- it reaches to its end
-pub IsReach-stretch : (trie : TrieValue) (look : LookOfNumbers) (path : List NameId) (stretch : Stretch) (found : Found) (entry : Option Entry) → IsStretchUpTo trie look path (length path) stretch
-    → found_view found ≡ found_here stretch.here (around_view trie (take stretch.last path) stretch.around [])
-    → option_map entry_view entry ≡ standing_of (look path) → IsReach look path (record { first = stretch.first; last = stretch.last; found = found; entry = entry })
-IsReach-stretch trie look path stretch found entry upto is stands = record {
+pub IsReach-stretch : (trie : TrieValue) (look : LookOfNumbers) (path : List NameId) (stretch : Stretch) (looked : Looked) (entry : Option Entry) → IsStretchUpTo trie look path (length path) stretch
+    → looked_view (take stretch.last path) looked ≡ found_here stretch.here (around_view trie (take stretch.last path) stretch.around [])
+    → option_map entry_view entry ≡ standing_of (look path) → IsReach look path (record { first = stretch.first; last = stretch.last; looked = looked; entry = entry })
+IsReach-stretch trie look path stretch looked entry upto is stands = record {
   order = upto.order;
   within = upto.within;
   found = is ∙ sym (upto.is stretch.last upto.order (omega arith));

@@ -6,6 +6,7 @@ pub mod GhostRecords
 pub mod Joining
 pub mod Locations
 pub mod Look
+pub mod Looked
 pub mod LookThrough
 pub mod Map
 pub mod Node

@@ -6,7 +6,8 @@ use Rattle.svn_dump.specs.declared.record.ValueId.{ValueId}
 use Rattle.block_map.specs.Blocks.{records_of}
 use Rattle.block_map.specs.Look.{Found, look, resolved}
 use Rattle.block_map.specs.LookThrough.{look_through}
-use Rattle.block_map.specs.Map.{HasNoneFrom, found_view}
+use Rattle.block_map.specs.Looked.{looked_view}
+use Rattle.block_map.specs.Map.{HasNoneFrom}
 use Rattle.block_map.specs.Standing.{Standing, entry_view, mergeinfo_of, standing_of}
 use Rattle.block_map.specs.declared.reach.Reach.{Reach}
 use Rattle.block_map.specs.declared.settled.Settled.{Settled}
@@ -35,9 +36,9 @@ pub record IsSettled (own : List NameId → Option ValueId) (path : List NameId)
   pub mergeinfo : own (take settled.depth path) ≡ settled.mi
   pub none : HasNoneFrom own path (settled.depth + 1)
 
--- so it is where a later block found something at the first ones of so many components, which earlier blocks explain
-pub record IsSettledThere (blocks : List Trees) (reach : Reach) (size : ℕ) (settled : Settled) : Type 0 where
+-- so it is where a later block found something at the first components of the path, which earlier blocks explain
+pub record IsSettledThere (blocks : List Trees) (reach : Reach) (path : List NameId) (settled : Settled) : Type 0 where
   pub depth : settled.depth ≡ reach.last
-  pub mergeinfo : settled.mi ≡ mergeinfo_through blocks (found_view reach.found)
-  pub there : reach.last ≡ size → option_map entry_view settled.entry ≡ standing_through blocks (found_view reach.found)
-  pub known : reach.last < size → settled.entry ≡ reach.entry
+  pub mergeinfo : settled.mi ≡ mergeinfo_through blocks (looked_view (take reach.last path) reach.looked)
+  pub there : reach.last ≡ length path → option_map entry_view settled.entry ≡ standing_through blocks (looked_view (take reach.last path) reach.looked)
+  pub known : reach.last < length path → settled.entry ≡ reach.entry

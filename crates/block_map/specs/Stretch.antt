@@ -3,7 +3,7 @@ use Rattle.std.specs.Prelude.{◌≡◌, ℕ, ◌+◌, ◌<◌, ◌≤◌, List,
 use Rattle.svn_path.specs.declared.names.NameId.{NameId}
 use Rattle.svn_dump.specs.declared.record.ValueId.{ValueId}
 use Rattle.block_map.specs.Look.{Found, at, at_with, is, absent}
-use Rattle.block_map.specs.Map.{found_view}
+use Rattle.block_map.specs.Looked.{looked_view}
 use Rattle.block_map.specs.Standing.{entry_view, standing_of}
 use Rattle.block_map.specs.Trie.{IsAroundOf, LookOfNumbers, TrieValue, around_view, found_here}
 use Rattle.block_map.specs.declared.reach.Reach.{Reach}
@@ -42,7 +42,7 @@ pub record IsAlong (look : LookOfNumbers) (path : List NameId) (first last : ℕ
 pub record IsReach (look : LookOfNumbers) (path : List NameId) (reach : Reach) : Type 0 where
   pub order : reach.first ≤ reach.last
   pub within : reach.last ≤ length path
-  pub found : found_view reach.found ≡ look (take reach.last path)
+  pub found : looked_view (take reach.last path) reach.looked ≡ look (take reach.last path)
   pub entry : option_map entry_view reach.entry ≡ standing_of (look path)
   pub none : (count : ℕ) → reach.last < count → count ≤ length path → HasNoMergeinfo (look (take count path))
-  pub along : (other : List NameId) (tick : ℕ) → found_view reach.found ≡ at other tick → IsAlong look path reach.first reach.last other tick
+  pub along : (other : List NameId) (tick : ℕ) → looked_view (take reach.last path) reach.looked ≡ at other tick → IsAlong look path reach.first reach.last other tick

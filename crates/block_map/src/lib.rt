@@ -10,6 +10,7 @@ mod ghost_records;
 mod joining;
 mod location;
 mod locations;
+mod looked;
 mod map;
 mod nearest;
 mod node;

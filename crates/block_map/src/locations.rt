@@ -1,5 +1,5 @@
 //! Locations that share the paths of those above them.
-ghost use Rattle.std.specs.Prelude.{◌≡◌, ◌<◌, ◌++◌, ◌∷◌, [], IfOk, IfSome, OnErr, OnOk, length, reverse};
+ghost use Rattle.std.specs.Prelude.{◌≡◌, ◌<◌, ◌++◌, ◌∷◌, [], Some, IfOk, IfSome, OnErr, OnOk, length, reverse, slice_get};
 ghost use Rattle.block_map.specs.Locations.{AddsBelow, IsLocationBelow, path_of, whole_location};
 
 use crate::location::{Location, LocationId};
@@ -91,6 +91,19 @@ impl Locations {
         let path = self.path_below(id, rest)?;
         let tick = self.items[id.0 as usize].tick;
         Ok(Location { path, tick })
+    }
+
+    /// The tick of a location at the root, if it is kept with its whole path.
+    pub(crate) fn tick_at_root(&self, id: LocationId) -> Option<u32>
+        requires { id.0 < length self.now }
+        ensures { IfSome result (λ tick. slice_get self.now id.0 ≡ Some (record { path = []; tick = tick })) }
+    {
+        let stored = &self.items[id.0 as usize];
+        if stored.above.is_none() && stored.rest.is_empty() {
+            Some(stored.tick)
+        } else {
+            None
+        }
     }
 
     /// The path of these components below a location. Where other locations are above that, the components below the

@@ -1,13 +1,14 @@
 //! A map of the paths of a history.
-ghost use Rattle.std.specs.Prelude.{◌≡◌, ℕ, ◌+◌, ◌^◌, ◌<◌, ◌≤◌, ◌++◌, All, List, length, option_and_then, option_map, IfOk};
+ghost use Rattle.std.specs.Prelude.{◌≡◌, ℕ, ◌+◌, ◌^◌, ◌<◌, ◌≤◌, ◌++◌, All, List, length, option_and_then, option_map, take, IfOk};
 ghost use Rattle.svn_dump.specs.Dump.{DumpValue, IsDump};
 ghost use Rattle.svn_dump.specs.Record.{most_components};
 ghost use Rattle.svn_dump.specs.declared.record.NodeRecord.{NodeRecord};
 ghost use Rattle.svn_path.specs.Path.{same_name};
 ghost use Rattle.block_map.specs.Blocks.{AreBlocksBefore, AreBlocksFrom, nodes_of, records_of, trees_of};
 ghost use Rattle.block_map.specs.Ends.{HaveSources, ends_of};
-ghost use Rattle.block_map.specs.Look.{IsFoundAtOrBefore, at, from_beginning, resolved};
+ghost use Rattle.block_map.specs.Look.{IsFoundAtOrBefore, at, from_beginning, look, resolved};
 ghost use Rattle.block_map.specs.LookThrough.{IsFoundUpTo, look_through as looked_through};
+ghost use Rattle.block_map.specs.Looked.{looked_view};
 ghost use Rattle.block_map.specs.Map.{AreEntryAndNearest, IsEndIn, IsMapOfFirstRecords, IsNearestOrNone, found_view, hi_of, look_in, most_nodes, records_at_ticks, revision_in, state_in};
 ghost use Rattle.block_map.specs.Settled.{IsSettled, IsSettledThere, own_mergeinfo_in, standing_in};
 ghost use Rattle.block_map.specs.Standing.{entry_view, mergeinfo_of, own_mergeinfo_at, standing_at, standing_of};
@@ -16,6 +17,7 @@ ghost use Rattle.block_map.specs.Trees.{AreMapTrees};
 use crate::ends::Ends;
 use crate::entry::Entry;
 use crate::found::Found;
+use crate::looked::Looked;
 use crate::nearest::Nearest;
 use crate::reach::Reach;
 use crate::settled::Settled;
@@ -123,18 +125,17 @@ impl Map {
 
     /// What the records say of a path of these components at a tick.
     fn found(&self, tick: u32, path: &[NameId]) -> Result<Found, AllocError>
-        requires after { self.now.lo ≤ tick }
-        requires within { tick ≤ hi_of self.now }
+        requires { tick ≤ hi_of self.now }
         ensures { IfOk result (λ found. found_view found ≡ look_in self.now tick path.now) }
     {
-        let blocks = blocks_before(self.blocks.as_slice(), tick);
-        match blocks.split_last() {
-            Some((last, earlier)) => look_through(earlier, self.lo, last.look(tick, path)?),
-            None => {
+        let found = match look_in_blocks(self.blocks.as_slice(), self.lo, tick, path)? {
+            Looked::Same(tick) => {
                 let path = Path::of(*self.blocks.allocator(), path)?;
-                look_through(blocks, self.lo, Found::At { path, tick })
+                Found::At { path, tick }
             }
-        }
+            Looked::Other(found) => found,
+        };
+        Ok(resolve(found, self.lo))
     }
 
     /// What stands at a path at a tick, in a map from the beginning of a history.
@@ -171,7 +172,7 @@ impl Map {
         Ok(nearest)
     }
 
-    /// What `entry` and `nearest` find, mostly in one way down each block.
+    /// What `entry` and `nearest` find, for the cost of `nearest` alone.
     pub fn entry_and_nearest(
         &self,
         tick: u32,
@@ -216,7 +217,8 @@ impl Map {
         ensures { IfOk result (λ entry.
             option_map entry_view entry ≡ standing_of (look_in self.now tick path.now)) }
     {
-        Ok(self.found(tick, path)?.entry())
+        let looked = look_in_blocks(self.blocks.as_slice(), 0, tick, path)?;
+        Ok(standing_from_beginning(looked, path))
     }
 }
 
@@ -289,8 +291,14 @@ fn nearest_above(
     }
 }
 
-/// What stands at a path, and the mergeinfo of at least `least` of its first components, with more of which there is
-/// none. The path is looked up in the last block, and what stood at a location there in the blocks before it.
+/// What stands at a path, and the mergeinfo of its first `depth` components, with more of which there is none. That is
+/// looked for at no fewer than `least` components: `depth` is not below `least`.
+///
+/// The last block that begins before the tick is asked first. Say that it copied `a/b` from `x/y/z` and then added the
+/// file `a/b/c/d/e` without mergeinfo, which is the path. Then what is found at `a/b`, `a/b/c` and `a/b/c/d` stood at
+/// `x/y/z`, `x/y/z/c` and `x/y/z/c/d`. So the blocks before it settle `x/y/z/c/d` at the tick of the copy, at no fewer
+/// than three components, and what they tell of three, four or five components there is so of two, three or four
+/// components here.
 fn settle(
     blocks: &[Arc<Trees>],
     tick: u32,
@@ -320,12 +328,13 @@ fn settle(
             depth: least,
         });
     }
-    let Found::At { path: other, tick } = &reach.found else {
-        return settle_found(earlier, reach, path.len());
+    let (front, _) = path.split_at(reach.last);
+    let Some((other, tick)) = reach.looked.location(front) else {
+        return settle_found(earlier, reach, path);
     };
     let first = reach.first.max(least);
     let base = other.len() - (reach.last - first);
-    let settled = settle(earlier, *tick, other.parts(), base)?;
+    let settled = settle(earlier, tick, other, base)?;
     Ok(Settled {
         entry: if reach.last == path.len() {
             settled.entry
@@ -337,22 +346,26 @@ fn settle(
     })
 }
 
-/// The same of a path of so many components, by what a later block found at the first ones of it, which is not what
-/// stood at a location.
-fn settle_found(blocks: &[Arc<Trees>], reach: Reach, size: usize) -> Result<Settled, AllocError>
+/// The same of a path of whose first `last` components a later block does not say that they are what stood somewhere.
+/// What stands there is looked up in the blocks, and it settles the mergeinfo: say of a file that the later block added
+/// with some, or of a directory to which it gave other mergeinfo.
+fn settle_found(blocks: &[Arc<Trees>], reach: Reach, path: &[NameId]) -> Result<Settled, AllocError>
     requires in_order { AreBlocksFrom 0 (trees_of blocks.now) }
-    requires within { IsFoundUpTo (length (records_of (trees_of blocks.now))) (found_view reach.found) }
-    ensures { IfOk result (IsSettledThere (trees_of blocks.now) reach size) }
+    requires last { reach.last ≤ length path.now }
+    requires within { IsFoundUpTo (length (records_of (trees_of blocks.now)))
+        (looked_view (take reach.last path.now) reach.looked) }
+    ensures { IfOk result (IsSettledThere (trees_of blocks.now) reach path.now) }
 {
     let Reach {
         last,
-        found,
+        looked,
         entry,
         ..
     } = reach;
-    let there = look_through(blocks, 0, found)?.entry();
+    let (front, _) = path.split_at(last);
+    let there = standing_from_beginning(look_through(blocks, 0, looked, front)?, front);
     Ok(Settled {
-        entry: if last == size { there } else { entry },
+        entry: if last == path.len() { there } else { entry },
         mi: mergeinfo(there),
         depth: last,
     })
@@ -381,22 +394,60 @@ fn at_beginning(path: &[NameId]) -> Option<Entry>
     })
 }
 
-/// What the records of these blocks, which follow the first `lo` of their history, say of what later records found.
-fn look_through(blocks: &[Arc<Trees>], lo: u32, found: Found) -> Result<Found, AllocError>
-    requires blocks { AreBlocksFrom lo (trees_of blocks.now) }
-    requires within { IsFoundUpTo (lo + length (records_of (trees_of blocks.now))) (found_view found) }
-    ensures { IfOk result (λ after. found_view after
-        ≡ resolved lo (looked_through same_name lo (records_of (trees_of blocks.now)) (found_view found))) }
+/// What stands at a path by what is said of it, where a history begins.
+fn standing_from_beginning(looked: Looked, path: &[NameId]) -> Option<Entry>
+    ensures { option_map entry_view result ≡ standing_of (from_beginning (looked_view path.now looked)) }
 {
-    let mut found = found;
+    match looked {
+        Looked::Same(_) => at_beginning(path),
+        Looked::Other(found) => found.from_beginning().entry(),
+    }
+}
+
+/// What the records of these blocks, which follow the first `lo` of their history, say of a path at a tick.
+fn look_in_blocks(
+    blocks: &[Arc<Trees>],
+    lo: u32,
+    tick: u32,
+    path: &[NameId],
+) -> Result<Looked, AllocError>
+    requires in_order { AreBlocksFrom lo (trees_of blocks.now) }
+    requires within { tick ≤ lo + length (records_of (trees_of blocks.now)) }
+    ensures { IfOk result (λ looked. resolved lo (looked_view path.now looked)
+        ≡ resolved lo (look same_name lo (records_of (trees_of blocks.now)) tick path.now)) }
+{
+    look_through(blocks_before(blocks, tick), lo, Looked::Same(tick), path)
+}
+
+/// What the records of these blocks, which follow the first `lo` of their history, say of what later records said of a
+/// path.
+fn look_through(
+    blocks: &[Arc<Trees>],
+    lo: u32,
+    looked: Looked,
+    path: &[NameId],
+) -> Result<Looked, AllocError>
+    requires in_order { AreBlocksFrom lo (trees_of blocks.now) }
+    requires within { IsFoundUpTo (lo + length (records_of (trees_of blocks.now))) (looked_view path.now looked) }
+    ensures { IfOk result (λ after. resolved lo (looked_view path.now after)
+        ≡ resolved lo (looked_through same_name lo (records_of (trees_of blocks.now)) (looked_view path.now looked))) }
+{
+    let mut looked = looked;
     let mut left = blocks;
     while let Some((last, earlier)) = left.split_last() {
-        found = last.look_through(found)?;
+        looked = last.look_through(looked, path)?;
         left = earlier;
     }
-    Ok(if lo == 0 {
+    Ok(looked)
+}
+
+/// What was found by records that follow the first `lo` of their history. From its beginning on, all is known.
+fn resolve(found: Found, lo: u32) -> Found
+    ensures { found_view result ≡ resolved lo (found_view found) }
+{
+    if lo == 0 {
         found.from_beginning()
     } else {
         found
-    })
+    }
 }

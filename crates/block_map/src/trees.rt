@@ -1,5 +1,5 @@
 //! The trees after each of some records.
-ghost use Rattle.std.specs.Prelude.{◌≡◌, ◌+◌, ◌^◌, ◌<◌, ◌≤◌, ◌++◌, ◌∷◌, [], length, IfOk, OnOk};
+ghost use Rattle.std.specs.Prelude.{◌≡◌, ◌+◌, ◌^◌, ◌<◌, ◌≤◌, ◌++◌, ◌∷◌, [], length, take, IfOk, OnOk};
 ghost use Rattle.std.specs.Prelude.{None};
 ghost use Rattle.svn_dump.specs.Dump.{record_view, setting_view};
 ghost use Rattle.svn_dump.specs.Tree.{mergeinfo_after};
@@ -8,6 +8,7 @@ ghost use Rattle.block_map.specs.Trees.{AreTrees, IsNodeAfter, IsRootAfter, IsRo
 ghost use Rattle.block_map.specs.Look.{resolved};
 ghost use Rattle.block_map.specs.LookThrough.{IsFoundUpTo};
 ghost use Rattle.block_map.specs.Ends.{HasSourceBefore, record_at_tick};
+ghost use Rattle.block_map.specs.Looked.{looked_view};
 ghost use Rattle.block_map.specs.Map.{AreEntryAndNearest, found_view};
 ghost use Rattle.block_map.specs.Standing.{standing_of};
 ghost use Rattle.block_map.specs.Stretch.{IsReach};
@@ -17,6 +18,7 @@ use crate::ends::Ends;
 use crate::entry::Entry;
 use crate::found::Found;
 use crate::ghost_records::GhostRecords;
+use crate::looked::Looked;
 use crate::nearest::Nearest;
 use crate::node::Node;
 use crate::part::NodeId;
@@ -213,33 +215,51 @@ impl Trees {
         self.start + self.roots.len() as u32
     }
 
-    /// What the records say of a path of these components at a tick after `start`.
-    pub(crate) fn look(&self, tick: u32, path: &[NameId]) -> Result<Found, AllocError>
+    /// What the records say of a path of these components at a tick. At one that is not after `start` they leave it as
+    /// it was.
+    pub(crate) fn look(&self, tick: u32, path: &[NameId]) -> Result<Looked, AllocError>
         requires trees { AreTrees self.now }
-        requires after { self.now.start < tick }
         requires within { tick ≤ end_of_trees self.now }
-        ensures exact { IfOk result (λ found. found_view found ≡ look_in_trees self.now tick path.now) }
-        ensures earlier { IfOk result (λ found. IsFoundUpTo self.now.start (found_view found)) }
+        ensures exact { IfOk result (λ looked.
+            resolved self.now.start (looked_view path.now looked) ≡ look_in_trees self.now tick path.now) }
+        ensures earlier { IfOk result (λ looked. IsFoundUpTo self.now.start (looked_view path.now looked)) }
     {
+        if tick <= self.start {
+            return Ok(Looked::Same(tick));
+        }
         let root = self.root(tick);
         let position = self.trie.find(root, path);
         self.trie.found(position, path)
     }
 
+    /// What the records say of what later records said of a path.
+    pub(crate) fn look_through(&self, looked: Looked, path: &[NameId]) -> Result<Looked, AllocError>
+        requires trees { AreTrees self.now }
+        requires within { IsFoundUpTo (end_of_trees self.now) (looked_view path.now looked) }
+        ensures exact { IfOk result (λ after. resolved self.now.start (looked_view path.now after)
+            ≡ resolved self.now.start (look_through_trees self.now (looked_view path.now looked))) }
+        ensures earlier { IfOk result (λ after. IsFoundUpTo self.now.start (looked_view path.now after)) }
+    {
+        match looked {
+            Looked::Same(tick) => self.look(tick, path),
+            Looked::Other(found) => Ok(Looked::Other(self.look_through_found(found)?)),
+        }
+    }
+
     /// What the records say of what later records found.
-    pub(crate) fn look_through(&self, found: Found) -> Result<Found, AllocError>
+    fn look_through_found(&self, found: Found) -> Result<Found, AllocError>
         requires trees { AreTrees self.now }
         requires within { IsFoundUpTo (end_of_trees self.now) (found_view found) }
         ensures exact { IfOk result (λ after. resolved self.now.start (found_view after)
             ≡ resolved self.now.start (look_through_trees self.now (found_view found))) }
         ensures earlier { IfOk result (λ after. IsFoundUpTo self.now.start (found_view after)) }
     {
-        match &found {
-            Found::At { path, tick } if *tick > self.start => self.look(*tick, path.parts()),
-            Found::AtWith { path, tick, mi } if *tick > self.start => {
-                Ok(self.look(*tick, path.parts())?.with_mergeinfo(*mi))
+        match found {
+            Found::At { path, tick } => Ok(self.look(tick, path.parts())?.of(path)),
+            Found::AtWith { path, tick, mi } => {
+                Ok(self.look(tick, path.parts())?.of(path).with_mergeinfo(mi))
             }
-            _ => Ok(found),
+            known => Ok(known),
         }
     }
 
@@ -249,7 +269,8 @@ impl Trees {
         requires after { self.now.start < tick }
         requires within { tick ≤ end_of_trees self.now }
         ensures exact { IfOk result (IsReach (look_in_trees self.now tick) path.now) }
-        ensures earlier { IfOk result (λ reach. IsFoundUpTo self.now.start (found_view reach.found)) }
+        ensures earlier { IfOk result (λ reach.
+            IsFoundUpTo self.now.start (looked_view (take reach.last path.now) reach.looked)) }
     {
         self.trie.reach(self.root(tick), path)
     }

@@ -1,6 +1,7 @@
 //! The nodes of a map, which trees share.
 ghost use Rattle.std.specs.Prelude.{◌≡◌, ◌+◌, ◌<◌, ◌++◌, ◌∷◌, [], Some, IfOk, IfSome, OnOk, length, option_map, slice_get};
 ghost use Rattle.block_map.specs.Look.{with_mergeinfo as changed};
+ghost use Rattle.block_map.specs.Looked.{looked_view};
 ghost use Rattle.block_map.specs.Map.{AreEntryAndNearest, found_view, nearest_view};
 ghost use Rattle.block_map.specs.Standing.{entry_view, mergeinfo_of, standing_of};
 ghost use Rattle.block_map.specs.Stretch.{IsReach, IsStretchUpTo};
@@ -10,6 +11,7 @@ use crate::entry::Entry;
 use crate::found::Found;
 use crate::location::{Location, LocationId};
 use crate::locations::Locations;
+use crate::looked::Looked;
 use crate::nearest::Nearest;
 use crate::node::{Here, Node, Region};
 use crate::numbers::next_number;
@@ -194,28 +196,45 @@ impl Trie {
     }
 
     /// What is found at a position.
-    pub(crate) fn found(&self, position: Position, path: &[NameId]) -> Result<Found, AllocError>
+    pub(crate) fn found(&self, position: Position, path: &[NameId]) -> Result<Looked, AllocError>
         requires node { IfSome position.node (IsNodeOf self.now) }
         requires around { IsAroundOf self.now path.now position.around }
-        ensures { IfOk result (λ found.
-            found_view found ≡ found_at self.now (position_view self.now path.now position)) }
+        ensures { IfOk result (λ looked.
+            looked_view path.now looked ≡ found_at self.now (position_view self.now path.now position)) }
     {
         let Stretch { here, around, .. } = Stretch::at(position, path.len());
         self.found_with(here, around, path)
     }
 
     /// What is found at the end of a path, by what a node says of what is found around it.
-    fn found_with(&self, here: Here, around: Around, path: &[NameId]) -> Result<Found, AllocError>
+    fn found_with(&self, here: Here, around: Around, path: &[NameId]) -> Result<Looked, AllocError>
         requires { IsAroundOf self.now path.now around }
-        ensures { IfOk result (λ found.
-            found_view found ≡ found_here here (around_view self.now path.now around [])) }
+        ensures { IfOk result (λ looked.
+            looked_view path.now looked ≡ found_here here (around_view self.now path.now around [])) }
     {
-        match here {
-            Here::Unchanged => Ok(found_around(self.location(around, path)?)),
-            Here::WithMergeinfo(mi) => Ok(with_mergeinfo(self.location(around, path)?, mi)),
-            Here::Is { kind, mi } => Ok(Found::Is { kind, mi }),
-            Here::Absent => Ok(Found::Absent),
+        let found = match here {
+            Here::Unchanged => return self.found_around(around, path),
+            Here::WithMergeinfo(mi) => with_mergeinfo(self.location(around, path)?, mi),
+            Here::Is { kind, mi } => Found::Is { kind, mi },
+            Here::Absent => Found::Absent,
+        };
+        Ok(Looked::Other(found))
+    }
+
+    /// What is found around the end of a path. Below a location at the root, from the root on, it is what stood at the
+    /// path itself.
+    fn found_around(&self, around: Around, path: &[NameId]) -> Result<Looked, AllocError>
+        requires { IsAroundOf self.now path.now around }
+        ensures { IfOk result (λ looked.
+            looked_view path.now looked ≡ around_view self.now path.now around []) }
+    {
+        let locations = &self.locations;
+        if let Around::At { location, from: 0 } = around {
+            if let Some(tick) = locations.tick_at_root(location) {
+                return Ok(Looked::Same(tick));
+            }
         }
+        Ok(Looked::Other(found_at_location(self.location(around, path)?)))
     }
 
     /// How far down a path below a root there may be mergeinfo, and what is found there.
@@ -225,11 +244,11 @@ impl Trie {
     {
         let (stretch, entry) = self.stretch(root, path);
         let (front, _) = path.split_at(stretch.last);
-        let found = self.found_with(stretch.here, stretch.around, front)?;
+        let looked = self.found_with(stretch.here, stretch.around, front)?;
         Ok(Reach {
             first: stretch.first,
             last: stretch.last,
-            found,
+            looked,
             entry,
         })
     }
@@ -342,7 +361,7 @@ impl Trie {
 }
 
 /// What is found at a location.
-fn found_around(location: Option<Location>) -> Found
+fn found_at_location(location: Option<Location>) -> Found
     ensures { found_view result ≡ as_at location [] }
 {
     match location {

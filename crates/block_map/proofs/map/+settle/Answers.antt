@@ -1,4 +1,4 @@
-use Rattle.std.proofs.Common.{◌≡◌, ℕ, ◌-◌, ◌≤◌, List, [], ◌∷◌, ◌++◌, length, option_map, sym, ap, subst, ◌∙◌, arith}
+use Rattle.std.proofs.Common.{◌≡◌, ℕ, ◌-◌, ◌≤◌, List, [], ◌∷◌, ◌++◌, length, option_map, take, sym, ap, subst, ◌∙◌, arith}
 use Rattle.std.specs.Arc.{arc_value}
 use Rattle.std.specs.declared.sync.Arc.{Arc}
 use Rattle.std.specs.Global.{Global}
@@ -6,7 +6,7 @@ use Rattle.std.proofs.lemmas.Result.{IfOk-weaker}
 use Rattle.std.proofs.lemmas.List.{length-map, nil_from_length}
 use Rattle.block_map.specs.Blocks.{AreBlocksBefore, AreBlocksFrom, records_of, trees_of}
 use Rattle.block_map.specs.LookThrough.{IsFoundUpTo}
-use Rattle.block_map.specs.Map.{found_view}
+use Rattle.block_map.specs.Looked.{looked_view}
 use Rattle.block_map.specs.Settled.{IsSettled, IsSettledThere, own_mergeinfo_in, standing_in, standing_through}
 use Rattle.block_map.specs.Standing.{entry_view, mergeinfo_of}
 use Rattle.block_map.specs.Trees.{look_in_trees}
@@ -68,43 +68,46 @@ pub overflow_sub-base-2 : goal.overflow_sub-base-2
 overflow_sub-base-2 t c =
     let max = c.max-first.ensures in
     let reach = c.in_ok-reach.ensures.exact in
-    let along = reach.along c.in-At.other c.in-At.tick (ap found_view c.in-At.is) in
-    omega (arith, c.len.ensures, along.long, reach.order, max)
+    let along = reach.along c.in-Some-location.other.now c.in-Some-location.tick
+    (ap (λ front. looked_view front c.in_ok-reach.reach.looked) (sym c.split_at.ensures.front) ∙ c.in-Some-location.ensures) in
+    omega (arith, along.long, reach.order, max)
 
 pub settle-requires : goal.settle-requires
 settle-requires t c =
     let is = last_of c.args.blocks.now c.blocks_before-blocks.result.now c.in-Some.earlier.now c.in-Some.last.now c.deref.result.now c.args.tick c.requires.in_order c.requires.within
     c.blocks_before-blocks.ensures c.in-Some.ensures.cases.0 c.deref.ensures in
-    let upto : c.in-At.tick ≤ c.deref.result.now.start =
-    subst (λ found. IsFoundUpTo c.deref.result.now.start (found_view found)) c.in-At.is c.in_ok-reach.ensures.earlier in (
+    let upto : c.in-Some-location.tick ≤ c.deref.result.now.start =
+    subst (IsFoundUpTo c.deref.result.now.start) (ap (λ front. looked_view front c.in_ok-reach.reach.looked) (sym c.split_at.ensures.front) ∙ c.in-Some-location.ensures) c.in_ok-reach.ensures.earlier in (
       omega (arith, c.decreases, is.fewer, length-map c.args.blocks.now arc_value, length-map c.in-Some.earlier.now arc_value),
-      (is.earlier_are, (omega (arith, upto, is.start), omega (arith, c.len.ensures, ap length c.parts.ensures))),
+      (is.earlier_are, (omega (arith, upto, is.start), omega arith)),
     )
 
-pub settle_found-requires : goal.settle_found-requires
-settle_found-requires t c =
+pub settle_found-requires-clause-in_order : goal.settle_found-requires-clause-in_order
+settle_found-requires-clause-in_order t c =
+    (last_of c.args.blocks.now c.blocks_before-blocks.result.now c.in-Some.earlier.now c.in-Some.last.now c.deref.result.now c.args.tick c.requires.in_order c.requires.within
+    c.blocks_before-blocks.ensures c.in-Some.ensures.cases.0 c.deref.ensures).earlier_are
+
+pub settle_found-requires-clause-within : goal.settle_found-requires-clause-within
+settle_found-requires-clause-within t c =
     let is = last_of c.args.blocks.now c.blocks_before-blocks.result.now c.in-Some.earlier.now c.in-Some.last.now c.deref.result.now c.args.tick c.requires.in_order c.requires.within
     c.blocks_before-blocks.ensures c.in-Some.ensures.cases.0 c.deref.ensures in
-    record {
-      in_order = is.earlier_are;
-      within = subst (λ start. IsFoundUpTo start (found_view c.in_ok-reach.reach.found)) is.start c.in_ok-reach.ensures.earlier;
-    }
+    subst (λ start. IsFoundUpTo start (looked_view (take c.in_ok-reach.reach.last c.args.path.now) c.in_ok-reach.reach.looked)) is.start c.in_ok-reach.ensures.earlier
 
-pub returns-in_default-found-clause-settled : goal.returns-in_default-found-clause-settled
-returns-in_default-found-clause-settled t c =
+pub returns-in_default-location-clause-settled : goal.returns-in_default-location-clause-settled
+returns-in_default-location-clause-settled t c =
     let is = last_of c.args.blocks.now c.blocks_before-blocks.result.now c.in-Some.earlier.now c.in-Some.last.now c.deref.result.now c.args.tick c.requires.in_order c.requires.within
     c.blocks_before-blocks.ensures c.in-Some.ensures.cases.0 c.deref.ensures in
     let own = own_mergeinfo_in (trees_of c.args.blocks.now) c.args.tick in
-    IfOk-weaker c.settle_found.result (IsSettledThere (trees_of c.in-Some.earlier.now) c.in_ok-reach.reach (length c.args.path.now)) (IsSettled own c.args.path.now c.args.least)
+    IfOk-weaker c.settle_found.result (IsSettledThere (trees_of c.in-Some.earlier.now) c.in_ok-reach.reach c.args.path.now) (IsSettled own c.args.path.now c.args.least)
     (λ settled there. IsSettled-there (trees_of c.args.blocks.now) (trees_of c.in-Some.earlier.now) c.deref.result.now c.args.tick is c.args.path.now c.in_ok-reach.reach c.in_ok-reach.ensures.exact
     settled there c.args.least c.if-reach-least.false)
     c.settle_found.ensures
 
-pub returns-in_default-found-clause-entry : goal.returns-in_default-found-clause-entry
-returns-in_default-found-clause-entry t c =
+pub returns-in_default-location-clause-entry : goal.returns-in_default-location-clause-entry
+returns-in_default-location-clause-entry t c =
     let is = last_of c.args.blocks.now c.blocks_before-blocks.result.now c.in-Some.earlier.now c.in-Some.last.now c.deref.result.now c.args.tick c.requires.in_order c.requires.within
     c.blocks_before-blocks.ensures c.in-Some.ensures.cases.0 c.deref.ensures in
-    IfOk-weaker c.settle_found.result (IsSettledThere (trees_of c.in-Some.earlier.now) c.in_ok-reach.reach (length c.args.path.now))
+    IfOk-weaker c.settle_found.result (IsSettledThere (trees_of c.in-Some.earlier.now) c.in_ok-reach.reach c.args.path.now)
     (λ settled. option_map entry_view settled.entry ≡ standing_in (trees_of c.args.blocks.now) c.args.tick c.args.path.now)
     (λ settled there. standing_in-settled (trees_of c.args.blocks.now) (trees_of c.in-Some.earlier.now) c.deref.result.now c.args.tick is c.args.path.now c.in_ok-reach.reach c.in_ok-reach.ensures.exact
     settled there)
@@ -114,17 +117,17 @@ pub returns-clause-settled : goal.returns-clause-settled
 returns-clause-settled t c =
     let max = c.max-first.ensures in
     let reach = c.in_ok-reach.ensures.exact in
-    let shows = ap found_view c.in-At.is in
-    let along = reach.along c.in-At.other c.in-At.tick shows in
-    let base = c.len.result - (c.in_ok-reach.reach.last - c.max-first.result) in
+    let shows = ap (λ front. looked_view front c.in_ok-reach.reach.looked) (sym c.split_at.ensures.front) ∙ c.in-Some-location.ensures in
+    let along = reach.along c.in-Some-location.other.now c.in-Some-location.tick shows in
+    let base = length c.in-Some-location.other.now - (c.in_ok-reach.reach.last - c.max-first.result) in
     let is = last_of c.args.blocks.now c.blocks_before-blocks.result.now c.in-Some.earlier.now c.in-Some.last.now c.deref.result.now c.args.tick c.requires.in_order c.requires.within
     c.blocks_before-blocks.ensures c.in-Some.ensures.cases.0 c.deref.ensures in
-    let upto : c.in-At.tick ≤ c.deref.result.now.start =
-    subst (λ found. IsFoundUpTo c.deref.result.now.start (found_view found)) c.in-At.is c.in_ok-reach.ensures.earlier in
-    let below = subst (λ path. IsSettled (own_mergeinfo_in (trees_of c.in-Some.earlier.now) c.in-At.tick) path base c.in_ok-settled.settled) c.parts.ensures c.in_ok-settled.ensures.settled in
+    let upto : c.in-Some-location.tick ≤ c.deref.result.now.start =
+    subst (IsFoundUpTo c.deref.result.now.start) shows c.in_ok-reach.ensures.earlier in
     IsSettled-along (trees_of c.in-Some.earlier.now) (own_mergeinfo_in (trees_of c.args.blocks.now) c.args.tick) (look_in_trees c.deref.result.now c.args.tick) (λ path. ap mergeinfo_of (is.shows path))
-    c.args.path.now c.in_ok-reach.reach reach c.args.least c.max-first.result base c.in-At.tick c.in-At.other c.in_ok-settled.settled c.if-reach-path.result (omega (arith, max)) (omega (arith, max))
-    (omega (arith, max, reach.order, c.if-reach-least.false)) shows (omega (arith, upto, is.start)) (omega (arith, c.len.ensures, along.long, reach.order, max, c.if-reach-least.false)) below
+    c.args.path.now c.in_ok-reach.reach reach c.args.least c.max-first.result base c.in-Some-location.tick c.in-Some-location.other.now c.in_ok-settled.settled c.if-reach-path.result (omega (arith, max)) (omega (arith, max))
+    (omega (arith, max, reach.order, c.if-reach-least.false)) shows (omega (arith, upto, is.start)) (omega (arith, along.long, reach.order, max, c.if-reach-least.false))
+    c.in_ok-settled.ensures.settled
 
 pub returns-clause-entry : goal.returns-clause-entry
 returns-clause-entry t c =
@@ -135,12 +138,13 @@ returns-clause-entry t c =
     let reached = c.in_ok-reach.ensures.exact in
     let is = last_of c.args.blocks.now c.blocks_before-blocks.result.now c.in-Some.earlier.now c.in-Some.last.now c.deref.result.now c.args.tick c.requires.in_order c.requires.within
     c.blocks_before-blocks.ensures c.in-Some.ensures.cases.0 c.deref.ensures in
-    let upto : c.in-At.tick ≤ block.start = subst (λ found. IsFoundUpTo block.start (found_view found)) c.in-At.is c.in_ok-reach.ensures.earlier in
+    let shows = ap (λ front. looked_view front c.in_ok-reach.reach.looked) (sym c.split_at.ensures.front) ∙ c.in-Some-location.ensures in
+    let upto : c.in-Some-location.tick ≤ block.start = subst (IsFoundUpTo block.start) shows c.in_ok-reach.ensures.earlier in
     elim c.if-reach-path.branch [
       | then-reach-path w ↦
-          ap (option_map entry_view) w.result-is ∙ c.in_ok-settled.ensures.entry ∙ ap (standing_in earlier c.in-At.tick) c.parts.ensures
-          ∙ sym (standing_through-at earlier c.in-At.tick c.in-At.other (omega (arith, upto, is.start)))
-          ∙ ap (λ found. standing_through earlier (found_view found)) (sym c.in-At.is)
+          ap (option_map entry_view) w.result-is ∙ c.in_ok-settled.ensures.entry
+          ∙ sym (standing_through-at earlier c.in-Some-location.tick c.in-Some-location.other.now (omega (arith, upto, is.start)))
+          ∙ ap (standing_through earlier) (sym shows)
           ∙ standing_in-there blocks earlier block c.args.tick is c.args.path.now reach reached w.if-reach-path.true
       | else-reach-path w ↦
           ap (option_map entry_view) w.result-is

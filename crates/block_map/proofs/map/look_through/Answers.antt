@@ -3,7 +3,7 @@ use Rattle.svn_path.specs.Path.{same_name}
 use Rattle.block_map.specs.Blocks.{AreBlocksFrom, records_of, trees_of}
 use Rattle.block_map.specs.Look.{resolved}
 use Rattle.block_map.specs.LookThrough.{IsFoundUpTo, look_through}
-use Rattle.block_map.specs.Map.{found_view}
+use Rattle.block_map.specs.Looked.{looked_view}
 use Rattle.block_map.proofs.BlocksOfMaps.{AreBlocksFrom-back, AreBlocksFrom-front, end_of_blocks, last-end, last-start, through-earlier, through-last, trees-last}
 use Rattle.block_map.proofs.map.look_through.Goals as goal
 
@@ -20,19 +20,19 @@ look_through-requires-clause-within c =
     let block = c.deref.result.now in
     let split = trees-last c.loop-last.left.now c.in-Some.earlier.now c.in-Some.last.now block c.in-Some.ensures.cases.0 c.deref.ensures in
     let end = ap (end_of_blocks c.args.lo) split ∙ sym (last-end c.args.lo earlier block (subst (AreBlocksFrom c.args.lo) split c.loop-last.invariant.0)) in
-    subst (λ tick. IsFoundUpTo tick (found_view c.loop-last.found)) end c.loop-last.invariant.1
+    subst (λ tick. IsFoundUpTo tick (looked_view c.args.path.now c.loop-last.looked)) end c.loop-last.invariant.1
 
 pub loop-last-preserved : goal.loop-last-preserved
 loop-last-preserved c =
     let earlier = trees_of c.in-Some.earlier.now in
     let block = c.deref.result.now in
-    let before = found_view c.loop-last.found in
-    let after = found_view c.in_ok-found.found in
+    let before = looked_view c.args.path.now c.loop-last.looked in
+    let after = looked_view c.args.path.now c.in_ok-looked.looked in
     let split = trees-last c.loop-last.left.now c.in-Some.earlier.now c.in-Some.last.now block c.in-Some.ensures.cases.0 c.deref.ensures in
     let are = subst (AreBlocksFrom c.args.lo) split c.loop-last.invariant.0 in (
       AreBlocksFrom-front c.args.lo earlier (block ∷ []) are,
-      subst (λ tick. IsFoundUpTo tick after) (last-start c.args.lo earlier block are) c.in_ok-found.ensures.earlier,
-      through-earlier c.args.lo earlier block after (look_through same_name block.start block.records.records before) are c.in_ok-found.ensures.exact
+      subst (λ tick. IsFoundUpTo tick after) (last-start c.args.lo earlier block are) c.in_ok-looked.ensures.earlier,
+      through-earlier c.args.lo earlier block after (look_through same_name block.start block.records.records before) are c.in_ok-looked.ensures.exact
           ∙ ap (resolved c.args.lo) (sym (through-last c.args.lo earlier block before are))
           ∙ ap (λ blocks. resolved c.args.lo (look_through same_name c.args.lo (records_of blocks) before)) (sym split)
           ∙ c.loop-last.invariant.2,

@@ -3,17 +3,17 @@ use Rattle.svn_path.specs.Path.{same_name}
 use Rattle.block_map.specs.Blocks.{AreBlocksFrom, records_of, trees_of}
 use Rattle.block_map.specs.Look.{resolved}
 use Rattle.block_map.specs.LookThrough.{IsFoundUpTo, look_through}
-use Rattle.block_map.specs.Map.{found_view}
+use Rattle.block_map.specs.Looked.{looked_view}
 use Rattle.block_map.proofs.BlocksOfMaps.{end_of_blocks}
 use Rattle.block_map.proofs.map.look_through.Given as goal
 
--- the blocks that are left say of what is found so far what all blocks say
+-- the blocks that are left say of what is said so far what all blocks say
 abbrev pub invariant-loop-last : goal.invariant-loop-last
 invariant-loop-last l =
     AreBlocksFrom l.fn.lo (trees_of l.left)
-    × IsFoundUpTo (end_of_blocks l.fn.lo (trees_of l.left)) (found_view l.found)
-    × (resolved l.fn.lo (look_through same_name l.fn.lo (records_of (trees_of l.left)) (found_view l.found))
-    ≡ resolved l.fn.lo (look_through same_name l.fn.lo (records_of (trees_of l.fn.blocks)) (found_view l.fn.found)))
+    × IsFoundUpTo (end_of_blocks l.fn.lo (trees_of l.left)) (looked_view l.fn.path l.looked)
+    × (resolved l.fn.lo (look_through same_name l.fn.lo (records_of (trees_of l.left)) (looked_view l.fn.path l.looked))
+    ≡ resolved l.fn.lo (look_through same_name l.fn.lo (records_of (trees_of l.fn.blocks)) (looked_view l.fn.path l.fn.looked)))
 
 abbrev pub decreases-loop-last : goal.decreases-loop-last
 decreases-loop-last l = length l.left

@@ -1,13 +1,8 @@
-use Rattle.std.proofs.Common.{◌≡◌, ◌<◌, ◌++◌, false, not, is_some, Option, None, Some, IfSome, length, reverse, refl, subst, sym, ap, ◌∙◌, arith}
+use Rattle.std.proofs.Common.{◌≡◌, ◌<◌, ◌++◌, not, IfSome, length, reverse, subst, sym, ap, ◌∙◌, arith}
 use Rattle.std.proofs.lemmas.Result.{IfOk-weaker}
 use Rattle.block_map.specs.Locations.{locations_of, path_above, path_of}
-use Rattle.block_map.specs.declared.location.LocationId.{LocationId}
-use Rattle.block_map.proofs.LocationPaths.{AreCollected, AreCollected-first, AreCollected-up, length-locations_of, most_above-smaller, path_of-stored, stored_at}
+use Rattle.block_map.proofs.LocationPaths.{AreCollected, AreCollected-first, AreCollected-up, length-locations_of, most_above-smaller, none_above, path_of-stored, stored_at}
 use Rattle.block_map.proofs.locations.Locations.path_below.Goals as goal
-
-none_above : (above : Option LocationId) → is_some above ≡ false → above ≡ None
-none_above None is = refl
-none_above (Some id) is = cc
 
 pub index-top-requires : goal.index-top-requires
 index-top-requires c = omega (arith, c.requires, ap length c.self.view_is, length-locations_of c.self.inside.items.items)

@@ -2,7 +2,7 @@ use Rattle.std.proofs.Common.{sym, subst, take, ◌∙◌}
 use Rattle.std.proofs.lemmas.Result.{IfOk-weaker}
 use Rattle.svn_path.specs.Path.{same_name}
 use Rattle.block_map.specs.LookThrough.{IsFoundUpTo}
-use Rattle.block_map.specs.Map.{found_view}
+use Rattle.block_map.specs.Looked.{looked_view}
 use Rattle.block_map.specs.Stretch.{IsReach}
 use Rattle.block_map.specs.Trees.{look_in_trees}
 use Rattle.block_map.specs.Trie.{at_root, found_below}
@@ -19,7 +19,7 @@ pub returns-clause-earlier : goal.returns-clause-earlier
 returns-clause-earlier c =
     let trees = c.args.self.now in
     let path = c.args.path.now in
-    IfOk-weaker c.reach.result (IsReach (found_below trees.trie (at_root c.root.result)) path) (λ reach. IsFoundUpTo trees.start (found_view reach.found))
+    IfOk-weaker c.reach.result (IsReach (found_below trees.trie (at_root c.root.result)) path) (λ reach. IsFoundUpTo trees.start (looked_view (take reach.last path) reach.looked))
     (λ reach is.
     let front = take reach.last path in
     subst (IsFoundUpTo trees.start) (sym (is.found ∙ c.root.ensures.shows front))
