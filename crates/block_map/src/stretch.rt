@@ -6,8 +6,12 @@ ghost use Rattle.block_map.specs.Trie.{IsAroundOf, IsNodeOf, around_view, found_
 use crate::node::Here;
 use crate::position::{Around, Position, inside};
 
-/// Some of the first components of a path, from `first` many to `last` many, at each of which a node says the same of
-/// what is found around it.
+/// A part of the way down a path, from its first `first` components to its first `last` components. At each number of
+/// components between them the nodes say the same: what `here` says of what is found `around`.
+///
+/// Say that a block copied `a/b` and then added the file `a/b/c/d/e`, which is the path. Its root and `a` are what they
+/// were before: a stretch from 0 to 1. The nodes of `a/b`, `a/b/c` and `a/b/c/d` leave what stood at the source of the
+/// copy and below it: a stretch from 2 to 4. The file is a stretch of its own, from 5 to 5.
 #[derive(Clone, Copy)]
 pub(crate) struct Stretch {
     pub(crate) first: usize,
