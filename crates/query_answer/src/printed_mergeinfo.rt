@@ -9,7 +9,8 @@ use std::alloc::{AllocError, Global};
 use std::marker::Model;
 use std::snapshot::Snapshot;
 
-/// The lines of the mergeinfo that holds for a path, seen as its value. What is inherited has no other form.
+/// The lines of the mergeinfo that holds for a path, seen as its value. Of what is inherited only the lines are made, and
+/// no value.
 #[derive(Drop)]
 pub struct PrintedMergeinfo {
     text: Vec<u8>,
