@@ -38,10 +38,11 @@ class Run:
         self.errors = errors
 
 
-def run(words, feeder=None, file=None):
-    """Runs a command whose input is a file or the output of another command."""
+def run(words, feeder=None, file=None, is_kept=True):
+    """Runs a command whose input is a file or the output of another command. Output that is not kept goes to /dev/null."""
     environment = dict(os.environ, LC_ALL="C")
-    with tempfile.TemporaryFile() as output, tempfile.TemporaryFile() as errors:
+    sink = tempfile.TemporaryFile() if is_kept else open(os.devnull, "w+b")
+    with sink as output, tempfile.TemporaryFile() as errors:
         began = time.perf_counter()
         if feeder is not None:
             feeding = subprocess.Popen(feeder, stdout=subprocess.PIPE)
@@ -61,8 +62,9 @@ def run(words, feeder=None, file=None):
 
 
 class Timed:
-    """A command with its best time so far. Its output must be the same each time; what is kept of it is a checksum and
-    how many bytes, lines and answers it has."""
+    """A command with its best time so far. A run that is timed prints to /dev/null, since storing the output is the work
+    of the system. Before the first one the output is kept once: a checksum, and how many bytes, lines and answers it
+    has."""
 
     def __init__(self, words, status=0):
         self.words = words
@@ -70,19 +72,24 @@ class Timed:
         self.wall = math.inf
         self.output = None
 
-    def run_once(self):
-        taken = run(self.words, file=os.devnull)
+    def run(self, is_kept):
+        taken = run(self.words, file=os.devnull, is_kept=is_kept)
         if taken.status != self.status:
             raise Failed("%s ended with %d: %s" % (
                 " ".join(self.words), taken.status, taken.errors.decode("utf-8", "replace").strip()))
-        output = hashlib.sha256(taken.output).digest()
-        if output != (self.output or output):
-            raise Failed("the output of %s differs from run to run" % " ".join(self.words))
-        self.output = output
-        self.size = len(taken.output)
-        self.lines = taken.output.count(b"\n")
-        self.answered = taken.output.count(b" ok\n")
-        self.wall = min(self.wall, taken.wall)
+        return taken
+
+    def keep_output(self):
+        output = self.run(True).output
+        self.output = hashlib.sha256(output).digest()
+        self.size = len(output)
+        self.lines = output.count(b"\n")
+        self.answered = output.count(b" ok\n")
+
+    def run_once(self):
+        if self.output is None:
+            self.keep_output()
+        self.wall = min(self.wall, self.run(False).wall)
 
 
 def run_in_turns(commands, times):

@@ -41,13 +41,6 @@ Extends-again xs ys zs one other = record {
 pub ExtendsTrie-none : (trie : TrieValue) → ExtendsTrie trie trie
 ExtendsTrie-none trie = record { nodes = Extends-none trie.nodes; parts = Extends-none trie.parts; locations = Extends-none trie.locations }
 
-pub ExtendsTrie-again : (one two three : TrieValue) → ExtendsTrie one two → ExtendsTrie two three → ExtendsTrie one three
-ExtendsTrie-again one two three first second = record {
-  nodes = Extends-again one.nodes two.nodes three.nodes first.nodes second.nodes;
-  parts = Extends-again one.parts two.parts three.parts first.parts second.parts;
-  locations = Extends-again one.locations two.locations three.locations first.locations second.locations;
-}
-
 -- ---- maps of children
 
 part_at-grown : (old new : List Part) (number : ℕ) → Extends old new → number ≤ length old → part_at new number ≡ part_at old number

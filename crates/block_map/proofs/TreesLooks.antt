@@ -18,7 +18,7 @@ use Rattle.block_map.specs.declared.trees.Trees.{Trees}
 use Rattle.block_map.specs.declared.node.Node.{Node}
 use Rattle.block_map.specs.declared.part.NodeId.{NodeId}
 use Rattle.block_map.proofs.TreesNodes.{slice_get_last}
-use Rattle.block_map.proofs.GrownTries.{Extends-none, ExtendsTrie-again, found_below-grown, slice_get-front, slice_get-grown}
+use Rattle.block_map.proofs.GrownTries.{Extends-none, found_below-grown, slice_get-front, slice_get-grown}
 use Rattle.block_map.proofs.Standings.{look_at-append, look_at_push}
 
 -- ---- one more record
@@ -110,16 +110,6 @@ end_of_trees-same old new same = omega (arith, same.start, ap length same.record
 pub ShowsTick-same : (old new : Trees) (tick : ℕ) (node : Node) → IsSound old.trie → SameTrees old new → IsNodeOf old.trie node → ShowsTick old tick node → ShowsTick new tick node
 ShowsTick-same old new tick node sound same is shows = λ path.
     found_below-grown old.trie new.trie sound same.trie (at_root node) path is ∙ shows path ∙ look_in_trees-same old new tick path same
-
--- trees that are the same in two steps
-pub SameTrees-again : (one two three : Trees) → SameTrees one two → SameTrees two three → SameTrees one three
-SameTrees-again one two three first second = record {
-  start = second.start ∙ first.start;
-  roots = second.roots ∙ first.roots;
-  records = second.records ∙ first.records;
-  trie = ExtendsTrie-again one.trie two.trie three.trie first.trie second.trie;
-  sound = second.sound;
-}
 
 -- ---- the tree after one more record
 

@@ -9,5 +9,5 @@ use Rattle.block_map.specs.declared.looked.Looked.TheVariants as looked
 
 -- what it says of this path
 abbrev pub looked_view : List NameId → Looked → Found NameId ValueId
-looked_view path (looked.Same tick) = at path tick
+looked_view path (looked.SamePath tick) = at path tick
 looked_view path (looked.Other found) = found_view found

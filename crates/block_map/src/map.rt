@@ -129,7 +129,7 @@ impl Map {
         ensures { IfOk result (λ found. found_view found ≡ look_in self.now tick path.now) }
     {
         let found = match look_in_blocks(self.blocks.as_slice(), self.lo, tick, path)? {
-            Looked::Same(tick) => {
+            Looked::SamePath(tick) => {
                 let path = Path::of(*self.blocks.allocator(), path)?;
                 Found::At { path, tick }
             }
@@ -296,9 +296,9 @@ fn nearest_above(
 ///
 /// The last block that begins before the tick is asked first. Say that it copied `a/b` from `x/y/z` and then added the
 /// file `a/b/c/d/e` without mergeinfo, which is the path. Then what is found at `a/b`, `a/b/c` and `a/b/c/d` stood at
-/// `x/y/z`, `x/y/z/c` and `x/y/z/c/d`. So the blocks before it settle `x/y/z/c/d` at the tick of the copy, at no fewer
-/// than three components, and what they tell of three, four or five components there is so of two, three or four
-/// components here.
+/// `x/y/z`, `x/y/z/c` and `x/y/z/c/d`. So the blocks before it settle `x/y/z/c/d` at the end of the source's revision, at
+/// no fewer than three components, and what they tell of three, four or five components there is so of two, three or
+/// four components here.
 fn settle(
     blocks: &[Arc<Trees>],
     tick: u32,
@@ -346,9 +346,8 @@ fn settle(
     })
 }
 
-/// The same of a path of whose first `last` components a later block does not say that they are what stood somewhere.
-/// What stands there is looked up in the blocks, and it settles the mergeinfo: say of a file that the later block added
-/// with some, or of a directory to which it gave other mergeinfo.
+/// What `settle` answers if a later block has no location for the first `last` components of a path, but an entry or
+/// nothing, or a location with other mergeinfo.
 fn settle_found(blocks: &[Arc<Trees>], reach: Reach, path: &[NameId]) -> Result<Settled, AllocError>
     requires in_order { AreBlocksFrom 0 (trees_of blocks.now) }
     requires last { reach.last ≤ length path.now }
@@ -399,7 +398,7 @@ fn standing_from_beginning(looked: Looked, path: &[NameId]) -> Option<Entry>
     ensures { option_map entry_view result ≡ standing_of (from_beginning (looked_view path.now looked)) }
 {
     match looked {
-        Looked::Same(_) => at_beginning(path),
+        Looked::SamePath(_) => at_beginning(path),
         Looked::Other(found) => found.from_beginning().entry(),
     }
 }
@@ -416,7 +415,12 @@ fn look_in_blocks(
     ensures { IfOk result (λ looked. resolved lo (looked_view path.now looked)
         ≡ resolved lo (look same_name lo (records_of (trees_of blocks.now)) tick path.now)) }
 {
-    look_through(blocks_before(blocks, tick), lo, Looked::Same(tick), path)
+    look_through(
+        blocks_before(blocks, tick),
+        lo,
+        Looked::SamePath(tick),
+        path,
+    )
 }
 
 /// What the records of these blocks, which follow the first `lo` of their history, say of what later records said of a
@@ -441,7 +445,8 @@ fn look_through(
     Ok(looked)
 }
 
-/// What was found by records that follow the first `lo` of their history. From its beginning on, all is known.
+/// What was found by records that follow the first `lo` of their history. At its beginning there is the root alone, so
+/// that where `lo` is 0 no location is left.
 fn resolve(found: Found, lo: u32) -> Found
     ensures { found_view result ≡ resolved lo (found_view found) }
 {

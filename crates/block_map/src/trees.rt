@@ -225,7 +225,7 @@ impl Trees {
         ensures earlier { IfOk result (λ looked. IsFoundUpTo self.now.start (looked_view path.now looked)) }
     {
         if tick <= self.start {
-            return Ok(Looked::Same(tick));
+            return Ok(Looked::SamePath(tick));
         }
         let root = self.root(tick);
         let position = self.trie.find(root, path);
@@ -241,7 +241,7 @@ impl Trees {
         ensures earlier { IfOk result (λ after. IsFoundUpTo self.now.start (looked_view path.now after)) }
     {
         match looked {
-            Looked::Same(tick) => self.look(tick, path),
+            Looked::SamePath(tick) => self.look(tick, path),
             Looked::Other(found) => Ok(Looked::Other(self.look_through_found(found)?)),
         }
     }
@@ -255,9 +255,10 @@ impl Trees {
         ensures earlier { IfOk result (λ after. IsFoundUpTo self.now.start (found_view after)) }
     {
         match found {
-            Found::At { path, tick } => Ok(self.look(tick, path.parts())?.of(path)),
+            Found::At { path, tick } => Ok(self.look(tick, path.parts())?.into_found(path)),
             Found::AtWith { path, tick, mi } => {
-                Ok(self.look(tick, path.parts())?.of(path).with_mergeinfo(mi))
+                let looked = self.look(tick, path.parts())?;
+                Ok(looked.into_found(path).with_mergeinfo(mi))
             }
             known => Ok(known),
         }

@@ -221,8 +221,8 @@ impl Trie {
         Ok(Looked::Other(found))
     }
 
-    /// What is found around the end of a path. Below a location at the root, from the root on, it is what stood at the
-    /// path itself.
+    /// What is found around the end of a path. If the location around it is that of the root, and it is so from the root
+    /// on, that is what stood at the path itself, and no path is made.
     fn found_around(&self, around: Around, path: &[NameId]) -> Result<Looked, AllocError>
         requires { IsAroundOf self.now path.now around }
         ensures { IfOk result (λ looked.
@@ -231,7 +231,7 @@ impl Trie {
         let locations = &self.locations;
         if let Around::At { location, from: 0 } = around {
             if let Some(tick) = locations.tick_at_root(location) {
-                return Ok(Looked::Same(tick));
+                return Ok(Looked::SamePath(tick));
             }
         }
         Ok(Looked::Other(found_at_location(self.location(around, path)?)))

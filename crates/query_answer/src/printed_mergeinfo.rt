@@ -9,8 +9,7 @@ use std::alloc::{AllocError, Global};
 use std::marker::Model;
 use std::snapshot::Snapshot;
 
-/// The lines of the mergeinfo that holds for a path, seen as its value. Of what is inherited only the lines are made, and
-/// no value.
+/// The lines of the mergeinfo that holds for a path, seen as its value. The lines alone are kept.
 #[derive(Drop)]
 pub struct PrintedMergeinfo {
     text: Vec<u8>,

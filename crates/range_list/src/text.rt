@@ -32,7 +32,8 @@ fn put_star(inheritable: bool, text: &mut [u8; MOST_BYTES]) -> usize
     put_byte(b'*', text, MOST_BYTES)
 }
 
-/// Puts the first and the last number before the text, and answers where it begins then.
+/// Puts the first and the last number before the text, or one number where they are the same, and answers where it
+/// begins then.
 fn put_range(run: Run, text: &mut [u8; MOST_BYTES], start: usize) -> usize
     requires start { 22 ≤ start }
     requires within { start ≤ 23 }

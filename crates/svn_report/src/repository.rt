@@ -98,8 +98,8 @@ fn map_and_index<R: Threads + Sync>(
     { index_of(rt, alloc, dump, borders, half) };
     let rest = workers - half;
     let mapping = move || -> Result<Map, LoadError>
-        requires { IsSync R.row × (ends.now ≡ ends_of dump.now.counts) × AreBorders 0 (length dump.now.records) borders.now
-            × (0 < rest) × (rest ≤ most_workers) }
+        requires { IsSync R.row × (ends.now ≡ ends_of dump.now.counts)
+            × AreBorders 0 (length dump.now.records) borders.now × (0 < rest) × (rest ≤ most_workers) }
         ensures { IfOk result (IsMapOf dump.entry.now)
             × OnOk result (first_fault same_name (history_view dump.entry.now) ≡ None)
             × IfErr result (IsLoadError dump.entry.now) }
