@@ -1,5 +1,5 @@
 -- What a path holds of a value has a revision exactly where the value has it for what is above.
-use Rattle.std.proofs.Common.{◌≡◌, ℕ, ◌+◌, ◌-◌, ◌<◌, ◌==◌, Bool, not, false, List, [], ◌∷◌, ◌++◌, Option, Some, None, drop, length, take, inl, inr, refl, sym, ap, ◌∙◌, arith, eqb-true, if◌then◌else◌, take-append-drop}
+use Rattle.std.proofs.Common.{◌≡◌, ℕ, ◌-◌, ◌<◌, ◌==◌, Bool, not, false, List, [], ◌∷◌, ◌++◌, Option, Some, None, drop, length, take, inl, inr, refl, sym, ap, ◌∙◌, arith, eqb-true, if◌then◌else◌, take-append-drop}
 use Rattle.std.specs.Prelude.{option_and_then}
 use Rattle.std.specs.Cmp.Lexicographic.{pointwise}
 use Rattle.std.proofs.lemmas.Bool.{both_ways, cases_Bool, false_from_ne_true}

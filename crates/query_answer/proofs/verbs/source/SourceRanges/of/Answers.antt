@@ -1,1 +1,0 @@
-use Rattle.query_answer.proofs.verbs.source.SourceRanges.of.Goals as goal
