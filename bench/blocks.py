@@ -106,7 +106,7 @@ def print_runs(history):
 def repeated(history, verb, lines):
     """The questions as often as they are asked to measure the time of their answers."""
     once = history.timed(verb, lines, 4, 0)
-    once.run_once()
+    once.keep_output()
     if once.answered != len(lines):
         raise Failed("the program answered %d of %d queries" % (once.answered, len(lines)))
     return lines * max(1, min(LEAST_ASKED // len(lines), MOST_REPORT // once.size))

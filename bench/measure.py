@@ -63,8 +63,8 @@ def run(words, feeder=None, file=None, is_kept=True):
 
 class Timed:
     """A command with its best time so far. A run that is timed prints to /dev/null, since storing the output is the work
-    of the system. Before the first one the output is kept once: a checksum, and how many bytes, lines and answers it
-    has."""
+    of the system. The output is kept once before and compared with that of a further run after: a checksum, and how many
+    bytes, lines and answers it has."""
 
     def __init__(self, words, status=0):
         self.words = words
@@ -81,22 +81,27 @@ class Timed:
 
     def keep_output(self):
         output = self.run(True).output
-        self.output = hashlib.sha256(output).digest()
+        checksum = hashlib.sha256(output).digest()
+        if checksum != (self.output or checksum):
+            raise Failed("the output of %s differs from run to run" % " ".join(self.words))
+        self.output = checksum
         self.size = len(output)
         self.lines = output.count(b"\n")
         self.answered = output.count(b" ok\n")
 
     def run_once(self):
-        if self.output is None:
-            self.keep_output()
         self.wall = min(self.wall, self.run(False).wall)
 
 
 def run_in_turns(commands, times):
     """Runs each command so often, in turns, so that a slow moment of the machine affects all."""
+    for command in commands:
+        command.keep_output()
     for _ in range(times):
         for command in commands:
             command.run_once()
+    for command in commands:
+        command.keep_output()
 
 
 def peak_of(words, feeder=("true",)):
