@@ -30,23 +30,20 @@ impl Gate for Counting {
     }
 }
 
+// These queries are answered in several batches.
 #[test]
 fn the_gate_is_called_around_each_query(rt: HostRuntime) -> Result<(), Fail> {
+    let mut queries = Vec::new(rt.alloc());
+    for _ in 0..20 {
+        queries.extend_from_slice(b"locate\ttrunk@2\t1\n\nlog\tb@2\n")?;
+    }
     let gate = Counting {
         entered: AtomicUsize::new(0),
         left: AtomicUsize::new(0),
         out_of_turn: AtomicUsize::new(0),
     };
-    let _report = report(
-        &rt,
-        rt.alloc(),
-        FIRST,
-        b"locate\ttrunk@2\t1\n\nlog\tb@2\n",
-        &[],
-        1,
-        &gate,
-    )?;
-    assert_eq!(rt; gate.left.load(Ordering::SeqCst), 3);
+    let _report = report(&rt, rt.alloc(), FIRST, queries.as_slice(), &[], 1, &gate)?;
+    assert_eq!(rt; gate.left.load(Ordering::SeqCst), 60);
     assert_eq!(rt; gate.out_of_turn.load(Ordering::SeqCst), 0);
     Ok(())
 }

@@ -116,3 +116,12 @@ fn all_workers_answer_at_once(rt: HostRuntime) -> Result<(), Fail> {
     }
     Ok(())
 }
+
+// The places from the second batch on.
+#[test]
+fn workers_answer_later_batches_at_once(rt: HostRuntime) -> Result<(), Fail> {
+    let queries = ten_times(rt.alloc())?;
+    assert!(rt; answer_at_once(&rt, rt.alloc(), queries.as_slice(), 2, 40)?);
+    assert!(rt; answer_at_once(&rt, rt.alloc(), queries.as_slice(), 8, 130)?);
+    Ok(())
+}

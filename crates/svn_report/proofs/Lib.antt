@@ -1,4 +1,5 @@
 mod AnswerTexts
+mod Batches
 mod BlockEnds
 mod BlockIndexes
 mod BlockMapsJoined

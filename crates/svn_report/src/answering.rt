@@ -1,58 +1,26 @@
 //! Answering the queries of a run by several workers.
-ghost use Rattle.std.specs.Prelude.{◌≡◌, ◌<◌, ◌≤◌, IfOk, length};
+ghost use Rattle.std.specs.Prelude.{◌≡◌, ◌<◌, ◌≤◌, ◌++◌, IfOk, length};
 ghost use Rattle.std.specs.List.{flat_map};
 ghost use Rattle.svn_dump.specs.Dump.{history_in_bytes};
+ghost use Rattle.svn_report.specs.Answering.{answers_to_batch, partial_text};
 ghost use Rattle.svn_report.specs.QueryLines.{query_lines};
 ghost use Rattle.svn_report.specs.Report.{answers, most_queries};
 ghost use Rattle.query_pool.specs.Serving.{most_workers};
 
+use crate::batch::Batch;
 use crate::query_lines::lines_of;
-use query_answer::{Query, Repo, answer};
-use query_pool::{Gate, GatherError, Job, gather, serve};
+use query_answer::Repo;
+use query_pool::Gate;
 use std::alloc::{AllocError, Global};
 use std::sync::Wait;
-use std::thread::Threads;
-use value_memo::{Memo, Seen};
+use std::thread::{self, Threads};
+use value_memo::Memo;
 
-/// The bytes that are reserved for an answer at first. Most answers are shorter.
-const USUAL_LENGTH: usize = 128;
+/// How many queries the first batch has for each worker.
+const FIRST_SHARE: usize = 16;
 
-/// The queries of a run on a repository. The places are those of their lines, and the result at a place is the text of
-/// its answer.
-#[derive(Drop)]
-struct Answering<'r, 'a> {
-    alloc: Global,
-    repo: &'r Repo,
-    memo: &'a Memo<'r>,
-    lines: &'a [&'a [u8]],
-    ghost cells: { length repo.now.values ≤ length memo.now },
-}
-
-impl<'r> Job for Answering<'r, '_> {
-    ghost use Rattle.query_answer.specs.Worker.{IsSeenOf};
-    ghost use Rattle.svn_report.specs.Answering.{HasLine, IsTextAt};
-
-    type Out = Vec<u8>;
-
-    type State = Seen<'r>;
-
-    ghost has = { λ job place. HasLine job.lines.now place };
-
-    ghost lawful = { λ job seen. IsSeenOf job.repo.now.values job.memo.now seen };
-
-    ghost gives = { λ job place text. IsTextAt job.repo.now job.lines.now place text.items };
-
-    fn state(&self) -> Result<Seen<'r>, AllocError> {
-        Seen::new(self.alloc, self.memo)
-    }
-
-    fn run(&self, place: u32, seen: &mut Seen<'r>) -> Result<Vec<u8>, AllocError> {
-        let query = Query::read(self.lines[place as usize]);
-        let mut text = Vec::with_capacity(self.alloc, USUAL_LENGTH)?;
-        answer(self.alloc, self.repo, &query, self.memo, seen)?.write(self.repo, place, &mut text)?;
-        Ok(text)
-    }
-}
+/// Later batches double up to one in so many of all queries. If the first one is larger, all are as large.
+const PARTS_OF_ALL: usize = 8;
 
 /// The answers to all query lines, one after another, found by so many workers.
 pub(crate) fn answer_lines<R: Threads + Wait + Sync, G: Gate>(
@@ -69,19 +37,96 @@ pub(crate) fn answer_lines<R: Threads + Wait + Sync, G: Gate>(
     ensures { IfOk result (λ out. out.items ≡ answers (history_in_bytes repo.now) queries.now) }
 {
     let lines = lines_of(alloc, queries)?;
-    let n = lines.len() as u32;
     let memo = repo.memo(alloc)?;
-    let job = Answering {
-        alloc,
-        repo,
-        memo: &memo,
-        lines: lines.as_slice(),
+    answer_batches(rt, alloc, repo, &memo, lines.as_slice(), workers, gate)
+}
+
+/// The answers to these query lines. They are found in batches, so that the texts of at most two batches are held beside
+/// the report. With several workers, a further thread joins the answers to one batch while they answer the next. One
+/// worker joins them in between.
+fn answer_batches<'r, R: Threads + Wait + Sync, G: Gate>(
+    rt: &R,
+    alloc: Global,
+    repo: &'r Repo,
+    memo: &Memo<'r>,
+    lines: &[&[u8]],
+    workers: usize,
+    gate: &G,
+) -> Result<Vec<u8>, AllocError>
+    requires cells { length repo.now.values ≤ length memo.now }
+    requires few_queries { length lines.now ≤ most_queries }
+    requires some_worker { 0 < workers }
+    requires few_workers { workers ≤ most_workers }
+    ensures { IfOk result (λ out. out.items ≡ answers_to_batch repo.now 0 lines.now) }
+{
+    let mut partial = PartialReport {
+        report: Vec::new(alloc),
+        texts: Vec::new(alloc),
     };
-    let parts = serve(rt, alloc, &job, n, workers, gate)?;
-    match gather(alloc, parts, n) {
-        Ok(texts) => joined(alloc, texts),
-        Err(GatherError::Memory) => Err(AllocError),
-        Err(_) => unreachable!(),
+    let mut done = 0;
+    let mut size = FIRST_SHARE * workers;
+    'batches: while done < lines.len() {
+        let (_, left) = lines.split_at(done);
+        let (batch_lines, _) = left.split_at(size.min(left.len()));
+        let batch = Batch {
+            alloc,
+            repo,
+            memo,
+            first: done as u32,
+            lines: batch_lines,
+        };
+        partial = partial.with_answers(rt, &batch, workers, gate)?;
+        done += batch_lines.len();
+        size = size.max((2 * size).min(lines.len().div_ceil(PARTS_OF_ALL)));
+    }
+    let PartialReport { report, texts } = partial;
+    extended(report, texts.as_slice())
+}
+
+/// A report so far: what of it is joined, and the answers that follow.
+#[derive(Drop)]
+pub(crate) struct PartialReport {
+    pub(crate) report: Vec<u8>,
+    pub(crate) texts: Vec<Vec<u8>>,
+}
+
+impl PartialReport {
+    /// The same with the answers to a batch. The answers before it are joined meanwhile, if there are several workers.
+    fn with_answers<R: Threads + Wait + Sync, G: Gate>(
+        self,
+        rt: &R,
+        batch: &Batch,
+        workers: usize,
+        gate: &G,
+    ) -> Result<Self, AllocError>
+        requires some_worker { 0 < workers }
+        requires few_workers { workers ≤ most_workers }
+        ensures { IfOk result (λ after. partial_text after
+            ≡ partial_text self ++ answers_to_batch batch.now.repo.now batch.now.first batch.now.lines.now) }
+    {
+        let PartialReport { report, texts } = self;
+        if workers == 1 || texts.is_empty() {
+            let report = extended(report, texts.as_slice())?;
+            drop(texts);
+            let texts = batch.answers(rt, workers, gate)?;
+            return Ok(PartialReport { report, texts });
+        }
+        let joined = texts.as_slice();
+        let joining = move || -> Result<Vec<u8>, AllocError>
+            ensures { IfOk result (λ after.
+                after.items ≡ report.items ++ flat_map (λ text. text.items) joined.entry.now) }
+        { extended(report, joined) };
+        let answering = move || -> Result<Vec<Vec<u8>>, AllocError>
+            requires { (0 < workers) × (workers ≤ most_workers) }
+            ensures { IfOk result (λ texts. flat_map (λ text. text.items) texts.items
+                ≡ answers_to_batch batch.entry.now.repo.now batch.entry.now.first batch.entry.now.lines.now) }
+        { batch.answers(rt, workers, gate) };
+        let (report, answers) = thread::join(rt, joining, answering);
+        // Freed here, since freeing in one thread and allocating in others wait for each other.
+        drop(texts);
+        let report = report?;
+        let texts = answers?;
+        Ok(PartialReport { report, texts })
     }
 }
 
@@ -94,13 +139,14 @@ fn length_of(texts: &[Vec<u8>]) -> usize {
     length
 }
 
-/// All texts, one after another.
-fn joined(alloc: Global, texts: Vec<Vec<u8>>) -> Result<Vec<u8>, AllocError>
-    ensures { IfOk result (λ out. out.items ≡ flat_map (λ text. text.items) texts.items) }
+/// A report with these texts at its end, one after another.
+fn extended(report: Vec<u8>, texts: &[Vec<u8>]) -> Result<Vec<u8>, AllocError>
+    ensures { IfOk result (λ after. after.items ≡ report.items ++ flat_map (λ text. text.items) texts.now) }
 {
-    let mut out = Vec::with_capacity(alloc, length_of(texts.as_slice()))?;
+    let mut report = report;
+    report.reserve_exact(length_of(texts))?;
     for text in texts {
-        out.extend_from_slice(text.as_slice())?;
+        report.extend_from_slice(text.as_slice())?;
     }
-    Ok(out)
+    Ok(report)
 }

@@ -3,6 +3,7 @@
 #![tactic(auto)]
 
 mod answering;
+mod batch;
 mod block_index;
 mod block_maps;
 mod blocks;

@@ -24,6 +24,9 @@ pub(crate) const MOST_QUERIES: usize = 1_000_000;
 ///
 /// Blocks take whole revisions from 1 on by the lengths `cuts` in turn; the last length is repeated, and no lengths
 /// mean one block. Neither the cutting nor the number of workers shows in the report.
+///
+/// The queries are answered in batches, one after another, of which the first has 16 queries for each worker. So a call
+/// of the gate that waits for a call at a place of a later batch waits forever.
 pub fn report<R: Threads + Wait + Sync, G: Gate>(
     rt: &R,
     alloc: Global,

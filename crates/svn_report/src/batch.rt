@@ -1,0 +1,104 @@
+//! A batch of the queries of a run.
+ghost use Rattle.std.specs.Prelude.{◌≡◌, ◌+◌, ◌<◌, ◌≤◌, IfOk, length};
+ghost use Rattle.std.specs.List.{flat_map};
+ghost use Rattle.query_pool.specs.Serving.{most_workers};
+ghost use Rattle.svn_report.specs.Answering.{answers_to_batch};
+ghost use Rattle.svn_report.specs.Report.{most_queries};
+
+use query_answer::{Query, Repo, answer};
+use query_pool::{Gate, GatherError, Job, gather, serve};
+use std::alloc::{AllocError, Global};
+use std::sync::Wait;
+use std::thread::Threads;
+use value_memo::{Memo, Seen};
+
+/// The bytes that are reserved for an answer at first. Most answers are shorter.
+const USUAL_LENGTH: usize = 128;
+
+/// Some of the query lines of a run on a repository, which follow the first `first` ones. A place is that of a line
+/// among them, and the result there is the text of its answer.
+#[derive(Drop)]
+pub(crate) struct Batch<'r, 'a> {
+    pub(crate) alloc: Global,
+    pub(crate) repo: &'r Repo,
+    pub(crate) memo: &'a Memo<'r>,
+    pub(crate) first: u32,
+    pub(crate) lines: &'a [&'a [u8]],
+    ghost cells: { length repo.now.values ≤ length memo.now },
+    ghost few: { first + length lines.now ≤ most_queries },
+}
+
+impl<'r> Job for Batch<'r, '_> {
+    ghost use Rattle.query_answer.specs.Worker.{IsSeenOf};
+    ghost use Rattle.svn_report.specs.Answering.{HasLine, IsTextAt};
+
+    type Out = Vec<u8>;
+
+    type State = Seen<'r>;
+
+    ghost has = { λ batch place. HasLine batch.lines.now place };
+
+    ghost lawful = { λ batch seen. IsSeenOf batch.repo.now.values batch.memo.now seen };
+
+    ghost gives = { λ batch place text. IsTextAt batch.repo.now batch.first batch.lines.now place text.items };
+
+    fn state(&self) -> Result<Seen<'r>, AllocError> {
+        Seen::new(self.alloc, self.memo)
+    }
+
+    fn run(&self, place: u32, seen: &mut Seen<'r>) -> Result<Vec<u8>, AllocError> {
+        let query = Query::read(self.lines[place as usize]);
+        let mut text = Vec::with_capacity(self.alloc, USUAL_LENGTH)?;
+        answer(self.alloc, self.repo, &query, self.memo, seen)?.write(
+            self.repo,
+            self.first + place,
+            &mut text,
+        )?;
+        Ok(text)
+    }
+}
+
+impl Batch<'_, '_> {
+    /// The answers to the lines, in their order, found by so many workers.
+    pub(crate) fn answers<R: Threads + Wait + Sync, G: Gate>(
+        &self,
+        rt: &R,
+        workers: usize,
+        gate: &G,
+    ) -> Result<Vec<Vec<u8>>, AllocError>
+        requires some_worker { 0 < workers }
+        requires few_workers { workers ≤ most_workers }
+        ensures { IfOk result (λ texts. flat_map (λ text. text.items) texts.items
+            ≡ answers_to_batch self.now.repo.now self.now.first self.now.lines.now) }
+    {
+        let n = self.lines.len() as u32;
+        let gate = BatchGate {
+            gate,
+            first: self.first,
+        };
+        let parts = serve(rt, self.alloc, self, n, workers, &gate)?;
+        match gather(self.alloc, parts, n) {
+            Ok(texts) => Ok(texts),
+            Err(GatherError::Memory) => Err(AllocError),
+            Err(_) => unreachable!(),
+        }
+    }
+}
+
+/// The gate of a run, which is called with the places that the queries have in the run. No sum wraps, since these are
+/// below 1,000,000, but no contract of a gate says so.
+#[derive(Drop)]
+struct BatchGate<'g, G> {
+    gate: &'g G,
+    first: u32,
+}
+
+impl<G: Gate> Gate for BatchGate<'_, G> {
+    fn enter(&self, place: u32) {
+        self.gate.enter(self.first.wrapping_add(place));
+    }
+
+    fn leave(&self, place: u32) {
+        self.gate.leave(self.first.wrapping_add(place));
+    }
+}
