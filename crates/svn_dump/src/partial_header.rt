@@ -137,6 +137,7 @@ impl PartialHeader {
 fn kept_length(headers: &Headers, section: u64) -> u64
     ensures within { result ≤ section }
     ensures all { IsTrue (are_of_node headers.now) → result ≡ section }
+    ensures none { IsFalse (are_of_node headers.now) → result ≡ 0 }
 {
     if headers.are_of_node() { section } else { 0 }
 }
