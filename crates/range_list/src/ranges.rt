@@ -9,7 +9,7 @@ ghost use Rattle.range_list.specs.Text.{rangelist_text};
 
 use crate::run::Run;
 use crate::sweep::Sweep;
-use crate::text::write_run;
+use crate::text::{append_inheritable_runs, append_runs};
 use std::alloc::{AllocError, Global};
 use std::marker::Model;
 
@@ -127,16 +127,15 @@ impl Ranges {
 
     /// Appends the runs, separated by commas.
     pub fn write(&self, out: &mut Vec<u8>) -> Result<(), AllocError>
-        ensures { OnOk result (out.new.items ≡ out.old.items ++ rangelist_text self.now) }
+        ensures ok { OnOk result (out.new.items ≡ out.old.items ++ rangelist_text self.now) }
+        ensures err { OnErr result (out.new.items ≡ out.old.items) }
     {
-        let Some((first, others)) = self.runs().split_first() else {
-            return Ok(());
-        };
-        write_run(*first, false, out)?;
-        for run in others {
-            write_run(*run, true, out)?;
+        let before = out.len();
+        let written = append_runs(self.runs(), out);
+        if written.is_err() {
+            out.truncate(before);
         }
-        Ok(())
+        written
     }
 
     /// Whether some number is inheritable.
@@ -148,16 +147,15 @@ impl Ranges {
 
     /// Appends the inheritable runs, separated by commas.
     pub fn write_inheritable(&self, out: &mut Vec<u8>) -> Result<(), AllocError>
-        ensures { OnOk result (out.new.items ≡ out.old.items ++ rangelist_text (inheritable_runs self.now)) }
+        ensures ok { OnOk result (out.new.items ≡ out.old.items ++ rangelist_text (inheritable_runs self.now)) }
+        ensures err { OnErr result (out.new.items ≡ out.old.items) }
     {
-        let mut follows = false;
-        for run in self.runs() {
-            if run.inheritable {
-                write_run(*run, follows, out)?;
-                follows = true;
-            }
+        let before = out.len();
+        let written = append_inheritable_runs(self.runs(), out);
+        if written.is_err() {
+            out.truncate(before);
         }
-        Ok(())
+        written
     }
 
     /// An equal set.

@@ -1,6 +1,8 @@
 //! Runs in text.
-ghost use Rattle.std.specs.Prelude.{◌≡◌, ◌+◌, ◌<◌, ◌≤◌, [], ◌∷◌, ◌++◌, OnOk, codes, decimal, drop, if◌then◌else◌};
-ghost use Rattle.range_list.specs.Text.{range_text, run_text};
+ghost use Rattle.std.specs.Prelude.{◌≡◌, ◌+◌, ◌<◌, ◌≤◌, [], ◌∷◌, ◌++◌, OnErr, OnOk, codes, decimal, drop, if◌then◌else◌};
+ghost use Rattle.svn_text.specs.Appended.{BeginsWith};
+ghost use Rattle.range_list.specs.Rangelist.{inheritable_runs};
+ghost use Rattle.range_list.specs.Text.{range_text, rangelist_text, run_text};
 
 use crate::run::Run;
 use itoa::write_digits;
@@ -9,9 +11,43 @@ use std::alloc::AllocError;
 /// The bytes of a comma and the longest run, `,4294967295-4294967295*`.
 const MOST_BYTES: usize = 23;
 
+/// Appends the runs, separated by commas, or as many of them as there is memory for.
+#[tactic(auto, using(svn_text::proofs::Appended::appended))]
+pub(crate) fn append_runs(runs: &[Run], out: &mut Vec<u8>) -> Result<(), AllocError>
+    ensures ok { OnOk result (out.new.items ≡ out.old.items ++ rangelist_text runs.now) }
+    ensures begins { BeginsWith out.old.items out.new.items }
+{
+    let Some((first, others)) = runs.split_first() else {
+        return Ok(());
+    };
+    write_run(*first, false, out)?;
+    for run in others {
+        write_run(*run, true, out)?;
+    }
+    Ok(())
+}
+
+/// Appends the inheritable ones of the runs, separated by commas, or as many of them as there is memory for.
+#[tactic(auto, using(svn_text::proofs::Appended::appended))]
+pub(crate) fn append_inheritable_runs(runs: &[Run], out: &mut Vec<u8>) -> Result<(), AllocError>
+    ensures ok { OnOk result (out.new.items ≡ out.old.items ++ rangelist_text (inheritable_runs runs.now)) }
+    ensures begins { BeginsWith out.old.items out.new.items }
+{
+    let mut follows = false;
+    for run in runs {
+        if run.inheritable {
+            write_run(*run, follows, out)?;
+            follows = true;
+        }
+    }
+    Ok(())
+}
+
 /// Appends a run, after a comma if it follows another one.
-pub(crate) fn write_run(run: Run, follows: bool, out: &mut Vec<u8>) -> Result<(), AllocError>
-    ensures { OnOk result (out.new.items ≡ out.old.items ++ (if follows then codes "," else []) ++ run_text run) }
+fn write_run(run: Run, follows: bool, out: &mut Vec<u8>) -> Result<(), AllocError>
+    ensures ok { OnOk result
+        (out.new.items ≡ out.old.items ++ (if follows then codes "," else []) ++ run_text run) }
+    ensures err { OnErr result (out.new.items ≡ out.old.items) }
 {
     let mut text = [0; MOST_BYTES];
     let start = put_star(run.inheritable, &mut text);

@@ -3,6 +3,7 @@ ghost use Rattle.std.specs.Prelude.{◌≡◌, ℕ, ◌<◌, ◌≤◌, ◌↔�
 ghost use Rattle.std.specs.Cmp.{partial_equiv_from_equiv, partial_order_from_agreeing_total};
 ghost use Rattle.std.specs.Cmp.Lexicographic.{pointwise, slice_cmp};
 ghost use Rattle.std.specs.Ordering.{as_partial_cmp};
+ghost use Rattle.svn_text.specs.Appended.{BeginsWith};
 ghost use Rattle.svn_path.specs.Below.{is_below, parent_of};
 ghost use Rattle.svn_path.specs.Components.{parts_of, parts_text, path_text, HasDot};
 ghost use Rattle.svn_path.specs.Lookup.{IsLookup};
@@ -307,11 +308,12 @@ fn write_parts(parts: &[NameId], names: &Names, out: &mut Vec<u8>) -> Result<(),
     written
 }
 
-/// Appends a slash and the name for each component.
+/// Appends a slash and the name for each component, or as much of this as there is memory for.
+#[tactic(auto, using(svn_text::proofs::Appended::appended))]
 fn append_parts(parts: &[NameId], names: &Names, out: &mut Vec<u8>) -> Result<(), AllocError>
     requires { IsPathOf names.now parts.now }
     ensures ok { OnOk result (out.new.items ≡ out.old.items ++ parts_text (components_of names.now parts.now)) }
-    ensures err { OnErr result ((more : List ℕ) × (out.new.items ≡ out.old.items ++ more)) }
+    ensures begins { BeginsWith out.old.items out.new.items }
 {
     for id in parts {
         out.push(b'/')?;

@@ -1,3 +1,4 @@
+pub mod Appended
 pub mod Bytes
 pub mod Cut
 pub mod HashedText

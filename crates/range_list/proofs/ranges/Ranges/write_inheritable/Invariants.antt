@@ -1,6 +1,0 @@
-use Rattle.std.proofs.Common.{take}
-use Rattle.range_list.proofs.Texts.{AreWritten}
-use Rattle.range_list.proofs.ranges.Ranges.write_inheritable.Given as goal
-
-abbrev pub invariant-loop-run : goal.invariant-loop-run
-invariant-loop-run l = AreWritten l.fn.out.items (take l.run-index l.run-items) l.out.items l.follows
