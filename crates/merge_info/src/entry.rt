@@ -1,5 +1,6 @@
 //! The entries of a value.
 ghost use Rattle.std.specs.Prelude.{◌≡◌, ◌++◌, IfOk, OnOk};
+ghost use Rattle.svn_text.specs.Appended.{BeginsWith};
 ghost use Rattle.svn_text.specs.Line.{line_text};
 ghost use Rattle.merge_info.specs.Inherited.{inherited_line};
 ghost use Rattle.merge_info.specs.Line.{IsPrintedPath, line_view};
@@ -37,9 +38,11 @@ impl Entry {
         })
     }
 
-    /// Appends the line of the entry.
-    pub(crate) fn write(&self, out: &mut Vec<u8>) -> Result<(), AllocError>
-        ensures { OnOk result (out.new.items ≡ out.old.items ++ line_text (printed_entry (entry_view self.now))) }
+    /// Appends the line of the entry, or as much of it as there is memory for.
+    #[tactic(auto, using(svn_text::proofs::Appended::appended))]
+    pub(crate) fn append(&self, out: &mut Vec<u8>) -> Result<(), AllocError>
+        ensures ok { OnOk result (out.new.items ≡ out.old.items ++ line_text (printed_entry (entry_view self.now))) }
+        ensures begins { BeginsWith out.old.items out.new.items }
     {
         out.extend_from_slice(&self.path)?;
         out.push(b':')?;
@@ -48,11 +51,13 @@ impl Entry {
         Ok(())
     }
 
-    /// Appends the line of what a path inherits of this entry, given `rest`.
-    pub(crate) fn write_inherited(&self, rest: &[u8], out: &mut Vec<u8>) -> Result<(), AllocError>
+    /// Appends the line of what a path inherits of this entry, given `rest`, or as much of it as there is memory for.
+    #[tactic(auto, using(svn_text::proofs::Appended::appended))]
+    pub(crate) fn append_inherited(&self, rest: &[u8], out: &mut Vec<u8>) -> Result<(), AllocError>
         requires path { IsPrintedPath self.now.path.items }
         requires rest { IsPrintedPath rest.now }
-        ensures { OnOk result (out.new.items ≡ out.old.items ++ inherited_text rest.now (entry_view self.now)) }
+        ensures ok { OnOk result (out.new.items ≡ out.old.items ++ inherited_text rest.now (entry_view self.now)) }
+        ensures begins { BeginsWith out.old.items out.new.items }
     {
         push_path_below(&self.path, rest, out)?;
         out.push(b':')?;

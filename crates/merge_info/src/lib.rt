@@ -10,6 +10,7 @@ mod lines;
 mod merge_info;
 mod rangelist;
 mod source_path;
+mod text;
 mod united;
 
 pub use error::MergeError;

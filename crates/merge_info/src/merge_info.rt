@@ -1,6 +1,6 @@
 //! The values of `svn:mergeinfo`.
 ghost use Rattle.std.specs.Bool.{OnTrue};
-ghost use Rattle.std.specs.Prelude.{◌≡◌, ◌↔◌, [], ◌++◌, IsTrue, None, All, Some, IfOk, OnOk, IsErrOf, option_map, map};
+ghost use Rattle.std.specs.Prelude.{◌≡◌, ◌↔◌, [], ◌++◌, IsTrue, None, All, Some, IfOk, OnOk, OnErr, IsErrOf, option_map, map};
 ghost use Rattle.merge_info.specs.CanonicalValue.{canonical_value, inherited_value, value_of};
 ghost use Rattle.merge_info.specs.Inherited.{KeepTheirOrder, inherited_lines};
 ghost use Rattle.merge_info.specs.Line.{IsLine, IsPrintedPath, line_view};
@@ -12,6 +12,7 @@ use crate::error::MergeError;
 use crate::line::Line;
 use crate::lines::read_lines;
 use crate::source_path::is_before_below;
+use crate::text::{append_entries, append_inherited};
 use crate::united::united;
 use range_list::Ranges;
 use std::alloc::{AllocError, Global};
@@ -93,30 +94,34 @@ impl MergeInfo {
     /// Appends a line for each path.
     pub fn write(&self, out: &mut Vec<u8>) -> Result<(), AllocError>
         ensures ok { OnOk result (out.new.items ≡ out.old.items ++ value_text self.now) }
+        ensures err { OnErr result (out.new.items ≡ out.old.items) }
         ensures canonical { IsMergeInfo self.now }
         ensures only { IsOnlyMergeInfo self.now }
         ensures reads_back { All IsOnOneLine self.now → lines_of (value_text self.now) ≡ Some self.now }
     {
-        for entry in &self.entries {
-            entry.write(out)?;
+        let before = out.len();
+        let written = append_entries(&self.entries, out);
+        if written.is_err() {
+            out.truncate(before);
         }
-        Ok(())
+        written
     }
 
     /// Appends the lines of what a path inherits, given what follows the path that has this value.
     pub fn write_inherited(&self, rest: &[u8], out: &mut Vec<u8>) -> Result<(), AllocError>
         requires { IsPrintedPath rest.now }
-        ensures { OnOk result (out.new.items ≡ out.old.items ++ value_text (inherited_value rest.now self.now)) }
+        ensures ok { OnOk result (out.new.items ≡ out.old.items ++ value_text (inherited_value rest.now self.now)) }
+        ensures err { OnErr result (out.new.items ≡ out.old.items) }
     {
         if !keep_their_order(&self.entries) {
             return self.inherited(rest)?.write(out);
         }
-        for entry in &self.entries {
-            if entry.ranges.has_inheritable() {
-                entry.write_inherited(rest, out)?;
-            }
+        let before = out.len();
+        let written = append_inherited(&self.entries, rest, out);
+        if written.is_err() {
+            out.truncate(before);
         }
-        Ok(())
+        written
     }
 
     /// An equal value.

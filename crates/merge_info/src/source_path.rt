@@ -1,5 +1,6 @@
 //! Source paths.
 ghost use Rattle.std.specs.Prelude.{◌≡◌, ◌++◌, IfOk, OnOk};
+ghost use Rattle.svn_text.specs.Appended.{BeginsWith};
 ghost use Rattle.svn_path.specs.Components.{parts_of, path_text};
 ghost use Rattle.merge_info.specs.Inherited.{is_before_below, path_below, stays_before};
 ghost use Rattle.merge_info.specs.Line.{IsPrintedPath};
@@ -33,11 +34,13 @@ pub(crate) fn path_below(alloc: Global, path: &[u8], rest: &[u8]) -> Result<Vec<
     Ok(both)
 }
 
-/// Appends a path followed by the rest of another.
+/// Appends a path followed by the rest of another, or as much of it as there is memory for.
+#[tactic(auto, using(svn_text::proofs::Appended::appended))]
 pub(crate) fn push_path_below(path: &[u8], rest: &[u8], out: &mut Vec<u8>) -> Result<(), AllocError>
     requires path { IsPrintedPath path.now }
     requires rest { IsPrintedPath rest.now }
-    ensures { OnOk result (out.new.items ≡ out.old.items ++ path_below path.now rest.now) }
+    ensures ok { OnOk result (out.new.items ≡ out.old.items ++ path_below path.now rest.now) }
+    ensures begins { BeginsWith out.old.items out.new.items }
 {
     if path == b"/".as_slice() {
         return out.extend_from_slice(rest);

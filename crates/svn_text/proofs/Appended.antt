@@ -31,4 +31,4 @@ pub BeginsWith-kept : {old between new : List ℕ} → BeginsWith old between �
 BeginsWith-kept begins same = BeginsWith-trans begins (BeginsWith-same same)
 
 -- at each exit of a function that appends
-pub ruleset appended = (BeginsWith-append, BeginsWith-more, BeginsWith-kept, BeginsWith-same)
+pub ruleset appended = (BeginsWith-append, BeginsWith-more, BeginsWith-kept, BeginsWith-same, BeginsWith-trans)

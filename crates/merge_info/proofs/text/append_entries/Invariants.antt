@@ -1,0 +1,7 @@
+use Rattle.std.proofs.Common.{◌≡◌, ◌++◌, map, take}
+use Rattle.merge_info.specs.Text.{value_text}
+use Rattle.merge_info.specs.Value.{entry_view}
+use Rattle.merge_info.proofs.text.append_entries.Given as goal
+
+abbrev pub invariant-loop-entry : goal.invariant-loop-entry
+invariant-loop-entry l = l.out.items ≡ l.fn.out.items ++ value_text (take l.entry-index (map entry_view l.entries))

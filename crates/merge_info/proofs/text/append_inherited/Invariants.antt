@@ -1,0 +1,9 @@
+use Rattle.std.proofs.Common.{◌≡◌, ◌++◌, map, take}
+use Rattle.merge_info.specs.Text.{value_text}
+use Rattle.merge_info.specs.Value.{entry_view}
+use Rattle.merge_info.proofs.InheritedEntries.{inherited_entries}
+use Rattle.merge_info.proofs.text.append_inherited.Given as goal
+
+abbrev pub invariant-loop-entry : goal.invariant-loop-entry
+invariant-loop-entry l =
+    l.out.items ≡ l.fn.out.items ++ value_text (inherited_entries l.rest (take l.entry-index (map entry_view l.entries)))
