@@ -34,6 +34,7 @@ module _ (dump : DumpValue) (index : IndexValue) (map : MapValue) (ends : List â
       record {
         kept = repo.dump_is;
         of_names = known.of_names;
+        spells = known.spells;
         within = within;
         there = IsThere-there dump repo.dump_is path peg.rev within there;
         answered = Î» answer.

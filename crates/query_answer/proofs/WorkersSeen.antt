@@ -1,5 +1,5 @@
 -- What a worker knows at first, and once a reading that borrows from it has ended.
-use Rattle.std.proofs.Common.{◌≡◌, ℕ, ◌≤◌, List, Some, length, slice_get, inl, inr, refl, sym, subst, ◌∙◌}
+use Rattle.std.proofs.Common.{◌≡◌, ℕ, ◌≤◌, List, Option, Some, length, slice_get, inl, inr, refl, sym, subst, ◌∙◌}
 use Rattle.std.specs.Prelude.{Result, Ok, Err, MatchResult}
 use Rattle.value_memo.specs.SeenValue.{IsAnswered, SeenValue, nothing_seen}
 use Rattle.value_memo.proofs.Callers.{AsksOnly-answered, AsksOnly-nothing_seen}
@@ -13,9 +13,9 @@ module _ (texts : List (List ℕ)) (memo : List ℕ) (old : SeenValue) (is : IsS
   IsSeenOf-after (Err e) new same = subst (IsSeenOf texts memo) (sym same) is
 
   -- and has learnt no more than the one text
-  pub Learns-after : {T E : Type 0} (result : Result T E) (new : SeenValue) → MatchResult result (λ _. IsAnswered old id text new) (λ _. new ≡ old) → Learns texts old new
-  Learns-after (Ok value) new answered = inr (record { id = id; text = text; of_id = of_id; answered = answered })
-  Learns-after (Err e) new same = inl same
+  pub Learns-after : (asked : Option (List ℕ)) → asked ≡ Some text → {T E : Type 0} (result : Result T E) (new : SeenValue) → MatchResult result (λ _. IsAnswered old id text new) (λ _. new ≡ old) → Learns texts asked old new
+  Learns-after asked asked_is (Ok value) new answered = inr (record { id = id; text = text; asked_is = asked_is; of_id = of_id; answered = answered })
+  Learns-after asked asked_is (Err e) new same = inl same
 
 -- a new worker asked for nothing yet
 pub IsSeenOf-nothing_seen : (texts : List (List ℕ)) (memo : List ℕ) (seen : SeenValue) → length texts ≤ length memo → seen ≡ nothing_seen memo → IsSeenOf texts memo seen

@@ -43,3 +43,7 @@ effective_of path (Some found) = option_map (own_or_inherited path found.depth) 
 -- the value that holds for a path, unless the text of the nearest is malformed
 abbrev pub effective_value : Tree (List ℕ) (List ℕ) → List (List ℕ) → Option MergeInfoValue
 effective_value tree path = effective_of path (nearest bytes_eq tree path)
+
+-- the text that tells it: the nearest one, if there is any
+abbrev pub nearest_text : Tree (List ℕ) (List ℕ) → List (List ℕ) → Option (List ℕ)
+nearest_text tree path = option_map (λ found. found.mergeinfo) (nearest bytes_eq tree path)

@@ -17,9 +17,10 @@ use Rattle.block_map.specs.Ends.{ends_of}
 use Rattle.block_map.specs.Map.{IsEndIn, IsMapOf, MapValue, revision_in}
 use Rattle.block_map.specs.declared.nearest.Nearest.{Nearest}
 use Rattle.query_answer.specs.Answer.{Answer, HasPathOf, TreesOfBytes, if_both_exist, if_peg_exists, with_effective_mergeinfo, with_value, answer_of, eligible_lines, locate_lines, log_lines, merged_lines, mergeinfo_lines, ok_answer, refused_answer, segments_lines}
-use Rattle.query_answer.specs.Effective.{NearestMergeinfo, effective_value, nearest}
+use Rattle.query_answer.specs.Effective.{NearestMergeinfo, effective_value, nearest, nearest_text}
 use Rattle.query_answer.specs.Merged.{eligible_revisions, merged_revisions, value_has}
 use Rattle.query_answer.specs.Peg.{Peg, PegValue, peg_view}
+use Rattle.query_answer.specs.Query as query
 use Rattle.query_answer.specs.Query.{Query}
 use Rattle.merge_info.specs.Value.{MergeInfoValue}
 use Rattle.query_answer.specs.declared.effective_mergeinfo.Effective.{Effective}
@@ -110,6 +111,7 @@ IsPegLookedUp dump peg (Err status) =
 pub record IsPathFound (dump : DumpValue) (peg : PegValue) (path : List NameId) : Type 0 where
   pub kept : IsDump dump
   pub of_names : IsPathOf dump.names path
+  pub spells : components_of dump.names path ≡ parts_of peg.path
   pub within : peg.rev < length dump.counts
   pub there : IsThere dump.records path peg.rev
   pub answered : (answer : Peg → Answer) →
@@ -158,6 +160,25 @@ effective_view Malformed = None
 -- the value that holds for a path of the dump in a revision
 abbrev pub effective_in : DumpValue → List NameId → ℕ → Option MergeInfoValue
 effective_in dump path rev = effective_value (tree_of (trees_in_bytes dump) rev) (components_of dump.names path)
+
+-- ---- the text that is read
+
+-- that of the nearest mergeinfo of a path of the dump in a revision
+abbrev pub nearest_text_in : DumpValue → List NameId → ℕ → Option (List ℕ)
+nearest_text_in dump path rev = nearest_text (tree_of (trees_in_bytes dump) rev) (components_of dump.names path)
+
+abbrev pub nearest_text_at : DumpValue → Peg → Option (List ℕ)
+nearest_text_at dump peg = nearest_text (tree_of (trees_in_bytes dump) peg.rev) peg.path
+
+-- for a query: that of the path whose mergeinfo is asked for, or of the target
+abbrev pub text_read_for : DumpValue → Query → Option (List ℕ)
+text_read_for dump query.bad = None
+text_read_for dump (query.locate peg rev) = None
+text_read_for dump (query.segments peg) = None
+text_read_for dump (query.log peg) = None
+text_read_for dump (query.mergeinfo peg) = nearest_text_at dump peg
+text_read_for dump (query.merged source target) = nearest_text_at dump target
+text_read_for dump (query.eligible source target) = nearest_text_at dump target
 
 -- ---- a source and a target
 

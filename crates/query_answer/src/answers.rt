@@ -1,17 +1,18 @@
 //! The answer to a query, and its text.
-ghost use Rattle.std.specs.Prelude.{◌≡◌, ◌+◌, ◌++◌, OnOk};
+ghost use Rattle.std.specs.Prelude.{◌≡◌, ◌+◌, ◌++◌, OnErr, OnOk};
+ghost use Rattle.svn_text.specs.Appended.{BeginsWith};
 ghost use Rattle.query_answer.specs.Answer.{HasPathsOf, answer_head, answer_in_bytes, text_at};
 
 use crate::merged_revision::MergedRevision;
 use crate::printed_mergeinfo::PrintedMergeinfo;
 use crate::repo::Repo;
 use crate::result_lines::{
-    write_eligible, write_location, write_log, write_merged, write_mergeinfo, write_segments,
+    append_eligible, append_location, append_log, append_merged, append_mergeinfo, append_segments,
 };
 use crate::status::Status;
 use path_index::{Hit, Segment};
 use std::alloc::AllocError;
-use svn_path::Path;
+use svn_path::{Names, Path};
 use svn_text::push_number;
 
 /// The answer to a query, with paths by the names of a repository. Contracts see its status and its result lines, and
@@ -41,20 +42,35 @@ impl Answer {
     /// Appends the answer to the query of a place. Places begin at 0, and the printed numbers at 1.
     pub fn write(&self, repo: &Repo, place: u32, out: &mut Vec<u8>) -> Result<(), AllocError>
         requires { HasPathsOf repo.now.names self.now }
-        ensures { OnOk result (out.new.items ≡ out.old.items ++ text_at repo.now.names place self.now) }
+        ensures ok { OnOk result (out.new.items ≡ out.old.items ++ text_at repo.now.names place self.now) }
+        ensures err { OnErr result (out.new.items ≡ out.old.items) }
     {
-        write_head(place, self.status(), out)?;
-        let names = repo.names();
+        let before = out.len();
+        let written = self.append(repo.names(), place, out);
+        if written.is_err() {
+            out.truncate(before);
+        }
+        written
+    }
+
+    /// Appends the answer, or as much of it as there is memory for.
+    #[tactic(auto, using(svn_text::proofs::Appended::appended))]
+    fn append(&self, names: &Names, place: u32, out: &mut Vec<u8>) -> Result<(), AllocError>
+        requires { HasPathsOf names.now self.now }
+        ensures ok { OnOk result (out.new.items ≡ out.old.items ++ text_at names.now place self.now) }
+        ensures begins { BeginsWith out.old.items out.new.items }
+    {
+        append_head(place, self.status(), out)?;
         match self {
             Answer::Refused(_) => Ok(()),
-            Answer::Location(path) => write_location(names, path.as_ref(), out),
-            Answer::Segments(segments) => write_segments(names, segments.as_slice(), out),
+            Answer::Location(path) => append_location(names, path.as_ref(), out),
+            Answer::Segments(segments) => append_segments(names, segments.as_slice(), out),
             Answer::Log { segments, hits } => {
-                write_log(names, segments.as_slice(), hits.as_slice(), out)
+                append_log(names, segments.as_slice(), hits.as_slice(), out)
             }
-            Answer::Mergeinfo(value) => write_mergeinfo(value, out),
-            Answer::Merged(revisions) => write_merged(revisions.as_slice(), out),
-            Answer::Eligible(revisions) => write_eligible(revisions.as_slice(), out),
+            Answer::Mergeinfo(value) => append_mergeinfo(value, out),
+            Answer::Merged(revisions) => append_merged(revisions.as_slice(), out),
+            Answer::Eligible(revisions) => append_eligible(revisions.as_slice(), out),
         }
     }
 
@@ -69,9 +85,11 @@ impl Answer {
     }
 }
 
-/// Appends the first line of an answer.
-fn write_head(place: u32, status: Status, out: &mut Vec<u8>) -> Result<(), AllocError>
-    ensures { OnOk result (out.new.items ≡ out.old.items ++ answer_head (place + 1) status) }
+/// Appends the first line of an answer, or as much of it as there is memory for.
+#[tactic(auto, using(svn_text::proofs::Appended::appended))]
+fn append_head(place: u32, status: Status, out: &mut Vec<u8>) -> Result<(), AllocError>
+    ensures ok { OnOk result (out.new.items ≡ out.old.items ++ answer_head (place + 1) status) }
+    ensures begins { BeginsWith out.old.items out.new.items }
 {
     out.push(b'#')?;
     push_number(out, u64::from(place) + 1)?;

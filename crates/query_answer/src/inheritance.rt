@@ -1,10 +1,12 @@
 //! The mergeinfo that a path has or inherits.
-ghost use Rattle.std.specs.Prelude.{◌≡◌, ◌≤◌, IfOk, drop, length};
+ghost use Rattle.std.specs.Prelude.{◌≡◌, ◌≤◌, IfOk, drop, length, option_map};
 ghost use Rattle.merge_info.specs.CanonicalValue.{inherited_value};
 ghost use Rattle.merge_info.specs.Line.{IsPrintedPath};
 ghost use Rattle.svn_path.specs.Components.{path_text};
 ghost use Rattle.svn_path.specs.Path.{IsPathOf, components_of};
-ghost use Rattle.query_answer.specs.Repo.{effective_in, effective_view};
+ghost use Rattle.value_memo.specs.Parsed.{parsed_view};
+ghost use Rattle.query_answer.specs.Effective.{own_or_inherited};
+ghost use Rattle.query_answer.specs.Repo.{effective_in, effective_view, nearest_text_in};
 ghost use Rattle.query_answer.specs.Worker.{IsSeenOf, Learns};
 
 use crate::effective_mergeinfo::Effective;
@@ -33,16 +35,33 @@ pub fn effective<'r>(
     requires seen { IsSeenOf repo.now.values memo.now seen.old }
     ensures value { IfOk result (λ value. effective_view value ≡ effective_in repo.now path.now rev) }
     ensures seen { IsSeenOf repo.now.values memo.now seen.new }
-    ensures learns { Learns repo.now.values seen.old seen.new }
+    ensures learns { Learns repo.now.values (nearest_text_in repo.now path.now rev) seen.old seen.new }
 {
     let Some(found) = repo.nearest(path, rev)? else {
         return Ok(Effective::Value(MergeInfo::empty(alloc)));
     };
-    match seen.value(memo, found.mi, repo.mergeinfo_text(found.mi))? {
+    let parsed = seen.value(memo, found.mi, repo.mergeinfo_text(found.mi))?;
+    effective_by(alloc, repo, path, found.depth, parsed)
+}
+
+/// The mergeinfo that holds for a path, given what the text says that its first `depth` components have.
+fn effective_by(
+    alloc: Global,
+    repo: &Repo,
+    path: &Path,
+    depth: usize,
+    parsed: Parsed<'_>,
+) -> Result<Effective, AllocError>
+    requires path { IsPathOf repo.now.names path.now }
+    requires depth { depth ≤ length path.now }
+    ensures { IfOk result (λ value. effective_view value
+        ≡ option_map (own_or_inherited (components_of repo.now.names path.now) depth) (parsed_view parsed.entry)) }
+{
+    match parsed {
         Parsed::Malformed => Ok(Effective::Malformed),
-        Parsed::Good(value) if found.depth == path.len() => Ok(Effective::Value(value.dup()?)),
+        Parsed::Good(value) if depth == path.len() => Ok(Effective::Value(value.dup()?)),
         Parsed::Good(value) => {
-            Ok(Effective::Value(inherited_by(alloc, repo, path, found.depth, value)?))
+            Ok(Effective::Value(inherited_by(alloc, repo, path, depth, value)?))
         }
     }
 }

@@ -1,5 +1,5 @@
 //! The lines of a value.
-ghost use Rattle.std.specs.Prelude.{◌≡◌, ◌++◌, IfOk, OnOk};
+ghost use Rattle.std.specs.Prelude.{◌≡◌, ◌++◌, IfOk, OnErr, OnOk};
 ghost use Rattle.merge_info.specs.CanonicalValue.{inherited_value};
 ghost use Rattle.merge_info.specs.Line.{IsPrintedPath};
 ghost use Rattle.merge_info.specs.Text.{value_text};
@@ -66,7 +66,8 @@ impl PrintedMergeinfo {
 
     /// Appends them.
     pub(crate) fn write(&self, out: &mut Vec<u8>) -> Result<(), AllocError>
-        ensures { OnOk result (out.new.items ≡ out.old.items ++ value_text self.now) }
+        ensures ok { OnOk result (out.new.items ≡ out.old.items ++ value_text self.now) }
+        ensures err { OnErr result (out.new.items ≡ out.old.items) }
     {
         out.extend_from_slice(self.text.as_slice())
     }

@@ -1,5 +1,6 @@
-//! The result lines of answers.
-ghost use Rattle.std.specs.Prelude.{◌≡◌, ◌++◌, All, OnOk};
+//! The result lines of answers. What appends them appends as much as there is memory for.
+ghost use Rattle.std.specs.Prelude.{◌≡◌, ◌++◌, All, OnErr, OnOk};
+ghost use Rattle.svn_text.specs.Appended.{BeginsWith};
 ghost use Rattle.query_answer.specs.Answer.{HasPathOf, IsLocationOf, eligible_text, hit_text, lent_path, locate_text, log_text, merged_text, mergeinfo_text, location_text, segment_text, segments_text};
 
 use crate::locations::path_at;
@@ -11,13 +12,15 @@ use svn_path::{Names, Path};
 use svn_text::push_number;
 
 /// Appends the line of `locate`.
-pub(crate) fn write_location(
+#[tactic(auto, using(svn_text::proofs::Appended::appended))]
+pub(crate) fn append_location(
     names: &Names,
     path: Option<&Path>,
     out: &mut Vec<u8>,
 ) -> Result<(), AllocError>
     requires { IsLocationOf names.now (lent_path path) }
-    ensures { OnOk result (out.new.items ≡ out.old.items ++ locate_text names.now (lent_path path.entry)) }
+    ensures ok { OnOk result (out.new.items ≡ out.old.items ++ locate_text names.now (lent_path path.entry)) }
+    ensures begins { BeginsWith out.old.items out.new.items }
 {
     write_path(names, path, out)?;
     out.push(b'\n')?;
@@ -25,24 +28,28 @@ pub(crate) fn write_location(
 }
 
 /// Appends the lines of `segments`.
-pub(crate) fn write_segments(
+#[tactic(auto, using(svn_text::proofs::Appended::appended))]
+pub(crate) fn append_segments(
     names: &Names,
     segments: &[Segment],
     out: &mut Vec<u8>,
 ) -> Result<(), AllocError>
     requires { All (HasPathOf names.now) segments.now }
-    ensures { OnOk result (out.new.items ≡ out.old.items ++ segments_text names.now segments.now) }
+    ensures ok { OnOk result (out.new.items ≡ out.old.items ++ segments_text names.now segments.now) }
+    ensures begins { BeginsWith out.old.items out.new.items }
 {
     for segment in segments {
-        write_segment(names, segment, out)?;
+        append_segment(names, segment, out)?;
     }
     Ok(())
 }
 
 /// Appends the result line of a segment.
-fn write_segment(names: &Names, segment: &Segment, out: &mut Vec<u8>) -> Result<(), AllocError>
+#[tactic(auto, using(svn_text::proofs::Appended::appended))]
+fn append_segment(names: &Names, segment: &Segment, out: &mut Vec<u8>) -> Result<(), AllocError>
     requires { HasPathOf names.now segment.now }
-    ensures { OnOk result (out.new.items ≡ out.old.items ++ segment_text names.now segment.now) }
+    ensures ok { OnOk result (out.new.items ≡ out.old.items ++ segment_text names.now segment.now) }
+    ensures begins { BeginsWith out.old.items out.new.items }
 {
     push_number(out, u64::from(segment.lo))?;
     out.push(b'-')?;
@@ -54,30 +61,34 @@ fn write_segment(names: &Names, segment: &Segment, out: &mut Vec<u8>) -> Result<
 }
 
 /// Appends the lines of `log`.
-pub(crate) fn write_log(
+#[tactic(auto, using(svn_text::proofs::Appended::appended))]
+pub(crate) fn append_log(
     names: &Names,
     segments: &[Segment],
     hits: &[Hit],
     out: &mut Vec<u8>,
 ) -> Result<(), AllocError>
     requires { All (HasPathOf names.now) segments.now }
-    ensures { OnOk result (out.new.items ≡ out.old.items ++ log_text names.now segments.now hits.now) }
+    ensures ok { OnOk result (out.new.items ≡ out.old.items ++ log_text names.now segments.now hits.now) }
+    ensures begins { BeginsWith out.old.items out.new.items }
 {
     for hit in hits {
-        write_hit(names, segments, *hit, out)?;
+        append_hit(names, segments, *hit, out)?;
     }
     Ok(())
 }
 
 /// Appends the result line of an operative revision.
-fn write_hit(
+#[tactic(auto, using(svn_text::proofs::Appended::appended))]
+fn append_hit(
     names: &Names,
     segments: &[Segment],
     hit: Hit,
     out: &mut Vec<u8>,
 ) -> Result<(), AllocError>
     requires { All (HasPathOf names.now) segments.now }
-    ensures { OnOk result (out.new.items ≡ out.old.items ++ hit_text names.now segments.now hit) }
+    ensures ok { OnOk result (out.new.items ≡ out.old.items ++ hit_text names.now segments.now hit) }
+    ensures begins { BeginsWith out.old.items out.new.items }
 {
     out.push(b'r')?;
     push_number(out, u64::from(hit.rev))?;
@@ -88,18 +99,25 @@ fn write_hit(
 }
 
 /// Appends the lines of `mergeinfo`.
-pub(crate) fn write_mergeinfo(value: &PrintedMergeinfo, out: &mut Vec<u8>) -> Result<(), AllocError>
-    ensures { OnOk result (out.new.items ≡ out.old.items ++ mergeinfo_text value.now) }
+#[tactic(auto, using(svn_text::proofs::Appended::appended))]
+pub(crate) fn append_mergeinfo(
+    value: &PrintedMergeinfo,
+    out: &mut Vec<u8>,
+) -> Result<(), AllocError>
+    ensures ok { OnOk result (out.new.items ≡ out.old.items ++ mergeinfo_text value.now) }
+    ensures begins { BeginsWith out.old.items out.new.items }
 {
     value.write(out)
 }
 
 /// Appends the lines of `merged`.
-pub(crate) fn write_merged(
+#[tactic(auto, using(svn_text::proofs::Appended::appended))]
+pub(crate) fn append_merged(
     revisions: &[MergedRevision],
     out: &mut Vec<u8>,
 ) -> Result<(), AllocError>
-    ensures { OnOk result (out.new.items ≡ out.old.items ++ merged_text revisions.now) }
+    ensures ok { OnOk result (out.new.items ≡ out.old.items ++ merged_text revisions.now) }
+    ensures begins { BeginsWith out.old.items out.new.items }
 {
     for revision in revisions {
         out.push(b'r')?;
@@ -113,8 +131,10 @@ pub(crate) fn write_merged(
 }
 
 /// Appends the lines of `eligible`.
-pub(crate) fn write_eligible(revisions: &[u32], out: &mut Vec<u8>) -> Result<(), AllocError>
-    ensures { OnOk result (out.new.items ≡ out.old.items ++ eligible_text revisions.now) }
+#[tactic(auto, using(svn_text::proofs::Appended::appended))]
+pub(crate) fn append_eligible(revisions: &[u32], out: &mut Vec<u8>) -> Result<(), AllocError>
+    ensures ok { OnOk result (out.new.items ≡ out.old.items ++ eligible_text revisions.now) }
+    ensures begins { BeginsWith out.old.items out.new.items }
 {
     for rev in revisions {
         out.push(b'r')?;
@@ -125,13 +145,10 @@ pub(crate) fn write_eligible(revisions: &[u32], out: &mut Vec<u8>) -> Result<(),
 }
 
 /// Appends a path, or `-` where there is none.
-pub(crate) fn write_path(
-    names: &Names,
-    path: Option<&Path>,
-    out: &mut Vec<u8>,
-) -> Result<(), AllocError>
+fn write_path(names: &Names, path: Option<&Path>, out: &mut Vec<u8>) -> Result<(), AllocError>
     requires { IsLocationOf names.now (lent_path path) }
-    ensures { OnOk result (out.new.items ≡ out.old.items ++ location_text names.now (lent_path path.entry)) }
+    ensures ok { OnOk result (out.new.items ≡ out.old.items ++ location_text names.now (lent_path path.entry)) }
+    ensures err { OnErr result (out.new.items ≡ out.old.items) }
 {
     match path {
         Some(path) => path.write(names, out)?,

@@ -2,7 +2,7 @@
 ghost use Rattle.std.specs.Prelude.{IfOk};
 ghost use Rattle.query_answer.specs.Answer.{IsAnswer};
 ghost use Rattle.query_answer.specs.Query.{query_view};
-ghost use Rattle.query_answer.specs.Repo.{answer_in};
+ghost use Rattle.query_answer.specs.Repo.{answer_in, text_read_for};
 ghost use Rattle.query_answer.specs.Worker.{IsSeenOf, Learns};
 
 mod eligible;
@@ -24,8 +24,9 @@ use value_memo::{Memo, Seen};
 
 /// The answer to a query.
 ///
-/// The memo has a cell for each mergeinfo text of the repository, and the worker was answered for such texts alone. What
-/// it reads is there for other workers, and for its own next queries.
+/// The memo has a cell for each mergeinfo text of the repository, and the worker was answered for such texts alone. At
+/// most one text is read, whatever the answer: the nearest mergeinfo of the path of `mergeinfo`, or of the target of
+/// `merged` and `eligible`. What it says is there for other workers, and for the worker's own next queries.
 pub fn answer<'r>(
     alloc: Global,
     repo: &'r Repo,
@@ -36,7 +37,7 @@ pub fn answer<'r>(
     requires seen { IsSeenOf repo.now.values memo.now seen.old }
     ensures answer { IfOk result (IsAnswer repo.now.names (answer_in repo.now (query_view query.now))) }
     ensures seen { IsSeenOf repo.now.values memo.now seen.new }
-    ensures learns { Learns repo.now.values seen.old seen.new }
+    ensures learns { Learns repo.now.values (text_read_for repo.now (query_view query.now)) seen.old seen.new }
 {
     match query {
         Query::Bad => Ok(Answer::Refused(Status::BadQuery)),

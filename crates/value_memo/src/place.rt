@@ -1,5 +1,5 @@
 //! What a worker knows of one cell.
-ghost use Rattle.std.specs.Prelude.{◌≡◌, true, false, Some, None, IfSome, IfNone, OnOk, OnErr, IsSome, IsTrue, IsFalse, is_some};
+ghost use Rattle.std.specs.Prelude.{◌≡◌, true, false, Some, None, IfOk, IfSome, IfNone, OnOk, OnErr, IsSome, IsTrue, IsFalse, is_some};
 ghost use Rattle.once_cell.specs.Once.{cell_name};
 ghost use Rattle.value_memo.specs.PlaceValue.{unanswered, IsAnsweredPlace};
 
@@ -63,6 +63,7 @@ impl<'t> Place<'t> {
         requires cell { self.old.cell ≡ cell_name cell.now }
         requires new { self.old.text ≡ None }
         ensures ok { OnOk result (IsAnsweredPlace self.old text.now self.new) }
+        ensures shared { IfOk result (λ is_read. IsFalse is_read → self.new.own ≡ false) }
         ensures err { OnErr result (self.new ≡ self.old) }
     {
         if self.finds(cell, text) {
@@ -78,6 +79,7 @@ impl<'t> Place<'t> {
         requires cell { self.old.cell ≡ cell_name cell.now }
         requires new { self.old.text ≡ None }
         ensures found { IsTrue result → IsAnsweredPlace self.old text.now self.new }
+        ensures shared { IsTrue result → self.new.own ≡ false }
         ensures missed { IsFalse result → self.new ≡ self.old }
     {
         match cell.get_as(&mut self.note) {

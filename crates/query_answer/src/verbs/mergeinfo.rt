@@ -1,7 +1,11 @@
 //! `mergeinfo`: the effective mergeinfo of a path.
-ghost use Rattle.std.specs.Prelude.{◌≡◌, IfOk};
+ghost use Rattle.std.specs.Prelude.{◌≡◌, ◌≤◌, IfOk, length, option_map};
+ghost use Rattle.svn_path.specs.Path.{IsPathOf, components_of};
+ghost use Rattle.value_memo.specs.Parsed.{parsed_view};
 ghost use Rattle.query_answer.specs.Answer.{IsAnswer};
-ghost use Rattle.query_answer.specs.Repo.{IsTargetFound, effective_in, mergeinfo_answer};
+ghost use Rattle.query_answer.specs.Effective.{own_or_inherited};
+ghost use Rattle.query_answer.specs.Peg.{peg_view};
+ghost use Rattle.query_answer.specs.Repo.{IsTargetFound, effective_in, mergeinfo_answer, nearest_text_at, nearest_text_in};
 ghost use Rattle.query_answer.specs.Worker.{IsSeenOf, Learns};
 
 use crate::answers::Answer;
@@ -13,6 +17,7 @@ use crate::status::Status;
 use crate::target::Target;
 use merge_info::MergeInfo;
 use std::alloc::{AllocError, Global};
+use svn_path::Path;
 use value_memo::{Memo, Parsed, Seen};
 
 /// The effective mergeinfo of a peg.
@@ -26,7 +31,7 @@ pub(crate) fn answer_mergeinfo<'r>(
     requires seen { IsSeenOf repo.now.values memo.now seen.old }
     ensures answer { IfOk result (IsAnswer repo.now.names (mergeinfo_answer repo.now peg.now)) }
     ensures seen { IsSeenOf repo.now.values memo.now seen.new }
-    ensures learns { Learns repo.now.values seen.old seen.new }
+    ensures learns { Learns repo.now.values (nearest_text_at repo.now (peg_view peg.now)) seen.old seen.new }
 {
     let target = match repo.find_target(alloc, peg)? {
         Ok(target) => target,
@@ -51,18 +56,33 @@ fn printed<'r>(
     requires seen { IsSeenOf repo.now.values memo.now seen.old }
     ensures value { IfOk result (λ value. value ≡ effective_in repo.now target.now.path peg.now.rev) }
     ensures seen { IsSeenOf repo.now.values memo.now seen.new }
-    ensures learns { Learns repo.now.values seen.old seen.new }
+    ensures learns { Learns repo.now.values (nearest_text_in repo.now target.now.path peg.now.rev) seen.old seen.new }
 {
     let Some(found) = target.nearest else {
         return Ok(Some(PrintedMergeinfo::of(alloc, &MergeInfo::empty(alloc))?));
     };
-    match seen.value(memo, found.mi, repo.mergeinfo_text(found.mi))? {
+    let parsed = seen.value(memo, found.mi, repo.mergeinfo_text(found.mi))?;
+    printed_by(alloc, repo, &target.path, found.depth, parsed)
+}
+
+/// The lines of the effective mergeinfo of a path, given what the text says that its first `depth` components have.
+fn printed_by(
+    alloc: Global,
+    repo: &Repo,
+    path: &Path,
+    depth: usize,
+    parsed: Parsed<'_>,
+) -> Result<Option<PrintedMergeinfo>, AllocError>
+    requires path { IsPathOf repo.now.names path.now }
+    requires depth { depth ≤ length path.now }
+    ensures { IfOk result (λ value.
+        value ≡ option_map (own_or_inherited (components_of repo.now.names path.now) depth) (parsed_view parsed.entry)) }
+{
+    match parsed {
         Parsed::Malformed => Ok(None),
-        Parsed::Good(value) if found.depth == target.path.len() => {
-            Ok(Some(PrintedMergeinfo::of(alloc, value)?))
-        }
+        Parsed::Good(value) if depth == path.len() => Ok(Some(PrintedMergeinfo::of(alloc, value)?)),
         Parsed::Good(value) => {
-            let rest = rest_below(alloc, repo, &target.path, found.depth)?;
+            let rest = rest_below(alloc, repo, path, depth)?;
             Ok(Some(PrintedMergeinfo::inherited(alloc, value, &rest)?))
         }
     }

@@ -1,10 +1,12 @@
 //! A source and a target.
-ghost use Rattle.std.specs.Prelude.{◌≡◌, IfOk, Some};
+ghost use Rattle.std.specs.Prelude.{◌≡◌, IfOk, option_map};
 ghost use Rattle.query_answer.specs.Answer.{IsAnswer};
-ghost use Rattle.query_answer.specs.Repo.{IsPair, IsPairFound, effective_in, pair_answer};
+ghost use Rattle.query_answer.specs.Peg.{peg_view};
+ghost use Rattle.query_answer.specs.Repo.{IsPair, IsPairFound, effective_in, nearest_text_at, pair_answer};
 ghost use Rattle.query_answer.specs.Held.{rest_of};
 ghost use Rattle.query_answer.specs.HeldValue.{own_or_below};
 ghost use Rattle.svn_path.specs.Path.{components_of};
+ghost use Rattle.value_memo.specs.Parsed.{parsed_view};
 ghost use Rattle.query_answer.specs.Worker.{IsSeenOf, Learns};
 
 use super::eligible::eligible_of;
@@ -68,7 +70,7 @@ pub(crate) fn answer_pair<'r>(
     requires seen { IsSeenOf repo.now.values memo.now seen.old }
     ensures answer { IfOk result (IsAnswer repo.now.names (pair_answer repo.now wanted source.now target.now)) }
     ensures seen { IsSeenOf repo.now.values memo.now seen.new }
-    ensures learns { Learns repo.now.values seen.old seen.new }
+    ensures learns { Learns repo.now.values (nearest_text_at repo.now (peg_view target.now)) seen.old seen.new }
 {
     let pair = match Pair::find(alloc, repo, source, target)? {
         Ok(pair) => pair,
@@ -76,15 +78,21 @@ pub(crate) fn answer_pair<'r>(
     };
     let Some(found) = pair.target.nearest else {
         let empty = MergeInfo::empty(alloc);
-        return revisions(alloc, repo, wanted, source, target, &pair, &empty);
+        return revisions(
+            alloc,
+            repo,
+            wanted,
+            source,
+            target,
+            &pair,
+            Parsed::Good(&empty),
+        );
     };
-    match seen.value(memo, found.mi, repo.mergeinfo_text(found.mi))? {
-        Parsed::Malformed => Ok(Answer::Refused(Status::MalformedMergeinfo)),
-        Parsed::Good(value) => revisions(alloc, repo, wanted, source, target, &pair, value),
-    }
+    let parsed = seen.value(memo, found.mi, repo.mergeinfo_text(found.mi))?;
+    revisions(alloc, repo, wanted, source, target, &pair, parsed)
 }
 
-/// The revisions of a pair that are asked for, given the value of the nearest path that has mergeinfo.
+/// The revisions of a pair that are asked for, given what the text says that the nearest path with mergeinfo has.
 fn revisions(
     alloc: Global,
     repo: &Repo,
@@ -92,13 +100,16 @@ fn revisions(
     source: &Peg<'_>,
     target: &Peg<'_>,
     pair: &Pair,
-    value: &MergeInfo,
+    parsed: Parsed<'_>,
 ) -> Result<Answer, AllocError>
     requires pair { IsPair repo.now source.now target.now pair.now }
     requires value { effective_in repo.now pair.now.target.path target.now.rev
-        ≡ Some (own_or_below (components_of repo.now.names (rest_of pair.now.target)) value.now) }
+        ≡ option_map (own_or_below (components_of repo.now.names (rest_of pair.now.target))) (parsed_view parsed) }
     ensures { IfOk result (IsAnswer repo.now.names (pair_answer repo.now wanted source.now target.now)) }
 {
+    let Parsed::Good(value) = parsed else {
+        return Ok(Answer::Refused(Status::MalformedMergeinfo));
+    };
     let held = HeldMergeinfo::new(value, pair.target.rest());
     match wanted {
         Wanted::Merged => Ok(Answer::Merged(merged_of(alloc, repo, source, pair, &held)?)),

@@ -1,8 +1,9 @@
-use Rattle.std.proofs.Common.{◌≡◌, None, Some, ap, sym, subst, ◌∙◌, arith}
-use Rattle.merge_info.specs.CanonicalValue.{value_of}
-use Rattle.value_memo.specs.Parsed.{parsed_view}
-use Rattle.query_answer.specs.Repo.{IsNearestIn}
-use Rattle.query_answer.proofs.EffectiveValues.{effective_in-inherited, effective_in-malformed, effective_in-none, effective_in-own, mergeinfo-found}
+use Rattle.std.proofs.Common.{None, Some, ap, sym, subst, ◌∙◌, option_map}
+use Rattle.std.proofs.lemmas.Result.{IfOk-weaker}
+use Rattle.svn_path.specs.Path.{components_of}
+use Rattle.query_answer.specs.Effective.{own_or_inherited}
+use Rattle.query_answer.specs.Repo.{IsNearestIn, nearest_text_in}
+use Rattle.query_answer.proofs.EffectiveValues.{effective_in-none, effective_in-text, mergeinfo-found, nearest_text-found}
 use Rattle.query_answer.proofs.WorkersSeen.{IsSeenOf-after, Learns-after}
 use Rattle.query_answer.proofs.inheritance.effective.Goals as goal
 
@@ -16,79 +17,25 @@ mergeinfo_text-requires c =
     let near : IsNearestIn c.args.repo.now c.args.path.now c.args.rev (Some c.in-Some.found) = subst (IsNearestIn c.args.repo.now c.args.path.now c.args.rev) c.in-Some.is c.in_ok-found.ensures.found in
     mergeinfo-found c.args.repo.now c.in_ok-found.ensures.kept c.args.path.now c.args.rev c.in-Some.found near
 
-pub returns-in-Malformed-clause-value : goal.returns-in-Malformed-clause-value
-returns-in-Malformed-clause-value c =
+pub returns-clause-value : goal.returns-clause-value
+returns-clause-value c =
     let near : IsNearestIn c.args.repo.now c.args.path.now c.args.rev (Some c.in-Some.found) = subst (IsNearestIn c.args.repo.now c.args.path.now c.args.rev) c.in-Some.is c.in_ok-found.ensures.found in
-    sym (effective_in-malformed c.args.repo.now c.in_ok-found.ensures.kept c.args.path.now c.args.rev c.in-Some.found near c.mergeinfo_text.result.now c.mergeinfo_text.ensures
-    (sym c.in_ok-value.ensures.reading ∙ ap parsed_view c.in-Malformed.is))
+    IfOk-weaker c.effective_by.result _ _
+    (λ value by_text.
+    by_text
+    ∙ ap (option_map (own_or_inherited (components_of c.args.repo.now.names c.args.path.now) c.in-Some.found.depth)) c.in_ok-parsed.ensures.reading
+    ∙ sym (effective_in-text c.args.repo.now c.in_ok-found.ensures.kept c.args.path.now c.args.rev c.in-Some.found near c.mergeinfo_text.result.now c.mergeinfo_text.ensures))
+    c.effective_by.ensures
 
-pub returns-in-Malformed-clause-seen : goal.returns-in-Malformed-clause-seen
-returns-in-Malformed-clause-seen c =
+pub returns-clause-seen : goal.returns-clause-seen
+returns-clause-seen c =
     IsSeenOf-after c.args.repo.now.values c.args.memo.now c.args.seen.now c.requires.seen c.in-Some.found.mi.0 c.mergeinfo_text.result.now c.mergeinfo_text.ensures
     c.value.result c.value.follows.lender-at-none c.value.follows.holds-at-none
 
-pub returns-in-Malformed-clause-learns : goal.returns-in-Malformed-clause-learns
-returns-in-Malformed-clause-learns c =
-    Learns-after c.args.repo.now.values c.args.memo.now c.args.seen.now c.requires.seen c.in-Some.found.mi.0 c.mergeinfo_text.result.now c.mergeinfo_text.ensures
-    c.value.result c.value.follows.lender-at-none c.value.follows.holds-at-none
-
-pub returns-in_err-dup-in-Good-clause-seen : goal.returns-in_err-dup-in-Good-clause-seen
-returns-in_err-dup-in-Good-clause-seen c =
-    IsSeenOf-after c.args.repo.now.values c.args.memo.now c.args.seen.now c.requires.seen c.in-Some.found.mi.0 c.mergeinfo_text.result.now c.mergeinfo_text.ensures
-    c.value.result c.value.follows.lender-at-none c.value.follows.holds-at-none
-
-pub returns-in_err-dup-in-Good-clause-learns : goal.returns-in_err-dup-in-Good-clause-learns
-returns-in_err-dup-in-Good-clause-learns c =
-    Learns-after c.args.repo.now.values c.args.memo.now c.args.seen.now c.requires.seen c.in-Some.found.mi.0 c.mergeinfo_text.result.now c.mergeinfo_text.ensures
-    c.value.result c.value.follows.lender-at-none c.value.follows.holds-at-none
-
-pub returns-in_ok-dup-in-Good-clause-value : goal.returns-in_ok-dup-in-Good-clause-value
-returns-in_ok-dup-in-Good-clause-value c =
+pub returns-clause-learns : goal.returns-clause-learns
+returns-clause-learns c =
     let near : IsNearestIn c.args.repo.now c.args.path.now c.args.rev (Some c.in-Some.found) = subst (IsNearestIn c.args.repo.now c.args.path.now c.args.rev) c.in-Some.is c.in_ok-found.ensures.found in
-    let read : value_of c.mergeinfo_text.result.now ≡ Some c.in-Good.value.now = sym c.in_ok-value.ensures.reading ∙ ap parsed_view c.in-Good.is in
-    ap Some c.in_ok-dup-in-Good.ensures
-    ∙ sym (effective_in-own c.args.repo.now c.in_ok-found.ensures.kept c.args.path.now c.args.rev c.in-Some.found near c.mergeinfo_text.result.now c.mergeinfo_text.ensures c.in-Good.value.now read
-    (c.if-found-len.true ∙ c.len.ensures))
-
-pub returns-in_ok-dup-in-Good-clause-seen : goal.returns-in_ok-dup-in-Good-clause-seen
-returns-in_ok-dup-in-Good-clause-seen c =
-    IsSeenOf-after c.args.repo.now.values c.args.memo.now c.args.seen.now c.requires.seen c.in-Some.found.mi.0 c.mergeinfo_text.result.now c.mergeinfo_text.ensures
-    c.value.result c.value.follows.lender-at-none c.value.follows.holds-at-none
-
-pub returns-in_ok-dup-in-Good-clause-learns : goal.returns-in_ok-dup-in-Good-clause-learns
-returns-in_ok-dup-in-Good-clause-learns c =
     Learns-after c.args.repo.now.values c.args.memo.now c.args.seen.now c.requires.seen c.in-Some.found.mi.0 c.mergeinfo_text.result.now c.mergeinfo_text.ensures
+    (nearest_text_in c.args.repo.now c.args.path.now c.args.rev)
+    (nearest_text-found c.args.repo.now c.in_ok-found.ensures.kept c.args.path.now c.args.rev c.in-Some.found near c.mergeinfo_text.result.now c.mergeinfo_text.ensures)
     c.value.result c.value.follows.lender-at-none c.value.follows.holds-at-none
-
-pub returns-in_err-inherited_by-in-Good-2-clause-seen : goal.returns-in_err-inherited_by-in-Good-2-clause-seen
-returns-in_err-inherited_by-in-Good-2-clause-seen c =
-    IsSeenOf-after c.args.repo.now.values c.args.memo.now c.args.seen.now c.requires.seen c.in-Some.found.mi.0 c.mergeinfo_text.result.now c.mergeinfo_text.ensures
-    c.value.result c.value.follows.lender-at-none c.value.follows.holds-at-none
-
-pub returns-in_err-inherited_by-in-Good-2-clause-learns : goal.returns-in_err-inherited_by-in-Good-2-clause-learns
-returns-in_err-inherited_by-in-Good-2-clause-learns c =
-    Learns-after c.args.repo.now.values c.args.memo.now c.args.seen.now c.requires.seen c.in-Some.found.mi.0 c.mergeinfo_text.result.now c.mergeinfo_text.ensures
-    c.value.result c.value.follows.lender-at-none c.value.follows.holds-at-none
-
-pub returns-in_ok-inherited_by-in-Good-2-clause-value : goal.returns-in_ok-inherited_by-in-Good-2-clause-value
-returns-in_ok-inherited_by-in-Good-2-clause-value c =
-    let near : IsNearestIn c.args.repo.now c.args.path.now c.args.rev (Some c.in-Some.found) = subst (IsNearestIn c.args.repo.now c.args.path.now c.args.rev) c.in-Some.is c.in_ok-found.ensures.found in
-    let read : value_of c.mergeinfo_text.result.now ≡ Some c.in-Good.value.now = sym c.in_ok-value.ensures.reading ∙ ap parsed_view c.in-Good.is in
-    ap Some c.in_ok-inherited_by-in-Good-2.ensures
-    ∙ sym (effective_in-inherited c.args.repo.now c.in_ok-found.ensures.kept c.args.path.now c.args.rev c.in-Some.found near c.mergeinfo_text.result.now c.mergeinfo_text.ensures c.in-Good.value.now read
-    (λ same. c.if-found-len.false (same ∙ sym c.len.ensures)))
-
-pub returns-in_ok-inherited_by-in-Good-2-clause-seen : goal.returns-in_ok-inherited_by-in-Good-2-clause-seen
-returns-in_ok-inherited_by-in-Good-2-clause-seen c =
-    IsSeenOf-after c.args.repo.now.values c.args.memo.now c.args.seen.now c.requires.seen c.in-Some.found.mi.0 c.mergeinfo_text.result.now c.mergeinfo_text.ensures
-    c.value.result c.value.follows.lender-at-none c.value.follows.holds-at-none
-
-pub returns-in_ok-inherited_by-in-Good-2-clause-learns : goal.returns-in_ok-inherited_by-in-Good-2-clause-learns
-returns-in_ok-inherited_by-in-Good-2-clause-learns c =
-    Learns-after c.args.repo.now.values c.args.memo.now c.args.seen.now c.requires.seen c.in-Some.found.mi.0 c.mergeinfo_text.result.now c.mergeinfo_text.ensures
-    c.value.result c.value.follows.lender-at-none c.value.follows.holds-at-none
-
-pub value-requires-clause-number : goal.value-requires-clause-number
-value-requires-clause-number c =
-    let near : IsNearestIn c.args.repo.now c.args.path.now c.args.rev (Some c.in-Some.found) = subst (IsNearestIn c.args.repo.now c.args.path.now c.args.rev) c.in-Some.is c.in_ok-found.ensures.found in
-    omega (arith, mergeinfo-found c.args.repo.now c.in_ok-found.ensures.kept c.args.path.now c.args.rev c.in-Some.found near, c.requires.seen.cells)

@@ -1,9 +1,11 @@
-use Rattle.std.proofs.Common.{◌≡◌, Some, ap, subst, sym, ◌∙◌}
+use Rattle.std.proofs.Common.{◌≡◌, None, Some, ap, subst, sym, ◌∙◌, option_map}
 use Rattle.svn_path.specs.Path.{IsPathOf, components_of}
-use Rattle.query_answer.specs.Held.{held_value}
+use Rattle.value_memo.specs.Parsed.{parsed_view}
+use Rattle.query_answer.specs.Held.{held_value, rest_of}
 use Rattle.query_answer.specs.HeldValue.{own_or_below}
 use Rattle.query_answer.specs.Repo.{effective_in}
-use Rattle.query_answer.proofs.AnswerTexts.{IsAnswer-Eligible, IsAnswer-Merged}
+use Rattle.query_answer.specs.declared.status.Status.TheVariants as status
+use Rattle.query_answer.proofs.AnswerTexts.{IsAnswer-Eligible, IsAnswer-Merged, IsAnswer-Pair_refused, with_pair_in-malformed}
 use Rattle.query_answer.proofs.PegsFound.{IsPathOf-rest}
 use Rattle.query_answer.proofs.verbs.pair.revisions.Goals as goal
 
@@ -21,12 +23,22 @@ pub returns-in_ok-merged_of-in-Merged : goal.returns-in_ok-merged_of-in-Merged
 returns-in_ok-merged_of-in-Merged c =
     let dump = c.args.repo.now in
     let is : effective_in dump c.args.pair.now.target.path c.args.target.now.rev ≡ Some (held_value dump.names c.new-held.result) =
-    c.requires.value ∙ ap (λ rest. Some (own_or_below (components_of dump.names rest) c.args.value.now)) (sym c.rest.ensures) ∙ ap Some (sym (c.new-held.ensures.value dump.names)) in
+    c.requires.value ∙ ap (λ read. option_map (own_or_below (components_of dump.names (rest_of c.args.pair.now.target))) (parsed_view read)) c.in-Good.is
+    ∙ ap (λ rest. Some (own_or_below (components_of dump.names rest) c.in-Good.value.now)) (sym c.rest.ensures) ∙ ap Some (sym (c.new-held.ensures.value dump.names)) in
     rw c.in-Merged.is (IsAnswer-Merged dump c.args.source.now c.args.target.now c.args.pair.now c.requires.pair c.new-held.result is c.in_ok-merged_of-in-Merged.field-0 c.in_ok-merged_of-in-Merged.ensures)
 
 pub returns-in_ok-eligible_of-in-Eligible : goal.returns-in_ok-eligible_of-in-Eligible
 returns-in_ok-eligible_of-in-Eligible c =
     let dump = c.args.repo.now in
     let is : effective_in dump c.args.pair.now.target.path c.args.target.now.rev ≡ Some (held_value dump.names c.new-held.result) =
-    c.requires.value ∙ ap (λ rest. Some (own_or_below (components_of dump.names rest) c.args.value.now)) (sym c.rest.ensures) ∙ ap Some (sym (c.new-held.ensures.value dump.names)) in
+    c.requires.value ∙ ap (λ read. option_map (own_or_below (components_of dump.names (rest_of c.args.pair.now.target))) (parsed_view read)) c.in-Good.is
+    ∙ ap (λ rest. Some (own_or_below (components_of dump.names rest) c.in-Good.value.now)) (sym c.rest.ensures) ∙ ap Some (sym (c.new-held.ensures.value dump.names)) in
     rw c.in-Eligible.is (IsAnswer-Eligible dump c.args.source.now c.args.target.now c.args.pair.now c.requires.pair c.new-held.result is c.in_ok-eligible_of-in-Eligible.field-0 c.in_ok-eligible_of-in-Eligible.ensures)
+
+pub returns-in_default : goal.returns-in_default
+returns-in_default c =
+    let dump = c.args.repo.now in
+    let malformed : effective_in dump c.args.pair.now.target.path c.args.target.now.rev ≡ None =
+    c.requires.value ∙ ap (λ read. option_map (own_or_below (components_of dump.names (rest_of c.args.pair.now.target))) (parsed_view read)) c.in_default.is in
+    IsAnswer-Pair_refused dump c.args.wanted c.args.source.now c.args.target.now status.MalformedMergeinfo
+    (with_pair_in-malformed dump c.args.source.now c.args.target.now c.args.pair.now c.requires.pair malformed)

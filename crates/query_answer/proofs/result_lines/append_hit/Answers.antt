@@ -6,10 +6,10 @@ use Rattle.svn_path.specs.Path.{components_of}
 use Rattle.svn_text.specs.Line.{line_text}
 use Rattle.query_answer.specs.Answer.{location_line}
 use Rattle.query_answer.proofs.AnswerTexts.{location_line-lent, path_at-in_bytes}
-use Rattle.query_answer.proofs.result_lines.write_hit.Goals as goal
+use Rattle.query_answer.proofs.result_lines.append_hit.Goals as goal
 
-pub returns : goal.returns
-returns c =
+pub returns-clause-ok : goal.returns-clause-ok
+returns-clause-ok c =
     let located =
     location_line-lent c.args.names.now c.path_at.result _ c.path_at.ensures
     ∙ sym (ap location_line (path_at-in_bytes c.args.names.now c.args.segments.now c.args.hit.segment)) in
