@@ -8,7 +8,7 @@ use Rattle.std.specs.Prelude.{Option}
 use Rattle.std.proofs.lemmas.Grind.{flat_map-append}
 use Rattle.std.proofs.lemmas.List.{get_or_at, map-append}
 use Rattle.std.proofs.lemmas.List.Elements.{All-head}
-use Rattle.std.proofs.lemmas.List.Sums.{sum_by-cons}
+use Rattle.std.proofs.lemmas.List.Sums.{sum_by-append, sum_by-cons}
 use Rattle.svn_path.specs.Path.{same_name}
 use Rattle.svn_path.specs.declared.names.NameId.{NameId}
 use Rattle.svn_dump.specs.History.{Record}
@@ -17,7 +17,7 @@ use Rattle.block_map.specs.Blocks.{AreBlocksBefore, AreBlocksFrom, nodes_of, rec
 use Rattle.block_map.specs.Look as found
 use Rattle.block_map.specs.Look.{Found, look, resolved, with_mergeinfo}
 use Rattle.block_map.specs.LookThrough.{look_through}
-use Rattle.block_map.specs.Map.{most_nodes}
+use Rattle.block_map.specs.Map.{most_nodes, nodes_for}
 use Rattle.block_map.specs.Trees.{AreMapTrees, end_of_trees, look_in_trees}
 use Rattle.block_map.specs.declared.trees.Trees.{Trees}
 use Rattle.block_map.proofs.LooksThrough.{look-append, look_from-within, look_through-append, look_through-none}
@@ -64,6 +64,17 @@ pub nodes_of-few : (lo : ℕ) (blocks : List Trees) → AreBlocksFrom lo blocks 
 nodes_of-few lo [] are = omega arith
 nodes_of-few lo (first ∷ rest) are =
     omega (arith, nodes_of-few (end_of_trees first) rest are.3, are.2.few, sum_by-cons (λ (block : Trees). length block.trie.nodes) first rest, length-append first.records.records (records_of rest))
+
+-- for their records, too
+pub nodes_of-records : (lo : ℕ) (blocks : List Trees) → AreBlocksFrom lo blocks → nodes_of blocks ≤ nodes_for (records_of blocks)
+nodes_of-records lo [] are = omega arith
+nodes_of-records lo (first ∷ rest) are = omega (
+  arith,
+  nodes_of-records (end_of_trees first) rest are.3,
+  are.2.nodes,
+  sum_by-cons (λ (block : Trees). length block.trie.nodes) first rest,
+  sum_by-append (λ (each : Record NameId ValueId). length each.path + 1) first.records.records (records_of rest),
+)
 
 pub nodes_of-small : (lo : ℕ) (blocks : List Trees) → AreBlocksFrom lo blocks → nodes_of blocks ≤ most_nodes (2 ^ 32)
 nodes_of-small lo [] are = omega arith

@@ -1,21 +1,43 @@
 -- Blocks as records are added to them one by one.
-use Rattle.std.proofs.Common.{◌≡◌, ℕ, ◌+◌, ◌<◌, ◌≤◌, List, [], ◌∷◌, ◌++◌, get_or, length, take, sym, ap, subst, ◌∙◌, arith, take_all}
+use Rattle.std.proofs.Common.{◌≡◌, ℕ, ◌+◌, ◌<◌, ◌≤◌, All, List, [], ◌∷◌, ◌++◌, get_or, length, take, sym, ap, subst, ◌∙◌, arith, take_all}
 use Rattle.std.proofs.lemmas.List.{length-map, length-take-le, map-append, take_more}
+use Rattle.std.proofs.lemmas.List.Elements.{All-head, All-tail}
+use Rattle.std.proofs.lemmas.List.Sums.{sum_by-append, sum_by-cons}
 use Rattle.std.proofs.lemmas.Option.{slice_get-get_or}
+use Rattle.svn_path.specs.declared.names.NameId.{NameId}
 use Rattle.svn_dump.specs.Dump.{record_view}
+use Rattle.svn_dump.specs.History.{Record}
 use Rattle.svn_dump.specs.Record.{most_components}
 use Rattle.svn_dump.specs.declared.record.NodeRecord.{NodeRecord}
+use Rattle.svn_dump.specs.declared.record.ValueId.{ValueId}
 use Rattle.block_map.specs.Trees.{AreTrees, end_of_trees}
 use Rattle.block_map.specs.Ends.{HasSourceBefore, HaveSources, record_at_tick}
-use Rattle.block_map.specs.Map.{most_nodes, records_at_ticks}
+use Rattle.block_map.specs.Map.{most_nodes, nodes_for, records_at_ticks}
 use Rattle.block_map.specs.declared.trees.Trees.{Trees}
+
+-- for one record
+abbrev nodes_of_record : Record NameId ValueId → ℕ
+nodes_of_record each = length each.path + 1
+
+-- a record with a short path takes few
+pub nodes_for-few : (ends : List ℕ) (records : List NodeRecord) → All (λ (each : NodeRecord). length each.path ≤ most_components) records
+    → nodes_for (records_at_ticks ends records) ≤ most_nodes (length records)
+nodes_for-few ends [] short = omega arith
+nodes_for-few ends (first ∷ rest) short =
+    let is_short : NodeRecord → Type 0 = λ each. length each.path ≤ most_components in
+    omega (
+      arith,
+      All-head is_short first rest short,
+      nodes_for-few ends rest (All-tail is_short first rest short),
+      sum_by-cons nodes_of_record (record_at_tick ends (record_view first)) (records_at_ticks ends rest),
+    )
 
 -- the trees are of these records, with few nodes
 pub record IsBuiltOf (start : ℕ) (ends : List ℕ) (records : List NodeRecord) (trees : Trees) : Type 0 where
   pub is : AreTrees trees
   pub start_is : trees.start ≡ start
   pub records_are : trees.records.records ≡ records_at_ticks ends records
-  pub nodes : length trees.trie.nodes ≤ most_nodes (length records)
+  pub nodes : length trees.trie.nodes ≤ nodes_for trees.records.records
 
 -- it ends after them
 pub end_of-built : (start : ℕ) (ends : List ℕ) (records : List NodeRecord) (trees : Trees) → IsBuiltOf start ends records trees → end_of_trees trees ≡ start + length records
@@ -32,14 +54,16 @@ source-of_next start ends records index d trees sources within built =
 -- one record more
 pub IsBuiltOf-more : (start : ℕ) (ends : List ℕ) (records : List NodeRecord) (index : ℕ) (d : NodeRecord) (old new : Trees) → index < length records → IsBuiltOf start ends (take index records) old
     → AreTrees new → new.start ≡ old.start → new.records.records ≡ old.records.records ++ record_at_tick ends (record_view (get_or records index d)) ∷ []
-    → length new.trie.nodes ≤ length old.trie.nodes + most_components + 1 → IsBuiltOf start ends (take (index + 1) records) new
+    → length new.trie.nodes ≤ length old.trie.nodes + length (get_or records index d).path + 1 → IsBuiltOf start ends (take (index + 1) records) new
 IsBuiltOf-more start ends records index d old new within built is start_is added nodes = record {
   is = is;
   start_is = start_is ∙ built.start_is;
   records_are = added ∙ ap (λ front. front ++ record_at_tick ends (record_view (get_or records index d)) ∷ []) built.records_are
       ∙ sym (ap (records_at_ticks ends) (take_more records index d within)
       ∙ map-append (λ (each : NodeRecord). record_at_tick ends (record_view each)) (take index records) (get_or records index d ∷ []));
-  nodes = omega (arith, nodes, built.nodes, length-take-le index records (omega (arith, within)), length-take-le (index + 1) records (omega (arith, within)));
+  nodes =
+      let last = record_at_tick ends (record_view (get_or records index d)) in
+      omega (arith, nodes, built.nodes, ap nodes_for added, sum_by-append nodes_of_record old.records.records (last ∷ []), sum_by-cons nodes_of_record last []);
 }
 
 -- trees of no records

@@ -1,4 +1,5 @@
 -- What a map shows, and when it is a map of some records.
+use Rattle.std.specs.List.{sum_by}
 use Rattle.std.specs.Prelude.{◌≡◌, ℕ, ◌+◌, ◌*◌, ◌<◌, ◌≤◌, List, Option, None, Some, length, map, option_and_then, option_map, take}
 use Rattle.svn_path.specs.Path.{same_name}
 use Rattle.svn_path.specs.declared.names.NameId.{NameId}
@@ -62,7 +63,11 @@ found_view (found.AtWith path tick mi) = at_with path tick mi
 found_view (found.Is kind mi) = is kind mi
 found_view found.Absent = absent
 
--- the most nodes of a map: one for each component of a record's path, and two more
+-- the most nodes of a map of the records, of however many blocks: one for each component of a record's path, and one more
+abbrev pub nodes_for : List (Record NameId ValueId) → ℕ
+nodes_for records = sum_by (λ each. length each.path + 1) records
+
+-- the most nodes of a map of so many records, since no path has more than 1,024 components
 abbrev pub most_nodes : ℕ → ℕ
 most_nodes records = 1026 * records
 

@@ -7,7 +7,7 @@ use Rattle.svn_dump.specs.History.{Action, Record}
 use Rattle.svn_dump.specs.declared.record.NodeRecord.{NodeRecord}
 use Rattle.svn_dump.specs.declared.record.ValueId.{ValueId}
 use Rattle.block_map.specs.Ends.{action_at_tick}
-use Rattle.block_map.specs.Map.{most_nodes}
+use Rattle.block_map.specs.Map.{most_nodes, nodes_for}
 use Rattle.block_map.specs.Look.{Found, found_after_action, resolved, look, look_after, looks_of}
 use Rattle.block_map.specs.LookThrough.{look_through}
 use Rattle.block_map.specs.Trie.{ExtendsTrie, IsNodeOf, IsSound, LookOfNumbers, at_path, at_root, found_below}
@@ -44,10 +44,11 @@ pub record AreTrees (trees : Trees) : Type 0 where
   pub roots : length trees.roots.items ≡ length trees.records.records
   pub each : (index : ℕ) (id : NodeId) → slice_get trees.roots.items index ≡ Some id → IsRootAt trees (trees.start + index + 1) id
 
--- and few nodes
+-- and few nodes, for the number of the records and for their paths
 pub record AreMapTrees (trees : Trees) : Type 0 where
   pub is : AreTrees trees
   pub few : length trees.trie.nodes ≤ most_nodes (length trees.records.records)
+  pub nodes : length trees.trie.nodes ≤ nodes_for trees.records.records
 
 -- the same records, with nodes, parts and locations added
 pub record SameTrees (old new : Trees) : Type 0 where

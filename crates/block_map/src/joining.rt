@@ -12,8 +12,8 @@ use std::sync::Arc;
 /// map has the records of both, so it says of each path what they say together.
 impl Acts for Map {
     ghost use Rattle.par_scan.specs.Weightless.{no_weight};
-    ghost use Rattle.std.specs.Prelude.{◌≡◌, ◌++◌, ◌∷◌, [], IfOk};
-    ghost use Rattle.par_scan.specs.Chain.{IsChain, IsJoined};
+    ghost use Rattle.std.specs.Prelude.{◌≡◌, ◌+◌, ◌++◌, ◌∷◌, [], IfOk};
+    ghost use Rattle.par_scan.specs.Chain.{IsChain, IsJoined, IsUnitOf};
     ghost use Rattle.block_map.specs.Joining.{MapPoint, act_on_point, tick_before};
     ghost use Rattle.block_map.specs.Map.{hi_of};
 
@@ -33,7 +33,13 @@ impl Acts for Map {
         self.hi() == later.lo
     }
 
-    fn unit(&self) -> Result<Self, AllocError> {
+    fn unit(&self) -> Result<Self, AllocError>
+        ensures unit { IfOk result (IsUnitOf act_on_point tick_before hi_of self.now) }
+        ensures fits { IfOk result (λ unit. IsChain tick_before hi_of (λ _. 0) (unit ∷ self.now ∷ [])) }
+        ensures lo { IfOk result (λ unit. unit.lo ≡ self.now.lo) }
+        ensures hi { IfOk result (λ unit. hi_of unit ≡ self.now.lo) }
+        ensures nodes { IfOk result (λ unit. unit.nodes ≡ 0) }
+    {
         Ok(Map {
             lo: self.lo,
             blocks: Vec::new(*self.blocks.allocator()),
@@ -44,6 +50,7 @@ impl Acts for Map {
         requires { IsChain tick_before hi_of (λ _. 0) (self.now ∷ later.now ∷ []) }
         ensures joined { IfOk result (IsJoined act_on_point tick_before hi_of (self.now ∷ later.now ∷ [])) }
         ensures records { IfOk result (λ joined. joined.records ≡ self.now.records ++ later.now.records) }
+        ensures nodes { IfOk result (λ joined. joined.nodes ≡ self.now.nodes + later.now.nodes) }
     {
         let mut blocks = Vec::new(*self.blocks.allocator());
         share(&mut blocks, self.blocks.as_slice())?;

@@ -9,7 +9,7 @@ ghost use Rattle.block_map.specs.Ends.{HaveSources, ends_of};
 ghost use Rattle.block_map.specs.Look.{IsFoundAtOrBefore, at, from_beginning, look, resolved};
 ghost use Rattle.block_map.specs.LookThrough.{IsFoundUpTo, look_through as looked_through};
 ghost use Rattle.block_map.specs.Looked.{looked_view};
-ghost use Rattle.block_map.specs.Map.{AreEntryAndNearest, IsEndIn, IsMapOfFirstRecords, IsNearestOrNone, found_view, hi_of, look_in, most_nodes, records_at_ticks, revision_in, state_in};
+ghost use Rattle.block_map.specs.Map.{AreEntryAndNearest, IsEndIn, IsMapOfFirstRecords, IsNearestOrNone, found_view, hi_of, look_in, most_nodes, nodes_for, records_at_ticks, revision_in, state_in};
 ghost use Rattle.block_map.specs.Settled.{IsSettled, IsSettledThere, own_mergeinfo_in, standing_in};
 ghost use Rattle.block_map.specs.Standing.{entry_view, mergeinfo_of, own_mergeinfo_at, standing_at, standing_of};
 ghost use Rattle.block_map.specs.Trees.{AreMapTrees};
@@ -63,7 +63,8 @@ impl Map {
         requires sources { HaveSources start ends.now records.now }
         ensures lo { IfOk result (λ map. map.lo ≡ start) }
         ensures records { IfOk result (λ map. map.records ≡ records_at_ticks ends.now records.now) }
-        ensures nodes { IfOk result (λ map. map.nodes ≤ most_nodes (length records.now)) }
+        ensures few { IfOk result (λ map. map.nodes ≤ most_nodes (length records.now)) }
+        ensures nodes { IfOk result (λ map. map.nodes ≤ nodes_for map.records) }
 
         // Of the first records of a dump it is a map that shows what the records of the dump say.
         ensures of_first { (dump : DumpValue) (more : List NodeRecord) → start ≡ 0 → ends.now ≡ ends_of dump.counts
@@ -109,6 +110,7 @@ impl Map {
     pub fn nodes(&self) -> u64
         ensures exact { result ≡ self.now.nodes }
         ensures few { result ≤ most_nodes (length self.now.records) }
+        ensures for_records { result ≤ nodes_for self.now.records }
     {
         count_nodes(self.blocks.as_slice())
     }

@@ -3,7 +3,6 @@ ghost use Rattle.std.specs.Prelude.{◌≡◌, ◌+◌, ◌^◌, ◌<◌, ◌≤
 ghost use Rattle.std.specs.Prelude.{None};
 ghost use Rattle.svn_dump.specs.Dump.{record_view, setting_view};
 ghost use Rattle.svn_dump.specs.Tree.{mergeinfo_after};
-ghost use Rattle.svn_dump.specs.Record.{most_components};
 ghost use Rattle.block_map.specs.Trees.{AreTrees, IsNodeAfter, IsRootAfter, IsRootAt, SameTrees, ShowsPath, ShowsTick, action_in, end_of_trees, look_in_trees, look_through_trees};
 ghost use Rattle.block_map.specs.Look.{resolved};
 ghost use Rattle.block_map.specs.LookThrough.{IsFoundUpTo};
@@ -57,13 +56,13 @@ impl Trees {
     pub(crate) fn add(&mut self, each: &NodeRecord, ends: &Ends) -> Result<(), AllocError>
         requires trees { AreTrees self.old }
         requires few { end_of_trees self.old + 1 < 2 ^ 32 }
-        requires short { length each.now.path ≤ most_components }
         requires source { HasSourceBefore ends.now (end_of_trees self.old + 1) each.now.act }
         ensures trees { OnOk result (AreTrees self.new) }
         ensures start { OnOk result (self.new.start ≡ self.old.start) }
         ensures records { OnOk result (self.new.records.records
             ≡ self.old.records.records ++ record_at_tick ends.now (record_view each.now) ∷ []) }
-        ensures nodes { OnOk result (length self.new.trie.nodes ≤ length self.old.trie.nodes + most_components + 1) }
+        ensures nodes { OnOk result
+            (length self.new.trie.nodes ≤ length self.old.trie.nodes + length each.now.path + 1) }
     {
         let id = self.next_root(each, ends)?;
         self.roots.push(id)?;

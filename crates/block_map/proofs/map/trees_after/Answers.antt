@@ -1,9 +1,10 @@
-use Rattle.std.proofs.Common.{[], ◌∷◌, ◌++◌, length, ap, ◌∙◌, arith}
+use Rattle.std.proofs.Common.{◌+◌, ◌≤◌, [], ◌∷◌, ◌++◌, length, ap, subst, ◌∙◌, arith}
 use Rattle.std.proofs.lemmas.List.{length-map}
 use Rattle.svn_dump.specs.Dump.{record_view}
 use Rattle.svn_dump.specs.declared.record.NodeRecord.{NodeRecord}
 use Rattle.block_map.specs.Ends.{record_at_tick}
-use Rattle.block_map.proofs.MapsBuilt.{IsBuiltOf-all, IsBuiltOf-more, IsBuiltOf-none, end_of-taken, source-of_next}
+use Rattle.block_map.specs.Map.{nodes_for}
+use Rattle.block_map.proofs.MapsBuilt.{IsBuiltOf-all, IsBuiltOf-more, IsBuiltOf-none, end_of-taken, nodes_for-few, source-of_next}
 use Rattle.block_map.proofs.map.trees_after.Goals as goal
 
 pub loop-record-init : goal.loop-record-init
@@ -23,14 +24,22 @@ loop-record-preserved c =
     IsBuiltOf-more c.args.start c.args.ends.now c.args.records.now c.loop-record.record-index c.record-item.result c.loop-record.trees c.add.new.self
     c.loop-record-test.true c.loop-record.invariant c.in_ok-add.ensures.trees c.in_ok-add.ensures.start
     (c.in_ok-add.ensures.records ∙ ap (λ each. c.loop-record.trees.records.records ++ record_at_tick c.args.ends.now (record_view each) ∷ []) c.record-item.is)
-    c.in_ok-add.ensures.nodes
+    (subst (λ (each : NodeRecord). length c.add.new.self.trie.nodes ≤ length c.loop-record.trees.trie.nodes + length each.path + 1) c.record-item.is c.in_ok-add.ensures.nodes)
 
 pub returns-clause-trees : goal.returns-clause-trees
 returns-clause-trees c =
     let built = IsBuiltOf-all c.args.start c.args.ends.now c.args.records.now c.loop-record.record-index c.loop-record.trees c.loop-record-test.false c.loop-record.invariant in
     record {
       is = built.is;
-      few = omega (arith, built.nodes, ap length built.records_are, length-map c.args.records.now (λ (each : NodeRecord). record_at_tick c.args.ends.now (record_view each)));
+      few = omega (
+        arith,
+        built.nodes,
+        ap nodes_for built.records_are,
+        nodes_for-few c.args.ends.now c.args.records.now c.requires.short,
+        ap length built.records_are,
+        length-map c.args.records.now (λ (each : NodeRecord). record_at_tick c.args.ends.now (record_view each)),
+      );
+      nodes = built.nodes;
     }
 
 pub returns-clause-start : goal.returns-clause-start

@@ -29,6 +29,16 @@ returns-clause-records c =
     ∙ ap (λ items. earlier ++ trees_of items) c.as_slice-2.ensures.value in
     ap records_of shared ∙ records_of-append earlier later ∙ (λ i. (c.self.view_is i).records ++ (c.later.view_is i).records)
 
+pub returns-clause-nodes : goal.returns-clause-nodes
+returns-clause-nodes c =
+    let earlier = trees_of c.self.inside.blocks.items in
+    let later = trees_of c.later.inside.blocks.items in
+    let shared : trees_of c.share-2.new.shared.items ≡ earlier ++ later =
+    c.in_ok-share-2.ensures
+    ∙ ap (λ front. front ++ trees_of c.as_slice-2.result.now) (c.in_ok-share.ensures ∙ ap (λ items. trees_of items ++ trees_of c.as_slice.result.now) c.new-blocks.ensures.items ∙ ap trees_of c.as_slice.ensures.value)
+    ∙ ap (λ items. earlier ++ trees_of items) c.as_slice-2.ensures.value in
+    ap nodes_of shared ∙ sum_by-append (λ (block : Trees). _) earlier later ∙ (λ i. (c.self.view_is i).nodes + (c.later.view_is i).nodes)
+
 pub returns-clause-joined : goal.returns-clause-joined
 returns-clause-joined c =
     let earlier = trees_of c.self.inside.blocks.items in
