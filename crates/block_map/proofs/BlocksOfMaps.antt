@@ -92,12 +92,6 @@ pub trees-last : (blocks earlier : List (Arc Trees Global)) (last : Arc Trees Gl
 trees-last blocks earlier last block split is =
     ap trees_of split ∙ map-append arc_value earlier (last ∷ []) ∙ ap (λ each. trees_of earlier ++ each ∷ []) (sym is)
 
--- the last of those before a tick begins before it
-pub last-before : (tick : ℕ) (all front earlier : List Trees) (block : Trees) → AreBlocksBefore tick all front → front ≡ earlier ++ block ∷ [] → block.start < tick
-last-before tick all front earlier block before split =
-    subst (λ each. each.start < tick) (ap (λ blocks. get_or blocks (length earlier) block) split ∙ get_or_at earlier block [] block (length earlier) refl)
-    (before.before (length earlier) block (omega (arith, ap length split, length-append earlier (block ∷ []))))
-
 -- ---- the ticks at which blocks begin
 
 starts-from : (lo : ℕ) (blocks : List (Arc Trees Global)) (i : ℕ) (d : Arc Trees Global) → AreBlocksFrom lo (trees_of blocks) → i < length blocks → lo ≤ (arc_value (get_or blocks i d)).start
@@ -122,15 +116,6 @@ starts-rise lo (first ∷ rest) are (suc i) (suc j) d upto within =
     starts-rise (end_of_trees (arc_value first)) rest are.3 i j d (omega (arith, upto)) (omega (arith, within))
 
 -- ---- what the blocks say
-
-pub resolved-again : (lo : ℕ) (each : Found NameId ValueId) → resolved lo (resolved lo each) ≡ resolved lo each
-resolved-again zero (found.at [] tick) = refl
-resolved-again zero (found.at (c ∷ path) tick) = refl
-resolved-again zero (found.at_with [] tick mergeinfo) = refl
-resolved-again zero (found.at_with (c ∷ path) tick mergeinfo) = refl
-resolved-again zero (found.is kind mergeinfo) = refl
-resolved-again zero found.absent = refl
-resolved-again (suc lo) each = refl
 
 -- after the beginning nothing is resolved
 pub resolved-later : (lo : ℕ) (each : Found NameId ValueId) → lo ≢ 0 → resolved lo each ≡ each
@@ -192,31 +177,6 @@ module _ (lo tick : ℕ) (path : List NameId) where
   pub look-before : (all front : List Trees) → AreBlocksFrom lo all → AreBlocksBefore tick all front → tick ≤ end_of_blocks lo all → look_of (records_of all) ≡ look_of (records_of front)
   look-before all front are before within =
       ap (λ blocks. look_of (records_of blocks)) before.split ∙ look-front front before.more (end-front all front are before within)
-
-  -- and at the first tick, where there is none, they say nothing
-  pub look-none : (all : List Trees) → AreBlocksFrom lo all → AreBlocksBefore tick all [] → tick ≤ end_of_blocks lo all → look_of (records_of all) ≡ found.at path tick
-  look-none all are before within =
-      look-before all [] are before within
-      ∙ look_at_first lo (found.looks_of same_name lo []) tick path (omega (arith, end-front all [] are before within))
-
-  -- what the last one says, by the earlier ones
-  pub look-last : (earlier : List Trees) (last : Trees) (says after : Found NameId ValueId) → AreBlocksFrom lo (earlier ++ last ∷ [])
-      → says ≡ resolved last.start (look same_name last.start last.records.records tick path)
-      → resolved lo after ≡ resolved lo (look_through same_name lo (records_of earlier) says)
-      → resolved lo after ≡ resolved lo (look_of (records_of (earlier ++ last ∷ [])))
-  look-last earlier last says after are is through =
-      through
-      ∙ through-earlier lo earlier last says own are (ap (resolved last.start) is ∙ resolved-again last.start own)
-      ∙ sym (ap (resolved lo) whole)
-    where
-      own : Found NameId ValueId
-      own = look same_name last.start last.records.records tick path
-
-      whole : look_of (records_of (earlier ++ last ∷ [])) ≡ look_through same_name lo (records_of earlier) own
-      whole =
-          ap look_of (records_of-append earlier (last ∷ []) ∙ ap (λ more. records_of earlier ++ more) (append-nil last.records.records))
-          ∙ look-append same_name lo (records_of earlier) last.records.records tick path
-          ∙ ap (λ at. look_through same_name lo (records_of earlier) (look same_name at last.records.records tick path)) (sym (last-start lo earlier last are))
 
   -- where there is only one, what it says
   pub look-only : (all : List Trees) (only : Trees) → AreBlocksFrom lo all → AreBlocksBefore tick all (only ∷ []) → tick ≤ end_of_blocks lo all

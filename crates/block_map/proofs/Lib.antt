@@ -19,8 +19,6 @@ pub mod RecordNodes
 pub mod RevisionEnds
 pub mod RevisionStates
 pub mod Sources
-pub mod SettledPaths
 pub mod Standings
-pub mod Stretches
 pub mod TreesLooks
 pub mod TreesNodes

@@ -1,11 +1,15 @@
 -- The nearest mergeinfo among the first components of a path.
-use Rattle.std.proofs.Common.{◌≡◌, ℕ, ◌+◌, ◌≤◌, ◌⊎◌, List, Option, None, Some, option_map, length, take, inl, inr, refl, sym, ap, ◌∙◌, arith}
-use Rattle.std.specs.Option.{option_or}
+use Rattle.std.proofs.Common.{◌≡◌, ℕ, ◌+◌, ◌≤◌, ◌⊎◌, List, [], ◌∷◌, ◌++◌, Option, None, Some, option_map, length, take, inl, inr, refl, sym, ap, ◌∙◌, arith, append-nil, append_assoc, length-append}
+use Rattle.std.specs.Option.{option_and_then, option_or}
+use Rattle.std.proofs.Math.Seq.{take-append_seam}
 use Rattle.std.proofs.lemmas.Bool.{cases_lt}
 use Rattle.std.proofs.lemmas.Option.{same_Some}
 use Rattle.svn_path.specs.declared.names.NameId.{NameId}
 use Rattle.svn_dump.specs.declared.record.ValueId.{ValueId}
-use Rattle.block_map.specs.Map.{IsNearestOrNone, nearest_view}
+use Rattle.block_map.specs.Map.{HasNoneFrom, IsNearestOrNone, nearest_view}
+use Rattle.block_map.specs.Standing.{Standing, entry_view, mergeinfo_of, standing_of}
+use Rattle.block_map.specs.Trie.{LookOfNumbers}
+use Rattle.block_map.specs.declared.entry.Entry.{Entry}
 use Rattle.block_map.specs.declared.nearest.Nearest.{Nearest}
 
 -- none of the first components has any
@@ -70,3 +74,51 @@ module _ (own : List NameId → Option ValueId) (path : List NameId) where
   pub IsNearestOrNone-all : (depth : ℕ) (found : Option Nearest) → depth ≡ length path → IsNearestUpTo own path depth found → IsNearestOrNone own path found
   IsNearestOrNone-all depth None all up = λ more from upto. up more from (omega (arith, upto, all))
   IsNearestOrNone-all depth (Some nearest) all up = ((omega (arith, up.0, all), up.1), λ more from upto. up.2 more from (omega (arith, upto, all)))
+
+-- ---- from a path up to the root
+
+-- the search has come up to the first components of a path, at which this stands: with more of them there is no mergeinfo
+pub record HasNoneBelow (found : LookOfNumbers) (path above : List NameId) (entry : Option Entry) : Type 0 where
+  pub rest : List NameId
+  pub split : path ≡ above ++ rest
+  pub stands : option_map entry_view entry ≡ standing_of (found above)
+  pub none : HasNoneFrom (λ front. mergeinfo_of (found front)) path (length above + 1)
+
+-- at the path itself it begins
+pub HasNoneBelow-path : (found : LookOfNumbers) (path : List NameId) (entry : Option Entry) → option_map entry_view entry ≡ standing_of (found path) → HasNoneBelow found path path entry
+HasNoneBelow-path found path entry stands =
+    record { rest = []; split = sym (append-nil path); stands = stands; none = λ more from upto. absurd (omega (arith, from, upto)) }
+
+module _ (found : LookOfNumbers) (path above : List NameId) (entry : Option Entry) (come : HasNoneBelow found path above entry) where
+  abbrev own : List NameId → Option ValueId
+  own front = mergeinfo_of (found front)
+
+  abbrev mergeinfo_there : Option ValueId
+  mergeinfo_there = option_and_then (λ (each : Standing ValueId). each.mergeinfo) (option_map entry_view entry)
+
+  own-there : own (take (length above) path) ≡ mergeinfo_there
+  own-there =
+      ap (λ whole. own (take (length above) whole)) come.split ∙ ap own (take-append_seam above come.rest)
+      ∙ ap (option_and_then (λ (each : Standing ValueId). each.mergeinfo)) (sym come.stands)
+
+  -- it ends where there is some
+  pub IsNearestOrNone-there : (mi : ValueId) → mergeinfo_there ≡ Some mi → IsNearestOrNone own path (Some (record { mi = mi; depth = length above }))
+  IsNearestOrNone-there mi has = ((omega (arith, ap length come.split, length-append above come.rest), own-there ∙ has), come.none)
+
+  -- or goes on where there is none
+  pub HasNoneFrom-there : mergeinfo_there ≡ None → HasNoneFrom own path (length above)
+  HasNoneFrom-there none = λ more from upto. elim (cases_lt (length above) more) [
+    | inl past ↦ come.none more (omega (arith, past)) upto
+    | inr before ↦
+        let here : more ≡ length above = omega (arith, from, before) in
+        ap (λ n. own (take n path)) here ∙ own-there ∙ none
+  ]
+
+  pub HasNoneBelow-parent : (parent : List NameId) (last : NameId) (next : Option Entry) → mergeinfo_there ≡ None → above ≡ parent ++ last ∷ []
+      → option_map entry_view next ≡ standing_of (found parent) → HasNoneBelow found path parent next
+  HasNoneBelow-parent parent last next none split stands = record {
+    rest = last ∷ come.rest;
+    split = come.split ∙ ap (λ front. front ++ come.rest) split ∙ append_assoc parent (last ∷ []) come.rest;
+    stands = stands;
+    none = λ more from upto. HasNoneFrom-there none more (omega (arith, from, ap length split, length-append parent (last ∷ []))) upto;
+  }

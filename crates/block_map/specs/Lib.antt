@@ -11,8 +11,6 @@ pub mod LookThrough
 pub mod Map
 pub mod Node
 pub mod Parts
-pub mod Settled
 pub mod Standing
-pub mod Stretch
 pub mod Trees
 pub mod Trie

@@ -18,10 +18,7 @@ mod numbers;
 mod part;
 mod parts;
 mod position;
-mod reach;
-mod settled;
 mod stored_location;
-mod stretch;
 mod trees;
 mod trie;
 

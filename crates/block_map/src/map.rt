@@ -10,7 +10,6 @@ ghost use Rattle.block_map.specs.Look.{IsFoundAtOrBefore, at, from_beginning, lo
 ghost use Rattle.block_map.specs.LookThrough.{IsFoundUpTo, look_through as looked_through};
 ghost use Rattle.block_map.specs.Looked.{looked_view};
 ghost use Rattle.block_map.specs.Map.{AreEntryAndNearest, IsEndIn, IsMapOfFirstRecords, IsNearestOrNone, found_view, hi_of, look_in, most_nodes, nodes_for, records_at_ticks, revision_in, state_in};
-ghost use Rattle.block_map.specs.Settled.{IsSettled, IsSettledThere, own_mergeinfo_in, standing_in};
 ghost use Rattle.block_map.specs.Standing.{entry_view, mergeinfo_of, own_mergeinfo_at, standing_at, standing_of};
 ghost use Rattle.block_map.specs.Trees.{AreMapTrees};
 
@@ -19,8 +18,6 @@ use crate::entry::Entry;
 use crate::found::Found;
 use crate::looked::Looked;
 use crate::nearest::Nearest;
-use crate::reach::Reach;
-use crate::settled::Settled;
 use crate::trees::Trees;
 use std::alloc::{AllocError, Global};
 use std::marker::Model;
@@ -202,13 +199,38 @@ impl Map {
         requires within { tick ≤ hi_of self.now }
         ensures { IfOk result (AreEntryAndNearest (λ above. standing_of (look_in self.now tick above)) path.now) }
     {
-        let blocks = self.blocks.as_slice();
-        match blocks_before(blocks, tick) {
-            [only] => Ok(only.entry_and_nearest(tick, path)),
-            _ => {
-                let settled = settle(blocks, tick, path, 0)?;
-                Ok((settled.entry, nearest_above(blocks, tick, path, settled)?))
+        if let [only] = blocks_before(self.blocks.as_slice(), tick) {
+            return Ok(only.entry_and_nearest(tick, path));
+        }
+        let entry = self.standing(tick, path)?;
+        Ok((entry, self.nearest_above(tick, path, entry)?))
+    }
+
+    /// The nearest mergeinfo of a path at which this stands. It is looked for at the path, then at the one above it, and
+    /// so on up to the root.
+    fn nearest_above(
+        &self,
+        tick: u32,
+        path: &[NameId],
+        entry: Option<Entry>,
+    ) -> Result<Option<Nearest>, AllocError>
+        requires begins { self.now.lo ≡ 0 }
+        requires within { tick ≤ hi_of self.now }
+        requires entry { option_map entry_view entry ≡ standing_of (look_in self.now tick path.now) }
+        ensures { IfOk result (IsNearestOrNone (λ above. mergeinfo_of (look_in self.now tick above)) path.now) }
+    {
+        let mut above = path;
+        let mut entry = entry;
+        loop {
+            if let Some(mi) = mergeinfo(entry) {
+                let depth = above.len();
+                return Ok(Some(Nearest { mi, depth }));
             }
+            let Some((_, parent)) = above.split_last() else {
+                return Ok(None);
+            };
+            above = parent;
+            entry = self.standing(tick, above)?;
         }
     }
 
@@ -264,112 +286,6 @@ fn blocks_before(blocks: &[Arc<Trees>], tick: u32) -> &[Arc<Trees>]
 {
     let count = blocks.partition_point(|block| block.start < tick);
     &blocks[..count]
-}
-
-/// The nearest mergeinfo of a path, given what is settled of it. Each further way through the blocks settles it for
-/// some of the paths that are left up to the root.
-fn nearest_above(
-    blocks: &[Arc<Trees>],
-    tick: u32,
-    path: &[NameId],
-    settled: Settled,
-) -> Result<Option<Nearest>, AllocError>
-    requires in_order { AreBlocksFrom 0 (trees_of blocks.now) }
-    requires within { tick ≤ length (records_of (trees_of blocks.now)) }
-    requires settled { IsSettled (own_mergeinfo_in (trees_of blocks.now) tick) path.now 0 settled }
-    ensures { IfOk result (IsNearestOrNone (own_mergeinfo_in (trees_of blocks.now) tick) path.now) }
-{
-    let mut settled = settled;
-    loop {
-        let Settled { mi, depth, .. } = settled;
-        if let Some(mi) = mi {
-            return Ok(Some(Nearest { mi, depth }));
-        }
-        let (front, _) = path.split_at(depth);
-        let Some((_, parent)) = front.split_last() else {
-            return Ok(None);
-        };
-        settled = settle(blocks, tick, parent, 0)?;
-    }
-}
-
-/// What stands at a path, and the mergeinfo of its first `depth` components, with more of which there is none. That is
-/// looked for at no fewer than `least` components: `depth` is not below `least`.
-///
-/// The last block that begins before the tick is asked first. Say that it copied `a/b` from `x/y/z` and then added the
-/// file `a/b/c/d/e` without mergeinfo, which is the path. Then what is found at `a/b`, `a/b/c` and `a/b/c/d` stood at
-/// `x/y/z`, `x/y/z/c` and `x/y/z/c/d`. So the blocks before it settle `x/y/z/c/d` at the end of the source's revision, at
-/// no fewer than three components, and what they tell of three, four or five components there is so of two, three or
-/// four components here.
-fn settle(
-    blocks: &[Arc<Trees>],
-    tick: u32,
-    path: &[NameId],
-    least: usize,
-) -> Result<Settled, AllocError>
-    requires in_order { AreBlocksFrom 0 (trees_of blocks.now) }
-    requires within { tick ≤ length (records_of (trees_of blocks.now)) }
-    requires least { least ≤ length path.now }
-    ensures settled { IfOk result (IsSettled (own_mergeinfo_in (trees_of blocks.now) tick) path.now least) }
-    ensures entry { IfOk result (λ settled.
-        option_map entry_view settled.entry ≡ standing_in (trees_of blocks.now) tick path.now) }
-{
-    let blocks = blocks_before(blocks, tick);
-    let Some((last, earlier)) = blocks.split_last() else {
-        return Ok(Settled {
-            entry: at_beginning(path),
-            mi: None,
-            depth: least,
-        });
-    };
-    let reach = last.reach(tick, path)?;
-    if reach.last < least {
-        return Ok(Settled {
-            entry: reach.entry,
-            mi: None,
-            depth: least,
-        });
-    }
-    let (front, _) = path.split_at(reach.last);
-    let Some((other, tick)) = reach.looked.location(front) else {
-        return settle_found(earlier, reach, path);
-    };
-    let first = reach.first.max(least);
-    let base = other.len() - (reach.last - first);
-    let settled = settle(earlier, tick, other, base)?;
-    Ok(Settled {
-        entry: if reach.last == path.len() {
-            settled.entry
-        } else {
-            reach.entry
-        },
-        mi: settled.mi,
-        depth: settled.depth - base + first,
-    })
-}
-
-/// What `settle` answers if a later block has no location for the first `last` components of a path, but an entry or
-/// nothing, or a location with other mergeinfo.
-fn settle_found(blocks: &[Arc<Trees>], reach: Reach, path: &[NameId]) -> Result<Settled, AllocError>
-    requires in_order { AreBlocksFrom 0 (trees_of blocks.now) }
-    requires last { reach.last ≤ length path.now }
-    requires within { IsFoundUpTo (length (records_of (trees_of blocks.now)))
-        (looked_view (take reach.last path.now) reach.looked) }
-    ensures { IfOk result (IsSettledThere (trees_of blocks.now) reach path.now) }
-{
-    let Reach {
-        last,
-        looked,
-        entry,
-        ..
-    } = reach;
-    let (front, _) = path.split_at(last);
-    let there = standing_from_beginning(look_through(blocks, 0, looked, front)?, front);
-    Ok(Settled {
-        entry: if last == path.len() { there } else { entry },
-        mi: mergeinfo(there),
-        depth: last,
-    })
 }
 
 /// The mergeinfo of what stands at a path.

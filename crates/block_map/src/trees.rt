@@ -10,7 +10,6 @@ ghost use Rattle.block_map.specs.Ends.{HasSourceBefore, record_at_tick};
 ghost use Rattle.block_map.specs.Looked.{looked_view};
 ghost use Rattle.block_map.specs.Map.{AreEntryAndNearest, found_view};
 ghost use Rattle.block_map.specs.Standing.{standing_of};
-ghost use Rattle.block_map.specs.Stretch.{IsReach};
 ghost use Rattle.block_map.specs.Trie.{IsNodeOf, IsSound};
 
 use crate::ends::Ends;
@@ -21,7 +20,6 @@ use crate::looked::Looked;
 use crate::nearest::Nearest;
 use crate::node::Node;
 use crate::part::NodeId;
-use crate::reach::Reach;
 use crate::trie::Trie;
 use std::alloc::{AllocError, Global};
 use svn_dump::{Act, Kind, Mi, NodeRecord, ValueId};
@@ -261,18 +259,6 @@ impl Trees {
             }
             known => Ok(known),
         }
-    }
-
-    /// How far down a path there may be mergeinfo at a tick after `start`, and what these records say of it there.
-    pub(crate) fn reach(&self, tick: u32, path: &[NameId]) -> Result<Reach, AllocError>
-        requires trees { AreTrees self.now }
-        requires after { self.now.start < tick }
-        requires within { tick ≤ end_of_trees self.now }
-        ensures exact { IfOk result (IsReach (look_in_trees self.now tick) path.now) }
-        ensures earlier { IfOk result (λ reach.
-            IsFoundUpTo self.now.start (looked_view (take reach.last path.now) reach.looked)) }
-    {
-        self.trie.reach(self.root(tick), path)
     }
 
     /// What stands at a path at a tick after `start`, and its nearest mergeinfo, as far as these records say it.

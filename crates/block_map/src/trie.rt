@@ -4,7 +4,6 @@ ghost use Rattle.block_map.specs.Look.{with_mergeinfo as changed};
 ghost use Rattle.block_map.specs.Looked.{looked_view};
 ghost use Rattle.block_map.specs.Map.{AreEntryAndNearest, found_view, nearest_view};
 ghost use Rattle.block_map.specs.Standing.{entry_view, mergeinfo_of, standing_of};
-ghost use Rattle.block_map.specs.Stretch.{IsReach, IsStretchUpTo};
 ghost use Rattle.block_map.specs.Trie.{HasLocation, IsAroundOf, IsRegionAround, IsCopiedNode, ExtendsTrie, IsNodeOf, IsLocationAround, IsPositionOf, IsSound, PutsNode, around_view, as_at, at_root, child_at, child_of, found_at, found_below, found_here, position_view, standing_below};
 
 use crate::entry::Entry;
@@ -18,8 +17,6 @@ use crate::numbers::next_number;
 use crate::part::NodeId;
 use crate::parts::Parts;
 use crate::position::{Around, Position, inside};
-use crate::reach::Reach;
-use crate::stretch::Stretch;
 use std::alloc::{AllocError, Global};
 use std::marker::Model;
 use svn_dump::ValueId;
@@ -202,8 +199,11 @@ impl Trie {
         ensures { IfOk result (λ looked.
             looked_view path.now looked ≡ found_at self.now (position_view self.now path.now position)) }
     {
-        let Stretch { here, around, .. } = Stretch::at(position, path.len());
-        self.found_with(here, around, path)
+        let Some(node) = position.node else {
+            return self.found_around(position.around, path);
+        };
+        let around = inside(node.region, position.around, path.len());
+        self.found_with(node.here, around, path)
     }
 
     /// What is found at the end of a path, by what a node says of what is found around it.
@@ -235,42 +235,6 @@ impl Trie {
             }
         }
         Ok(Looked::Other(found_at_location(self.location(around, path)?)))
-    }
-
-    /// How far down a path below a root there may be mergeinfo, and what is found there.
-    pub(crate) fn reach(&self, root: Node, path: &[NameId]) -> Result<Reach, AllocError>
-        requires { IsNodeOf self.now root }
-        ensures { IfOk result (IsReach (found_below self.now (at_root root)) path.now) }
-    {
-        let (stretch, entry) = self.stretch(root, path);
-        let (front, _) = path.split_at(stretch.last);
-        let looked = self.found_with(stretch.here, stretch.around, front)?;
-        Ok(Reach {
-            first: stretch.first,
-            last: stretch.last,
-            looked,
-            entry,
-        })
-    }
-
-    /// The deepest stretch of a path below a root at which there may be mergeinfo, and what is known to stand at the
-    /// path.
-    fn stretch(&self, root: Node, path: &[NameId]) -> (Stretch, Option<Entry>)
-        requires { IsNodeOf self.now root }
-        ensures stretch { IsStretchUpTo self.now (found_below self.now (at_root root)) path.now
-            (length path.now) result.0 }
-        ensures entry { option_map entry_view result.1 ≡ standing_below self.now root path.now }
-    {
-        let mut position = Position {
-            node: Some(root),
-            around: Around::Nothing,
-        };
-        let mut stretch = Stretch::at(position, 0);
-        for (depth, name) in path.iter().enumerate() {
-            position = self.step(position, *name, depth);
-            stretch = stretch.then(Stretch::at(position, depth + 1));
-        }
-        (stretch, self.entry(position))
     }
 
     /// The region in which there is what is found around the end of a path. It may add a location.
