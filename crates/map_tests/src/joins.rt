@@ -14,7 +14,7 @@ use svn_dump::{Dump, Kind, read};
 use svn_text::push_number;
 
 // Two maps as one, if they meet.
-fn joined(earlier: &Map, later: &Map) -> Result<Map, Fail> {
+pub(crate) fn joined(earlier: &Map, later: &Map) -> Result<Map, Fail> {
     if !earlier.fits(later) {
         return Err("the maps do not meet")?;
     }
@@ -170,34 +170,49 @@ fn finds_copies(alloc: Global, dump: &Dump, map: &Map, count: u32) -> Result<boo
     Ok(entry?.is_some())
 }
 
-// The map of each record.
-fn single_maps(alloc: Global, dump: &Dump, ends: &Ends) -> Result<Vec<Map>, Fail>
+// How records are cut: so many are the records of a map, and so many threads join these at once.
+#[derive(Clone, Copy)]
+struct Cut {
+    size: usize,
+    parts: usize,
+}
+
+// A map for each record.
+const SINGLE: Cut = Cut { size: 1, parts: 3 };
+
+// The maps of all records, of so many each.
+fn part_maps(alloc: Global, dump: &Dump, ends: &Ends, size: usize) -> Result<Vec<Map>, Fail>
     requires { ends.now ≡ ends_of dump.now.counts }
 {
     let mut maps = Vec::new(alloc);
-    for start in 0..dump.records().len() {
-        let end = start.saturating_add(1);
-        maps.push(map_of_part(alloc, dump, ends, Part { start, end })?)?;
+    let len = dump.records().len();
+    for number in 0..len {
+        let start = number.saturating_mul(size);
+        if start < len {
+            let end = len.min(start.saturating_add(size));
+            maps.push(map_of_part(alloc, dump, ends, Part { start, end })?)?;
+        }
     }
     Ok(maps)
 }
 
 // All of these as one.
-fn total_map<R: Threads + Sync>(rt: &R, alloc: Global, dump: &Dump) -> Result<Map, Fail> {
+fn total_map<R: Threads + Sync>(rt: &R, alloc: Global, dump: &Dump, cut: Cut) -> Result<Map, Fail> {
     let ends = revision_ends(alloc, dump)?;
-    let maps = single_maps(alloc, dump, &ends);
+    let maps = part_maps(alloc, dump, &ends, cut.size);
     drop(ends);
-    total_of(rt, alloc, maps?)
+    total_of(rt, alloc, maps?, cut.parts)
 }
 
-// How many nodes the map of so many copies of the root keeps that is joined of a map for each, and whether it finds them.
+// How many nodes the map of so many copies of the root keeps that is joined of these maps, and whether it finds them.
 fn joined_copies<R: Threads + Sync>(
     rt: &R,
     alloc: Global,
     dump: &Dump,
     count: u32,
+    cut: Cut,
 ) -> Result<(u64, bool), Fail> {
-    let map = total_map(rt, alloc, dump)?;
+    let map = total_map(rt, alloc, dump, cut)?;
     let found = finds_copies(alloc, dump, &map, count);
     let nodes = map.nodes();
     drop(map);
@@ -209,12 +224,13 @@ fn copies_of_dump<R: Threads + Sync>(
     rt: &R,
     alloc: Global,
     count: u32,
+    cut: Cut,
 ) -> Result<(u64, bool), Fail> {
     let text = copies_of_the_root(alloc, count)?;
     let dump = read(alloc, text.as_slice());
     drop(text);
     let dump = dump?;
-    let found = joined_copies(rt, alloc, &dump, count);
+    let found = joined_copies(rt, alloc, &dump, count, cut);
     drop(dump);
     found
 }
@@ -222,14 +238,22 @@ fn copies_of_dump<R: Threads + Sync>(
 #[test]
 fn maps_of_many_single_records_share_their_nodes(rt: HostRuntime) -> Result<(), Fail> {
     for (count, most) in [(40, 120), (1100, 3300)] {
-        let (nodes, is_found) = copies_of_dump(&rt, rt.alloc(), count)?;
+        let (nodes, is_found) = copies_of_dump(&rt, rt.alloc(), count, SINGLE)?;
         assert!(rt; nodes <= most && is_found, "{count}: {nodes}");
     }
     Ok(())
 }
 
+#[test]
+fn maps_of_seven_records_share_their_nodes(rt: HostRuntime) -> Result<(), Fail> {
+    let cut = Cut { size: 7, parts: 8 };
+    let (nodes, is_found) = copies_of_dump(&rt, rt.alloc(), 40, cut)?;
+    assert!(rt; nodes <= 86 && is_found, "{nodes}");
+    Ok(())
+}
+
 // The copy of a map after its unit, whose ticks and number of nodes come beside it.
-fn copy_after_unit(map: &Map) -> Result<(Map, (u32, u32, u64)), Fail> {
+pub(crate) fn copy_after_unit(map: &Map) -> Result<(Map, (u32, u32, u64)), Fail> {
     let unit = map.unit()?;
     let copy = map.dup()?;
     let extent = (unit.lo(), unit.hi(), unit.nodes());
@@ -282,7 +306,7 @@ fn total_standings<R: Threads + Sync>(
     alloc: Global,
     dump: &Dump,
 ) -> Result<[Option<Entry>; 3], Fail> {
-    let map = total_map(rt, alloc, dump)?;
+    let map = total_map(rt, alloc, dump, SINGLE)?;
     let standings = nested_standings(alloc, dump, &map);
     drop(map);
     standings

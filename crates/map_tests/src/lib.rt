@@ -5,8 +5,12 @@
 #![tactic(auto)]
 
 #[cfg(test)]
+mod forms;
+#[cfg(test)]
 mod joins;
 #[cfg(test)]
 mod maps;
+#[cfg(test)]
+mod refused_growths;
 #[cfg(test)]
 mod totals;

@@ -1,5 +1,5 @@
 //! Maps of the records of small histories, and of parts of them.
-ghost use Rattle.std.specs.Prelude.{◌≡◌, IfOk};
+ghost use Rattle.std.specs.Prelude.{◌≡◌, ◌≤◌, IfOk, length};
 ghost use Rattle.block_map.specs.Ends.{ends_of};
 ghost use Rattle.block_map.specs.Map.{IsMapOf};
 
@@ -21,7 +21,7 @@ pub(crate) struct Part {
 // The records 6 and 7 of `NESTED`, which copy `p` of two revisions, and those before them.
 pub(crate) const COPIES: Part = Part { start: 5, end: 7 };
 
-const BEFORE_COPIES: Part = Part { start: 0, end: 5 };
+pub(crate) const BEFORE_COPIES: Part = Part { start: 0, end: 5 };
 
 // The records 6 to 9 of `DEEPER`, which copy.
 const COPIES_OF_COPIES: Part = Part { start: 5, end: 9 };
@@ -30,12 +30,21 @@ const COPIES_OF_COPIES: Part = Part { start: 5, end: 9 };
 pub(crate) fn map_of_part(alloc: Global, dump: &Dump, ends: &Ends, part: Part) -> Result<Map, Fail>
     requires { ends.now ≡ ends_of dump.now.counts }
 {
-    let records = dump.records();
-    if part.end < part.start || records.len() < part.end {
+    if part.end < part.start || dump.records().len() < part.end {
         return Err("there are not so many records")?;
     }
+    Ok(build(alloc, dump, ends, part)?)
+}
+
+// The same of records that are there.
+pub(crate) fn build(alloc: Global, dump: &Dump, ends: &Ends, part: Part) -> Result<Map, AllocError>
+    requires ends { ends.now ≡ ends_of dump.now.counts }
+    requires order { part.start ≤ part.end }
+    requires within { part.end ≤ length dump.now.records }
+{
+    let records = dump.records();
     let records = &records[part.start..part.end];
-    Ok(Map::build(alloc, records, part.start as u32, ends)?)
+    Map::build(alloc, records, part.start as u32, ends)
 }
 
 // The map of all records.
@@ -53,7 +62,7 @@ pub(crate) fn map_of(alloc: Global, dump: &Dump, part: Part) -> Result<Map, Fail
     map
 }
 
-fn path_of(alloc: Global, dump: &Dump, text: &[u8]) -> Result<Path, Fail> {
+pub(crate) fn path_of(alloc: Global, dump: &Dump, text: &[u8]) -> Result<Path, Fail> {
     match Path::find(alloc, dump.names(), text)? {
         Lookup::Known(path) => Ok(path),
         Lookup::Unknown => Err("no such path")?,
@@ -238,6 +247,17 @@ fn a_part_has_the_ticks_of_its_records_and_few_nodes(rt: HostRuntime) -> Result<
     Ok(())
 }
 
+// Each record of these puts a node at its path, with a node for each component.
+#[test]
+fn a_part_keeps_a_node_for_each_component_and_one_more(rt: HostRuntime) -> Result<(), Fail> {
+    let second = Part { start: 1, end: 2 };
+    for (part, wanted) in [(second, 3), (COPIES, 4), (BEFORE_COPIES, 14)] {
+        let (_, _, nodes) = extent_of_nested(rt.alloc(), part)?;
+        assert!(rt; nodes == wanted, "{wanted}: {nodes}");
+    }
+    Ok(())
+}
+
 // Whether the records 6 and 7 of `NESTED` leave at a path what stood at another one after so many records.
 fn copies_find(
     alloc: Global,
@@ -362,7 +382,7 @@ fn nodes_of_copies(alloc: Global, count: u32) -> Result<u64, Fail> {
 
 #[test]
 fn copies_of_the_root_share_their_nodes(rt: HostRuntime) -> Result<(), Fail> {
-    for (count, most) in [(40, 81), (1000, 2001)] {
+    for (count, most) in [(40, 81), (1000, 2001), (1100, 2201)] {
         assert!(rt; nodes_of_copies(rt.alloc(), count)? <= most, "{count}");
     }
     Ok(())

@@ -11,8 +11,8 @@ use std::test::Fail;
 use std::thread::Threads;
 use svn_dump::{Dump, NodeRecord, read};
 
-// How many threads join at once.
-const PARTS: usize = 3;
+// The most threads that may join at once.
+const MOST_PARTS: usize = 64;
 
 // Whether each item fits before the next one.
 fn all_fit<M: Acts>(items: &[M]) -> bool
@@ -24,18 +24,19 @@ fn all_fit<M: Acts>(items: &[M]) -> bool
     }
 }
 
-// All items as one, if they fit and there are any.
+// All items as one, if they fit and there are any. At most so many threads join at once.
 pub(crate) fn total_of<R: Threads + Sync, M: Acts>(
     rt: &R,
     alloc: Global,
     items: Vec<M>,
+    parts: usize,
 ) -> Result<M, Fail>
     requires light { sum_by M.weight items.items < 2 ^ 64 }
 {
     if !all_fit(items.as_slice()) {
         return Err("the items do not fit")?;
     }
-    match total(rt, alloc, items, PARTS)? {
+    match total(rt, alloc, items, parts.clamp(1, MOST_PARTS))? {
         Some(joined) => Ok(joined),
         None => Err("there are no items")?,
     }
@@ -56,7 +57,7 @@ fn single_indexes(alloc: Global, records: &[NodeRecord]) -> Result<Vec<Index>, F
 // Whether the index that is joined of these ends after all records.
 fn ends_after_all<R: Threads + Sync>(rt: &R, alloc: Global, dump: &Dump) -> Result<bool, Fail> {
     let records = dump.records();
-    let index = total_of(rt, alloc, single_indexes(alloc, records)?)?;
+    let index = total_of(rt, alloc, single_indexes(alloc, records)?, 3)?;
     let next = Index::build(alloc, &[], records.len() as u32);
     let ends = match next {
         Ok(next) => Ok(index.fits(&next)),

@@ -4,7 +4,7 @@ use Rattle.std.proofs.lemmas.Option.{get_or_from_slice_get, slice_get-get_or, sl
 use Rattle.svn_dump.specs.declared.record.NodeRecord.{NodeRecord}
 use Rattle.block_map.specs.Ends.{HasSourceBefore, HaveSources}
 use Rattle.block_map.proofs.Sources.{HaveSources-dump}
-use Rattle.map_tests.proofs.maps.map_of_part.Goals as goal
+use Rattle.map_tests.proofs.maps.build.Goals as goal
 
 -- what holds of the sources of all records holds of those of a part of them
 HaveSources-part : (ends : List ℕ) (records : List NodeRecord) (start count : ℕ) → HaveSources 0 ends records
@@ -25,5 +25,5 @@ pub build-requires-clause-sources : goal.build-requires-clause-sources
 build-requires-clause-sources c =
     let dump = c.args.dump.now in
     let all : HaveSources 0 c.args.ends.now c.records-records.result.now =
-    rw (c.records-records.ensures.value, c.requires) (HaveSources-dump dump c.records-records.ensures.kept) in
+    rw (c.records-records.ensures.value, c.requires.ends) (HaveSources-dump dump c.records-records.ensures.kept) in
     HaveSources-part c.args.ends.now c.records-records.result.now c.args.part.start (c.args.part.end - c.args.part.start) all
