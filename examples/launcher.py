@@ -154,6 +154,22 @@ def is_running(group):
     return True
 
 
+@contextlib.contextmanager
+def handled(handler):
+    """Has what is started meanwhile ignore hang-ups and interrupts where the handler is SIG_IGN, and else end at them,
+    whether or not the caller of this check ignores them."""
+    before = {number: signal.signal(number, handler) for number in (signal.SIGHUP, signal.SIGINT)}
+    try:
+        yield
+    finally:
+        for number, kept in before.items():
+            signal.signal(number, kept)
+
+
+def pass_over(_number, _frame):
+    """Ignores a signal here alone: a program that is started does not inherit a handler."""
+
+
 def append(path, text):
     with open(path, "a", encoding="utf-8") as file:
         file.write(text)
@@ -296,7 +312,8 @@ def run_signals(launcher):
     for number in (signal.SIGHUP, signal.SIGINT, signal.SIGTERM, signal.SIGKILL):
         forget_build(launcher, "svnhist")
         launcher.set_toolchain("mkdir -p out; echo kept >out/kept", NEVER_ENDS)
-        process = launcher.start()
+        with handled(pass_over):
+            process = launcher.start()
         launcher.wait_for_start()
         time.sleep(0.3)
         process.send_signal(number)
@@ -306,6 +323,21 @@ def run_signals(launcher):
         launcher.set_working_toolchain('[ -f out/kept ] || exit 1')
         yield outcome("a call after %s" % number.name, launcher.call(), 0, launcher.report, lines_for(["svnhist"]))
         yield "nothing is left of %s" % number.name, False, os.path.exists(launcher.path("out"))
+
+
+def run_ignored_signals(launcher):
+    """Where the caller ignores signals, as `nohup` does, they do not end a build."""
+    forget_build(launcher, "svnhist")
+    launcher.set_working_toolchain("sleep 1")
+    with handled(signal.SIG_IGN):
+        process = launcher.start()
+    launcher.wait_for_start()
+    for number in (signal.SIGHUP, signal.SIGINT):
+        process.send_signal(number)
+    yield outcome("ignored signals", end_of(process), 0, launcher.report, lines_for(["svnhist"]))
+    with handled(signal.SIG_IGN):
+        process = launcher.start()
+    yield outcome("a call after ignored signals", end_of(process), 0, launcher.report, "")
 
 
 def run_without_build(launcher):
@@ -345,5 +377,6 @@ def run_table(launcher):
 def run_launcher(program, folder):
     """Of each call of the launcher its name, what is wanted and what was found."""
     launcher = Launcher(folder, program)
-    parts = (run_table, run_first_call, run_judgement, run_more_builds, run_failures, run_signals, run_without_build)
+    parts = (run_table, run_first_call, run_judgement, run_more_builds, run_failures, run_signals,
+             run_ignored_signals, run_without_build)
     return [each for part in parts for each in part(launcher)]
