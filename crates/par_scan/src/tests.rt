@@ -1,4 +1,5 @@
-//! Sums, and threads that run at once.
+//! Sums, threads that run at once, and calls that fail.
 
+mod failures;
 mod meetings;
 mod sums;
