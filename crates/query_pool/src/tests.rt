@@ -1,4 +1,5 @@
-//! Serving and gathering.
+//! Serving and gathering, and calls that fail.
+mod failures;
 mod gathering;
 mod meetings;
 mod serving;
