@@ -8,7 +8,7 @@ use std::collections::BTreeMap;
 use std::test::Fail;
 use svn_path::{Lookup, NameId, Names, Path, PathError, has_dot};
 
-fn known(alloc: Global, names: &Names, text: &str) -> Result<Path, Fail>
+pub(crate) fn known(alloc: Global, names: &Names, text: &str) -> Result<Path, Fail>
     ensures { IfOk result (IsPathOf names.now) }
 {
     match Path::find(alloc, names, text.as_bytes())? {
