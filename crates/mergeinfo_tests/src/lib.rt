@@ -4,4 +4,6 @@
 #[cfg(test)]
 mod ranges;
 #[cfg(test)]
+mod refused_growths;
+#[cfg(test)]
 mod values;

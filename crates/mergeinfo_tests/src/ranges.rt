@@ -3,7 +3,7 @@ use range_list::{Ranges, Run};
 use std::alloc::Global;
 use std::test::Fail;
 
-fn run(lo: u32, hi: u32, inheritable: bool) -> Run {
+pub(crate) fn run(lo: u32, hi: u32, inheritable: bool) -> Run {
     Run {
         lo,
         hi,
@@ -12,7 +12,7 @@ fn run(lo: u32, hi: u32, inheritable: bool) -> Run {
 }
 
 // The union of these runs.
-fn union_of(alloc: Global, given: &[Run]) -> Result<Ranges, Fail> {
+pub(crate) fn union_of(alloc: Global, given: &[Run]) -> Result<Ranges, Fail> {
     let mut runs = Vec::new(alloc);
     for each in given {
         if each.lo == 0 || each.hi < each.lo || each.hi > 2147483647 {
@@ -63,7 +63,7 @@ fn add_all(ranges: &mut Ranges) -> Result<(), Fail> {
     Ok(())
 }
 
-fn ranges(alloc: Global) -> Result<Ranges, Fail> {
+pub(crate) fn ranges(alloc: Global) -> Result<Ranges, Fail> {
     let mut ranges = Ranges::new(alloc);
     add_all(&mut ranges)?;
     Ok(ranges)

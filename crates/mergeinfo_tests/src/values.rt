@@ -11,7 +11,7 @@ fn text_of(alloc: Global, value: &MergeInfo) -> Result<Vec<u8>, Fail> {
     Ok(text)
 }
 
-fn is_written_as(alloc: Global, value: &MergeInfo, wanted: &str) -> Result<bool, Fail> {
+pub(crate) fn is_written_as(alloc: Global, value: &MergeInfo, wanted: &str) -> Result<bool, Fail> {
     Ok(text_of(alloc, value)?.as_slice() == wanted.as_bytes())
 }
 
