@@ -42,9 +42,9 @@ impl From<AllocError> for LoadError {
 
 /// The repository of a dump, or its first faulty record.
 ///
-/// At most `workers` threads at a time make the maps and the indexes of blocks, which are then joined. Blocks take whole
-/// revisions from 1 on by the lengths `cuts` in turn; the last length is repeated, and no lengths mean one block.
-/// Neighbouring blocks are taken together so that there are at most as many as workers.
+/// The maps of blocks are made and joined by `workers` threads and, if these are several, the indexes at the same time
+/// by as many others. Blocks take whole revisions from 1 on by the lengths `cuts` in turn; the last length is repeated,
+/// and no lengths mean one block. Neighbouring blocks are taken together so that there are at most as many as workers.
 pub fn load_repo<R: Threads + Sync>(
     rt: &R,
     alloc: Global,
@@ -66,8 +66,8 @@ pub fn load_repo<R: Threads + Sync>(
     Ok(Repo::new(dump, index, map, ends))
 }
 
-/// The map and the index of all records of a dump, or its first faulty record. Several workers make both at the same
-/// time, half of them each. The revisions of the dump end as these say.
+/// The map and the index of all records of a dump, or its first faulty record. If there are several workers, so many
+/// threads make the one, and as many make the other at the same time. The revisions of the dump end as these say.
 fn map_and_index<R: Threads + Sync>(
     rt: &R,
     alloc: Global,
@@ -85,25 +85,23 @@ fn map_and_index<R: Threads + Sync>(
     ensures lawful { OnOk result (first_fault same_name (history_view dump.now) ≡ None) }
     ensures faulty { IfErr result (IsLoadError dump.now) }
 {
-    let half = workers / 2;
-    if half == 0 {
+    if workers == 1 {
         let map = lawful_map(rt, alloc, dump, ends, borders, workers)?;
         let index = index_of(rt, alloc, dump, borders, workers)?;
         return Ok((map, index));
     }
     let indexing = move || -> Result<Index, AllocError>
         requires { IsSync R.row × AreBorders 0 (length dump.now.records) borders.now
-            × (0 < half) × (half ≤ most_workers) }
+            × (0 < workers) × (workers ≤ most_workers) }
         ensures { IfOk result (IsIndexOf dump.entry.now.records) }
-    { index_of(rt, alloc, dump, borders, half) };
-    let rest = workers - half;
+    { index_of(rt, alloc, dump, borders, workers) };
     let mapping = move || -> Result<Map, LoadError>
         requires { IsSync R.row × (ends.now ≡ ends_of dump.now.counts)
-            × AreBorders 0 (length dump.now.records) borders.now × (0 < rest) × (rest ≤ most_workers) }
+            × AreBorders 0 (length dump.now.records) borders.now × (0 < workers) × (workers ≤ most_workers) }
         ensures { IfOk result (IsMapOf dump.entry.now)
             × OnOk result (first_fault same_name (history_view dump.entry.now) ≡ None)
             × IfErr result (IsLoadError dump.entry.now) }
-    { lawful_map(rt, alloc, dump, ends, borders, rest) };
+    { lawful_map(rt, alloc, dump, ends, borders, workers) };
     let (index, map) = thread::join(rt, indexing, mapping);
     let map = map?;
     Ok((map, index?))
