@@ -1,8 +1,9 @@
 -- The maps of blocks meet, and joined they are of all records.
 use Rattle.std.proofs.Common.{◌≡◌, ℕ, suc, ◌+◌, ◌-◌, ◌<◌, ◌≤◌, List, [], ◌∷◌, ◌++◌, length, get_or, drop, refl, sym, ap, ◌∙◌, arith, length-take, length-drop}
-use Rattle.std.specs.List.{slice_range}
+use Rattle.std.specs.List.{slice_range, sum_by}
 use Rattle.std.proofs.lemmas.List.{drop_all, length-map, map-append}
 use Rattle.std.proofs.lemmas.List.Folds.{drop_split}
+use Rattle.std.proofs.lemmas.List.Sums.{sum_by-append, sum_by-cons}
 use Rattle.svn_path.specs.Path.{same_name}
 use Rattle.svn_path.specs.declared.names.NameId.{NameId}
 use Rattle.svn_dump.specs.Dump.{DumpValue, record_view}
@@ -14,13 +15,52 @@ use Rattle.block_map.specs.Joining.{MapPoint, found, count, act_on_point, tick_b
 use Rattle.block_map.specs.Look as look
 use Rattle.block_map.specs.Look.{Found, at, absent, resolved}
 use Rattle.block_map.specs.LookThrough.{look_through}
-use Rattle.block_map.specs.Map.{IsMapOf, MapValue, hi_of, records_at_ticks}
+use Rattle.block_map.specs.Map.{IsMapOf, MapValue, hi_of, nodes_for, records_at_ticks}
 use Rattle.block_map.proofs.LooksThrough.{look_from-within, look_through-append, look_through-none}
 use Rattle.block_map.proofs.MapsOfDumps.{IsMapOf-built}
 use Rattle.par_scan.specs.Chain.{IsChain, IsJoined, Meet, act_all}
 use Rattle.par_scan.specs.Weightless.{no_weight}
 use Rattle.svn_report.specs.Blocks.{AreBorders, IsMapOfBlock}
 use Rattle.svn_report.proofs.BlockIndexes.{AreBorders-tail, border-le}
+
+-- ---- nodes
+
+-- each map has at most one for each component of its records and one for each record
+abbrev pub HaveFewNodes : List MapValue → Type 0
+HaveFewNodes maps = (i : ℕ) (d : MapValue) → i < length maps → (get_or maps i d).nodes ≤ nodes_for (get_or maps i d).records
+
+abbrev nodes_of_map : MapValue → ℕ
+nodes_of_map map = map.nodes
+
+abbrev nodes_for_map : MapValue → ℕ
+nodes_for_map map = nodes_for map.records
+
+-- so have all of them
+few-nodes : (maps : List MapValue) → HaveFewNodes maps → sum_by nodes_of_map maps ≤ sum_by nodes_for_map maps
+few-nodes [] few = omega arith
+few-nodes (m ∷ ms) few = omega (
+  arith,
+  few 0 m (omega arith),
+  few-nodes ms (λ i d below. few (suc i) d (omega (arith, below))),
+  sum_by-cons nodes_of_map m ms,
+  sum_by-cons nodes_for_map m ms,
+)
+
+-- joined they add up
+act_all-count : (maps : List MapValue) (number : ℕ) → act_all act_on_point maps (count number) ≡ count (sum_by nodes_of_map maps + number)
+act_all-count [] number = ap count (omega arith)
+act_all-count (m ∷ ms) number =
+    ap (act_on_point m) (act_all-count ms number) ∙ ap count (omega (arith, sum_by-cons nodes_of_map m ms))
+
+-- the number, if the point is one
+abbrev number_of : MapPoint → ℕ
+number_of (found each) = 0
+number_of (count number) = number
+
+nodes-joined : (maps : List MapValue) (joined : MapValue) → IsJoined act_on_point tick_before hi_of maps joined → joined.nodes ≡ sum_by nodes_of_map maps
+nodes-joined maps joined j = omega (arith, ap number_of (j.acts (count 0) ∙ act_all-count maps 0))
+
+-- ---- records
 
 module _ (ends : List ℕ) where
   -- each map is of the records of the block of its number
@@ -101,6 +141,32 @@ module _ (ends : List ℕ) where
           Meet-maps c (c ∷ bs) (n ∷ ms) (AreBorders-tail first (length all) b c bs is) (AreMapsOfBlocks-tail b (c ∷ bs) m (n ∷ ms) are) (omega arith),
         )
 
+    -- the nodes for the records of each map are those for all records from the first border on
+    nodes_for-maps : (first : ℕ) (borders : List ℕ) (maps : List MapValue) → AreBorders first (length all) borders → AreMapsOfBlocks all borders maps → length maps + 1 ≡ length borders
+        → sum_by nodes_for_map maps ≡ nodes_for (records_from first)
+    nodes_for-maps first [] maps is are len = absurd (omega (arith, is.some))
+    nodes_for-maps first (b ∷ []) [] is are len =
+        let starts : b ≡ first = is.starts in
+        let ends_at : b ≡ length all = is.ends in
+        sym (ap (λ records. nodes_for (records_at_ticks ends records)) (drop_all first all (omega arith)))
+    nodes_for-maps first (b ∷ []) (m ∷ ms) is are len = absurd (omega arith)
+    nodes_for-maps first (b ∷ c ∷ bs) [] is are len = absurd (omega arith)
+    nodes_for-maps first (b ∷ c ∷ bs) (m ∷ ms) is are len =
+        let rise : b ≤ c = is.rise 0 1 (omega arith) (omega arith) in
+        let starts : b ≡ first = is.starts in
+        let front = records_at_ticks ends (slice_range all b c) in
+        let whole : records_from b ≡ front ++ records_from c =
+        ap (records_at_ticks ends) (drop_split all b c rise) ∙ map-append (λ (each : NodeRecord). record_at_tick ends (record_view each)) (slice_range all b c) (drop c all) in
+        omega (
+          arith,
+          nodes_for-maps c (c ∷ bs) ms (AreBorders-tail first (length all) b c bs is) (AreMapsOfBlocks-tail b (c ∷ bs) m ms are) (omega arith),
+          sum_by-cons nodes_for_map m ms,
+          ap nodes_for (first-records b c bs m ms are),
+          sum_by-append (λ (each : Record NameId ValueId). length each.path + 1) front (records_from c),
+          ap nodes_for whole,
+          ap (λ n. nodes_for (records_from n)) starts,
+        )
+
     -- they are a chain
     pub IsChain-maps : (borders : List ℕ) (maps : List MapValue) → AreBorders 0 (length all) borders → AreMapsOfBlocks all borders maps → length maps + 1 ≡ length borders → IsChain tick_before hi_of (λ _. 0) maps
     IsChain-maps borders maps is are len = record { meet = Meet-maps 0 borders maps is are len; light = omega (arith, no_weight maps) }
@@ -155,6 +221,13 @@ IsMapOf-joined dump borders maps joined is are len j = record {
     looks tick path within =
         ap (resolved joined.lo) (says tick path within)
         ∙ ap (λ at. resolved at (look.look same_name 0 (records_at_ticks (ends_of dump.counts) dump.records) tick path)) lo
+
+-- with few nodes, if each map has few
+pub few-nodes_of_joined : (ends : List ℕ) (all : List NodeRecord) (borders : List ℕ) (maps : List MapValue) (joined : MapValue) → AreBorders 0 (length all) borders
+    → AreMapsOfBlocks ends all borders maps → length maps + 1 ≡ length borders → HaveFewNodes maps → IsJoined act_on_point tick_before hi_of maps joined
+    → joined.nodes ≤ nodes_for (records_at_ticks ends all)
+few-nodes_of_joined ends all borders maps joined is are len few j =
+    omega (arith, nodes-joined maps joined j, few-nodes maps few, nodes_for-maps ends all 0 borders maps is are len)
 
 -- where there is no block there is no record
 pub IsMapOf-none : (dump : DumpValue) (borders : List ℕ) (map : MapValue) → AreBorders 0 (length dump.records) borders → length borders ≡ 1

@@ -2,7 +2,7 @@
 ghost use Rattle.std.specs.Prelude.{◌≡◌, ◌<◌, ◌≤◌, IfOk, length};
 ghost use Rattle.svn_dump.specs.Dump.{IsDump};
 ghost use Rattle.block_map.specs.Ends.{ends_of};
-ghost use Rattle.block_map.specs.Map.{IsMapOf};
+ghost use Rattle.block_map.specs.Map.{IsMapOf, nodes_for, records_at_ticks};
 ghost use Rattle.svn_report.specs.Blocks.{AreBorders};
 ghost use Rattle.query_pool.specs.Serving.{most_workers};
 
@@ -23,13 +23,17 @@ pub(crate) struct BlockMaps<'a> {
 }
 
 impl Make for BlockMaps<'_> {
+    ghost use Rattle.std.specs.Prelude.{◌≤◌};
+    ghost use Rattle.block_map.specs.Map.{nodes_for};
     ghost use Rattle.svn_report.specs.Blocks.{HasMapOfBlock, IsMapOfBlock};
 
     type Item = Map;
 
     ghost has = { λ blocks i. HasMapOfBlock blocks.records.now blocks.ends.now blocks.borders.now i };
 
-    ghost gives = { λ blocks i map. IsMapOfBlock blocks.records.now blocks.ends.now blocks.borders.now i map };
+    ghost gives = { λ blocks i map.
+        IsMapOfBlock blocks.records.now blocks.ends.now blocks.borders.now i map
+        × (map.nodes ≤ nodes_for map.records) };
 
     fn make(&self, i: usize) -> Result<Map, AllocError> {
         let start = self.borders[i];
@@ -53,6 +57,7 @@ pub(crate) fn map_of<R: Threads + Sync>(
     requires some_worker { 0 < workers }
     requires few_workers { workers ≤ most_workers }
     ensures map { IfOk result (IsMapOf dump.now) }
+    ensures nodes { IfOk result (λ map. map.nodes ≤ nodes_for (records_at_ticks ends.now dump.now.records)) }
     ensures kept { IsDump dump.now }
 {
     let blocks = BlockMaps {
