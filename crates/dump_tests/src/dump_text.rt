@@ -137,8 +137,13 @@ fn put_dump(alloc: Global, dump: &Dump, is_of_copies: bool, out: &mut Vec<u8>) -
     put_texts(dump, out)
 }
 
-// Fails unless the counts of a dump, its records or their copies, and its mergeinfo texts are these, a line each.
-fn check_lines(alloc: Global, dump: &Dump, is_of_copies: bool, wanted: &str) -> Result<(), Fail> {
+/// Fails unless the counts of a dump, its records or their copies, and its mergeinfo texts are these, a line each.
+pub(crate) fn check_lines(
+    alloc: Global,
+    dump: &Dump,
+    is_of_copies: bool,
+    wanted: &str,
+) -> Result<(), Fail> {
     let mut text = Vec::new(alloc);
     put_dump(alloc, dump, is_of_copies, &mut text)?;
     if text.as_slice() == wanted.as_bytes() {

@@ -4,6 +4,8 @@
 #[cfg(test)]
 mod accepted;
 #[cfg(test)]
+mod cut_off;
+#[cfg(test)]
 mod dump_text;
 #[cfg(test)]
 mod long;
@@ -17,6 +19,8 @@ mod records;
 mod refusals;
 #[cfg(test)]
 mod refused;
+#[cfg(test)]
+mod refused_growths;
 #[cfg(test)]
 mod refused_nodes;
 #[cfg(test)]

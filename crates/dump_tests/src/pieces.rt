@@ -1,22 +1,32 @@
 //! Dumps that come in pieces.
-ghost use Rattle.std.specs.Prelude.{◌≡◌, ◌+◌, ◌<◌, ◌^◌, length};
+ghost use Rattle.std.specs.Prelude.{◌≡◌, ◌+◌, ◌<◌, ◌≤◌, ◌^◌, length};
 
 use crate::samples::{ONE, START};
 use std::alloc::Global;
 use std::test::Fail;
 use svn_dump::{Dump, DumpError, Feed};
 
-/// The answer on the bytes, which come in pieces of that size.
-pub(crate) fn read_in_pieces(alloc: Global, bytes: &[u8], size: usize) -> Result<Dump, DumpError>
-    requires { 0 < size }
+/// Feeds the bytes in pieces of that size, up to the first error.
+pub(crate) fn feed_pieces(feed: &mut Feed, bytes: &[u8], size: usize) -> Result<(), DumpError>
+    requires size { 0 < size }
+    requires few { feed.old.count + length bytes.now < 2 ^ 64 }
+    ensures { feed.new.count ≤ feed.old.count + length bytes.now }
 {
-    let mut feed = Feed::new(alloc);
     let mut rest = bytes;
     while !rest.is_empty() {
         let (piece, more) = rest.split_at(size.min(rest.len()));
         feed.feed(piece)?;
         rest = more;
     }
+    Ok(())
+}
+
+/// The answer on the bytes, which come in pieces of that size.
+pub(crate) fn read_in_pieces(alloc: Global, bytes: &[u8], size: usize) -> Result<Dump, DumpError>
+    requires { 0 < size }
+{
+    let mut feed = Feed::new(alloc);
+    feed_pieces(&mut feed, bytes, size)?;
     feed.finish()
 }
 

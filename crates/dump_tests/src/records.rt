@@ -65,7 +65,8 @@ fn names_are_numbered_as_first_seen(rt: HostRuntime) -> Result<(), Fail> {
     Ok(())
 }
 
-const SAMPLE_TEXT: &str = "
+/// What is read of `DUMPED` and `DELETE_AND_COPY`.
+pub(crate) const SAMPLE_TEXT: &str = "
 revisions of 0 2 1 2
 r1 /trunk add a dir none
 r1 /trunk/f add a file none
@@ -80,7 +81,8 @@ fn reads_what_svnadmin_writes(rt: HostRuntime) -> Result<(), Fail> {
     check_text(rt.alloc(), dump.as_slice(), SAMPLE_TEXT)
 }
 
-const MERGED_TEXT: &str = "
+/// What is read of `MERGED`.
+pub(crate) const MERGED_TEXT: &str = "
 revisions of 0 2 1 1 1 1 1 1 1 1 1
 r1 /trunk add a dir
 r1 /branches add a dir
