@@ -15,7 +15,8 @@ fn is_written_as(alloc: Global, value: &MergeInfo, wanted: &str) -> Result<bool,
     Ok(text.as_slice() == wanted.as_bytes())
 }
 
-fn says(alloc: Global, parsed: Parsed<'_>, wanted: &str) -> Result<bool, AllocError> {
+/// Whether a reading is the wanted one.
+pub(crate) fn says(alloc: Global, parsed: Parsed<'_>, wanted: &str) -> Result<bool, AllocError> {
     match parsed {
         Parsed::Good(value) => is_written_as(alloc, value, wanted),
         Parsed::Malformed => Ok(wanted == MALFORMED),

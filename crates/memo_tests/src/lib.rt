@@ -4,6 +4,8 @@
 #[cfg(test)]
 mod asking;
 #[cfg(test)]
+mod refused_growths;
+#[cfg(test)]
 mod sharing;
 #[cfg(test)]
 mod threads;
