@@ -1,7 +1,8 @@
 //! Indexes of two records, of neighbouring parts, and of six records.
-ghost use Rattle.std.specs.Prelude.{◌≡◌, ◌≤◌, [], ◌∷◌, IfOk};
+ghost use Rattle.std.specs.Prelude.{◌≡◌, ◌^◌, ◌<◌, ◌≤◌, [], ◌∷◌, IfOk, length};
 ghost use Rattle.path_index.specs.Index.{IsThere, IsWhole};
 
+use growth_marks::{begin, end};
 use par_scan::Acts;
 use path_index::{Hit, Index, Segment};
 use std::alloc::{AllocError, Global};
@@ -50,9 +51,21 @@ fn index_of_copy(alloc: Global) -> Result<Index, AllocError>
     Index::build(alloc, [added, copied].as_slice(), 0)
 }
 
+// An index of these records, which no others precede. It is built between the marks.
+fn build(alloc: Global, records: &[NodeRecord]) -> Result<Index, AllocError>
+    requires { length records.now < 2 ^ 32 }
+    ensures records { IfOk result (λ index. index.records ≡ records.now) }
+    ensures first { IfOk result (λ index. index.first ≡ 0) }
+{
+    begin(alloc);
+    let index = Index::build(alloc, records, 0);
+    end(alloc);
+    index
+}
+
 // `b` in revisions 3, 5 and 6 of: `a` added; `a` deleted; `b` copied from `a` of revision 1; `b` replaced by a copy of
 // itself; `b` changed; `b` replaced by a new directory.
-fn index_of_replacements(alloc: Global) -> Result<Index, AllocError>
+pub(crate) fn index_of_replacements(alloc: Global) -> Result<Index, AllocError>
     ensures whole { IfOk result IsWhole }
     ensures copied { IfOk result (λ index. IsThere index.records (record { 0 = 1 } ∷ []) 3) }
     ensures changed { IfOk result (λ index. IsThere index.records (record { 0 = 1 } ∷ []) 5) }
@@ -111,7 +124,7 @@ fn index_of_replacements(alloc: Global) -> Result<Index, AllocError>
             },
         },
     ];
-    Index::build(alloc, records.as_slice(), 0)
+    build(alloc, records.as_slice())
 }
 
 // The only component of a path.
@@ -162,7 +175,7 @@ fn segments_of(index: &Index, alloc: Global, peg: u32) -> Result<Vec<Shape>, All
 }
 
 // The operative revisions of `b` of a revision.
-fn operative_in(index: &Index, alloc: Global, peg: u32) -> Result<Vec<Hit>, AllocError>
+pub(crate) fn operative_in(index: &Index, alloc: Global, peg: u32) -> Result<Vec<Hit>, AllocError>
     requires whole { IsWhole index.now }
     requires there { IsThere index.now.records (record { 0 = 1 } ∷ []) peg }
 {

@@ -6,3 +6,5 @@
 
 #[cfg(test)]
 mod indexes;
+#[cfg(test)]
+mod refused_growths;
