@@ -12,7 +12,7 @@ pub record ArgumentsValue : Type 0 where
   pub workers : ℕ
 
 abbrev pub arguments_view : Arguments → ArgumentsValue
-arguments_view a = record { dump = a.dump.now; queries = a.queries.now; block = a.block; workers = a.workers }
+arguments_view a = record { dump = a.dump.0.now; queries = a.queries.0.now; block = a.block; workers = a.workers }
 
 -- the two numbers as they are written
 pub record IsArguments (texts : List (List ℕ)) (value : ArgumentsValue) : Type 0 where

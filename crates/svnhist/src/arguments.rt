@@ -4,13 +4,19 @@ ghost use Rattle.svnhist.specs.Arguments.{ArgumentsValue, IsArguments, arguments
 
 use svn_text::{GREATEST_REVISION, number_up_to};
 
+/// The path of the dump.
+#[derive(Clone, Copy, Debug)]
+pub(crate) struct DumpPath<'a>(pub &'a str);
+
+/// The path of the query lines.
+#[derive(Clone, Copy, Debug)]
+pub(crate) struct QueriesPath<'a>(pub &'a str);
+
 /// What a run is asked to do, lent by its arguments.
 #[derive(Clone, Copy, Debug)]
 pub(crate) struct Arguments<'a> {
-    /// The path of the dump.
-    pub dump: &'a str,
-    /// The path of the query lines.
-    pub queries: &'a str,
+    pub dump: DumpPath<'a>,
+    pub queries: QueriesPath<'a>,
     /// How many revisions a block has, 0 for one block.
     pub block: u32,
     /// How many workers are to answer, from 1 to 64.
@@ -31,8 +37,8 @@ pub(crate) fn read_arguments(texts: &[String]) -> Option<Arguments<'_>>
         return None;
     }
     Some(Arguments {
-        dump: dump.as_str(),
-        queries: queries.as_str(),
+        dump: DumpPath(dump.as_str()),
+        queries: QueriesPath(queries.as_str()),
         block: block as u32,
         workers: workers as usize,
     })

@@ -7,7 +7,7 @@ ghost use Rattle.svn_report.specs.Report.{IsReport, most_queries};
 ghost use Rattle.svnhist.specs.ExitStatus.{IsFilesError};
 ghost use Rattle.svnhist.specs.FileAnswer.{IsFileError, IsReportOnFile};
 
-use crate::arguments::Arguments;
+use crate::arguments::{Arguments, DumpPath, QueriesPath};
 use crate::cuts::cuts_of;
 use devices::{Device, Source};
 use query_pool::NoGate;
@@ -30,15 +30,23 @@ pub(crate) fn answer_files<R: Files + Threads + Wait + Sync>(
     ensures ok { IfOk result (λ report. (dump queries : List ℕ) × IsReport dump queries report.items) }
     ensures error { IfErr result IsFilesError }
 {
-    let queries = load_queries(alloc, fs::open(rt, asked.queries))?;
+    let queries = load_queries(alloc, open_queries(rt, asked.queries))?;
     answer_opened(
         rt,
         alloc,
-        fs::open(rt, asked.dump),
+        open_dump(rt, asked.dump),
         queries.as_slice(),
         asked.block,
         asked.workers,
     )
+}
+
+fn open_queries<R: Files>(rt: &R, path: QueriesPath<'_>) -> io::Result<R::File> {
+    fs::open(rt, path.0)
+}
+
+fn open_dump<R: Files>(rt: &R, path: DumpPath<'_>) -> io::Result<R::File> {
+    fs::open(rt, path.0)
 }
 
 /// All bytes of the file of the queries, if it could be opened.

@@ -22,7 +22,7 @@ pub use svn_report::{LoadError, RunError, load, load_repo, report, report_from};
 fn main(rt: HostRuntime) -> ExitCode {
     let mut output = Device::new(rt.stdout());
     let mut errors = Device::new(rt.stderr());
-    let status = match arguments_of(&rt) {
+    match arguments_of(&rt) {
         Ok(args) if args.is_empty() => {
             let mut input = Device::new(rt.stdin());
             program::run(&rt, rt.alloc(), &mut input, &mut output, &mut errors)
@@ -33,8 +33,7 @@ fn main(rt: HostRuntime) -> ExitCode {
         },
         Err(e) if e.kind() == ErrorKind::OutOfMemory => program::refuse_memory(&mut errors),
         Err(_) => program::refuse_usage(&mut errors),
-    };
-    ExitCode::from(status)
+    }
 }
 
 /// The arguments after the program's name.

@@ -1,6 +1,7 @@
 //! The program: a bundle or two files in, their report out.
 ghost use Rattle.std.specs.Prelude.{◌≡◌, ◌≢◌, ◌<◌, ◌≤◌, ◌⊎◌, IfErr, IfOk, IsFalse, IsTrue};
 ghost use Rattle.std.specs.Io.KnownBytes.{Appends};
+ghost use Rattle.std.specs.Process.{exit_status};
 ghost use Rattle.svn_report.specs.Load.{IsReadError, IsUnread};
 ghost use Rattle.svnhist.specs.ExitStatus.{IsBundleAnswer, IsBundleError, IsPartSent, IsFailedOnFiles, IsFailed, IsFailureLine, IsDoneOnFiles, IsInputAnswer, IsInputError, IsErrorLine, IsRefusedOnFiles, IsRefused, IsDone, IsNoBundle, PrintsLine};
 ghost use Rattle.svn_report.specs.RunError.{line_of};
@@ -14,6 +15,7 @@ use crate::files::answer_files;
 use devices::{Pull, Push, Source, send};
 use query_pool::NoGate;
 use std::alloc::{AllocError, Global};
+use std::process::ExitCode;
 use std::rt::Files;
 use std::sync::Wait;
 use std::thread::Threads;
@@ -33,21 +35,21 @@ pub(crate) fn run<R: Threads + Wait + Sync, I: Pull, O: Push, E: Push>(
     input: &mut I,
     output: &mut O,
     errors: &mut E,
-) -> u8
-    ensures done { result ≡ 0 →
+) -> ExitCode
+    ensures done { exit_status result ≡ 0 →
         IsDone (I.state input.old) (I.state input.new) (O.state output.old) (O.state output.new) }
-    ensures refused { result ≡ 1 →
+    ensures refused { exit_status result ≡ 1 →
         IsRefused (I.state input.old) (I.state input.new) (E.state errors.old) (E.state errors.new) }
-    ensures usage { result ≡ 2 →
+    ensures usage { exit_status result ≡ 2 →
         IsNoBundle (I.state input.old) (I.state input.new) (E.state errors.old) (E.state errors.new) }
-    ensures failed { result ≡ 3 →
+    ensures failed { exit_status result ≡ 3 →
         IsFailed (I.state input.old) (I.state input.new) (O.state output.old) (O.state output.new) }
-    ensures failure_line { result ≡ 3 →
+    ensures failure_line { exit_status result ≡ 3 →
         IsFailureLine (O.state output.old) (O.state output.new) (E.state errors.old) (E.state errors.new) }
-    ensures memory { result ≡ 4 → PrintsLine (E.state errors.old) (E.state errors.new) (line_of RunError.Memory) }
-    ensures known { result ≤ 4 }
-    ensures silent { result ≡ 0 → errors.new ≡ errors.old }
-    ensures quiet { (result ≡ 0) ⊎ (result ≡ 3) ⊎ (output.new ≡ output.old) }
+    ensures memory { exit_status result ≡ 4 → PrintsLine (E.state errors.old) (E.state errors.new) (line_of RunError.Memory) }
+    ensures known { exit_status result ≤ 4 }
+    ensures silent { exit_status result ≡ 0 → errors.new ≡ errors.old }
+    ensures quiet { (exit_status result ≡ 0) ⊎ (exit_status result ≡ 3) ⊎ (output.new ≡ output.old) }
     ensures untouched { (output.new ≡ output.old) ⊎ ((O.state output.old).calls < (O.state output.new).calls) }
 {
     match answer_input(rt, alloc, input) {
@@ -64,16 +66,16 @@ pub(crate) fn run_files<R: Files + Threads + Wait + Sync, O: Push, E: Push>(
     asked: &Arguments<'_>,
     output: &mut O,
     errors: &mut E,
-) -> u8
+) -> ExitCode
     requires some_worker { 0 < asked.now.workers }
     requires few_workers { asked.now.workers ≤ most_workers }
-    ensures done { result ≡ 0 → IsDoneOnFiles (O.state output.old) (O.state output.new) }
-    ensures failed { result ≡ 3 →
+    ensures done { exit_status result ≡ 0 → IsDoneOnFiles (O.state output.old) (O.state output.new) }
+    ensures failed { exit_status result ≡ 3 →
         IsFailedOnFiles (O.state output.old) (O.state output.new) (E.state errors.old) (E.state errors.new) }
-    ensures refused { result ≢ 0 → output.new ≡ output.old →
-        IsRefusedOnFiles result (E.state errors.old) (E.state errors.new) }
-    ensures silent { result ≡ 0 → errors.new ≡ errors.old }
-    ensures quiet { (result ≡ 0) ⊎ (result ≡ 3) ⊎ (output.new ≡ output.old) }
+    ensures refused { exit_status result ≢ 0 → output.new ≡ output.old →
+        IsRefusedOnFiles (exit_status result) (E.state errors.old) (E.state errors.new) }
+    ensures silent { exit_status result ≡ 0 → errors.new ≡ errors.old }
+    ensures quiet { (exit_status result ≡ 0) ⊎ (exit_status result ≡ 3) ⊎ (output.new ≡ output.old) }
     ensures untouched { (output.new ≡ output.old) ⊎ ((O.state output.old).calls < (O.state output.new).calls) }
 {
     match answer_files(rt, alloc, asked) {
@@ -83,31 +85,31 @@ pub(crate) fn run_files<R: Files + Threads + Wait + Sync, O: Push, E: Push>(
 }
 
 /// Prints how the program is used.
-pub(crate) fn refuse_usage<E: Push>(errors: &mut E) -> u8
-    ensures status { result ≡ 2 }
+pub(crate) fn refuse_usage<E: Push>(errors: &mut E) -> ExitCode
+    ensures status { exit_status result ≡ 2 }
     ensures line { PrintsLine (E.state errors.old) (E.state errors.new) usage_line }
 {
     print_line(errors, USAGE);
-    2
+    ExitCode::from(2)
 }
 
 /// Prints that memory ran out.
-pub(crate) fn refuse_memory<E: Push>(errors: &mut E) -> u8
-    ensures status { result ≡ 4 }
+pub(crate) fn refuse_memory<E: Push>(errors: &mut E) -> ExitCode
+    ensures status { exit_status result ≡ 4 }
     ensures line { PrintsLine (E.state errors.old) (E.state errors.new) (line_of RunError.Memory) }
 {
     print_line(errors, NO_MEMORY);
-    4
+    ExitCode::from(4)
 }
 
 /// Prints the line of an error, and answers its status.
-fn refuse<E: Push>(alloc: Global, errors: &mut E, error: &RunError) -> u8
-    ensures { IsErrorLine result error.now (E.state errors.old) (E.state errors.new) }
+fn refuse<E: Push>(alloc: Global, errors: &mut E, error: &RunError) -> ExitCode
+    ensures { IsErrorLine (exit_status result) error.now (E.state errors.old) (E.state errors.new) }
 {
     match error_line(alloc, error) {
         Ok(line) => {
             print_line(errors, line.as_slice());
-            error.status()
+            ExitCode::from(error.status())
         }
         Err(AllocError) => refuse_memory(errors),
     }
@@ -123,21 +125,21 @@ fn error_line(alloc: Global, error: &RunError) -> Result<Vec<u8>, AllocError>
 }
 
 /// Sends a report.
-fn deliver<O: Push, E: Push>(output: &mut O, errors: &mut E, report: &[u8]) -> u8
-    ensures status { (result ≡ 0) ⊎ (result ≡ 3) }
+fn deliver<O: Push, E: Push>(output: &mut O, errors: &mut E, report: &[u8]) -> ExitCode
+    ensures status { (exit_status result ≡ 0) ⊎ (exit_status result ≡ 3) }
     ensures called { (O.state output.old).calls < (O.state output.new).calls }
-    ensures sent { result ≡ 0 → Appends (O.state output.old).gone (O.state output.new).gone report.now }
-    ensures flushed { result ≡ 0 → IsTrue (O.state output.new).is_flushed }
-    ensures sound { result ≡ 0 → IsFalse (O.state output.new).has_failed }
-    ensures silent { result ≡ 0 → errors.new ≡ errors.old }
-    ensures cut { result ≡ 3 → IsPartSent (O.state output.old) (O.state output.new) report.now }
-    ensures line { result ≡ 3 → PrintsLine (E.state errors.old) (E.state errors.new) unsent_line }
+    ensures sent { exit_status result ≡ 0 → Appends (O.state output.old).gone (O.state output.new).gone report.now }
+    ensures flushed { exit_status result ≡ 0 → IsTrue (O.state output.new).is_flushed }
+    ensures sound { exit_status result ≡ 0 → IsFalse (O.state output.new).has_failed }
+    ensures silent { exit_status result ≡ 0 → errors.new ≡ errors.old }
+    ensures cut { exit_status result ≡ 3 → IsPartSent (O.state output.old) (O.state output.new) report.now }
+    ensures line { exit_status result ≡ 3 → PrintsLine (E.state errors.old) (E.state errors.new) unsent_line }
 {
     match send(output, report) {
-        Ok(()) => 0,
+        Ok(()) => ExitCode::from(0),
         Err(_) => {
             print_line(errors, UNSENT);
-            3
+            ExitCode::from(3)
         }
     }
 }

@@ -1,6 +1,6 @@
 //! Bundles, arguments and files.
 
-use crate::arguments::{Arguments, read_arguments};
+use crate::arguments::{Arguments, DumpPath, QueriesPath, read_arguments};
 use crate::bundle_reader::bundle;
 use crate::files::answer_files;
 use devices::Source;
@@ -56,7 +56,7 @@ fn request(alloc: Global, texts: &[&str], block: u32, workers: usize) -> Result<
     let all = strings(alloc, texts)?;
     Ok(match read_arguments(all.as_slice()) {
         Some(asked) => {
-            (asked.dump, asked.queries) == ("a dump", "-")
+            (asked.dump.0, asked.queries.0) == ("a dump", "-")
                 && (asked.block, asked.workers) == (block, workers)
         }
         None => false,
@@ -119,8 +119,8 @@ fn answers<R: Files + Threads + Wait + Sync>(
     queries: &str,
 ) -> Result<Vec<u8>, RunError> {
     let asked = Arguments {
-        dump,
-        queries,
+        dump: DumpPath(dump),
+        queries: QueriesPath(queries),
         block: 0,
         workers: 1,
     };
