@@ -1,5 +1,5 @@
 //! The trees after each of some records.
-ghost use Rattle.std.specs.Prelude.{◌≡◌, ◌+◌, ◌^◌, ◌<◌, ◌≤◌, ◌++◌, ◌∷◌, [], length, take, IfOk, OnOk};
+ghost use Rattle.std.specs.Prelude.{◌≡◌, ◌+◌, ◌^◌, ◌<◌, ◌≤◌, ◌++◌, ◌∷◌, [], length, IfOk, OnOk};
 ghost use Rattle.std.specs.Prelude.{None};
 ghost use Rattle.svn_dump.specs.Dump.{record_view, setting_view};
 ghost use Rattle.svn_dump.specs.Tree.{mergeinfo_after};
