@@ -1,5 +1,5 @@
 /*
- * Refuses growths of memory and starts of threads in the program that loads this object by LD_PRELOAD.
+ * Refuses and counts growths of memory and starts of threads in the program that loads this object by LD_PRELOAD.
  *
  *     REFUSE_GROWTH=N         the Nth growth is refused
  *     REFUSE_GROWTHS_FROM=N   the Nth growth is refused, and all later ones
@@ -7,6 +7,7 @@
  *     REFUSE_THREADS_FROM=N   the Nth start of a thread is refused, and all later ones
  *     REFUSE_MARKED=1         only what comes between the marks of crates/growth_marks counts
  *     REFUSED_FILE=PATH       a file that is made before the first refusal
+ *     GROWTHS_FILE=PATH       a file that is made at the end, with the number of growths
  *
  * A growth is a call of malloc, calloc or realloc for one byte or more. The program takes memory in no other way, and
  * the C library takes some in this way to start a thread. Growths before main do not count, and neither do the marks.
@@ -29,8 +30,11 @@ extern void *dlsym(void *library, const char *name);
 extern char *getenv(const char *name);
 extern unsigned long strtoul(const char *text, char **end, int base);
 extern int creat(const char *path, unsigned mode);
+extern long write(int file, const void *bytes, size_t count);
 extern int close(int file);
 extern int *__errno_location(void);
+
+typedef void end_process(int status);
 
 typedef int start_thread(void *thread, const void *attributes, void *(*run)(void *), void *given);
 
@@ -44,6 +48,7 @@ struct refused {
 static struct refused growths;
 static struct refused threads;
 static start_thread *next_start;
+static end_process *next_exit;
 static const char *told;
 static int is_told;
 static int counts;
@@ -58,6 +63,7 @@ static unsigned long number(const char *name)
 __attribute__((constructor)) static void read_settings(void)
 {
     next_start = (start_thread *)dlsym(NEXT, "pthread_create");
+    next_exit = (end_process *)dlsym(NEXT, "_exit");
     growths.one = number("REFUSE_GROWTH");
     growths.from = number("REFUSE_GROWTHS_FROM");
     threads.one = number("REFUSE_THREAD");
@@ -129,4 +135,30 @@ int pthread_create(void *thread, const void *attributes, void *(*run)(void *), v
     if (is_refused(&threads))
         return TRY_AGAIN;
     return next_start(thread, attributes, run, given);
+}
+
+/* The program ends by _exit, which runs no destructors. */
+static void write_count(void)
+{
+    const char *path = getenv("GROWTHS_FILE");
+    char text[24];
+    char *front = text + sizeof text;
+    unsigned long left = growths.calls;
+
+    if (!path)
+        return;
+    do
+        *--front = (char)('0' + left % 10);
+    while (left /= 10);
+    int file = creat(path, 0666);
+    if (write(file, front, (size_t)(text + sizeof text - front)) < 0)
+        *__errno_location() = 0;
+    close(file);
+}
+
+__attribute__((noreturn)) void _exit(int status)
+{
+    write_count();
+    next_exit(status);
+    __builtin_unreachable();
 }
