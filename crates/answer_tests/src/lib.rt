@@ -12,6 +12,8 @@ mod in_parts;
 #[cfg(test)]
 mod queries;
 #[cfg(test)]
+mod refused_growths;
+#[cfg(test)]
 mod repository;
 #[cfg(test)]
 mod samples;
