@@ -1,4 +1,4 @@
-use Rattle.std.proofs.Common.{◌<◌, arith}
+use Rattle.std.proofs.Common.{arith}
 use Rattle.par_scan.specs.Weightless.{no_weight}
 use Rattle.map_tests.proofs.joins.total_map.Goals as goal
 
