@@ -1,5 +1,5 @@
 //! Indexes of two records, of neighbouring parts, and of six records.
-ghost use Rattle.std.specs.Prelude.{◌≡◌, ◌^◌, ◌<◌, ◌≤◌, [], ◌∷◌, IfOk, length};
+ghost use Rattle.std.specs.Prelude.{◌≡◌, ◌^◌, ◌<◌, ◌≤◌, [], ◌∷◌, ◌++◌, IfOk, length};
 ghost use Rattle.path_index.specs.Index.{IsThere, IsWhole};
 
 use growth_marks::{begin, end};
@@ -51,12 +51,43 @@ fn index_of_copy(alloc: Global) -> Result<Index, AllocError>
     Index::build(alloc, [added, copied].as_slice(), 0)
 }
 
-// An index of these records, which no others precede. It is built between the marks.
-fn build(alloc: Global, records: &[NodeRecord]) -> Result<Index, AllocError>
+// Two indexes as one, joined between the marks.
+fn joined(alloc: Global, earlier: &Index, later: &Index) -> Result<Index, AllocError>
+    requires next { later.now.first ≡ length earlier.now.records }
+    requires first { earlier.now.first ≡ 0 }
+    ensures records { IfOk result (λ both. both.records ≡ earlier.now.records ++ later.now.records) }
+    ensures first { IfOk result (λ both. both.first ≡ earlier.now.first) }
+{
+    begin(alloc);
+    let both = earlier.join(later);
+    end(alloc);
+    both
+}
+
+// An index of these records, joined of those of both halves.
+fn of_halves(alloc: Global, records: &[NodeRecord]) -> Result<Index, AllocError>
     requires { length records.now < 2 ^ 32 }
     ensures records { IfOk result (λ index. index.records ≡ records.now) }
     ensures first { IfOk result (λ index. index.first ≡ 0) }
 {
+    let (front, back) = records.split_at(records.len() / 2);
+    let earlier = Index::build(alloc, front, 0)?;
+    let later = Index::build(alloc, back, front.len() as u32)?;
+    let both = joined(alloc, &earlier, &later);
+    drop(later);
+    drop(earlier);
+    both
+}
+
+// An index of these records, which no others precede. It is built or joined between the marks.
+fn build(alloc: Global, records: &[NodeRecord], in_halves: bool) -> Result<Index, AllocError>
+    requires { length records.now < 2 ^ 32 }
+    ensures records { IfOk result (λ index. index.records ≡ records.now) }
+    ensures first { IfOk result (λ index. index.first ≡ 0) }
+{
+    if in_halves {
+        return of_halves(alloc, records);
+    }
     begin(alloc);
     let index = Index::build(alloc, records, 0);
     end(alloc);
@@ -65,7 +96,7 @@ fn build(alloc: Global, records: &[NodeRecord]) -> Result<Index, AllocError>
 
 // `b` in revisions 3, 5 and 6 of: `a` added; `a` deleted; `b` copied from `a` of revision 1; `b` replaced by a copy of
 // itself; `b` changed; `b` replaced by a new directory.
-pub(crate) fn index_of_replacements(alloc: Global) -> Result<Index, AllocError>
+pub(crate) fn index_of_replacements(alloc: Global, in_halves: bool) -> Result<Index, AllocError>
     ensures whole { IfOk result IsWhole }
     ensures copied { IfOk result (λ index. IsThere index.records (record { 0 = 1 } ∷ []) 3) }
     ensures changed { IfOk result (λ index. IsThere index.records (record { 0 = 1 } ∷ []) 5) }
@@ -124,7 +155,7 @@ pub(crate) fn index_of_replacements(alloc: Global) -> Result<Index, AllocError>
             },
         },
     ];
-    build(alloc, records.as_slice())
+    build(alloc, records.as_slice(), in_halves)
 }
 
 // The only component of a path.
@@ -222,7 +253,7 @@ fn operative_revisions_of_both_segments_are_found(rt: HostRuntime) -> Result<(),
 
 #[test]
 fn a_gap_is_a_segment(rt: HostRuntime) -> Result<(), Fail> {
-    let index = index_of_replacements(rt.alloc())?;
+    let index = index_of_replacements(rt.alloc(), false)?;
     let found = segments_of(&index, rt.alloc(), 3);
     drop(index);
     let wanted = [(3, 3, Some(B)), (2, 2, None), (1, 1, Some(A))];
@@ -232,7 +263,7 @@ fn a_gap_is_a_segment(rt: HostRuntime) -> Result<(), Fail> {
 
 #[test]
 fn a_copy_of_itself_ends_no_segment(rt: HostRuntime) -> Result<(), Fail> {
-    let index = index_of_replacements(rt.alloc())?;
+    let index = index_of_replacements(rt.alloc(), false)?;
     let found = segments_of(&index, rt.alloc(), 5);
     drop(index);
     let wanted = [(3, 5, Some(B)), (2, 2, None), (1, 1, Some(A))];
@@ -242,7 +273,7 @@ fn a_copy_of_itself_ends_no_segment(rt: HostRuntime) -> Result<(), Fail> {
 
 #[test]
 fn a_replacement_begins_a_segment(rt: HostRuntime) -> Result<(), Fail> {
-    let index = index_of_replacements(rt.alloc())?;
+    let index = index_of_replacements(rt.alloc(), false)?;
     let found = segments_of(&index, rt.alloc(), 6);
     let before = located(&index, rt.alloc(), 6, 5);
     drop(index);
@@ -253,7 +284,7 @@ fn a_replacement_begins_a_segment(rt: HostRuntime) -> Result<(), Fail> {
 
 #[test]
 fn a_log_covers_all_segments(rt: HostRuntime) -> Result<(), Fail> {
-    let index = index_of_replacements(rt.alloc())?;
+    let index = index_of_replacements(rt.alloc(), false)?;
     let found = operative_in(&index, rt.alloc(), 5);
     drop(index);
     let wanted = [(5, 0), (4, 0), (3, 0), (1, 2)].map(|(rev, segment)| Hit { rev, segment });

@@ -12,14 +12,19 @@ use std::test::Fail;
 use std::thread::Threads;
 use svn_dump::{NodeRecord, read};
 
-// `index_of_replacements` builds its index between the marks.
+// `index_of_replacements` builds or joins its index between the marks.
 #[test]
-fn refused_growths_build_no_other_index(rt: HostRuntime) -> Result<(), Fail> {
-    if let Ok(index) = index_of_replacements(rt.alloc()) {
-        let hits = operative_in(&index, rt.alloc(), 5);
-        drop(index);
-        let wanted = [(5, 0), (4, 0), (3, 0), (1, 2)].map(|(rev, segment)| Hit { rev, segment });
-        assert_eq!(rt; hits?.as_slice(), wanted.as_slice());
+fn refused_growths_build_and_join_no_other_index(rt: HostRuntime) -> Result<(), Fail> {
+    for in_halves in [false, true] {
+        if let Ok(index) = index_of_replacements(rt.alloc(), in_halves) {
+            let hits = operative_in(&index, rt.alloc(), 5);
+            drop(index);
+            let wanted = [(5, 0), (4, 0), (3, 0), (1, 2)].map(|(rev, segment)| Hit {
+                rev,
+                segment,
+            });
+            assert_eq!(rt; hits?.as_slice(), wanted.as_slice());
+        }
     }
     Ok(())
 }

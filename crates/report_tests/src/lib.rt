@@ -16,6 +16,8 @@ mod meetings;
 #[cfg(test)]
 mod pieces;
 #[cfg(test)]
+mod refused_growths;
+#[cfg(test)]
 mod reports;
 #[cfg(test)]
 mod trickles;

@@ -6,7 +6,7 @@ use crate::reports::report_of;
 use crate::workers::QUERIES;
 use devices::{Device, Failed, Pull, Source};
 use query_pool::NoGate;
-use sample_dumps::MERGED;
+use sample_dumps::{DUMPED, MERGED};
 use std::alloc::Global;
 use std::io::{self, Read};
 use std::sync::Wait;
@@ -17,7 +17,7 @@ use svn_report::{RunError, load, report_from};
 
 // A reader that gives its bytes in pieces. One of its calls fails.
 #[derive(Drop)]
-struct Pieces {
+pub(crate) struct Pieces {
     bytes: &'static [u8],
     most: usize,
     good_calls: usize,
@@ -40,8 +40,8 @@ impl Read for Pieces {
     }
 }
 
-// A device over such a reader.
-fn device(most: usize, good_calls: usize, error: io::ErrorKind) -> Device<Pieces> {
+/// A device over such a reader of the merged history.
+pub(crate) fn device(most: usize, good_calls: usize, error: io::ErrorKind) -> Device<Pieces> {
     Device::new(Pieces {
         bytes: MERGED,
         most,
@@ -145,6 +145,34 @@ fn a_failure_before_a_refusal_is_reported(rt: HostRuntime) {
         let mut slice = [0u8; 4];
         assert!(rt; matches!(failing.pull(&mut slice), Err(Failed)));
     }
+}
+
+const LOG: &[u8] = b"log\tb@3\nlocate\tb@3\t1\n";
+
+// A device that gives a dump in pieces of 16 bytes, so many of them.
+fn good_for(reads: usize) -> Device<Pieces> {
+    Device::new(Pieces {
+        bytes: DUMPED,
+        most: 16,
+        good_calls: reads,
+        error: io::ErrorKind::Other,
+    })
+}
+
+// The last read is the one that meets the end.
+#[test]
+fn each_failed_read_is_reported(rt: HostRuntime) -> Result<(), Fail> {
+    let reads = DUMPED.len().div_ceil(16) + 1;
+    for good in 0..reads {
+        let error = error_from(&rt, rt.alloc(), &mut good_for(good), LOG);
+        assert!(rt;
+            matches!(error, Some(RunError::Read(Source::Dump))),
+            "{good}"
+        );
+    }
+    let report = report_from(&rt, rt.alloc(), &mut good_for(reads), LOG, &[], 1, &NoGate)?;
+    assert!(rt; report.as_slice() == b"#1 ok\nr2 /b\nr1 /trunk\n#2 ok\n/trunk\n".as_slice());
+    Ok(())
 }
 
 #[test]

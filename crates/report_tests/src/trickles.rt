@@ -87,6 +87,18 @@ fn a_failed_send_counts_what_went_out(rt: HostRuntime) {
     }
 }
 
+// The report has 34 bytes, so the last failure is that of the flush.
+#[test]
+fn a_failed_send_of_single_bytes_counts_those_before(rt: HostRuntime) {
+    for count in 0..=34 {
+        let wanted = Err(SendError { sent: count as u64 });
+        assert_eq!(rt;
+            sent(rt.alloc(), 1, count, Some(io::ErrorKind::Other), false),
+            (wanted, Some(count))
+        );
+    }
+}
+
 #[test]
 fn all_bytes_are_sent_in_pieces(rt: HostRuntime) -> Result<(), Fail> {
     let found = sent(rt.alloc(), 7, 5, None, true);

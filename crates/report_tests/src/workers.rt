@@ -16,8 +16,8 @@ use svn_report::{RunError, report};
 pub const QUERIES: &[u8] =
     b"segments\t/branches/b@8\nlog\t/branches/b@8\nlog\t/@10\nlocate\t/branches/b@8\t3\nlocate\t/branches/b@8\t2\nlocate\t/branches/b@8\t0\nlocate\t/branches/b@8\t9\nlocate\t/branches/b@8\t8\neligible\t/branches/b@8\t/trunk@6\neligible\t/branches/b@8\t/trunk@8\nmerged\t/branches/b@8\t/trunk@8\neligible\t/trunk@8\t/branches/b@8\neligible\t/trunk@8\t/trunk@8\nmergeinfo\t/branches@9\nmergeinfo\t/branches/b@9\nmergeinfo\t/branches/b@10\nmergeinfo\t/trunk@6\nmerged\t/trunk@9\t/branches@9\neligible\t/trunk@9\t/branches@9\n";
 
-// These queries ten times.
-fn ten_times(alloc: Global) -> Result<Vec<u8>, AllocError> {
+/// These queries ten times.
+pub(crate) fn ten_times(alloc: Global) -> Result<Vec<u8>, AllocError> {
     let mut all = Vec::new(alloc);
     for _ in 0..10 {
         all.extend_from_slice(QUERIES)?;
