@@ -59,6 +59,12 @@ module _ (dump : DumpValue) (kept : IsDump dump) (path : List NameId) (rev : ℕ
   pub effective_in-none : IsNearestIn dump path rev None → effective_in dump path rev ≡ Some []
   effective_in-none is = effective_in-found None is
 
+  -- there is no text to read then
+  pub nearest_text-none : IsNearestIn dump path rev None → nearest_text_in dump path rev ≡ None
+  nearest_text-none is =
+      ap (option_map (λ each. each.mergeinfo))
+      (nearest-in_bytes dump kept path rev ∙ ap (option_map (with_mergeinfo_by (λ id. text_of dump.values id.0))) (sym is.nearest_is))
+
   module _ (found : Nearest) (is : IsNearestIn dump path rev (Some found)) where
     -- the text is one of the dump
     pub mergeinfo-found : found.mi.0 < length dump.values

@@ -228,3 +228,13 @@ HasPathsOf names (kept.Eligible revisions) = Unit {0}
 pub record IsAnswer (names : List (List ℕ)) (answer : Answer) (each : KeptAnswer) : Type 0 where
   pub names_of : HasPathsOf names each
   pub same : answer_in_bytes names each ≡ answer
+
+-- the result lines of the answer are found by mergeinfo
+abbrev pub IsByMergeinfo : KeptAnswer → Type 0
+IsByMergeinfo (kept.Refused status) = ⊥
+IsByMergeinfo (kept.Location path) = ⊥
+IsByMergeinfo (kept.Segments segments) = ⊥
+IsByMergeinfo (kept.Log segments hits) = ⊥
+IsByMergeinfo (kept.Mergeinfo value) = Unit {0}
+IsByMergeinfo (kept.Merged revisions) = Unit {0}
+IsByMergeinfo (kept.Eligible revisions) = Unit {0}

@@ -44,6 +44,6 @@ effective_of path (Some found) = option_map (own_or_inherited path found.depth) 
 abbrev pub effective_value : Tree (List ℕ) (List ℕ) → List (List ℕ) → Option MergeInfoValue
 effective_value tree path = effective_of path (nearest bytes_eq tree path)
 
--- the text that tells it: the nearest one, if there is any
+-- the text of the nearest mergeinfo of a path, if there is any
 abbrev pub nearest_text : Tree (List ℕ) (List ℕ) → List (List ℕ) → Option (List ℕ)
 nearest_text tree path = option_map (λ found. found.mergeinfo) (nearest bytes_eq tree path)

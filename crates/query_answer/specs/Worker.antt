@@ -1,6 +1,9 @@
 -- What a worker may know of the mergeinfo texts of a dump, and what it learns by an answer.
-use Rattle.std.specs.Prelude.{◌≡◌, ℕ, ◌≤◌, List, Option, Some, ◌⊎◌, length, slice_get}
-use Rattle.value_memo.specs.SeenValue.{AsksOnly, IsAnswered, SeenValue}
+use Rattle.std.specs.Prelude.{◌≡◌, ℕ, ◌≤◌, List, Option, Some, IfSome, Result, Ok, Err, ◌⊎◌, length, slice_get}
+use Rattle.std.specs.declared.alloc.AllocError.{AllocError}
+use Rattle.query_answer.specs.Answer.{IsByMergeinfo}
+use Rattle.query_answer.specs.declared.answers.Answer.{Answer as KeptAnswer}
+use Rattle.value_memo.specs.SeenValue.{AsksOnly, IsAnswered, SeenValue, text_at}
 
 -- the memo has a cell for each text, and the worker was answered for these texts alone
 pub record IsSeenOf (texts : List (List ℕ)) (memo : List ℕ) (seen : SeenValue) : Type 0 where
@@ -8,14 +11,23 @@ pub record IsSeenOf (texts : List (List ℕ)) (memo : List ℕ) (seen : SeenValu
   pub of_memo : seen.memo ≡ memo
   pub asks : AsksOnly texts seen
 
--- the worker was answered for the text that is asked for, if there is one, under a number that it has in the dump
-pub record HasAsked (texts : List (List ℕ)) (asked : Option (List ℕ)) (old new : SeenValue) : Type 0 where
+-- there is a text to read, and the worker was answered for it, under its number in the dump
+pub record HasLearnt (texts : List (List ℕ)) (read : Option (List ℕ)) (old new : SeenValue) : Type 0 where
   pub id : ℕ
   pub text : List ℕ
-  pub asked_is : asked ≡ Some text
+  pub read_is : read ≡ Some text
   pub of_id : slice_get texts id ≡ Some text
   pub answered : IsAnswered old id text new
 
--- it was answered for nothing else
+-- the worker is as before, or was answered for the text to read
 abbrev pub Learns : List (List ℕ) → Option (List ℕ) → SeenValue → SeenValue → Type 0
-Learns texts asked old new = (new ≡ old) ⊎ HasAsked texts asked old new
+Learns texts read old new = (new ≡ old) ⊎ HasLearnt texts read old new
+
+-- the worker was answered for the text to read, if there is one, now or before
+abbrev pub Knows : Option (List ℕ) → SeenValue → Type 0
+Knows read seen = IfSome read (λ text. (id : ℕ) × (text_at seen id ≡ Some text))
+
+-- where the result lines of an answer are found by mergeinfo, it knows the text that was read for them
+abbrev pub KnowsWhatWasRead : Result KeptAnswer AllocError → Option (List ℕ) → SeenValue → Type 0
+KnowsWhatWasRead (Ok answer) read seen = IsByMergeinfo answer → Knows read seen
+KnowsWhatWasRead (Err e) read seen = Unit {0}

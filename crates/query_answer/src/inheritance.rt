@@ -1,5 +1,5 @@
 //! The mergeinfo that a path has or inherits.
-ghost use Rattle.std.specs.Prelude.{◌≡◌, ◌≤◌, IfOk, drop, length, option_map};
+ghost use Rattle.std.specs.Prelude.{◌≡◌, ◌≤◌, IfOk, OnOk, drop, length, option_map};
 ghost use Rattle.merge_info.specs.CanonicalValue.{inherited_value};
 ghost use Rattle.merge_info.specs.Line.{IsPrintedPath};
 ghost use Rattle.svn_path.specs.Components.{path_text};
@@ -7,7 +7,7 @@ ghost use Rattle.svn_path.specs.Path.{IsPathOf, components_of};
 ghost use Rattle.value_memo.specs.Parsed.{parsed_view};
 ghost use Rattle.query_answer.specs.Effective.{own_or_inherited};
 ghost use Rattle.query_answer.specs.Repo.{effective_in, effective_view, nearest_text_in};
-ghost use Rattle.query_answer.specs.Worker.{IsSeenOf, Learns};
+ghost use Rattle.query_answer.specs.Worker.{IsSeenOf, Knows, Learns};
 
 use crate::effective_mergeinfo::Effective;
 use crate::repo::Repo;
@@ -36,6 +36,7 @@ pub fn effective<'r>(
     ensures value { IfOk result (λ value. effective_view value ≡ effective_in repo.now path.now rev) }
     ensures seen { IsSeenOf repo.now.values memo.now seen.new }
     ensures learns { Learns repo.now.values (nearest_text_in repo.now path.now rev) seen.old seen.new }
+    ensures knows { OnOk result (Knows (nearest_text_in repo.now path.now rev) seen.new) }
 {
     let Some(found) = repo.nearest(path, rev)? else {
         return Ok(Effective::Value(MergeInfo::empty(alloc)));

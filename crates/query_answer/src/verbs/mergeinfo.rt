@@ -1,12 +1,12 @@
 //! `mergeinfo`: the effective mergeinfo of a path.
-ghost use Rattle.std.specs.Prelude.{◌≡◌, ◌≤◌, IfOk, length, option_map};
+ghost use Rattle.std.specs.Prelude.{◌≡◌, ◌≤◌, IfOk, OnOk, length, option_map};
 ghost use Rattle.svn_path.specs.Path.{IsPathOf, components_of};
 ghost use Rattle.value_memo.specs.Parsed.{parsed_view};
 ghost use Rattle.query_answer.specs.Answer.{IsAnswer};
 ghost use Rattle.query_answer.specs.Effective.{own_or_inherited};
 ghost use Rattle.query_answer.specs.Peg.{peg_view};
 ghost use Rattle.query_answer.specs.Repo.{IsTargetFound, effective_in, mergeinfo_answer, nearest_text_at, nearest_text_in};
-ghost use Rattle.query_answer.specs.Worker.{IsSeenOf, Learns};
+ghost use Rattle.query_answer.specs.Worker.{IsSeenOf, Knows, KnowsWhatWasRead, Learns};
 
 use crate::answers::Answer;
 use crate::inheritance::rest_below;
@@ -32,6 +32,7 @@ pub(crate) fn answer_mergeinfo<'r>(
     ensures answer { IfOk result (IsAnswer repo.now.names (mergeinfo_answer repo.now peg.now)) }
     ensures seen { IsSeenOf repo.now.values memo.now seen.new }
     ensures learns { Learns repo.now.values (nearest_text_at repo.now (peg_view peg.now)) seen.old seen.new }
+    ensures knows { KnowsWhatWasRead result (nearest_text_at repo.now (peg_view peg.now)) seen.new }
 {
     let target = match repo.find_target(alloc, peg)? {
         Ok(target) => target,
@@ -57,6 +58,7 @@ fn printed<'r>(
     ensures value { IfOk result (λ value. value ≡ effective_in repo.now target.now.path peg.now.rev) }
     ensures seen { IsSeenOf repo.now.values memo.now seen.new }
     ensures learns { Learns repo.now.values (nearest_text_in repo.now target.now.path peg.now.rev) seen.old seen.new }
+    ensures knows { OnOk result (Knows (nearest_text_in repo.now target.now.path peg.now.rev) seen.new) }
 {
     let Some(found) = target.nearest else {
         return Ok(Some(PrintedMergeinfo::of(alloc, &MergeInfo::empty(alloc))?));

@@ -7,7 +7,7 @@ ghost use Rattle.query_answer.specs.Held.{rest_of};
 ghost use Rattle.query_answer.specs.HeldValue.{own_or_below};
 ghost use Rattle.svn_path.specs.Path.{components_of};
 ghost use Rattle.value_memo.specs.Parsed.{parsed_view};
-ghost use Rattle.query_answer.specs.Worker.{IsSeenOf, Learns};
+ghost use Rattle.query_answer.specs.Worker.{IsSeenOf, KnowsWhatWasRead, Learns};
 
 use super::eligible::eligible_of;
 use super::merged::merged_of;
@@ -71,6 +71,7 @@ pub(crate) fn answer_pair<'r>(
     ensures answer { IfOk result (IsAnswer repo.now.names (pair_answer repo.now wanted source.now target.now)) }
     ensures seen { IsSeenOf repo.now.values memo.now seen.new }
     ensures learns { Learns repo.now.values (nearest_text_at repo.now (peg_view target.now)) seen.old seen.new }
+    ensures knows { KnowsWhatWasRead result (nearest_text_at repo.now (peg_view target.now)) seen.new }
 {
     let pair = match Pair::find(alloc, repo, source, target)? {
         Ok(pair) => pair,

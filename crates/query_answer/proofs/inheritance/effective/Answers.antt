@@ -3,8 +3,8 @@ use Rattle.std.proofs.lemmas.Result.{IfOk-weaker}
 use Rattle.svn_path.specs.Path.{components_of}
 use Rattle.query_answer.specs.Effective.{own_or_inherited}
 use Rattle.query_answer.specs.Repo.{IsNearestIn, nearest_text_in}
-use Rattle.query_answer.proofs.EffectiveValues.{effective_in-none, effective_in-text, mergeinfo-found, nearest_text-found}
-use Rattle.query_answer.proofs.WorkersSeen.{IsSeenOf-after, Learns-after}
+use Rattle.query_answer.proofs.EffectiveValues.{effective_in-none, effective_in-text, mergeinfo-found, nearest_text-found, nearest_text-none}
+use Rattle.query_answer.proofs.WorkersSeen.{IsSeenOf-after, Knows-after, Learns-after, OnOk-from}
 use Rattle.query_answer.proofs.inheritance.effective.Goals as goal
 
 pub returns-in_default-clause-value : goal.returns-in_default-clause-value
@@ -39,3 +39,17 @@ returns-clause-learns c =
     (nearest_text_in c.args.repo.now c.args.path.now c.args.rev)
     (nearest_text-found c.args.repo.now c.in_ok-found.ensures.kept c.args.path.now c.args.rev c.in-Some.found near c.mergeinfo_text.result.now c.mergeinfo_text.ensures)
     c.value.result c.value.follows.lender-at-none c.value.follows.holds-at-none
+
+pub returns-in_default-clause-knows : goal.returns-in_default-clause-knows
+returns-in_default-clause-knows c =
+    let near : IsNearestIn c.args.repo.now c.args.path.now c.args.rev None = subst (IsNearestIn c.args.repo.now c.args.path.now c.args.rev) c.in_default.is c.in_ok-found.ensures.found in
+    rw (nearest_text-none c.args.repo.now c.in_ok-found.ensures.kept c.args.path.now c.args.rev near) tt
+
+pub returns-clause-knows : goal.returns-clause-knows
+returns-clause-knows c =
+    let near : IsNearestIn c.args.repo.now c.args.path.now c.args.rev (Some c.in-Some.found) = subst (IsNearestIn c.args.repo.now c.args.path.now c.args.rev) c.in-Some.is c.in_ok-found.ensures.found in
+    OnOk-from c.effective_by.result
+    (Knows-after c.args.repo.now.values c.args.memo.now c.args.seen.now c.requires.seen c.in-Some.found.mi.0 c.mergeinfo_text.result.now c.mergeinfo_text.ensures
+    (nearest_text_in c.args.repo.now c.args.path.now c.args.rev)
+    (nearest_text-found c.args.repo.now c.in_ok-found.ensures.kept c.args.path.now c.args.rev c.in-Some.found near c.mergeinfo_text.result.now c.mergeinfo_text.ensures)
+    c.value.result c.in_ok-parsed.parsed c.value.follows.lender-at-none c.in_ok-parsed.was c.value.follows.holds-at-none)

@@ -1,9 +1,10 @@
-use Rattle.std.proofs.Common.{inl, refl}
+use Rattle.std.proofs.Common.{None, inl, refl}
 use Rattle.query_answer.specs.Peg.{peg_view}
 use Rattle.query_answer.specs.Repo.{trees_in_bytes}
 use Rattle.query_answer.specs.declared.status.Status.TheVariants as status
 use Rattle.svn_dump.specs.Dump.{history_in_bytes}
 use Rattle.query_answer.proofs.AnswerTexts.{IsAnswer-Refused, answer_of-bad, answer_of-locate, answer_of-segments, answer_of-log, answer_of-mergeinfo, answer_of-merged, answer_of-eligible}
+use Rattle.query_answer.proofs.WorkersSeen.{KnowsWhatWasRead-from}
 use Rattle.query_answer.proofs.verbs.answer.Goals as goal
 
 pub returns-in-Bad : goal.returns-in-Bad
@@ -12,6 +13,7 @@ returns-in-Bad c =
       answer = rw c.in-Bad.is (IsAnswer-Refused c.args.repo.now.names _ status.BadQuery (answer_of-bad (history_in_bytes c.args.repo.now) (trees_in_bytes c.args.repo.now)));
       seen = c.requires.seen;
       learns = inl refl;
+      knows = λ none. absurd none;
     }
 
 pub returns-in-Locate : goal.returns-in-Locate
@@ -20,6 +22,7 @@ returns-in-Locate c =
       answer = rw (c.in-Locate.is, answer_of-locate (history_in_bytes c.args.repo.now) (trees_in_bytes c.args.repo.now) (peg_view c.in-Locate.of) c.in-Locate.rev) c.answer_locate.ensures;
       seen = c.requires.seen;
       learns = inl refl;
+      knows = rw c.in-Locate.is (KnowsWhatWasRead-from c.answer_locate.result None c.args.seen.now tt);
     }
 
 pub returns-in-Segments : goal.returns-in-Segments
@@ -28,6 +31,7 @@ returns-in-Segments c =
       answer = rw (c.in-Segments.is, answer_of-segments (history_in_bytes c.args.repo.now) (trees_in_bytes c.args.repo.now) (peg_view c.in-Segments.of)) c.answer_segments.ensures;
       seen = c.requires.seen;
       learns = inl refl;
+      knows = rw c.in-Segments.is (KnowsWhatWasRead-from c.answer_segments.result None c.args.seen.now tt);
     }
 
 pub returns-in-Log : goal.returns-in-Log
@@ -36,6 +40,7 @@ returns-in-Log c =
       answer = rw (c.in-Log.is, answer_of-log (history_in_bytes c.args.repo.now) (trees_in_bytes c.args.repo.now) (peg_view c.in-Log.of)) c.answer_log.ensures;
       seen = c.requires.seen;
       learns = inl refl;
+      knows = rw c.in-Log.is (KnowsWhatWasRead-from c.answer_log.result None c.args.seen.now tt);
     }
 
 pub returns-in-Mergeinfo : goal.returns-in-Mergeinfo

@@ -6,8 +6,8 @@ use Rattle.query_answer.specs.HeldValue.{own_or_below}
 use Rattle.query_answer.specs.Peg.{peg_view}
 use Rattle.query_answer.specs.Repo.{IsNearestIn, IsPairFound, nearest_text_at}
 use Rattle.query_answer.proofs.AnswerTexts.{IsAnswer-Pair_refused}
-use Rattle.query_answer.proofs.EffectiveValues.{effective_in-below, effective_in-none, mergeinfo-found, nearest_text-found, nearest_text_at-peg}
-use Rattle.query_answer.proofs.WorkersSeen.{IsSeenOf-after, Learns-after}
+use Rattle.query_answer.proofs.EffectiveValues.{effective_in-below, effective_in-none, mergeinfo-found, nearest_text-found, nearest_text-none, nearest_text_at-peg}
+use Rattle.query_answer.proofs.WorkersSeen.{IsSeenOf-after, Knows-after, KnowsWhatWasRead-from, Learns-after}
 use Rattle.query_answer.proofs.verbs.pair.answer_pair.Goals as goal
 
 pub returns-in-Err-clause-answer : goal.returns-in-Err-clause-answer
@@ -57,3 +57,22 @@ returns-clause-learns c =
     (nearest_text_at-peg c.args.repo.now c.args.target.now c.in-Ok.pair.target.path pair.target_is.path.spells
     ∙ nearest_text-found c.args.repo.now pair.source_is.kept c.in-Ok.pair.target.path c.args.target.now.rev c.in-Some.found near c.mergeinfo_text.result.now c.mergeinfo_text.ensures)
     c.value.result c.value.follows.lender-at-none c.value.follows.holds-at-none
+
+pub returns-in_default-clause-knows : goal.returns-in_default-clause-knows
+returns-in_default-clause-knows c =
+    let pair : IsPairFound c.args.repo.now c.args.source.now c.args.target.now (Ok c.in-Ok.pair) = rw c.in-Ok.is at c.in_ok-pair.ensures in
+    let near : IsNearestIn c.args.repo.now c.in-Ok.pair.target.path c.args.target.now.rev None = subst (IsNearestIn c.args.repo.now c.in-Ok.pair.target.path c.args.target.now.rev) c.in_default.is pair.target_is.nearest in
+    KnowsWhatWasRead-from c.revisions.result _ _
+    (rw (nearest_text_at-peg c.args.repo.now c.args.target.now c.in-Ok.pair.target.path pair.target_is.path.spells
+    ∙ nearest_text-none c.args.repo.now pair.source_is.kept c.in-Ok.pair.target.path c.args.target.now.rev near) tt)
+
+pub returns-clause-knows : goal.returns-clause-knows
+returns-clause-knows c =
+    let pair : IsPairFound c.args.repo.now c.args.source.now c.args.target.now (Ok c.in-Ok.pair) = rw c.in-Ok.is at c.in_ok-pair.ensures in
+    let near : IsNearestIn c.args.repo.now c.in-Ok.pair.target.path c.args.target.now.rev (Some c.in-Some.found) = subst (IsNearestIn c.args.repo.now c.in-Ok.pair.target.path c.args.target.now.rev) c.in-Some.is pair.target_is.nearest in
+    KnowsWhatWasRead-from c.revisions-2.result _ _
+    (Knows-after c.args.repo.now.values c.args.memo.now c.args.seen.now c.requires.seen c.in-Some.found.mi.0 c.mergeinfo_text.result.now c.mergeinfo_text.ensures
+    (nearest_text_at c.args.repo.now (peg_view c.args.target.now))
+    (nearest_text_at-peg c.args.repo.now c.args.target.now c.in-Ok.pair.target.path pair.target_is.path.spells
+    ∙ nearest_text-found c.args.repo.now pair.source_is.kept c.in-Ok.pair.target.path c.args.target.now.rev c.in-Some.found near c.mergeinfo_text.result.now c.mergeinfo_text.ensures)
+    c.value.result c.in_ok-parsed.parsed c.value.follows.lender-at-none c.in_ok-parsed.was c.value.follows.holds-at-none)
