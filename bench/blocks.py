@@ -31,8 +31,8 @@ MOST_REPORT = 1 << 26
 # and its memory relative to those of one block, and the answers from four blocks relative to those from one.
 MOST_OF_MADE = {("additions", 4, QUARTER): 0.6}
 MOST_OF_RUN = 1.15
-MOST_OF_MEMORY = 1.1
-MOST_OF_ANSWERS = 1.3
+MOST_OF_MEMORY = 1.15
+MOST_OF_ANSWERS = 2.0
 
 
 def verdict(value, most):
