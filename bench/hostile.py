@@ -47,10 +47,11 @@ MOST_COMPONENTS = 1024
 # The bits of the numbers of distant names.
 BITS = 13
 GREATEST_LENGTH = (1 << 63) - 1
-# The second halves of keys: those that the hasher makes 0 and 1, and one that is like them.
+# The second halves of keys: those that the hasher makes 0 and 1, and one whose number has bits in all bytes. Where only
+# the last byte differs from that of 0, keys still collide, though less.
 ZERO = bytes.fromhex("157c4a7fb979379e")
 ONE = bytes.fromhex("147c4a7fb979379e")
-OTHER = bytes.fromhex("157c4a7fb979379f")
+ORDINARY = b"ordinary"
 
 # Runs the command after its first three arguments, which are the seconds and the bytes of memory that the command may
 # take and the file for what it prints. Prints the seconds, the kilobytes at most and the exit status. A process that
@@ -425,8 +426,8 @@ def names_that_hash_to_zero(count):
     return added_names(first_half(number) + ZERO for number in range(count))
 
 
-def names_that_hash_otherwise(count):
-    return added_names(first_half(number) + OTHER for number in range(count))
+def ordinary_names(count):
+    return added_names(first_half(number) + ORDINARY for number in range(count))
 
 
 def names_whose_halves_cancel(count):
@@ -434,7 +435,7 @@ def names_whose_halves_cancel(count):
 
 
 def names_of_equal_quarters(count):
-    return added_names(equal_quarters(number) + b"ordinary" for number in range(count))
+    return added_names(equal_quarters(number) + ORDINARY for number in range(count))
 
 
 def changes_to_values(keys):
@@ -446,8 +447,8 @@ def mergeinfo_that_hashes_to_zero(count):
     return changes_to_values(first_half(number) + ZERO for number in range(count))
 
 
-def mergeinfo_that_hashes_otherwise(count):
-    return changes_to_values(first_half(number) + OTHER for number in range(count))
+def ordinary_mergeinfo(count):
+    return changes_to_values(first_half(number) + ORDINARY for number in range(count))
 
 
 # ---- the shapes
@@ -520,8 +521,8 @@ SHAPES = [
 ]
 # Keys that collide, and as many that do not.
 COLLIDING = [
-    (of_dump(names_that_hash_to_zero, 100000), of_dump(names_that_hash_otherwise, 100000)),
-    (of_dump(mergeinfo_that_hashes_to_zero, 100000), of_dump(mergeinfo_that_hashes_otherwise, 100000)),
+    (of_dump(names_that_hash_to_zero, 100000), of_dump(ordinary_names, 100000)),
+    (of_dump(mergeinfo_that_hashes_to_zero, 100000), of_dump(ordinary_mergeinfo, 100000)),
     (of_dump(names_whose_halves_cancel, 20000), of_dump(names_of_equal_quarters, 20000)),
 ]
 
