@@ -25,5 +25,4 @@ pub mod Reader
 pub mod Record
 pub mod Refusal
 pub mod State
-pub mod Texts
 pub mod Tree

@@ -6,6 +6,8 @@ use Rattle.svn_dump.specs.declared.error.DumpError.TheVariants as dump
 use Rattle.svn_dump.specs.declared.read_error.ReadError.{ReadError}
 use Rattle.svn_dump.specs.declared.read_error.ReadError.TheVariants as read
 use Rattle.svn_dump.specs.declared.refusal.Refusal.TheVariants.{BadPath, TooLarge}
+use Rattle.svn_text.specs.declared.text_table.TextTableError.{TextTableError}
+use Rattle.svn_text.specs.declared.text_table.TextTableError.TheVariants as texts
 use Rattle.svn_path.specs.declared.path.PathError.{PathError}
 use Rattle.svn_path.specs.declared.path.PathError.TheVariants as path
 
@@ -19,3 +21,8 @@ abbrev pub read_error_of : PathError → ReadError
 read_error_of path.Dot = read.Refused BadPath
 read_error_of path.Full = read.Refused TooLarge
 read_error_of path.Memory = read.Memory
+
+-- of a table of texts
+abbrev pub read_error_of_table : TextTableError → ReadError
+read_error_of_table texts.Full = read.Refused TooLarge
+read_error_of_table texts.Memory = read.Memory

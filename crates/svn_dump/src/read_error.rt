@@ -6,6 +6,7 @@ use crate::error::DumpError;
 use crate::refusal::Refusal;
 use std::alloc::{AllocError, AllocFailed};
 use svn_path::PathError;
+use svn_text::TextTableError;
 
 /// Why reading stopped.
 #[derive(Debug, Drop)]
@@ -52,6 +53,20 @@ impl From<PathError> for ReadError {
             PathError::Dot => ReadError::Refused(Refusal::BadPath),
             PathError::Full => ReadError::Refused(Refusal::TooLarge),
             PathError::Memory => ReadError::Memory,
+        }
+    }
+}
+
+impl From<TextTableError> for ReadError {
+    ghost use Rattle.std.specs.Prelude.{◌≡◌};
+    ghost use Rattle.svn_dump.specs.ReadError.{read_error_of_table};
+
+    ghost from_gives = { λ e r. r ≡ read_error_of_table e };
+
+    fn from(e: TextTableError) -> ReadError {
+        match e {
+            TextTableError::Full => ReadError::Refused(Refusal::TooLarge),
+            TextTableError::Memory => ReadError::Memory,
         }
     }
 }

@@ -7,27 +7,22 @@ ghost use Rattle.svn_dump.specs.NumberedRecord.{IsTooLarge, is_full_with};
 use crate::read_error::ReadError;
 use crate::record::ValueId;
 use crate::refusal::Refusal;
-use indexmap::IndexSet;
 use std::alloc::Global;
-use std::hash::BuildHasherDefault;
 use std::marker::Model;
-use svn_text::{HashedText, KeptHasher};
+use svn_text::TextTable;
 
 /// The distinct mergeinfo texts of a dump, seen as the list of their bytes.
 #[derive(Drop)]
 pub(crate) struct Texts {
-    known: IndexSet<HashedText<'static>, BuildHasherDefault<KeptHasher>>,
+    known: TextTable,
 }
 
 impl Model for Texts {
     ghost use Rattle.std.specs.Prelude.{ℕ, List};
-    ghost use Rattle.svn_dump.specs.Texts.{IsTextTable};
 
     ghost Value = { List (List ℕ) };
 
-    ghost view = { λ t. t.known.keys };
-
-    ghost invariant = { λ t. IsTextTable t.known.keys };
+    ghost view = { λ t. t.known };
 }
 
 impl Texts {
@@ -36,7 +31,7 @@ impl Texts {
         ensures { result ≡ [] }
     {
         Texts {
-            known: IndexSet::with_hasher(alloc, BuildHasherDefault::new()),
+            known: TextTable::new(alloc),
         }
     }
 
@@ -47,16 +42,7 @@ impl Texts {
         ensures refused { IfErr result (IsTooLarge (is_full_with self.old (text.now ∷ []))) }
         ensures err { OnErr result (self.new ≡ self.old) }
     {
-        let text = HashedText::new(text);
-        if let Some(index) = self.known.get_index_of(&text) {
-            return Ok(ValueId(index as u32));
-        }
-        let index = self.known.len();
-        if index == u32::MAX as usize {
-            return Err(ReadError::Refused(Refusal::TooLarge));
-        }
-        self.known.insert(text.to_owned(*self.known.allocator())?)?;
-        Ok(ValueId(index as u32))
+        Ok(ValueId(self.known.add(text)?))
     }
 
     /// The text of a number.
@@ -64,7 +50,7 @@ impl Texts {
         requires { id.0 < length self.now }
         ensures { slice_get self.now id.0 ≡ Some result.now }
     {
-        self.known[id.0 as usize].as_slice()
+        self.known.text(id.0)
     }
 
     /// How many texts there are.

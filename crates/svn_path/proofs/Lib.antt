@@ -1,6 +1,5 @@
 pub mod Belows
 pub mod Components
-pub mod Keys
 pub mod Orders
 pub mod Tables
 pub mod Exits

@@ -4,11 +4,9 @@ ghost use Rattle.std.specs.List.{IsDistinct};
 ghost use Rattle.svn_path.specs.Components.{IsComponent};
 ghost use Rattle.svn_path.specs.Names.{has_name, with_name, most_names, HasNoRoomFor};
 
-use indexmap::IndexSet;
-use std::alloc::{AllocError, AllocFailed, Global};
-use std::hash::BuildHasherDefault;
+use std::alloc::{AllocError, Global};
 use std::marker::Model;
-use svn_text::{HashedText, KeptHasher};
+use svn_text::{TextTable, TextTableError};
 use thiserror::Error;
 
 /// The number of a name in a table. Numbers begin at 0 and follow the order in which names came.
@@ -27,7 +25,7 @@ pub enum NamesError {
 /// The distinct components of a repository's paths, seen as the list of their bytes.
 #[derive(Drop)]
 pub struct Names {
-    known: IndexSet<HashedText<'static>, BuildHasherDefault<KeptHasher>>,
+    known: TextTable,
 }
 
 impl Model for Names {
@@ -38,9 +36,9 @@ impl Model for Names {
 
     ghost Value = { List (List ℕ) };
 
-    ghost view = { λ n. n.known.keys };
+    ghost view = { λ n. n.known };
 
-    ghost invariant = { λ n. IsTable n.known.keys };
+    ghost invariant = { λ n. IsTable n.known };
 }
 
 impl From<AllocError> for NamesError {
@@ -53,13 +51,17 @@ impl From<AllocError> for NamesError {
     }
 }
 
-impl<T: Drop> From<AllocFailed<T>> for NamesError {
-    ghost use Rattle.svn_path.specs.declared.names.NamesError.TheVariants.{Memory};
+impl From<TextTableError> for NamesError {
+    ghost use Rattle.std.specs.Prelude.{◌≡◌};
+    ghost use Rattle.svn_path.specs.NamesError.{names_error_of};
 
-    ghost from_gives = { λ _ e. e ≡ Memory };
+    ghost from_gives = { λ e error. error ≡ names_error_of e };
 
-    fn from(_e: AllocFailed<T>) -> NamesError {
-        NamesError::Memory
+    fn from(e: TextTableError) -> NamesError {
+        match e {
+            TextTableError::Full => NamesError::Full,
+            TextTableError::Memory => NamesError::Memory,
+        }
     }
 }
 
@@ -69,7 +71,7 @@ impl Names {
         ensures { result ≡ [] }
     {
         Names {
-            known: IndexSet::with_hasher(alloc, BuildHasherDefault::new()),
+            known: TextTable::new(alloc),
         }
     }
 
@@ -82,16 +84,7 @@ impl Names {
         ensures full { IsErrOf result NamesError.Full ↔ HasNoRoomFor self.old name.now }
         ensures err { OnErr result (self.new ≡ self.old) }
     {
-        let text = HashedText::new(name);
-        if let Some(id) = self.find_text(&text) {
-            return Ok(id);
-        }
-        let index = self.known.len();
-        if index == u32::MAX as usize {
-            return Err(NamesError::Full);
-        }
-        self.known.insert(text.to_owned(*self.known.allocator())?)?;
-        Ok(NameId(index as u32))
+        Ok(NameId(self.known.add(name)?))
     }
 
     /// The number of a name, if the table has it.
@@ -99,17 +92,7 @@ impl Names {
         ensures number { IfSome result (λ id. slice_get self.now id.0 ≡ Some name.now) }
         ensures found { IsSome result ↔ IsTrue (has_name self.now name.now) }
     {
-        self.find_text(&HashedText::new(name))
-    }
-
-    /// The same of a name that is hashed already.
-    fn find_text(&self, text: &HashedText<'_>) -> Option<NameId>
-        ensures number { IfSome result (λ id. slice_get self.now id.0 ≡ Some text.now) }
-        ensures found { IsSome result ↔ IsTrue (has_name self.now text.now) }
-    {
-        self.known
-            .get_index_of(text)
-            .map(|index| NameId(index as u32))
+        self.known.find(name).map(NameId)
     }
 
     /// The name of a number.
@@ -117,7 +100,7 @@ impl Names {
         requires { id.0 < length self.now }
         ensures { slice_get self.now id.0 ≡ Some result.now }
     {
-        self.known[id.0 as usize].as_slice()
+        self.known.text(id.0)
     }
 
     /// How many names there are.

@@ -1,3 +1,4 @@
 pub mod Appended
 pub mod Cuts
 pub mod Lines
+pub mod TextTables

@@ -1,12 +1,12 @@
-//! Bytes that are cut at a byte or hashed once, decimal numbers, and the greatest revision.
+//! Bytes cut at a byte, tables of texts, decimal numbers, and the greatest revision.
 #![tactic(auto)]
 
 mod cut;
-mod hashed_text;
-mod kept_hasher;
 mod number;
+mod recent_numbers;
+mod text_numbers;
+mod text_table;
 
 pub use cut::{split_at_byte, split_at_last};
-pub use hashed_text::HashedText;
-pub use kept_hasher::KeptHasher;
 pub use number::{GREATEST_REVISION, number_up_to, push_number};
+pub use text_table::{TextTable, TextTableError};
