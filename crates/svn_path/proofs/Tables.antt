@@ -4,7 +4,7 @@ use Rattle.std.proofs.lemmas.Bool.{cases_Bool, cases_lt, cases_order, both_ways,
 use Rattle.std.proofs.lemmas.Bool.Decides.{same_from_decides, Decides-eqb}
 use Rattle.std.proofs.lemmas.Cmp.{nat_list_eq_equiv}
 use Rattle.std.proofs.lemmas.List.{append-nil, append_assoc, get_or_append_left, get_or_default, get_or_past, length-map, get_or-map, length-replicate}
-use Rattle.std.proofs.lemmas.List.Elements.{All-nil, All-head, All-tail, All-weaker, All-get_or, All-map}
+use Rattle.std.proofs.lemmas.List.Elements.{All-nil, All-head, All-tail, All-weaker, All-get_or, All-map, All-push}
 use Rattle.std.proofs.lemmas.List.Folds.{list_any_at, list_any-append, Any-from_list_any}
 use Rattle.std.proofs.lemmas.Map.Keys.{apart_from_distinct}
 use Rattle.std.proofs.lemmas.Slice.Eq.{bytes_eq-Decides}
@@ -143,6 +143,14 @@ with_name-known names name known = cond-true _ _ _ known
 -- another one goes last
 pub with_name-new : (names : List (List ℕ)) (name : List ℕ) → has_name names name ≡ false → with_name names name ≡ names ++ name ∷ []
 with_name-new names name unknown = cond-false _ _ _ unknown
+
+-- what holds of the names and of one more
+pub All-with_name : (P : List ℕ → Type 0) (names : List (List ℕ)) (name : List ℕ) → All P names → P name → All P (with_name names name)
+All-with_name P names name of_names of_name =
+    elim (cases_Bool (has_name names name)) [
+      | inl known ↦ subst (All P) (sym (with_name-known names name known)) of_names
+      | inr unknown ↦ subst (All P) (sym (with_name-new names name unknown)) (All-push P names name of_names of_name)
+    ]
 
 -- a table grows at its end, with one name
 pub with_name-append : (names : List (List ℕ)) (name : List ℕ) → (more : List (List ℕ)) × (with_name names name ≡ names ++ more)

@@ -68,6 +68,8 @@ impl TextTable {
         ensures known { IsTrue (has_text self.old text.now) → IsOk result }
         ensures full { IsErrOf result TextTableError.Full ↔ HasNoRoomFor self.old text.now }
         ensures err { OnErr result (self.new ≡ self.old) }
+        ensures few { length self.new ≤ most_texts }
+        ensures distinct { IsDistinct bytes_eq self.new }
     {
         let hash = hash_of(text);
         if let Some(number) = self.find_hashed(text, hash) {
@@ -119,6 +121,7 @@ impl TextTable {
         ensures number { IfOk result (λ number. number ≡ length self.old) }
         ensures table { OnOk result (self.new ≡ self.old ++ text.now ∷ []) }
         ensures err { OnErr result (self.new ≡ self.old) }
+        ensures distinct { IsDistinct bytes_eq self.new }
     {
         let alloc = *self.texts.allocator();
         let number = self.texts.len() as u32;

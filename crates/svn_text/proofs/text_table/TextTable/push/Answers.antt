@@ -22,3 +22,6 @@ invariant_of-self-2 c =
       subst IsTextTable (sym (ap items_of c.in_ok-push.ensures.items ∙ map_push (λ (each : Vec ℕ). each.items) texts kept)) table,
       subst (λ all. AreFound all numbers) (sym c.in_ok-push.ensures.items) (AreFound-push texts numbers kept found last),
     )
+
+pub returns-clause-distinct : goal.returns-clause-distinct
+returns-clause-distinct c = (invariant_of-self-2 c).0.distinct
