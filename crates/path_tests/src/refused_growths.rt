@@ -34,6 +34,28 @@ fn are_added(alloc: Global, names: &mut Names) -> Result<bool, Fail> {
     )
 }
 
+// The last eight bytes make the hash of such a name 0, whatever the first eight are.
+fn are_added_with_one_hash(alloc: Global, names: &mut Names) -> Result<bool, Fail> {
+    Ok(
+        is_added(
+            alloc,
+            names,
+            b"branch-1\x15\x7c\x4a\x7f\xb9\x79\x37\x9e".as_slice(),
+            3,
+        )? && is_added(
+            alloc,
+            names,
+            b"branch-2\x15\x7c\x4a\x7f\xb9\x79\x37\x9e".as_slice(),
+            4,
+        )? && is_added(
+            alloc,
+            names,
+            b"branch-1\x15\x7c\x4a\x7f\xb9\x79\x37\x9e".as_slice(),
+            3,
+        )?,
+    )
+}
+
 // The names of a table, one after another.
 fn text_of(alloc: Global, names: &Names) -> Result<Vec<u8>, Fail> {
     let mut text = Vec::new(alloc);
@@ -51,6 +73,8 @@ fn refused_growths_leave_a_table_of_names_as_it_was(rt: HostRuntime) -> Result<(
     let mut names = Names::new(rt.alloc());
     assert!(rt; are_added(rt.alloc(), &mut names)?);
     assert!(rt; text_of(rt.alloc(), &names)?.as_slice() == b"abc".as_slice());
+    assert!(rt; are_added_with_one_hash(rt.alloc(), &mut names)?);
+    assert!(rt; names.len() == 5);
     Ok(())
 }
 

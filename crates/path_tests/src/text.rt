@@ -1,10 +1,9 @@
-//! Bytes cut at a byte or hashed once, and decimal numbers.
+//! Bytes cut at a byte, tables of texts, and decimal numbers.
 
 use std::alloc::{AllocError, Global};
-use std::hash::{DefaultHasher, Hash, Hasher};
 use std::test::Fail;
 use svn_text::{
-    GREATEST_REVISION, HashedText, number_up_to, push_number, split_at_byte, split_at_last,
+    GREATEST_REVISION, TextTable, number_up_to, push_number, split_at_byte, split_at_last,
 };
 
 #[test]
@@ -24,27 +23,47 @@ fn bytes_are_split_at_the_first_or_the_last_such_byte(rt: HostRuntime) {
     );
 }
 
-fn hash_of(text: &HashedText<'_>) -> u64 {
-    let mut hasher = DefaultHasher::new();
-    text.hash(&mut hasher);
-    hasher.finish()
-}
-
-// Whether two texts are equal, and whether they have one hash.
-fn compared(text: &HashedText<'_>, other: &[u8]) -> (bool, bool) {
-    let other = HashedText::new(other);
-    (*text == other, hash_of(text) == hash_of(&other))
+// Whether a table gives a text this number, before and after it is added, and the text for the number.
+fn is_numbered(table: &mut TextTable, text: &[u8], number: u32) -> Result<bool, Fail> {
+    let found = table.find(text);
+    let added = table.add(text)?;
+    Ok(
+        added == number
+            && found.unwrap_or(number) == number
+            && table.find(text) == Some(number)
+            && table.len() > number as usize
+            && table.text(number) == text,
+    )
 }
 
 #[test]
-fn texts_are_compared_and_hashed_by_all_their_bytes(rt: HostRuntime) -> Result<(), Fail> {
-    let text = HashedText::new(b"/branches/1.x:2-9".as_slice()).to_owned(rt.alloc())?;
-    for (other, same) in [
-        (b"/branches/1.x:2-9".as_slice(), true),
-        (b"/branches/2.x:2-9", false),
-        (b"/branches/1.x:2-99", false),
+fn texts_are_numbered_in_the_order_in_which_they_came(rt: HostRuntime) -> Result<(), Fail> {
+    let mut table = TextTable::new(rt.alloc());
+    for (text, number) in [
+        (b"/branches/1.x:2-9".as_slice(), 0),
+        (b"/branches/2.x:2-9", 1),
+        (b"", 2),
+        (b"/branches/1.x:2-9", 0),
+        (b"/branches/2.x:2-99", 3),
+        (b"", 2),
     ] {
-        assert!(rt; compared(&text, other) == (same, same));
+        assert!(rt; is_numbered(&mut table, text, number)?);
+    }
+    Ok(())
+}
+
+// The last eight bytes make the hash of such a text 0, whatever the first eight are.
+#[test]
+fn texts_of_one_hash_are_told_apart(rt: HostRuntime) -> Result<(), Fail> {
+    let mut table = TextTable::new(rt.alloc());
+    for (text, number) in [
+        (b"branch-1\x15\x7c\x4a\x7f\xb9\x79\x37\x9e".as_slice(), 0),
+        (b"branch-2\x15\x7c\x4a\x7f\xb9\x79\x37\x9e", 1),
+        (b"branch-3\x15\x7c\x4a\x7f\xb9\x79\x37\x9e", 2),
+        (b"branch-1\x15\x7c\x4a\x7f\xb9\x79\x37\x9e", 0),
+        (b"branch-3\x15\x7c\x4a\x7f\xb9\x79\x37\x9e", 2),
+    ] {
+        assert!(rt; is_numbered(&mut table, text, number)?);
     }
     Ok(())
 }

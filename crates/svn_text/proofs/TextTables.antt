@@ -59,7 +59,7 @@ pub number-of : (texts : List (Vec ℕ)) (text : List ℕ) → has_text (items_o
 number-of texts text has =
     let (number, each, below, at, same) = Any-from_list_any (λ each. bytes_eq each text) (items_of texts) has in
     let is : slice_get (items_of texts) number ≡ Some text =
-        slice_get-get_or (items_of texts) number each below ∙ ap Some (at ∙ (bytes_eq-Decides each text).0 same) in
+    slice_get-get_or (items_of texts) number each below ∙ ap Some (at ∙ (bytes_eq-Decides each text).0 same) in
     elim (slice_get_cases texts number).1 [
       | inl (kept, _, found, _) ↦ (number, kept, found, same_Some _ _ (sym (slice_get-items_of texts kept number found) ∙ is))
       | inr (past, _) ↦ absurd (omega (arith, below, past, length-map texts (λ (text : Vec ℕ). text.items)))
@@ -128,11 +128,11 @@ AreFound-push texts numbers text found last = record {
 
 -- no texts
 pub AreFound-nil : (numbers : TextNumbers) → AreFound [] numbers
-AreFound-nil numbers = record { found = λ number text is. let never : None ≡ Some text = is in cc; }
+AreFound-nil numbers = record { found = λ number text is. let never : None ≡ Some text = is in cc }
 
 pub IsTextTable-nil : IsTextTable []
 unfolding IsDistinct
-IsTextTable-nil = record { few = omega arith; distinct = tt; }
+IsTextTable-nil = record { few = omega arith; distinct = tt }
 
 -- a new text where there is room
 pub IsTextTable-push : (texts : List (List ℕ)) (text : List ℕ) → IsTextTable texts → has_text texts text ≡ false

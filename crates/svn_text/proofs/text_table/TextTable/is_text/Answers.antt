@@ -12,8 +12,7 @@ returns-in-Some c =
     let at : slice_get c.self.inside.texts.items c.args.number ≡ Some kept = grind (arith, common_steps, gets) in
     let is : slice_get c.args.self.now c.args.number ≡ Some kept.items = subst (λ texts. slice_get texts c.args.number ≡ Some kept.items) c.self.view_is (slice_get-items_of c.self.inside.texts.items kept c.args.number at) in
     let text = c.args.text.now in
-    let asked : bytes_eq kept.items text ≡ c.eq.result = ap (λ bytes. bytes_eq bytes text) (sym c.as_slice.ensures.value) ∙ sym c.eq.ensures in
-    (
+    let asked : bytes_eq kept.items text ≡ c.eq.result = ap (λ bytes. bytes_eq bytes text) (sym c.as_slice.ensures.value) ∙ sym c.eq.ensures in (
       λ equal. is ∙ ap Some ((bytes_eq-Decides kept.items text).0 (asked ∙ equal)),
       λ same. sym asked ∙ (bytes_eq-Decides kept.items text).1 (same_Some kept.items text (sym is ∙ same)),
     )

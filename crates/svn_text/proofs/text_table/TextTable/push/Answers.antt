@@ -14,11 +14,10 @@ invariant_of-self-2 c =
     let lacks : has_text (items_of texts) text ≡ false = ap (λ names. has_text names text) c.self.view_is ∙ c.requires.new in
     let found : AreFound texts numbers = c.put.ensures.kept texts lacks c.self.invariant.1 in
     let last : IsFoundAt numbers kept.items (length texts) =
-        subst (λ bytes. IsFoundAt numbers bytes (length texts)) (sym c.in_ok-kept.ensures.items)
-        (subst (IsFoundAt numbers text) (omega (arith, c.len-number.ensures, c.self.inside.texts.ok.0)) c.in_ok-put.ensures.found) in
+    subst (λ bytes. IsFoundAt numbers bytes (length texts)) (sym c.in_ok-kept.ensures.items)
+    (subst (IsFoundAt numbers text) (omega (arith, c.len-number.ensures, c.self.inside.texts.ok.0)) c.in_ok-put.ensures.found) in
     let table : IsTextTable (items_of texts ++ kept.items ∷ []) = IsTextTable-push (items_of texts) kept.items c.self.invariant.0 (ap (has_text (items_of texts)) c.in_ok-kept.ensures.items ∙ lacks)
-        (subst (λ names. length names < most_texts) (sym c.self.view_is) c.requires.room) in
-    (
+    (subst (λ names. length names < most_texts) (sym c.self.view_is) c.requires.room) in (
       subst IsTextTable (sym (ap items_of c.in_ok-push.ensures.items ∙ map_push (λ (each : Vec ℕ). each.items) texts kept)) table,
       subst (λ all. AreFound all numbers) (sym c.in_ok-push.ensures.items) (AreFound-push texts numbers kept found last),
     )
