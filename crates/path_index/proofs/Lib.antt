@@ -1,4 +1,5 @@
 mod CameFromItself
+mod ChildrenFound
 mod DownFrom
 mod EntriesOfPaths
 mod HistoryTo

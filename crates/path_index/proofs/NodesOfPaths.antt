@@ -35,7 +35,7 @@ pub index_from_child : (o : Option ℕ) (node : ℕ) → option_map suc o ≡ So
 index_from_child None node found = cc
 index_from_child (Some index) node found = (index, refl, same_Some (suc index) node found)
 
-same_child-is : (a b : Child) → same_child a b ≡ true → (a.parent ≡ b.parent) × (a.name ≡ b.name)
+pub same_child-is : (a b : Child) → same_child a b ≡ true → (a.parent ≡ b.parent) × (a.name ≡ b.name)
 same_child-is a b same =
     let (parents, names) = and_parts (a.parent == b.parent) (same_name a.name b.name) same in
     (eqb-true a.parent b.parent parents, IsSame-same_name.true_is a.name b.name names)

@@ -1,5 +1,8 @@
 -- Numbers for paths: a path's node is found from the root, one component after another.
 use Rattle.std.specs.Prelude.{◌≡◌, ℕ, suc, ◌+◌, ◌≤◌, ◌==◌, Bool, ◌&&◌, List, [], ◌∷◌, ◌++◌, Option, Some, length, slice_get, option_map, option_and_then, position}
+use Rattle.std.specs.BTreeMap.{BTreeMap, get}
+use Rattle.std.specs.Ordering.{nat_cmp, ordering_then}
+use Rattle.std.specs.declared.cmp.Ordering.{Ordering}
 use Rattle.svn_path.specs.Path.{same_name}
 use Rattle.svn_path.specs.declared.names.NameId.{NameId}
 use Rattle.path_index.specs.declared.nodes.Child.{Child}
@@ -21,6 +24,15 @@ node_below children node (name ∷ path) =
 
 abbrev pub node_of : List Child → List NameId → Option ℕ
 node_of children path = node_below children 0 path
+
+-- the order of children, by the node above and then by the component
+abbrev pub child_cmp : Child → Child → Ordering
+child_cmp a b = ordering_then (nat_cmp a.parent b.parent) (nat_cmp a.name.0 b.name.0)
+
+-- each child's node is the number that the map has for the child, and the map has no others
+abbrev pub AreNumbersOf : List Child → BTreeMap Child ℕ → Type 0
+AreNumbersOf children numbers =
+    (child : Child) → get child_cmp numbers child ≡ child_of children child.parent child.name
 
 -- children were added, and none removed
 pub record Extends (old new : List Child) : Type 0 where

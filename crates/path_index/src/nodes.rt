@@ -1,35 +1,40 @@
 //! The paths of records, each once, as a tree of components.
-ghost use Rattle.std.specs.Prelude.{◌≡◌, ◌≤◌, List, [], Some, length, IfOk, OnOk};
+ghost use Rattle.std.specs.Prelude.{◌≡◌, ◌≤◌, List, [], None, Some, length, IfOk, OnOk};
 ghost use Rattle.path_index.specs.Nodes.{child_of, node_of, AreNodesOf, Extends};
 
-use indexmap::IndexSet;
 use std::alloc::{AllocError, Global};
+use std::collections::BTreeMap;
 use std::marker::Model;
 use svn_path::{NameId, Path};
 
 /// A node, by the node above it and its last component.
-#[derive(Clone, Copy, PartialEq, Eq, Hash)]
+#[derive(Clone, Copy, PartialEq, Eq, PartialOrd, Ord)]
 struct Child {
     parent: u32,
     name: NameId,
 }
 
 /// The nodes of some paths and of all paths above them. The root is node 0, and the others are numbered from 1.
+///
+/// Children are found in a tree, which takes a logarithmic time at worst. A table of hashes would not, since no hasher
+/// here is random: a dump could choose children that all meet in one place.
 #[derive(Drop)]
 pub(crate) struct Nodes {
-    children: IndexSet<Child>,
+    children: Vec<Child>,
+    numbers: BTreeMap<Child, u32>,
 }
 
 impl Model for Nodes {
     ghost use Rattle.std.specs.Prelude.{List, length, ◌<◌, ◌^◌};
-    ghost use Rattle.path_index.specs.Nodes.{HaveParentsBefore};
+    ghost use Rattle.path_index.specs.Nodes.{AreNumbersOf, HaveParentsBefore};
     ghost use Rattle.path_index.specs.declared.nodes.Child.{Child};
 
     ghost Value = { List Child };
 
-    ghost view = { λ n. n.children.keys };
+    ghost view = { λ n. n.children.items };
 
-    ghost invariant = { λ n. (length n.children.keys < 2 ^ 32) × HaveParentsBefore n.children.keys };
+    ghost invariant = { λ n. (length n.children.items < 2 ^ 32) × HaveParentsBefore n.children.items
+        × AreNumbersOf n.children.items n.numbers };
 }
 
 impl Nodes {
@@ -38,7 +43,8 @@ impl Nodes {
         ensures { result ≡ [] }
     {
         Nodes {
-            children: IndexSet::new(alloc),
+            children: Vec::new(alloc),
+            numbers: BTreeMap::new(alloc),
         }
     }
 
@@ -48,6 +54,7 @@ impl Nodes {
     {
         Ok(Nodes {
             children: self.children.clone()?,
+            numbers: self.numbers.clone()?,
         })
     }
 
@@ -65,11 +72,30 @@ impl Nodes {
         ensures node { IfOk result (λ node. child_of self.new parent name ≡ Some node) }
         ensures grown { OnOk result (Extends self.old self.new) }
     {
-        if self.children.len() == u32::MAX as usize {
+        if let Some(node) = self.child(parent, name) {
+            return Ok(node);
+        }
+        self.push(Child { parent, name })
+    }
+
+    /// Adds a new node.
+    fn push(&mut self, child: Child) -> Result<u32, AllocError>
+        requires above { child.parent ≤ length self.old }
+        requires absent { child_of self.old child.parent child.name ≡ None }
+        ensures node { IfOk result (λ node. child_of self.new child.parent child.name ≡ Some node) }
+        ensures grown { OnOk result (Extends self.old self.new) }
+    {
+        let before = self.children.len();
+        if before == u32::MAX as usize {
             return Err(AllocError);
         }
-        let (index, _) = self.children.insert_full(Child { parent, name })?;
-        Ok(index as u32 + 1)
+        let node = before as u32 + 1;
+        self.children.push(child)?;
+        if let Err(refused) = self.numbers.insert(child, node) {
+            self.children.pop();
+            return Err(AllocError::from(refused));
+        }
+        Ok(node)
     }
 
     /// Adds the nodes of another tree. Returns the node of each, from the root on.
@@ -91,9 +117,7 @@ impl Nodes {
     pub(crate) fn child(&self, parent: u32, name: NameId) -> Option<u32>
         ensures { result ≡ child_of self.now parent name }
     {
-        self.children
-            .get_index_of(&Child { parent, name })
-            .map(|index| index as u32 + 1)
+        self.numbers.get(&Child { parent, name }).copied()
     }
 
     /// The node of a path.
