@@ -3,9 +3,10 @@ use Rattle.std.proofs.Common.{◌≡◌, ℕ, ◌+◌, ◌<◌, ◌≤◌, arith
 use mir.Val.{bool_byte}
 use Rattle.std.specs.Option.{ForSome, option_flatten}
 use Rattle.std.proofs.Math.Seq.{map-set_same}
+use Rattle.std.proofs.lemmas.Bool.{both_ways}
 use Rattle.std.proofs.lemmas.List.{get_or-set_same, length-map, length-set, map-set, set-get_or}
 use Rattle.std.proofs.lemmas.List.Sums.{sum_by-set, count_by-le-length}
-use Rattle.std.proofs.lemmas.Option.{get_or_from_slice_get, slice_get-get_or, slice_get-map, none-some, slice_get_read, slice_get_within}
+use Rattle.std.proofs.lemmas.Option.{get_or_from_slice_get, same_Some, slice_get-get_or, slice_get-map, none-some, slice_get_read, slice_get_within}
 use Rattle.std.proofs.lemmas.Simd.{map-map}
 use Rattle.value_memo.specs.PlaceValue.{PlaceValue, IsAnsweredPlace, unanswered}
 use Rattle.value_memo.specs.SeenValue.{SeenValue, IsAnswered, asked_of, nothing_seen, seen_view, text_at}
@@ -64,8 +65,11 @@ module _ (places : List PlaceValue) (parses at : ℕ) (place : PlaceValue) (ther
     text_at-answered : (more : ℕ) → text_at (seen_view (slice_set places at new) more) at ≡ Some text
     text_at-answered more = rw (slice_get-map (λ p. p.text) (slice_set places at new) at, slice_get-set_same places at place new there, answered.text) refl
 
-    pub IsAnswered-place : (more : ℕ) → parses ≤ more → more ≤ parses + 1 → IsAnswered (seen_view places parses) at text (seen_view (slice_set places at new) more)
-    IsAnswered-place more least most = record {
+    own-answered : (more : ℕ) → slice_get (seen_view (slice_set places at new) more).own at ≡ Some new.own
+    own-answered more = rw (slice_get-map (λ p. p.own) (slice_set places at new) at, slice_get-set_same places at place new there) refl
+
+    pub IsAnswered-place : (more : ℕ) → parses ≤ more → more ≤ parses + 1 → (new.own ≡ true → more ≡ parses + 1) → IsAnswered (seen_view places parses) at text (seen_view (slice_set places at new) more)
+    IsAnswered-place more least most counted = record {
       memo = map-unchanged (λ p. p.cell) places at place new there answered.cell;
       texts = texts-set;
       known = text_at-answered more;
@@ -73,6 +77,7 @@ module _ (places : List PlaceValue) (parses at : ℕ) (place : PlaceValue) (ther
       asked = λ _. asked_of-answered more;
       parses = least;
       one_parse = most;
+      kept = λ _ own. counted (same_Some new.own true (sym (own-answered more) ∙ own));
     }
 
 -- ---- a number that was answered for before
@@ -91,6 +96,7 @@ IsAnswered-again seen id text known = record {
   asked = λ unknown. absurd (none-some text (sym unknown ∙ known));
   parses = omega arith;
   one_parse = omega arith;
+  kept = λ unknown. absurd (none-some text (sym unknown ∙ known));
 }
 
 -- a number that may be asked for with the text was answered for with this text, or not at all
@@ -105,6 +111,11 @@ None-unless (Some text) unknown = cc
 pub bool_byte-le-1 : (b : Bool) → bool_byte b ≤ 1
 bool_byte-le-1 true = omega arith
 bool_byte-le-1 false = omega arith
+
+-- a reading that a place keeps itself is counted
+pub own-counted : (is_read own : Bool) (parses : ℕ) → (is_read ≡ false → own ≡ false) → own ≡ true → parses + bool_byte is_read ≡ parses + 1
+own-counted true own parses shared is_own = refl
+own-counted false own parses shared is_own = absurd (both_ways own (shared refl) is_own)
 
 -- the place that was read at a number of the memo
 pub place_at : (places : List PlaceValue) (parses : ℕ) (seen : SeenValue) (memo : List ℕ) (at : ℕ) (place : PlaceValue) → seen_view places parses ≡ seen → seen.memo ≡ memo → at < length memo → place ≡ get_or places at place → slice_get places at ≡ Some place

@@ -6,8 +6,8 @@ use mir.Syntax.{named}
 use Rattle.value_memo.specs.SeenValue.{SeenValue, IsAnswered}
 use Rattle.value_memo.specs.contracts.seen.Seen.{the_row}
 
--- It was answered for the number with the text, and after an error it is as before. `named 1` is the place of the
--- texts' lifetime in the signature.
+-- It was answered for the number with the text, and after an error it is as before. `the_row` says of which type it is:
+-- a `Seen` at the second lifetime of the signature of `value`, which is that of the texts.
 abbrev pub ends_answered : {T E : Type 0} → MutBor SeenValue → ℕ → List ℕ → Result T E → Fml
 ends_answered seen id text result =
     Rests (the_row (record { mir = named 1; lft = [] })) seen

@@ -1,5 +1,6 @@
--- What one worker knows of a memo: for each number the text that it was answered for, and how many texts it read.
-use Rattle.std.specs.Prelude.{◌≡◌, ℕ, ◌+◌, ◌≤◌, Bool, false, List, Option, Some, None, is_some, map, slice_get, slice_set}
+-- What one worker knows of a memo: for each number the text that it was answered for and whether it keeps the reading
+-- itself, and how many texts it read.
+use Rattle.std.specs.Prelude.{◌≡◌, ℕ, ◌+◌, ◌≤◌, Bool, true, false, List, Option, Some, None, is_some, map, slice_get, slice_set}
 use Rattle.std.specs.List.{count_by}
 use Rattle.std.specs.Option.{ForSome, option_flatten}
 use Rattle.value_memo.specs.PlaceValue.{PlaceValue}
@@ -39,7 +40,8 @@ MayAsk seen id text = ForSome (text_at seen id) (λ before. before ≡ text)
 abbrev pub AsksOnly : List (List ℕ) → SeenValue → Type 0
 AsksOnly values seen = (id : ℕ) → ForSome (text_at seen id) (λ before. slice_get values id ≡ Some before)
 
--- the number was answered for with this text, and all others stay; a text is read at most where it is a new number
+-- the number was answered for with this text, and all others stay; at most a new number's text is read, and it is where
+-- the worker keeps the reading itself
 pub record IsAnswered (old : SeenValue) (id : ℕ) (text : List ℕ) (new : SeenValue) : Type 0 where
   pub memo : new.memo ≡ old.memo
   pub texts : new.texts ≡ slice_set old.texts id (Some text)
@@ -48,3 +50,4 @@ pub record IsAnswered (old : SeenValue) (id : ℕ) (text : List ℕ) (new : Seen
   pub asked : text_at old id ≡ None → asked_of new ≡ asked_of old + 1
   pub parses : old.parses ≤ new.parses
   pub one_parse : new.parses ≤ old.parses + 1
+  pub kept : text_at old id ≡ None → slice_get new.own id ≡ Some true → new.parses ≡ old.parses + 1

@@ -13,8 +13,8 @@ use std::alloc::{AllocError, Global};
 use std::marker::Model;
 use svn_dump::ValueId;
 
-/// What one worker knows of a memo. It is seen as the memo, the text that each number was answered for, and how many
-/// texts the worker read.
+/// What one worker knows of a memo. It is seen as the memo, the text that each number was answered for, whether the
+/// worker keeps the reading of it itself, and how many texts the worker read.
 #[derive(Drop)]
 pub struct Seen<'t> {
     places: Vec<Place<'t>>,
@@ -47,9 +47,9 @@ impl<'t> Seen<'t> {
         })
     }
 
-    /// What the text of a number says. Where the memo has no text under the number, the worker reads this one, and
-    /// publishes it unless another worker does so first. Where the memo has another text, the worker keeps its reading for
-    /// itself. Later calls with the number read nothing.
+    /// What the text of a number says. The worker takes the reading that another one published, if that is one of this
+    /// text. Else it reads the text, and publishes the reading where none is yet, or keeps it for itself. Later calls with
+    /// the number read nothing.
     pub fn value<'a>(
         &'a mut self,
         memo: &'a Memo<'t>,

@@ -2,7 +2,7 @@ use Rattle.std.proofs.Common.{◌+◌, arith, is_some, slice_get, slice_set, sym
 use mir.Val.{bool_byte}
 use Rattle.std.proofs.lemmas.Option.{none-some, same_Some}
 use Rattle.value_memo.specs.SeenValue.{IsAnswered, seen_view, text_at}
-use Rattle.value_memo.proofs.Places.{IsAnswered-again, IsAnswered-place, MayAsk-cases, None-unless, asked_of-answered, asked_of-fits, bool_byte-le-1, cell-place, place_at, seen_view-same, text_at-place}
+use Rattle.value_memo.proofs.Places.{IsAnswered-again, IsAnswered-place, MayAsk-cases, None-unless, asked_of-answered, asked_of-fits, bool_byte-le-1, cell-place, own-counted, place_at, seen_view-same, text_at-place}
 use Rattle.value_memo.proofs.seen.Seen.learn.Goals as goal
 
 pub returns-then-is_answered-clause-ok : goal.returns-then-is_answered-clause-ok
@@ -56,5 +56,6 @@ returns-clause-ok c =
     let unknown = None-unless place.text (sym c.if-is_answered.false ∙ c.is_answered.ensures) in
     let byte = bool_byte-le-1 c.in_ok-is_read.is_read in
     let more = parses + bool_byte c.in_ok-is_read.is_read in
-    let answered = IsAnswered-place places parses at place there text c.learn.new.self c.in_ok-is_read.ensures.ok unknown more (omega arith) (omega (arith, byte)) in
+    let counted = own-counted c.in_ok-is_read.is_read c.learn.new.self.own parses c.in_ok-is_read.ensures.shared in
+    let answered = IsAnswered-place places parses at place there text c.learn.new.self c.in_ok-is_read.ensures.ok unknown more (omega arith) (omega (arith, byte)) counted in
     subst (λ old. IsAnswered old at text (seen_view (slice_set places at c.learn.new.self) more)) c.self.view_is answered
