@@ -1,5 +1,6 @@
 mod Blocks
 mod Drafts
+mod EntriesRead
 mod Feeds
 mod Fields
 mod FirstLines

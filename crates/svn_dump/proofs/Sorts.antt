@@ -1,12 +1,11 @@
 -- What a block is, by the values of its headers.
-use Rattle.std.proofs.Common.{◌≡◌, ℕ, List, [], ◌∷◌, length, take, refl, sym, ap, ap₂, ◌∙◌}
+use Rattle.std.proofs.Common.{◌≡◌, ℕ, Bool, false, List, [], ◌∷◌, length, take, refl, sym, ap, ap₂, ◌∙◌}
 use Rattle.std.specs.Prelude.{Option, Some, None, option_map}
 use Rattle.svn_dump.specs.Block.{Block, properties_length}
 use Rattle.svn_dump.specs.Field.{fields_of}
 use Rattle.svn_dump.specs.FrontBlock.{BeginsWithBlock}
-use Rattle.svn_dump.specs.History.{put}
 use Rattle.svn_dump.specs.Node.{Node, node_block, other_block, revision_block, sort_by_fields, uuid_block}
-use Rattle.svn_dump.specs.Property.{last_value, mergeinfo_name, section_of, setting_of}
+use Rattle.svn_dump.specs.Property.{section_of, setting_by, setting_of}
 use Rattle.svn_dump.specs.Record.{is_delta, node_action_of, node_of_block, sort_of}
 use Rattle.svn_dump.specs.HeaderValues.{node_from_headers, setting_from_section, sort_from_headers, value_of}
 use Rattle.svn_dump.specs.declared.field.Field.TheVariants.{RevisionNumber, NodePath, Uuid}
@@ -33,16 +32,16 @@ module _ (values : List (Option (List ℕ))) (properties : List ℕ) where
 
 -- ---- by the lines of the block
 
-setting_of-front : (section : Option ℕ) (properties body : List ℕ) → section ≡ Some (length properties) → properties ≡ take (length properties) body → setting_from_section properties ≡ setting_of section body
-setting_of-front section [] body long front = ap (λ n. setting_of n body) (sym long)
-setting_of-front section (byte ∷ properties) body long front =
-    ap (λ all. option_map (λ given. put (last_value mergeinfo_name given)) (section_of all)) front ∙ ap (λ n. setting_of n body) (sym long)
+setting_of-front : (is_delta : Bool) (section : Option ℕ) (properties body : List ℕ) → section ≡ Some (length properties) → properties ≡ take (length properties) body → setting_from_section is_delta properties ≡ setting_of is_delta section body
+setting_of-front is_delta section [] body long front = ap (λ n. setting_of is_delta n body) (sym long)
+setting_of-front is_delta section (byte ∷ properties) body long front =
+    ap (λ all. option_map (setting_by is_delta) (section_of is_delta all)) front ∙ ap (λ n. setting_of is_delta n body) (sym long)
 
-node_of_block-front : (block : Block) (properties path : List ℕ) → setting_from_section properties ≡ setting_of (properties_length block.lines) block.body → node_from_headers (fields_of block.lines) properties path ≡ node_of_block block path
+node_of_block-front : (block : Block) (properties path : List ℕ) → setting_from_section false properties ≡ setting_of false (properties_length block.lines) block.body → node_from_headers (fields_of block.lines) properties path ≡ node_of_block block path
 node_of_block-front block properties path settled =
     ap (λ setting. let node : Node = record { path = path; action = node_action_of block.lines; is_delta = is_delta block.lines; setting = setting } in node) settled
 
-nodes-front : (block : Block) (properties : List ℕ) (path : Option (List ℕ)) → setting_from_section properties ≡ setting_of (properties_length block.lines) block.body → option_map (node_from_headers (fields_of block.lines) properties) path ≡ option_map (node_of_block block) path
+nodes-front : (block : Block) (properties : List ℕ) (path : Option (List ℕ)) → setting_from_section false properties ≡ setting_of false (properties_length block.lines) block.body → option_map (node_from_headers (fields_of block.lines) properties) path ≡ option_map (node_of_block block) path
 nodes-front block properties None settled = refl
 nodes-front block properties (Some path) settled = ap Some (node_of_block-front block properties path settled)
 
@@ -52,4 +51,4 @@ unfolding sort_from_headers sort_of
 sort_from_headers-block bytes rest values properties found =
     ap (λ all. sort_from_headers all properties) found.fields
     ∙ ap (λ node. sort_by_fields (value_of (fields_of found.block.lines) RevisionNumber) node (value_of (fields_of found.block.lines) Uuid))
-    (nodes-front found.block properties (value_of (fields_of found.block.lines) NodePath) (setting_of-front (properties_length found.block.lines) properties found.block.body found.section found.front))
+    (nodes-front found.block properties (value_of (fields_of found.block.lines) NodePath) (setting_of-front false (properties_length found.block.lines) properties found.block.body found.section found.front))

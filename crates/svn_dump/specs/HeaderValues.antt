@@ -1,12 +1,12 @@
 -- What the values of the listed headers say, by their indices, with the property section: what a block says that has
 -- these.
-use Rattle.std.specs.Prelude.{ℕ, Bool, ◌&&◌, ◌||◌, is_none, is_some, List, [], ◌∷◌, Option, Some, None, slice_index_or, option_copied, option_map, option_and_then}
+use Rattle.std.specs.Prelude.{ℕ, Bool, false, ◌&&◌, ◌||◌, is_none, is_some, List, [], ◌∷◌, Option, Some, None, slice_index_or, option_copied, option_map, option_and_then}
 use Rattle.svn_dump.specs.Block.{length_or_zero, whole_length}
 use Rattle.svn_dump.specs.Field.{index_of}
 use Rattle.svn_dump.specs.History.{Setting, keep, put}
 use Rattle.svn_dump.specs.Node.{BlockSort, Node, NodeAction, action_named, addition, node_add, node_change, node_copy, node_delete, sort_by_fields}
 use Rattle.svn_dump.specs.Record.{says_true}
-use Rattle.svn_dump.specs.Property.{last_value, mergeinfo_name, section_of}
+use Rattle.svn_dump.specs.Property.{Property, section_of, setting_by}
 use Rattle.svn_dump.specs.declared.block.BlockFront.{BlockFront}
 use Rattle.svn_dump.specs.declared.mergeinfo.Mergeinfo.{Mergeinfo}
 use Rattle.svn_dump.specs.declared.mergeinfo.Mergeinfo.TheVariants as mergeinfo
@@ -14,6 +14,7 @@ use Rattle.svn_dump.specs.declared.node_action.NodeAction.{NodeAction as ReadAct
 use Rattle.svn_dump.specs.declared.node_action.NodeAction.TheVariants as action
 use Rattle.svn_dump.specs.declared.field.Field.{Field}
 use Rattle.svn_dump.specs.declared.field.Field.TheVariants as field
+use Rattle.svn_dump.specs.declared.section.Entry.{Entry}
 
 abbrev pub value_of : List (Option (List ℕ)) → Field → Option (List ℕ)
 value_of values field = slice_index_or values (index_of field) None
@@ -35,11 +36,15 @@ abbrev pub is_delta_from_headers : List (Option (List ℕ)) → Bool
 is_delta_from_headers values = says_true (value_of values field.PropertiesDelta) || says_true (value_of values field.TextDelta)
 
 -- what a property section says of the mergeinfo; it is empty where there is none
-abbrev pub setting_from_section : List ℕ → Option (Setting (List ℕ))
-setting_from_section [] = Some keep
-setting_from_section (byte ∷ bytes) = option_map (λ properties. put (last_value mergeinfo_name properties)) (section_of (byte ∷ bytes))
+abbrev pub setting_from_section : Bool → List ℕ → Option (Setting (List ℕ))
+setting_from_section is_delta [] = Some keep
+setting_from_section is_delta (byte ∷ bytes) = option_map (setting_by is_delta) (section_of is_delta (byte ∷ bytes))
 
--- the same as it is read
+-- an entry of it as it is read
+abbrev pub entry_view : Entry → Property
+entry_view each = record { name = each.name.now; value = option_copied each.value }
+
+-- what it says as it is read
 abbrev pub mergeinfo_view : Mergeinfo → Setting (List ℕ)
 mergeinfo_view mergeinfo.Keep = keep
 mergeinfo_view (mergeinfo.Put value) = put (option_copied value)
@@ -68,7 +73,7 @@ node_from_headers values properties path = record {
   path = path;
   action = node_action_from_headers values;
   is_delta = is_delta_from_headers values;
-  setting = setting_from_section properties;
+  setting = setting_from_section false properties;
 }
 
 -- what a block is, given the values of its headers and its property section

@@ -1,14 +1,18 @@
--- The property section of a node (Subversion's dump format notes, "property sections"): properties, each a name and a
--- value with their lengths before them, and an end.
-use Rattle.std.specs.Prelude.{◌≡◌, ◌≢◌, ◌↔◌, ℕ, zero, suc, ◌+◌, ◌==◌, nat_eq, nat_lt, ◌&&◌, List, [], ◌∷◌, ◌++◌, Option, Some, None, codes, bytes_eq, drop, fold, length, option_map, option_and_then, slice_index, take, if◌then◌else◌}
+-- The property section of a node (Subversion's `notes/dump-load-format.txt`): entries and an end. An entry is a name and a
+-- value, with their lengths before them. A section under `Prop-delta: true` holds changes to the node's properties, and
+-- may have entries of deleted ones too, which are a name with its length (there, "SVN DUMPFILE VERSION 3 FORMAT"). Any other
+-- section is the whole list of properties.
+use Rattle.std.specs.Prelude.{◌≡◌, ◌≢◌, ◌↔◌, ℕ, zero, suc, ◌+◌, ◌==◌, nat_eq, nat_lt, Bool, IsTrue, ◌&&◌, List, [], ◌∷◌, ◌++◌, Option, Some, None, codes, bytes_eq, drop, fold, length, option_map, option_and_then, slice_index, take, if◌then◌else◌}
 use Rattle.std.specs.List.{after_first, before_first, list_any, starts_with}
+use Rattle.std.specs.Option.{option_or}
 use Rattle.svn_text.specs.Line.{is_newline}
 use Rattle.svn_dump.specs.History.{Setting, keep, put}
 use Rattle.svn_text.specs.Number.{number_of}
 
+-- an entry: a property and its value, or one that is deleted
 pub record Property : Type 0 where
   pub name : List ℕ
-  pub value : List ℕ
+  pub value : Option (List ℕ)
 
 abbrev pub section_end : List ℕ
 section_end = codes "PROPS-END" ++ 10 ∷ []
@@ -20,12 +24,17 @@ abbrev pub IsPiece : ℕ → List ℕ → List ℕ → Type 0
 IsPiece letter text bytes =
     (digits : List ℕ) × (number_of digits ≡ Some (length text)) × (bytes ≡ letter ∷ 32 ∷ (digits ++ 10 ∷ (text ++ 10 ∷ [])))
 
--- the bytes are a section of these properties
-abbrev pub IsSection : List ℕ → List Property → Type 0
-IsSection bytes [] = bytes ≡ section_end
-IsSection bytes (property ∷ properties) =
-    (name value rest : List ℕ) × IsPiece 75 property.name name × IsPiece 86 property.value value
-    × (bytes ≡ name ++ (value ++ rest)) × IsSection rest properties
+-- the bytes are the entry of that name: `K` and `V`, or `D`, which only changes have
+abbrev pub IsEntry : Bool → List ℕ → Option (List ℕ) → List ℕ → Type 0
+IsEntry is_delta name (Some value) bytes =
+    (first second : List ℕ) × IsPiece 75 name first × IsPiece 86 value second × (bytes ≡ first ++ second)
+IsEntry is_delta name None bytes = IsTrue is_delta × IsPiece 68 name bytes
+
+-- the bytes are a section of these entries, which are changes or a whole list
+abbrev pub IsSection : Bool → List ℕ → List Property → Type 0
+IsSection is_delta bytes [] = bytes ≡ section_end
+IsSection is_delta bytes (property ∷ properties) =
+    (entry rest : List ℕ) × IsEntry is_delta property.name property.value entry × (bytes ≡ entry ++ rest) × IsSection is_delta rest properties
 
 -- ---- its reading
 
@@ -45,38 +54,64 @@ piece_of letter bytes =
     then option_and_then (text_of_length (after_first is_newline bytes)) (number_of (drop 2 (before_first is_newline bytes)))
     else None
 
--- the properties, of which there are fewer than this
-unfoldable pub section_up_to : ℕ → List ℕ → Option (List Property)
-section_up_to zero bytes = None
-section_up_to (suc most) bytes =
-    if bytes_eq bytes section_end then Some []
-    else option_and_then
-    (λ name. option_and_then
-    (λ value. option_map (λ properties. record { name = name.0; value = value.0 } ∷ properties) (section_up_to most value.1))
-    (piece_of 86 name.1))
+-- the property at the front, and what follows it
+abbrev pub valued_entry_of : List ℕ → Option (Property × List ℕ)
+valued_entry_of bytes =
+    option_and_then
+    (λ name. option_map (λ value. (record { name = name.0; value = Some value.0 }, value.1)) (piece_of 86 name.1))
     (piece_of 75 bytes)
 
--- each property takes bytes, so there are fewer than bytes
-abbrev pub section_of : List ℕ → Option (List Property)
-section_of bytes = section_up_to (length bytes) bytes
+-- the same of a deleted one
+abbrev pub deleted_entry_of : List ℕ → Option (Property × List ℕ)
+deleted_entry_of bytes = option_map (λ name. (record { name = name.0; value = None }, name.1)) (piece_of 68 bytes)
+
+-- the entry at the front, and what follows it
+unfoldable pub entry_of : Bool → List ℕ → Option (Property × List ℕ)
+entry_of is_delta bytes = option_or (valued_entry_of bytes) (if is_delta then deleted_entry_of bytes else None)
+
+-- the entries, of which there are fewer than this
+unfoldable pub section_up_to : Bool → ℕ → List ℕ → Option (List Property)
+section_up_to is_delta zero bytes = None
+section_up_to is_delta (suc most) bytes =
+    if bytes_eq bytes section_end then Some []
+    else option_and_then
+    (λ entry. option_map (λ properties. entry.0 ∷ properties) (section_up_to is_delta most entry.1))
+    (entry_of is_delta bytes)
+
+-- each entry takes bytes, so there are fewer than bytes
+abbrev pub section_of : Bool → List ℕ → Option (List Property)
+section_of is_delta bytes = section_up_to is_delta (length bytes) bytes
 
 -- a property section is read as its form says, both ways
 abbrev pub SectionsAreExact : Type 0
-SectionsAreExact = (section : List ℕ) (properties : List Property) → (section_of section ≡ Some properties) ↔ IsSection section properties
+SectionsAreExact =
+    (is_delta : Bool) (section : List ℕ) (properties : List Property) →
+    (section_of is_delta section ≡ Some properties) ↔ IsSection is_delta section properties
 
 -- ---- mergeinfo
 
--- the value of the last property of that name
-abbrev pub last_value : List ℕ → List Property → Option (List ℕ)
+-- what the last entry of that name says, if there is one: the property's value, or that it is deleted
+abbrev pub last_value : List ℕ → List Property → Option (Option (List ℕ))
 last_value name properties = fold (λ found each. if bytes_eq each.name name then Some each.value else found) None properties
 
 abbrev pub mergeinfo_name : List ℕ
 mergeinfo_name = codes "svn:mergeinfo"
 
--- what a node's body says of its mergeinfo, given the length of its property section: nothing where it has none,
--- else that it is the property's value, or none
-abbrev pub setting_of : Option ℕ → List ℕ → Option (Setting (List ℕ))
-setting_of None body = None
-setting_of (Some zero) body = Some keep
-setting_of (Some (suc n)) body =
-    option_map (λ properties. put (last_value mergeinfo_name properties)) (section_of (take (suc n) body))
+-- what a section says that doesn't name the mergeinfo: changes keep it, and a whole list has none
+abbrev pub setting_unnamed : Bool → Setting (List ℕ)
+setting_unnamed is_delta = if is_delta then keep else put None
+
+-- given what the last entry of the mergeinfo says
+abbrev pub setting_by_value : Bool → Option (Option (List ℕ)) → Setting (List ℕ)
+setting_by_value is_delta None = setting_unnamed is_delta
+setting_by_value is_delta (Some value) = put value
+
+-- what a section says of the mergeinfo
+abbrev pub setting_by : Bool → List Property → Setting (List ℕ)
+setting_by is_delta properties = setting_by_value is_delta (last_value mergeinfo_name properties)
+
+-- what a node's body says of its mergeinfo, given the length of its property section: that it stays where there is none
+abbrev pub setting_of : Bool → Option ℕ → List ℕ → Option (Setting (List ℕ))
+setting_of is_delta None body = None
+setting_of is_delta (Some zero) body = Some keep
+setting_of is_delta (Some (suc n)) body = option_map (setting_by is_delta) (section_of is_delta (take (suc n) body))

@@ -100,7 +100,7 @@ node_of_block block path = record {
   path = path;
   action = node_action_of block.lines;
   is_delta = is_delta block.lines;
-  setting = setting_of (properties_length block.lines) block.body;
+  setting = setting_of false (properties_length block.lines) block.body;
 }
 
 unfoldable pub sort_of : Block → BlockSort

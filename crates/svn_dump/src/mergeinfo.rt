@@ -2,6 +2,7 @@
 ghost use Rattle.std.specs.Prelude.{◌≡◌, IfErr, IfOk, option_map};
 ghost use Rattle.svn_dump.specs.Draft.{Extends};
 ghost use Rattle.svn_dump.specs.HeaderValues.{mergeinfo_view, setting_from_section};
+ghost use Rattle.svn_dump.specs.Property.{setting_unnamed};
 ghost use Rattle.svn_dump.specs.DumpText.{texts_of_setting};
 ghost use Rattle.svn_dump.specs.NumberedRecord.{IsNumberedSetting, IsTooLarge, is_full_with};
 
@@ -18,16 +19,25 @@ pub(crate) enum Mergeinfo<'a> {
 }
 
 impl<'a> Mergeinfo<'a> {
+    /// What a section says that doesn't name it.
+    pub(crate) fn unnamed(is_delta: bool) -> Self
+        ensures { mergeinfo_view result ≡ setting_unnamed is_delta }
+    {
+        if is_delta {
+            Mergeinfo::Keep
+        } else {
+            Mergeinfo::Put(None)
+        }
+    }
+
     /// What a property section says, which is empty where the block has none.
-    pub(crate) fn of(properties: &'a [u8]) -> Option<Self>
-        ensures { option_map mergeinfo_view result ≡ setting_from_section properties.now }
+    pub(crate) fn of(is_delta: bool, properties: &'a [u8]) -> Option<Self>
+        ensures { option_map mergeinfo_view result ≡ setting_from_section is_delta properties.now }
     {
         if properties.is_empty() {
-            return Some(Mergeinfo::Keep);
-        }
-        match mergeinfo_of(properties) {
-            None => None,
-            Some(value) => Some(Mergeinfo::Put(value)),
+            Some(Mergeinfo::Keep)
+        } else {
+            mergeinfo_of(is_delta, properties)
         }
     }
 

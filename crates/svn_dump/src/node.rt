@@ -149,7 +149,7 @@ fn judge<'a>(
     ensures ok { IfOk result (λ read. IsAcceptedAs revisions (node_of_front found.now path.now) read.0 read.1 read.2) }
     ensures refused { IfErr result (IsFirstAtAnySize revisions (node_of_front found.now path.now)) }
 {
-    let Some(mergeinfo) = Mergeinfo::of(found.properties) else {
+    let Some(mergeinfo) = Mergeinfo::of(false, found.properties) else {
         return Err(Refusal::Props);
     };
     let (Some(rev), Some(action)) = (revisions.checked_sub(1), NodeAction::of(&found.headers))

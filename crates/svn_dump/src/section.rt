@@ -1,9 +1,19 @@
 //! The property section of a node.
-ghost use Rattle.std.specs.Prelude.{◌≡◌, ◌≢◌, ◌∷◌, MatchOption, option_copied, option_map};
-ghost use Rattle.svn_dump.specs.Property.{BeginsOtherwise, text_of_length, last_value, mergeinfo_name, piece_of, section_of};
+ghost use Rattle.std.specs.Prelude.{◌≡◌, ◌≢◌, ◌∷◌, MatchOption, option_map};
+ghost use Rattle.svn_dump.specs.HeaderValues.{entry_view, mergeinfo_view};
+ghost use Rattle.svn_dump.specs.Property.{BeginsOtherwise, deleted_entry_of, entry_of, piece_of, section_of};
+ghost use Rattle.svn_dump.specs.Property.{setting_by, text_of_length, valued_entry_of};
 
 use crate::line::split_line;
+use crate::mergeinfo::Mergeinfo;
 use svn_text::number_up_to;
+
+/// An entry of a section: a name, and its value where the property isn't deleted.
+#[derive(Clone, Copy)]
+pub(crate) struct Entry<'a> {
+    pub(crate) name: &'a [u8],
+    pub(crate) value: Option<&'a [u8]>,
+}
 
 /// `count` bytes, and what follows the newline after them.
 fn split_counted(bytes: &[u8], count: u64) -> Option<(&[u8], &[u8])>
@@ -39,17 +49,44 @@ fn split_piece(letter: u8, bytes: &[u8]) -> Option<(&[u8], &[u8])>
     split_counted(rest, number_up_to(rest.len() as u64, digits)?)
 }
 
-/// The mergeinfo text that the section gives, if it does, and `None` if the bytes are no section.
-pub(crate) fn mergeinfo_of(section: &[u8]) -> Option<Option<&[u8]>>
-    ensures { option_map option_copied result ≡ option_map (last_value mergeinfo_name) (section_of section.now) }
+/// The property at the front, and what follows it.
+fn split_valued(bytes: &[u8]) -> Option<(Entry<'_>, &[u8])>
+    ensures { option_map (λ parts. (entry_view parts.0, parts.1.now)) result ≡ valued_entry_of bytes.now }
 {
-    let mut found = None;
+    let (name, rest) = split_piece(b'K', bytes)?;
+    let (value, rest) = split_piece(b'V', rest)?;
+    let value = Some(value);
+    Some((Entry { name, value }, rest))
+}
+
+/// The deleted property at the front, and what follows it.
+fn split_deleted(bytes: &[u8]) -> Option<(Entry<'_>, &[u8])>
+    ensures { option_map (λ parts. (entry_view parts.0, parts.1.now)) result ≡ deleted_entry_of bytes.now }
+{
+    let (name, rest) = split_piece(b'D', bytes)?;
+    Some((Entry { name, value: None }, rest))
+}
+
+/// The entry at the front, and what follows it. Only changes delete properties.
+fn split_entry(is_delta: bool, bytes: &[u8]) -> Option<(Entry<'_>, &[u8])>
+    ensures { option_map (λ parts. (entry_view parts.0, parts.1.now)) result ≡ entry_of is_delta bytes.now }
+{
+    match split_valued(bytes) {
+        None if is_delta => split_deleted(bytes),
+        found => found,
+    }
+}
+
+/// What the section says of the mergeinfo, which holds changes or the whole list, and `None` if the bytes are no section.
+pub(crate) fn mergeinfo_of(is_delta: bool, section: &[u8]) -> Option<Mergeinfo<'_>>
+    ensures { option_map mergeinfo_view result ≡ option_map (setting_by is_delta) (section_of is_delta section.now) }
+{
+    let mut found = Mergeinfo::unnamed(is_delta);
     let mut rest = section;
     while rest != b"PROPS-END\n".as_slice() {
-        let (name, more) = split_piece(b'K', rest)?;
-        let (value, more) = split_piece(b'V', more)?;
-        if name == b"svn:mergeinfo".as_slice() {
-            found = Some(value);
+        let (entry, more) = split_entry(is_delta, rest)?;
+        if entry.name == b"svn:mergeinfo".as_slice() {
+            found = Mergeinfo::Put(entry.value);
         }
         rest = more;
     }
