@@ -20,7 +20,7 @@ IsRefusal-decided bytes dump.Memory decided = tt
 -- want of memory comes after the first line
 pub first_line-memory : (bytes : List ℕ) (error : DumpError) → IsDecidedError bytes error → error ≡ dump.Memory → first_holding (line_refusals bytes) ≡ None
 first_line-memory bytes (dump.Refused number at) decided same = absurd (cc)
-first_line-memory bytes dump.Memory decided same = ap (λ all. first_holding (line_refusals all)) decided.begins ∙ first_line_taken decided.rest
+first_line-memory bytes dump.Memory decided same = ap (λ all. first_holding (line_refusals all)) decided.begins ∙ first_line_taken decided.format decided.rest
 
 -- an error that was answered
 module _ (feed : FeedValue) (error : DumpError) (refused : feed.refusal ≡ Some error) (bytes : List ℕ) (has : HasRead feed bytes) where

@@ -1,6 +1,6 @@
 -- The first line of a dump, and what stands against it.
 use Rattle.std.proofs.Common.{◌≡◌, ◌≢◌, ℕ, true, false, List, ◌∷◌, ◌++◌, length, take, drop, not, ◌&&◌, ◌||◌, refl, sym, ap, ap₂, ◌∙◌, take-append-drop, length-append, get_or, ◌-◌, arith, eq-eqb, eqb-true}
-use Rattle.std.specs.Prelude.{Some, IsFalse, bytes_eq, codes, nat_eq}
+use Rattle.std.specs.Prelude.{Some, None, IsFalse, is_none, nat_eq}
 use Rattle.std.specs.List.{before_first, list_any, position_or_len, starts_with}
 use Rattle.std.proofs.lemmas.Bool.{cond-false, cond-true, not_from_false, not_from_true, false_from_ne_true}
 use Rattle.std.proofs.lemmas.Slice.Eq.{slice_eq-Decides}
@@ -9,7 +9,8 @@ use Rattle.std.proofs.lemmas.List.{get_or-append_right, get_or_append_left}
 use Rattle.std.proofs.lemmas.List.Folds.{list_any-append}
 use Rattle.std.proofs.lemmas.List.Sums.{position_or_len_is}
 use Rattle.svn_text.specs.Line.{is_newline}
-use Rattle.svn_dump.specs.FirstRefusal.{line_refusals, magic}
+use Rattle.svn_dump.specs.FirstRefusal.{format_of, line_refusals, magic}
+use Rattle.svn_dump.specs.Format.{format_of_version}
 use Rattle.svn_dump.specs.Refusal.{first_holding}
 use Rattle.svn_dump.proofs.Fronts.{All-none}
 use Rattle.svn_dump.specs.declared.refusal.Refusal.TheVariants.{Magic, Truncated, Version}
@@ -50,7 +51,7 @@ module _ (bytes rest : List ℕ) (begins : bytes ≡ magic ++ rest) where
   unfolding first_holding
   refused_cut none =
       cond-false _ _ _ (not_from_true _ begins_so)
-      ∙ cond-false _ _ _ (ap (λ b. b && not (bytes_eq (drop (length magic) (before_first is_newline bytes)) (codes "2"))) (newline_is ∙ none))
+      ∙ cond-false _ _ _ (ap (λ b. b && is_none (format_of bytes)) (newline_is ∙ none))
       ∙ cond-true _ _ _ (not_from_false _ (newline_is ∙ none))
 
   module _ (version more : List ℕ) (cut : rest ≡ version ++ 10 ∷ more) (one_line : IsFalse (list_any is_newline version)) where
@@ -62,9 +63,9 @@ module _ (bytes rest : List ℕ) (begins : bytes ≡ magic ++ rest) where
     some_newline : list_any is_newline bytes ≡ true
     some_newline = newline_is ∙ ap (list_any is_newline) cut ∙ list_any-append is_newline version (10 ∷ more) ∙ ap (λ b. b || true) one_line
 
-    -- another version
-    pub refused_version : bytes_eq version (codes "2") ≡ false → first_holding (line_refusals bytes) ≡ Some Version
+    -- the version of no format
+    pub refused_version : format_of_version version ≡ None → first_holding (line_refusals bytes) ≡ Some Version
     unfolding first_holding
     refused_version other =
         cond-false _ _ _ (not_from_true _ begins_so)
-        ∙ cond-true _ _ _ (ap₂ (λ a b. a && not (bytes_eq b (codes "2"))) some_newline version_is ∙ not_from_false _ other)
+        ∙ cond-true _ _ _ (ap₂ (λ a b. a && is_none (format_of_version b)) some_newline version_is ∙ ap is_none other)

@@ -1,9 +1,9 @@
 -- No reason is told against bytes exactly where they are a dump, and a dump tells one history.
-use Rattle.std.proofs.Common.{◌≡◌, ◌≢◌, ◌↔◌, ℕ, zero, suc, ◌+◌, ◌-◌, ◌<◌, ◌≤◌, Bool, true, false, cond, not, ◌&&◌, ⊎_elim, List, [], ◌∷◌, ◌++◌, length, take, drop, replicate, refl, sym, ap, ap₂, subst, ◌∙◌, append_assoc, append-nil, arith, take-append-drop, length-append, length-drop}
-use Rattle.std.specs.Prelude.{Option, Some, None, All, bytes_eq, codes, flat_map, fold, nat_eq, option_and_then}
+use Rattle.std.proofs.Common.{◌≡◌, ◌≢◌, ◌↔◌, ℕ, zero, suc, ◌+◌, ◌-◌, ◌<◌, ◌≤◌, Bool, true, false, cond, not, ◌&&◌, ⊎_elim, inl, inr, List, [], ◌∷◌, ◌++◌, length, take, drop, replicate, refl, sym, ap, ap₂, subst, ◌∙◌, append_assoc, append-nil, arith, take-append-drop, length-append, length-drop}
+use Rattle.std.specs.Prelude.{Option, Some, None, All, bytes_eq, codes, flat_map, fold, is_none, nat_eq, option_and_then}
 use Rattle.std.specs.List.{after_first, before_first, list_any, position_or_len, starts_with}
 use Rattle.std.specs.Option.{option_or}
-use Rattle.std.proofs.lemmas.Bool.{both_ways, cases_lt, eq-eqb, eqb-true, not-false, or_parts}
+use Rattle.std.proofs.lemmas.Bool.{both_ways, cases_Bool, cases_lt, cond-false, cond-true, eq-eqb, eqb-true, not-false, or_parts}
 use Rattle.std.proofs.lemmas.List.{take-append-le}
 use Rattle.std.proofs.lemmas.List.Elements.{All-head}
 use Rattle.std.proofs.lemmas.List.Folds.{fold_stays, list_any_none}
@@ -14,9 +14,12 @@ use Rattle.svn_text.specs.Bytes.{is_not_empty}
 use Rattle.svn_dump.specs.Block.{AreBlocks, Block, IsBlock, IsHeader, block_text}
 use Rattle.svn_text.specs.Line.{is_newline, line_text}
 use Rattle.svn_dump.specs.DumpText.{IsDumpText, IsSmall, first_line}
-use Rattle.svn_dump.specs.FirstRefusal.{RefusalAt, after_block, begins_with_newline, block_at, block_refusal, end_refusal, first_refusal, front_refusals, line_refusals, magic, refusal_from, refusal_or, without_empty_lines}
+use Rattle.svn_dump.specs.FirstRefusal.{RefusalAt, after_block, begins_with_newline, block_at, block_refusal, end_refusal, first_refusal, format_of, front_refusals, line_refusals, magic, refusal_from, refusal_or, without_empty_lines}
+use Rattle.svn_dump.specs.Format.{format_of_version, version}
 use Rattle.svn_dump.specs.Record.{HistoryOfBytes, history_of, sort_of, with_block}
 use Rattle.svn_dump.specs.Refusal.{first_holding, sort_refusals}
+use Rattle.svn_dump.specs.declared.format.Format.{Format}
+use Rattle.svn_dump.specs.declared.format.Format.TheVariants.{Two, Three}
 use Rattle.svn_dump.specs.declared.refusal.Refusal.{Refusal}
 use Rattle.svn_dump.specs.declared.refusal.Refusal.TheVariants.{Magic, Truncated, Version}
 use Rattle.svn_dump.proofs.Fronts.{block-front, front-block, three_none, without_empty_lines-front, without_empty_lines-other, without_empty_lines-skip}
@@ -41,22 +44,23 @@ and_true false y e none = absurd (both_ways _ refl e)
 
 -- ---- the histories of blocks
 
-abbrev told_by : Option HistoryOfBytes → Block → Option HistoryOfBytes
-told_by so_far block = option_and_then (λ history. with_block history block) so_far
+module _ (format : Format) where
+  abbrev told_by : Option HistoryOfBytes → Block → Option HistoryOfBytes
+  told_by so_far block = option_and_then (λ history. with_block format history block) so_far
 
--- the first of some blocks leaves a history, and the others go on with it
-after_first_block :
-    (o : Option HistoryOfBytes) (blocks : List Block) (last : HistoryOfBytes) → fold told_by o blocks ≡ Some last →
-    (after : HistoryOfBytes) × (o ≡ Some after) × (fold told_by (Some after) blocks ≡ Some last)
-after_first_block None blocks last tells = absurd (none-some last (sym (fold_stays told_by None (λ block. refl) blocks) ∙ tells))
-after_first_block (Some after) blocks last tells = (after, refl, tells)
+  -- the first of some blocks leaves a history, and the others go on with it
+  after_first_block :
+      (o : Option HistoryOfBytes) (blocks : List Block) (last : HistoryOfBytes) → fold told_by o blocks ≡ Some last →
+      (after : HistoryOfBytes) × (o ≡ Some after) × (fold told_by (Some after) blocks ≡ Some last)
+  after_first_block None blocks last tells = absurd (none-some last (sym (fold_stays told_by None (λ block. refl) blocks) ∙ tells))
+  after_first_block (Some after) blocks last tells = (after, refl, tells)
 
--- a history is small if what it becomes is
-IsSmall-before_blocks : (history : HistoryOfBytes) (blocks : List Block) (last : HistoryOfBytes) → fold told_by (Some history) blocks ≡ Some last → IsSmall last → IsSmall history
-IsSmall-before_blocks history [] last tells small = subst IsSmall (sym (same_Some history last tells)) small
-IsSmall-before_blocks history (block ∷ blocks) last tells small =
-    let (after, told, later) = after_first_block (with_block history block) blocks last tells in
-    IsSmall-before history after (sort_of block) told (IsSmall-before_blocks after blocks last later small)
+  -- a history is small if what it becomes is
+  IsSmall-before_blocks : (history : HistoryOfBytes) (blocks : List Block) (last : HistoryOfBytes) → fold told_by (Some history) blocks ≡ Some last → IsSmall last → IsSmall history
+  IsSmall-before_blocks history [] last tells small = subst IsSmall (sym (same_Some history last tells)) small
+  IsSmall-before_blocks history (block ∷ blocks) last tells small =
+      let (after, told, later) = after_first_block (with_block format history block) blocks last tells in
+      IsSmall-before history after (sort_of format block) told (IsSmall-before_blocks after blocks last later small)
 
 -- ---- the front of blocks
 
@@ -105,163 +109,164 @@ length-block front block rest bytes whole =
 
 -- ---- one step
 
--- what is told against the blocks after the first
-abbrev later_refusal : ℕ → ℕ → HistoryOfBytes → List ℕ → Option RefusalAt
-later_refusal most total history bytes = option_and_then (λ after. refusal_from most total after (after_block bytes)) (with_block history (block_at bytes))
+module _ (format : Format) where
+  -- what is told against the blocks after the first
+  abbrev later_refusal : ℕ → ℕ → HistoryOfBytes → List ℕ → Option RefusalAt
+  later_refusal most total history bytes = option_and_then (λ after. refusal_from format most total after (after_block bytes)) (with_block format history (block_at bytes))
 
-abbrev refusal_at : ℕ → ℕ → HistoryOfBytes → List ℕ → Option RefusalAt
-refusal_at most total history bytes =
-    cond (is_not_empty bytes) (refusal_or (block_refusal history bytes) (total - length bytes) (later_refusal most total history bytes)) (end_refusal total history)
+  abbrev refusal_at : ℕ → ℕ → HistoryOfBytes → List ℕ → Option RefusalAt
+  refusal_at most total history bytes =
+      cond (is_not_empty bytes) (refusal_or (block_refusal format history bytes) (total - length bytes) (later_refusal most total history bytes)) (end_refusal total history)
 
-pub refusal_from-at :
-    (most total : ℕ) (history : HistoryOfBytes) (rest bytes : List ℕ) → without_empty_lines rest ≡ bytes →
-    refusal_from (suc most) total history rest ≡ refusal_at most total history bytes
-unfolding refusal_from
-refusal_from-at most total history rest bytes e = ap (refusal_at most total history) e
+  pub refusal_from-at :
+      (most total : ℕ) (history : HistoryOfBytes) (rest bytes : List ℕ) → without_empty_lines rest ≡ bytes →
+      refusal_from format (suc most) total history rest ≡ refusal_at most total history bytes
+  unfolding refusal_from
+  refusal_from-at most total history rest bytes e = ap (refusal_at most total history) e
 
--- the end of a history with a revision
-end_refusal-none : (total : ℕ) (history : HistoryOfBytes) → history ≢ [] → end_refusal total history ≡ None
-end_refusal-none total [] some = absurd (some refl)
-end_refusal-none total (records ∷ history) some = refl
+  -- the end of a history with a revision
+  end_refusal-none : (total : ℕ) (history : HistoryOfBytes) → history ≢ [] → end_refusal total history ≡ None
+  end_refusal-none total [] some = absurd (some refl)
+  end_refusal-none total (records ∷ history) some = refl
 
-none-end_refusal : (total : ℕ) (history : HistoryOfBytes) → end_refusal total history ≡ None → history ≢ []
-none-end_refusal total [] none e = absurd (none-some _ (sym none))
-none-end_refusal total (records ∷ history) none e = absurd (omega (arith, ap length e))
+  none-end_refusal : (total : ℕ) (history : HistoryOfBytes) → end_refusal total history ≡ None → history ≢ []
+  none-end_refusal total [] none e = absurd (none-some _ (sym none))
+  none-end_refusal total (records ∷ history) none e = absurd (omega (arith, ap length e))
 
-module _
-    (history after : HistoryOfBytes) (bytes rest : List ℕ) (block : Block) (is : IsBlock block)
-    (whole : bytes ≡ block_text block ++ rest) (told : with_block history block ≡ Some after) where
-  block_refusal-none : IsSmall after → block_refusal history bytes ≡ None
-  unfolding block_refusal
-  block_refusal-none small =
-      let found = front-block bytes rest block is whole in
-      first_holding-append (front_refusals bytes) (sort_refusals history (sort_of (block_at bytes)))
-      ∙ ap₂ option_or found.0 (ap (λ each. first_holding (sort_refusals history (sort_of each))) found.1 ∙ no_refusal history after (sort_of block) told small)
+  module _
+      (history after : HistoryOfBytes) (bytes rest : List ℕ) (block : Block) (is : IsBlock block)
+      (whole : bytes ≡ block_text block ++ rest) (told : with_block format history block ≡ Some after) where
+    block_refusal-none : IsSmall after → block_refusal format history bytes ≡ None
+    unfolding block_refusal
+    block_refusal-none small =
+        let found = front-block bytes rest block is whole in
+        first_holding-append (front_refusals bytes) (sort_refusals history (sort_of format (block_at bytes)))
+        ∙ ap₂ option_or found.0 (ap (λ each. first_holding (sort_refusals history (sort_of format each))) found.1 ∙ no_refusal history after (sort_of format block) told small)
 
-  later_refusal-after : (most total : ℕ) → later_refusal most total history bytes ≡ refusal_from most total after rest
-  later_refusal-after most total =
-      let found = front-block bytes rest block is whole in
-      ap (λ each. option_and_then (λ next. refusal_from most total next (after_block bytes)) (with_block history each)) found.1
-      ∙ ap (option_and_then (λ next. refusal_from most total next (after_block bytes))) told ∙ ap (refusal_from most total after) found.2
+    later_refusal-after : (most total : ℕ) → later_refusal most total history bytes ≡ refusal_from format most total after rest
+    later_refusal-after most total =
+        let found = front-block bytes rest block is whole in
+        ap (λ each. option_and_then (λ next. refusal_from format most total next (after_block bytes)) (with_block format history each)) found.1
+        ∙ ap (option_and_then (λ next. refusal_from format most total next (after_block bytes))) told ∙ ap (refusal_from format most total after) found.2
 
-  pub refusal_at-block : (most total : ℕ) → IsSmall after → refusal_at most total history bytes ≡ refusal_from most total after rest
-  refusal_at-block most total small =
-      ap (λ b. cond b (refusal_or (block_refusal history bytes) (total - length bytes) (later_refusal most total history bytes)) (end_refusal total history))
-      (ap is_not_empty whole ∙ (block_first block rest is).0)
-      ∙ no_first (block_refusal history bytes) (total - length bytes) (later_refusal most total history bytes) (block_refusal-none small)
-      ∙ later_refusal-after most total
+    pub refusal_at-block : (most total : ℕ) → IsSmall after → refusal_at most total history bytes ≡ refusal_from format most total after rest
+    refusal_at-block most total small =
+        ap (λ b. cond b (refusal_or (block_refusal format history bytes) (total - length bytes) (later_refusal most total history bytes)) (end_refusal total history))
+        (ap is_not_empty whole ∙ (block_first block rest is).0)
+        ∙ no_first (block_refusal format history bytes) (total - length bytes) (later_refusal most total history bytes) (block_refusal-none small)
+        ∙ later_refusal-after most total
 
--- ---- from the form to the judgement
+  -- ---- from the form to the judgement
 
--- nothing is told against blocks that tell a small history
-refusal_from-blocks :
-    (most total : ℕ) (history last : HistoryOfBytes) (rest : List ℕ) (blocks : List Block) → AreBlocks rest blocks → fold told_by (Some history) blocks ≡ Some last →
-    last ≢ [] → IsSmall last → length rest < most → refusal_from most total history rest ≡ None
-refusal_from-blocks zero total history last rest blocks are tells some small enough = absurd (omega arith)
-refusal_from-blocks (suc most) total history last rest [] are tells some small enough =
-    refusal_from-at most total history rest [] (without_empty_lines-end are.0 rest are.1)
-    ∙ end_refusal-none total history (subst (λ all. all ≢ []) (sym (same_Some history last tells)) some)
-refusal_from-blocks (suc most) total history last rest (block ∷ blocks) are tells some small enough =
-    let (empty, next, is, whole, more) = are in
-    let (after, told, later) = after_first_block (with_block history block) blocks last tells in
-    refusal_from-at most total history rest (block_text block ++ next) (without_empty_lines-block empty block next rest is whole)
-    ∙ refusal_at-block history after (block_text block ++ next) next block is refl told most total (IsSmall-before_blocks after blocks last later small)
-    ∙ refusal_from-blocks most total after last next blocks more later some small (omega (arith, length-block (replicate empty 10) block next rest whole))
+  -- nothing is told against blocks that tell a small history
+  refusal_from-blocks :
+      (most total : ℕ) (history last : HistoryOfBytes) (rest : List ℕ) (blocks : List Block) → AreBlocks rest blocks → fold (told_by format) (Some history) blocks ≡ Some last →
+      last ≢ [] → IsSmall last → length rest < most → refusal_from format most total history rest ≡ None
+  refusal_from-blocks zero total history last rest blocks are tells some small enough = absurd (omega arith)
+  refusal_from-blocks (suc most) total history last rest [] are tells some small enough =
+      refusal_from-at most total history rest [] (without_empty_lines-end are.0 rest are.1)
+      ∙ end_refusal-none total history (subst (λ all. all ≢ []) (sym (same_Some history last tells)) some)
+  refusal_from-blocks (suc most) total history last rest (block ∷ blocks) are tells some small enough =
+      let (empty, next, is, whole, more) = are in
+      let (after, told, later) = after_first_block format (with_block format history block) blocks last tells in
+      refusal_from-at most total history rest (block_text block ++ next) (without_empty_lines-block empty block next rest is whole)
+      ∙ refusal_at-block history after (block_text block ++ next) next block is refl told most total (IsSmall-before_blocks format after blocks last later small)
+      ∙ refusal_from-blocks most total after last next blocks more later some small (omega (arith, length-block (replicate empty 10) block next rest whole))
 
--- after blocks that tell a small history, what stands against the bytes stands in what follows
-pub refusal_from-front :
-    (most total : ℕ) (history last : HistoryOfBytes) (rest more : List ℕ) (blocks : List Block) → AreBlocks rest blocks → fold told_by (Some history) blocks ≡ Some last →
-    IsSmall last → length rest + length more < most → (left : ℕ) × (length more < left) × (refusal_from most total history (rest ++ more) ≡ refusal_from left total last more)
-refusal_from-front zero total history last rest more blocks are tells small enough = absurd (omega arith)
-refusal_from-front (suc most) total history last rest more [] are tells small enough = (
-  suc most,
-  omega arith,
-  refusal_from-at most total history (rest ++ more) (without_empty_lines more) (ap (λ empty. without_empty_lines (empty ++ more)) are.1 ∙ without_empty_lines-skip are.0 more)
-      ∙ sym (refusal_from-at most total history more (without_empty_lines more) refl)
-      ∙ ap (λ told. refusal_from (suc most) total told more) (same_Some history last tells),
-)
-refusal_from-front (suc most) total history last rest more (block ∷ blocks) are tells small enough =
-    let (empty, next, is, whole, follow) = are in
-    let (after, told, later) = after_first_block (with_block history block) blocks last tells in
-    let from : rest ++ more ≡ replicate empty 10 ++ block_text block ++ (next ++ more) =
-    ap (λ all. all ++ more) whole ∙ append_assoc (replicate empty 10 ++ block_text block) next more in
-    let shorter = length-block (replicate empty 10) block next rest whole in
-    let (left, long, same) = refusal_from-front most total after last next more blocks follow later small (omega (arith, shorter)) in (
-      left,
-      long,
-      refusal_from-at most total history (rest ++ more) (block_text block ++ (next ++ more)) (without_empty_lines-block empty block (next ++ more) (rest ++ more) is from)
-          ∙ refusal_at-block history after (block_text block ++ (next ++ more)) (next ++ more) block is refl told most total (IsSmall-before_blocks after blocks last later small)
-          ∙ same,
-    )
+  -- after blocks that tell a small history, what stands against the bytes stands in what follows
+  pub refusal_from-front :
+      (most total : ℕ) (history last : HistoryOfBytes) (rest more : List ℕ) (blocks : List Block) → AreBlocks rest blocks → fold (told_by format) (Some history) blocks ≡ Some last →
+      IsSmall last → length rest + length more < most → (left : ℕ) × (length more < left) × (refusal_from format most total history (rest ++ more) ≡ refusal_from format left total last more)
+  refusal_from-front zero total history last rest more blocks are tells small enough = absurd (omega arith)
+  refusal_from-front (suc most) total history last rest more [] are tells small enough = (
+    suc most,
+    omega arith,
+    refusal_from-at most total history (rest ++ more) (without_empty_lines more) (ap (λ empty. without_empty_lines (empty ++ more)) are.1 ∙ without_empty_lines-skip are.0 more)
+        ∙ sym (refusal_from-at most total history more (without_empty_lines more) refl)
+        ∙ ap (λ told. refusal_from format (suc most) total told more) (same_Some history last tells),
+  )
+  refusal_from-front (suc most) total history last rest more (block ∷ blocks) are tells small enough =
+      let (empty, next, is, whole, follow) = are in
+      let (after, told, later) = after_first_block format (with_block format history block) blocks last tells in
+      let from : rest ++ more ≡ replicate empty 10 ++ block_text block ++ (next ++ more) =
+      ap (λ all. all ++ more) whole ∙ append_assoc (replicate empty 10 ++ block_text block) next more in
+      let shorter = length-block (replicate empty 10) block next rest whole in
+      let (left, long, same) = refusal_from-front most total after last next more blocks follow later small (omega (arith, shorter)) in (
+        left,
+        long,
+        refusal_from-at most total history (rest ++ more) (block_text block ++ (next ++ more)) (without_empty_lines-block empty block (next ++ more) (rest ++ more) is from)
+            ∙ refusal_at-block history after (block_text block ++ (next ++ more)) (next ++ more) block is refl told most total (IsSmall-before_blocks format after blocks last later small)
+            ∙ same,
+      )
 
--- ---- and back
+  -- ---- and back
 
--- the rest is blocks that make a small history, with a revision, of this one
-record Continues (history : HistoryOfBytes) (rest : List ℕ) : Type 0 where
-  last : HistoryOfBytes
-  blocks : List Block
-  follows : AreBlocks rest blocks
-  tells : fold told_by (Some history) blocks ≡ Some last
-  some_revision : last ≢ []
-  small : IsSmall last
+  -- the rest is blocks that make a small history, with a revision, of this one
+  record Continues (history : HistoryOfBytes) (rest : List ℕ) : Type 0 where
+    last : HistoryOfBytes
+    blocks : List Block
+    follows : AreBlocks rest blocks
+    tells : fold (told_by format) (Some history) blocks ≡ Some last
+    some_revision : last ≢ []
+    small : IsSmall last
 
--- a block against which nothing is told
-module _ (history : HistoryOfBytes) (small : IsSmall history) (rest bytes : List ℕ) (at : without_empty_lines rest ≡ bytes) where
-  block_parts : block_refusal history bytes ≡ None → (first_holding (front_refusals bytes) ≡ None) × (first_holding (sort_refusals history (sort_of (block_at bytes))) ≡ None)
-  unfolding block_refusal
-  block_parts none = neither_holds _ _ (sym (first_holding-append (front_refusals bytes) (sort_refusals history (sort_of (block_at bytes)))) ∙ none)
+  -- a block against which nothing is told
+  module _ (history : HistoryOfBytes) (small : IsSmall history) (rest bytes : List ℕ) (at : without_empty_lines rest ≡ bytes) where
+    block_parts : block_refusal format history bytes ≡ None → (first_holding (front_refusals bytes) ≡ None) × (first_holding (sort_refusals history (sort_of format (block_at bytes))) ≡ None)
+    unfolding block_refusal
+    block_parts none = neither_holds _ _ (sym (first_holding-append (front_refusals bytes) (sort_refusals history (sort_of format (block_at bytes)))) ∙ none)
 
-  skipped : (empty : ℕ) × (rest ≡ replicate empty 10 ++ bytes)
-  skipped =
-      let front = without_empty_lines-front rest in
-      (front.0, front.1 ∙ ap (λ all. replicate front.0 10 ++ all) at)
+    skipped : (empty : ℕ) × (rest ≡ replicate empty 10 ++ bytes)
+    skipped =
+        let front = without_empty_lines-front rest in
+        (front.0, front.1 ∙ ap (λ all. replicate front.0 10 ++ all) at)
 
-  with_first_block :
-      (most total : ℕ) → is_not_empty bytes ≡ true → block_refusal history bytes ≡ None → later_refusal most total history bytes ≡ None →
-      ((after : HistoryOfBytes) (next : List ℕ) → IsSmall after → length next < length rest → refusal_from most total after next ≡ None → Continues after next) →
+    with_first_block :
+        (most total : ℕ) → is_not_empty bytes ≡ true → block_refusal format history bytes ≡ None → later_refusal most total history bytes ≡ None →
+        ((after : HistoryOfBytes) (next : List ℕ) → IsSmall after → length next < length rest → refusal_from format most total after next ≡ None → Continues after next) →
+        Continues history rest
+    with_first_block most total some none later onward =
+        let parts = block_parts none in
+        let (is, whole) = block-front bytes some (sym (ap begins_with_newline at) ∙ without_empty_lines-other rest) parts.0 in
+        let (after, told, few) = refusal_none history (sort_of format (block_at bytes)) small parts.1 in
+        let front = replicate skipped.0 10 in
+        let from : rest ≡ front ++ block_text (block_at bytes) ++ after_block bytes =
+        skipped.1 ∙ ap (λ all. front ++ all) whole ∙ sym (append_assoc front (block_text (block_at bytes)) (after_block bytes)) in
+        let more = onward after (after_block bytes) few (length-block front (block_at bytes) (after_block bytes) rest from)
+        (sym (ap (option_and_then (λ next. refusal_from format most total next (after_block bytes))) told) ∙ later) in
+        record {
+          last = more.last;
+          blocks = block_at bytes ∷ more.blocks;
+          follows = (skipped.0, after_block bytes, is, from, more.follows);
+          tells = ap (λ o. fold (told_by format) o more.blocks) told ∙ more.tells;
+          some_revision = more.some_revision;
+          small = more.small;
+        }
+
+    with_no_block : (total : ℕ) → bytes ≡ [] → end_refusal total history ≡ None → Continues history rest
+    with_no_block total nothing none = record {
+      last = history;
+      blocks = [];
+      follows = (skipped.0, skipped.1 ∙ ap (λ all. replicate skipped.0 10 ++ all) nothing ∙ append-nil (replicate skipped.0 10));
+      tells = refl;
+      some_revision = none-end_refusal total history none;
+      small = small;
+    }
+
+  by_front :
+      (most total : ℕ) (history : HistoryOfBytes) (rest bytes : List ℕ) → IsSmall history → without_empty_lines rest ≡ bytes → refusal_at most total history bytes ≡ None →
+      ((after : HistoryOfBytes) (next : List ℕ) → IsSmall after → length next < length rest → refusal_from format most total after next ≡ None → Continues after next) →
       Continues history rest
-  with_first_block most total some none later onward =
-      let parts = block_parts none in
-      let (is, whole) = block-front bytes some (sym (ap begins_with_newline at) ∙ without_empty_lines-other rest) parts.0 in
-      let (after, told, few) = refusal_none history (sort_of (block_at bytes)) small parts.1 in
-      let front = replicate skipped.0 10 in
-      let from : rest ≡ front ++ block_text (block_at bytes) ++ after_block bytes =
-      skipped.1 ∙ ap (λ all. front ++ all) whole ∙ sym (append_assoc front (block_text (block_at bytes)) (after_block bytes)) in
-      let more = onward after (after_block bytes) few (length-block front (block_at bytes) (after_block bytes) rest from)
-      (sym (ap (option_and_then (λ next. refusal_from most total next (after_block bytes))) told) ∙ later) in
-      record {
-        last = more.last;
-        blocks = block_at bytes ∷ more.blocks;
-        follows = (skipped.0, after_block bytes, is, from, more.follows);
-        tells = ap (λ o. fold told_by o more.blocks) told ∙ more.tells;
-        some_revision = more.some_revision;
-        small = more.small;
-      }
+  by_front most total history rest [] small at none onward = with_no_block history small rest [] at total refl none
+  by_front most total history rest (byte ∷ bytes) small at none onward =
+      let parts = neither (block_refusal format history (byte ∷ bytes)) _ (later_refusal most total history (byte ∷ bytes)) none in
+      with_first_block history small rest (byte ∷ bytes) at most total refl parts.0 parts.1 onward
 
-  with_no_block : (total : ℕ) → bytes ≡ [] → end_refusal total history ≡ None → Continues history rest
-  with_no_block total nothing none = record {
-    last = history;
-    blocks = [];
-    follows = (skipped.0, skipped.1 ∙ ap (λ all. replicate skipped.0 10 ++ all) nothing ∙ append-nil (replicate skipped.0 10));
-    tells = refl;
-    some_revision = none-end_refusal total history none;
-    small = small;
-  }
-
-by_front :
-    (most total : ℕ) (history : HistoryOfBytes) (rest bytes : List ℕ) → IsSmall history → without_empty_lines rest ≡ bytes → refusal_at most total history bytes ≡ None →
-    ((after : HistoryOfBytes) (next : List ℕ) → IsSmall after → length next < length rest → refusal_from most total after next ≡ None → Continues after next) →
-    Continues history rest
-by_front most total history rest [] small at none onward = with_no_block history small rest [] at total refl none
-by_front most total history rest (byte ∷ bytes) small at none onward =
-    let parts = neither (block_refusal history (byte ∷ bytes)) _ (later_refusal most total history (byte ∷ bytes)) none in
-    with_first_block history small rest (byte ∷ bytes) at most total refl parts.0 parts.1 onward
-
-Continues-refusal_from : (most total : ℕ) (history : HistoryOfBytes) (rest : List ℕ) → IsSmall history → length rest < most → refusal_from most total history rest ≡ None → Continues history rest
-Continues-refusal_from zero total history rest small enough none = absurd (omega arith)
-Continues-refusal_from (suc most) total history rest small enough none =
-    by_front most total history rest (without_empty_lines rest) small refl (sym (refusal_from-at most total history rest (without_empty_lines rest) refl) ∙ none)
-    (λ after next few shorter later. Continues-refusal_from most total after next few (omega arith) later)
+  Continues-refusal_from : (most total : ℕ) (history : HistoryOfBytes) (rest : List ℕ) → IsSmall history → length rest < most → refusal_from format most total history rest ≡ None → Continues history rest
+  Continues-refusal_from zero total history rest small enough none = absurd (omega arith)
+  Continues-refusal_from (suc most) total history rest small enough none =
+      by_front most total history rest (without_empty_lines rest) small refl (sym (refusal_from-at most total history rest (without_empty_lines rest) refl) ∙ none)
+      (λ after next few shorter later. Continues-refusal_from most total after next few (omega arith) later)
 
 -- ---- the blocks of bytes
 
@@ -294,12 +299,39 @@ AreBlocks-same bytes (x ∷ xs) (y ∷ ys) are_x are_y =
 
 -- ---- the first line
 
-pub first_line_taken : (rest : List ℕ) → first_holding (line_refusals (first_line ++ rest)) ≡ None
+pub first_line_taken : (format : Format) (rest : List ℕ) → first_holding (line_refusals (first_line format ++ rest)) ≡ None
 unfolding first_holding
-first_line_taken rest = refl
+first_line_taken Two rest = refl
+first_line_taken Three rest = refl
 
-pub after_first_line : (rest : List ℕ) → after_first is_newline (first_line ++ rest) ≡ rest
-after_first_line rest = refl
+pub after_first_line : (format : Format) (rest : List ℕ) → after_first is_newline (first_line format ++ rest) ≡ rest
+after_first_line Two rest = refl
+after_first_line Three rest = refl
+
+format_of-line : (format : Format) (rest : List ℕ) → format_of (first_line format ++ rest) ≡ Some format
+format_of-line Two rest = refl
+format_of-line Three rest = refl
+
+-- a version is that of its format
+format_of_version-Some : (value : List ℕ) (format : Format) → format_of_version value ≡ Some format → value ≡ version format
+format_of_version-Some value format told =
+    elim (cases_Bool (bytes_eq value (codes "2"))) [
+      | inl two ↦
+          subst (λ each. value ≡ version each) (same_Some Two format (sym (cond-true _ _ _ two) ∙ told)) ((bytes_eq-Decides value (codes "2")).0 two)
+      | inr other ↦ by_three format (sym (cond-false _ _ _ other) ∙ told)
+    ]
+  where
+    by_three : (each : Format) → cond (bytes_eq value (codes "3")) (Some Three) None ≡ Some each → value ≡ version each
+    by_three each said =
+        elim (cases_Bool (bytes_eq value (codes "3"))) [
+          | inl three ↦
+              subst (λ one. value ≡ version one) (same_Some Three each (sym (cond-true _ _ _ three) ∙ said)) ((bytes_eq-Decides value (codes "3")).0 three)
+          | inr neither ↦ absurd (none-some each (sym (cond-false _ _ _ neither) ∙ said))
+        ]
+
+length-version : (format : Format) → length (version format) ≡ 1
+length-version Two = refl
+length-version Three = refl
 
 -- some byte is a newline, so there is a first
 first_newline : (bytes : List ℕ) → list_any is_newline bytes ≡ true → position_or_len is_newline bytes < length bytes
@@ -311,14 +343,20 @@ first_newline bytes some =
 long_enough : (line : List ℕ) (n : ℕ) (last : List ℕ) → length last ≡ 1 → drop n line ≡ last → n ≤ length line
 long_enough line n last one e = omega (arith, length-drop n line, ap length e)
 
--- bytes against whose first line nothing is told begin with it
-first_line_there : (bytes : List ℕ) → first_holding (line_refusals bytes) ≡ None → bytes ≡ first_line ++ after_first is_newline bytes
-first_line_there bytes none = whole ∙ ap (λ front. front ++ 10 ∷ after_first is_newline bytes) spelled
+some_format : (o : Option Format) → is_none o ≡ false → (format : Format) × (o ≡ Some format)
+some_format None none = absurd (cc)
+some_format (Some format) none = (format, refl)
+
+-- bytes against whose first line nothing is told begin with that of a format
+first_line_there : (bytes : List ℕ) → first_holding (line_refusals bytes) ≡ None → (format : Format) × (format_of bytes ≡ Some format) × (bytes ≡ first_line format ++ after_first is_newline bytes)
+first_line_there bytes none = (
+  found.0,
+  found.1,
+  whole ∙ ap (λ front. front ++ 10 ∷ after_first is_newline bytes) spelled
+      ∙ append_assoc magic (version found.0) (10 ∷ after_first is_newline bytes) ∙ ap (λ all. magic ++ all) (sym (append_assoc (version found.0) (10 ∷ []) (after_first is_newline bytes))),
+)
   where
-    parts :
-        (not (starts_with nat_eq bytes magic) ≡ false)
-        × ((list_any is_newline bytes && not (bytes_eq (drop (length magic) (before_first is_newline bytes)) (codes "2"))) ≡ false)
-        × (not (list_any is_newline bytes) ≡ false)
+    parts : (not (starts_with nat_eq bytes magic) ≡ false) × ((list_any is_newline bytes && is_none (format_of bytes)) ≡ false) × (not (list_any is_newline bytes) ≡ false)
     parts = three_none Magic Version Truncated _ _ _ none
 
     line : List ℕ
@@ -332,37 +370,51 @@ first_line_there bytes none = whole ∙ ap (λ front. front ++ 10 ∷ after_firs
         split_at_first is_newline bytes 0 within
         ∙ ap (λ byte. line ++ byte ∷ after_first is_newline bytes) (eqb-true _ 10 (passes_at_first is_newline bytes 0 within))
 
-    version : drop (length magic) line ≡ codes "2"
-    version = (bytes_eq-Decides (drop (length magic) line) (codes "2")).0 (not-false _ (and_true _ _ (not-false _ parts.2) parts.1))
+    found : (format : Format) × (format_of bytes ≡ Some format)
+    found = some_format (format_of bytes) (and_true _ _ (not-false _ parts.2) parts.1)
+
+    value : drop (length magic) line ≡ version found.0
+    value = format_of_version-Some (drop (length magic) line) found.0 found.1
 
     named : take (length magic) line ≡ magic
     named =
-        sym (ap (take (length magic)) whole ∙ take-append-le (length magic) line (10 ∷ after_first is_newline bytes) (long_enough line (length magic) (codes "2") refl version))
+        sym (ap (take (length magic)) whole ∙ take-append-le (length magic) line (10 ∷ after_first is_newline bytes) (long_enough line (length magic) (version found.0) (length-version found.0) value))
         ∙ sym ((slice_eq-Decides (λ a b. (eqb-true a b, eq-eqb a b)) magic (take (length magic) bytes) (starts_with nat_eq bytes magic) refl).0 (not-false _ parts.0))
 
-    spelled : line ≡ magic ++ codes "2"
-    spelled = sym (take-append-drop (length magic) line) ∙ ap₂ (λ front last. front ++ last) named version
+    spelled : line ≡ magic ++ version found.0
+    spelled = sym (take-append-drop (length magic) line) ∙ ap₂ (λ front last. front ++ last) named value
 
 -- ---- whole dumps
 
 pub small_nothing : IsSmall []
 small_nothing = record { names = omega arith; records = omega arith; revisions = omega arith; values = omega arith }
 
-pub length-after_line : (bytes rest : List ℕ) → bytes ≡ first_line ++ rest → length rest < length bytes
-length-after_line bytes rest begins = omega (arith, ap length begins)
+pub length-after_line : (format : Format) (bytes rest : List ℕ) → bytes ≡ first_line format ++ rest → length rest < length bytes
+length-after_line format bytes rest begins = omega (arith, ap length begins, append_length format)
+  where
+    append_length : (each : Format) → length (first_line each ++ rest) ≡ 30 + length rest
+    append_length Two = length-append (first_line Two) rest
+    append_length Three = length-append (first_line Three) rest
+
+-- what stands against bytes that begin so
+pub first_refusal-line : (format : Format) (bytes rest : List ℕ) → bytes ≡ first_line format ++ rest → first_refusal bytes ≡ refusal_from format (length bytes) (length bytes) [] rest
+unfolding first_refusal
+first_refusal-line format bytes rest begins =
+    no_first (first_holding (line_refusals bytes)) 0 _ (ap (λ all. first_holding (line_refusals all)) begins ∙ first_line_taken format rest)
+    ∙ ap (option_and_then (λ each. refusal_from each (length bytes) (length bytes) [] (after_first is_newline bytes))) (ap format_of begins ∙ format_of-line format rest)
+    ∙ ap (refusal_from format (length bytes) (length bytes) []) (ap (after_first is_newline) begins ∙ after_first_line format rest)
 
 -- nothing is told against a dump
 first_refusal-dump : (bytes : List ℕ) (history : HistoryOfBytes) → IsDumpText bytes history → first_refusal bytes ≡ None
-unfolding first_refusal
 first_refusal-dump bytes history is =
-    no_first (first_holding (line_refusals bytes)) 0 _ (ap (λ all. first_holding (line_refusals all)) is.begins ∙ first_line_taken is.rest)
-    ∙ ap (refusal_from (length bytes) (length bytes) []) (ap (after_first is_newline) is.begins ∙ after_first_line is.rest)
-    ∙ refusal_from-blocks (length bytes) (length bytes) [] history is.rest is.blocks is.follows is.tells is.some_revision is.small (length-after_line bytes is.rest is.begins)
+    first_refusal-line is.format bytes is.rest is.begins
+    ∙ refusal_from-blocks is.format (length bytes) (length bytes) [] history is.rest is.blocks is.follows is.tells is.some_revision is.small (length-after_line is.format bytes is.rest is.begins)
 
-dump_there : (bytes : List ℕ) → bytes ≡ first_line ++ after_first is_newline bytes → Continues [] (after_first is_newline bytes) → (history : HistoryOfBytes) × IsDumpText bytes history
-dump_there bytes begins more = (
+dump_there : (format : Format) (bytes : List ℕ) → bytes ≡ first_line format ++ after_first is_newline bytes → Continues format [] (after_first is_newline bytes) → (history : HistoryOfBytes) × IsDumpText bytes history
+dump_there format bytes begins more = (
   more.last,
   record {
+    format = format;
     rest = after_first is_newline bytes;
     blocks = more.blocks;
     begins = begins;
@@ -376,18 +428,26 @@ dump_there bytes begins more = (
 dump-first_refusal : (bytes : List ℕ) → first_refusal bytes ≡ None → (history : HistoryOfBytes) × IsDumpText bytes history
 unfolding first_refusal
 dump-first_refusal bytes none =
-    let parts = neither (first_holding (line_refusals bytes)) 0 (refusal_from (length bytes) (length bytes) [] (after_first is_newline bytes)) none in
-    let begins = first_line_there bytes parts.0 in
-    dump_there bytes begins
-    (Continues-refusal_from (length bytes) (length bytes) [] (after_first is_newline bytes) small_nothing (length-after_line bytes (after_first is_newline bytes) begins) parts.1)
+    let later = option_and_then (λ format. refusal_from format (length bytes) (length bytes) [] (after_first is_newline bytes)) (format_of bytes) in
+    let parts = neither (first_holding (line_refusals bytes)) 0 later none in
+    let (format, given, begins) = first_line_there bytes parts.0 in
+    dump_there format bytes begins
+    (Continues-refusal_from format (length bytes) (length bytes) [] (after_first is_newline bytes) small_nothing (length-after_line format bytes (after_first is_newline bytes) begins)
+    (sym (ap (option_and_then (λ each. refusal_from each (length bytes) (length bytes) [] (after_first is_newline bytes))) given) ∙ parts.1))
 
 pub exactly : (bytes : List ℕ) → (first_refusal bytes ≡ None) ↔ ((history : HistoryOfBytes) × IsDumpText bytes history)
 exactly bytes = (dump-first_refusal bytes, λ dump. first_refusal-dump bytes dump.0 dump.1)
+
+-- bytes are a dump of one format
+format-same : (bytes : List ℕ) (a b : HistoryOfBytes) (is_a : IsDumpText bytes a) (is_b : IsDumpText bytes b) → is_a.format ≡ is_b.format
+format-same bytes a b is_a is_b =
+    same_Some is_a.format is_b.format
+    (sym (ap format_of is_a.begins ∙ format_of-line is_a.format is_a.rest) ∙ ap format_of is_b.begins ∙ format_of-line is_b.format is_b.rest)
 
 -- a dump tells one history
 pub one_history : (bytes : List ℕ) (a b : HistoryOfBytes) → IsDumpText bytes a → IsDumpText bytes b → a ≡ b
 one_history bytes a b is_a is_b =
     let rest : is_b.rest ≡ is_a.rest =
-    sym (ap (after_first is_newline) is_b.begins ∙ after_first_line is_b.rest) ∙ ap (after_first is_newline) is_a.begins ∙ after_first_line is_a.rest in
+    sym (ap (after_first is_newline) is_b.begins ∙ after_first_line is_b.format is_b.rest) ∙ ap (after_first is_newline) is_a.begins ∙ after_first_line is_a.format is_a.rest in
     let blocks = AreBlocks-same is_a.rest is_a.blocks is_b.blocks is_a.follows (subst (λ all. AreBlocks all is_b.blocks) rest is_b.follows) in
-    same_Some a b (sym is_a.tells ∙ ap history_of blocks ∙ is_b.tells)
+    same_Some a b (sym is_a.tells ∙ ap₂ history_of (format-same bytes a b is_a is_b) blocks ∙ is_b.tells)

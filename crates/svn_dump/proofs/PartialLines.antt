@@ -1,117 +1,126 @@
 -- The first line as it comes, byte by byte.
-use Rattle.std.proofs.Common.{◌≡◌, ◌≢◌, ℕ, ◌+◌, ◌-◌, ◌<◌, ◌≤◌, false, List, [], ◌∷◌, ◌++◌, length, take, drop, get_or, ◌⊎◌, inl, inr, refl, sym, ap, ap₂, subst, ◌∙◌, append_assoc, arith, lt-ltb, nat_lt, length-append}
-use Rattle.std.specs.Prelude.{Option, Some, bytes_eq, codes}
-use Rattle.std.specs.Bool.{then_some}
+use Rattle.std.proofs.Common.{◌≡◌, ◌≢◌, ℕ, ◌+◌, ◌-◌, ◌<◌, ◌≤◌, false, List, [], ◌∷◌, ◌++◌, length, take, drop, get_or, refl, sym, ap, ap₂, subst, ◌∙◌, append_assoc, arith, length-append}
+use Rattle.std.specs.Prelude.{Some, None, Result, Ok, Err, IfErr, IfOk, bytes_eq, codes}
 use Rattle.std.specs.List.{list_any}
-use Rattle.std.proofs.lemmas.Bool.{cases_lt, false_from_ne_true, le-ltb, ne_eqb, or_from}
+use Rattle.std.proofs.lemmas.Bool.{cond-false, false_from_ne_true, ne_eqb, or_from}
 use Rattle.std.proofs.lemmas.List.{get_or_append_left, get_or_at, length-take-le, take_more, take_rest}
 use Rattle.std.proofs.lemmas.List.Folds.{list_any-append}
 use Rattle.std.proofs.lemmas.Slice.Eq.{bytes_eq-Decides}
 use Rattle.svn_text.specs.Line.{is_newline}
-use Rattle.svn_dump.specs.DumpText.{first_line}
 use Rattle.svn_dump.specs.FirstRefusal.{line_refusals, magic}
-use Rattle.svn_dump.specs.PartialLine.{HasOtherVersion, IsDecidedLine, IsFrontOfLine, IsLineAfter}
+use Rattle.svn_dump.specs.Format.{format_of_version, version}
+use Rattle.svn_dump.specs.PartialLine.{HasOtherVersion, IsDecidedLine, IsFrontOfLine, IsPartialLine}
 use Rattle.svn_dump.specs.Refusal.{first_holding}
+use Rattle.svn_dump.specs.declared.format.Format.{Format}
+use Rattle.svn_dump.specs.declared.format.Format.TheVariants.{Two, Three}
 use Rattle.svn_dump.specs.declared.partial_line.PartialLine.{PartialLine}
-use Rattle.svn_dump.specs.declared.partial_line.PartialLine.TheVariants as line
 use Rattle.svn_dump.specs.declared.refusal.Refusal.{Refusal}
 use Rattle.svn_dump.specs.declared.refusal.Refusal.TheVariants.{Magic, Truncated, Version}
 use Rattle.svn_dump.proofs.FirstLines.{refused_cut, refused_magic, refused_version}
 
--- bytes that are no other ones
+-- bytes that are not other ones
 bytes_eq-apart : (bytes other : List ℕ) → bytes ≢ other → bytes_eq bytes other ≡ false
 bytes_eq-apart bytes other apart = false_from_ne_true _ (λ same. apart ((bytes_eq-Decides bytes other).0 same))
+
+-- a value that is the version of no format
+no_version : (value : List ℕ) → value ≢ codes "2" → value ≢ codes "3" → format_of_version value ≡ None
+no_version value not_two not_three = cond-false _ _ _ (bytes_eq-apart value (codes "2") not_two) ∙ cond-false _ _ _ (bytes_eq-apart value (codes "3") not_three)
 
 -- a byte, and what follows it
 push : (bytes more : List ℕ) (byte : ℕ) → (bytes ++ byte ∷ []) ++ more ≡ bytes ++ byte ∷ more
 push bytes more byte = append_assoc bytes (byte ∷ []) more
 
+-- a value of more than a byte is the version of no format
+pub long_version : (first byte : ℕ) (more : List ℕ) → format_of_version (first ∷ (more ++ byte ∷ [])) ≡ None
+long_version first byte more = no_version (first ∷ (more ++ byte ∷ [])) (λ same. long (ap length same)) (λ same. long (ap length same))
+  where
+    long : length (first ∷ (more ++ byte ∷ [])) ≡ 1 → ⊥
+    long one = omega (arith, one, length-append more (byte ∷ []))
+
 module _ (count : ℕ) (bytes : List ℕ) (is : IsFrontOfLine count bytes) where
-  long : length bytes ≡ count
-  long = ap length is.front ∙ length-take-le count first_line (omega (arith, is.within))
+  long_front : length bytes ≡ count
+  long_front = ap length is.front ∙ length-take-le count magic is.within
 
-  -- the next byte of the line
-  pub take_line : (byte : ℕ) → byte ≡ get_or first_line count 0 → bytes ++ byte ∷ [] ≡ take (count + 1) first_line
-  take_line byte same = ap₂ (λ front next. front ++ next ∷ []) is.front same ∙ sym (take_more first_line count 0 is.within)
+  -- the next byte
+  pub front-next : (byte : ℕ) → count < 28 → byte ≡ get_or magic count 0 → IsFrontOfLine (count + 1) (bytes ++ byte ∷ [])
+  front-next byte before same = record {
+    within = omega (arith, before);
+    front = ap₂ (λ front next. front ++ next ∷ []) is.front same ∙ sym (take_more magic count 0 before);
+  }
 
-  -- which goes on, or is whole
-  pub line-after : (byte : ℕ) → byte ≡ get_or first_line count 0 → (next : Option PartialLine) → next ≡ then_some (nat_lt (count + 1) 30) (line.Front (count + 1)) → IsLineAfter next (bytes ++ byte ∷ [])
-  line-after byte same next given = elim (cases_lt (count + 1) 30) [
-    | inl below ↦
-        subst (λ o. IsLineAfter o (bytes ++ byte ∷ [])) (sym (given ∙ ap (λ b. then_some b (line.Front (count + 1))) (lt-ltb (count + 1) 30 below)))
-        (record { within = below; front = take_line byte same })
-    | inr above ↦
-        subst (λ o. IsLineAfter o (bytes ++ byte ∷ [])) (sym (given ∙ ap (λ b. then_some b (line.Front (count + 1))) (le-ltb (count + 1) 30 above)))
-        (take_line byte same ∙ ap (λ n. take n first_line) (let last : count + 1 ≡ 30 = omega (arith, above, is.within) in last))
-  ]
-
-  -- another byte before the version
-  pub refused-name : (byte : ℕ) → count < 28 → byte ≢ get_or first_line count 0 → IsDecidedLine (bytes ++ byte ∷ []) Magic
+  -- another byte
+  pub refused-name : (byte : ℕ) → count < 28 → byte ≢ get_or magic count 0 → IsDecidedLine (bytes ++ byte ∷ []) Magic
   refused-name byte before other = λ more. refused_magic _ (λ rest same.
-      let here : get_or (bytes ++ byte ∷ more) count 0 ≡ byte = get_or_at bytes byte more 0 count long in
-      let there : get_or (magic ++ rest) count 0 ≡ get_or first_line count 0 =
-      get_or_append_left magic rest 0 count before ∙ sym (get_or_append_left magic (50 ∷ 10 ∷ []) 0 count before) in
-      other (sym here ∙ ap (λ all. get_or all count 0) (sym (push bytes more byte) ∙ same) ∙ there))
+      let here : get_or (bytes ++ byte ∷ more) count 0 ≡ byte = get_or_at bytes byte more 0 count long_front in
+      other (sym here ∙ ap (λ all. get_or all count 0) (sym (push bytes more byte) ∙ same) ∙ get_or_append_left magic rest 0 count before))
 
-  -- the bytes are too few for the name
+  -- the bytes are too few
   pub refused-short : count < 28 → first_holding (line_refusals bytes) ≡ Some Magic
   refused-short before = refused_magic bytes (λ rest same.
       let few : length bytes ≡ 28 + length rest = ap length same ∙ length-append magic rest in
-      omega (arith, few, long))
+      omega (arith, few, long_front))
 
-  at_name : count ≡ 28 → bytes ≡ magic ++ []
-  at_name at = is.front ∙ ap (λ n. take n first_line) at
+  -- the bytes are all of them
+  pub all_of_front : 28 ≤ count → bytes ≡ magic
+  all_of_front from = is.front ∙ ap (λ n. take n magic) (let all : count ≡ 28 = omega (arith, is.within) in all)
 
-  at_version : count ≡ 29 → bytes ≡ magic ++ 50 ∷ []
-  at_version at = is.front ∙ ap (λ n. take n first_line) at
+  -- and end there
+  pub refused-name_cut : 28 ≤ count → first_holding (line_refusals bytes) ≡ Some Truncated
+  refused-name_cut from = refused_cut bytes [] (all_of_front from) refl
 
-  name_or_version : 28 ≤ count → (count ≡ 28) ⊎ (count ≡ 29)
-  name_or_version from = elim (cases_lt count 29) [
-    | inl below ↦ inl (omega arith)
-    | inr above ↦ inr (omega (arith, is.within))
-  ]
+-- what a byte makes of all of them
+module _ (count byte : ℕ) (from : 28 ≤ count) where
+  pub IfOk-front : (result : Result PartialLine Refusal) → IfOk result (λ next. IsPartialLine next (magic ++ byte ∷ [])) → IfOk result (λ next. (bytes : List ℕ) → IsFrontOfLine count bytes → IsPartialLine next (bytes ++ byte ∷ []))
+  IfOk-front (Ok next) is = λ bytes front. subst (λ all. IsPartialLine next (all ++ byte ∷ [])) (sym (all_of_front count bytes front from)) is
+  IfOk-front (Err refusal) is = tt
 
-  -- a line that ends after the name
-  pub refused-none : (byte : ℕ) → 28 ≤ count → byte ≢ get_or first_line count 0 → byte ≡ 10 → IsDecidedLine (bytes ++ byte ∷ []) Version
-  refused-none byte from other newline = λ more. elim (name_or_version from) [
-    | inl at ↦
-        refused_version _ (10 ∷ more) (push bytes more byte ∙ ap₂ (λ front each. front ++ each ∷ more) (at_name at) newline)
-        [] more refl refl refl
-    | inr at ↦ absurd (other (newline ∙ ap (λ n. get_or first_line n 0) (sym at)))
-  ]
+  pub IfErr-front : (result : Result PartialLine Refusal) → IfErr result (IsDecidedLine (magic ++ byte ∷ [])) → IfErr result (λ refusal. (bytes : List ℕ) → IsFrontOfLine count bytes → IsDecidedLine (bytes ++ byte ∷ []) refusal)
+  IfErr-front (Ok next) is = tt
+  IfErr-front (Err refusal) is = λ bytes front. subst (λ all. IsDecidedLine (all ++ byte ∷ []) refusal) (sym (all_of_front count bytes front from)) is
 
-  -- another byte in the version
-  pub other-version : (byte : ℕ) → 28 ≤ count → byte ≢ get_or first_line count 0 → byte ≢ 10 → HasOtherVersion (bytes ++ byte ∷ [])
-  other-version byte from other same_line = elim (name_or_version from) [
-    | inl at ↦ record {
-      value = byte ∷ [];
-      begins = ap (λ front. front ++ byte ∷ []) (at_name at);
-      one_line = or_from (is_newline byte) false (ne_eqb byte 10 same_line) refl;
-      some = λ none. cc;
-      other = λ same. other (let here : byte ≡ 50 = cc in here ∙ ap (λ n. get_or first_line n 0) (sym at));
-    }
-    | inr at ↦ record {
-      value = 50 ∷ byte ∷ [];
-      begins = ap (λ front. front ++ byte ∷ []) (at_version at);
-      one_line = or_from (is_newline byte) false (ne_eqb byte 10 same_line) refl;
-      some = λ none. cc;
-      other = λ same. cc;
-    }
-  ]
+-- a line that ends without a version
+pub refused-none : IsDecidedLine (magic ++ 10 ∷ []) Version
+refused-none = λ more. refused_version _ (10 ∷ more) refl [] more refl refl refl
 
-  -- the bytes end in the version
-  pub refused-version_cut : 28 ≤ count → first_holding (line_refusals bytes) ≡ Some Truncated
-  refused-version_cut from = elim (name_or_version from) [
-    | inl at ↦ refused_cut bytes [] (at_name at) refl
-    | inr at ↦ refused_cut bytes (50 ∷ []) (at_version at) refl
-  ]
+-- a byte that is the version of no format
+pub other-version : (byte : ℕ) → byte ≢ 50 → byte ≢ 51 → byte ≢ 10 → HasOtherVersion (magic ++ byte ∷ [])
+other-version byte not_two not_three same_line = record {
+  value = byte ∷ [];
+  begins = refl;
+  one_line = or_from (is_newline byte) false (ne_eqb byte 10 same_line) refl;
+  some = λ none. cc;
+  other = no_version (byte ∷ []) (λ same. not_two (cc)) (λ same. not_three (cc));
+}
+
+-- a byte after the version of a format
+pub version-more : (format : Format) (byte : ℕ) → byte ≢ 10 → HasOtherVersion (magic ++ (version format ++ byte ∷ []))
+version-more format byte same_line = record {
+  value = version format ++ byte ∷ [];
+  begins = refl;
+  one_line = one_line format;
+  some = λ none. omega (arith, ap length none, length-append (version format) (byte ∷ []));
+  other = other format;
+}
+  where
+    one_line : (each : Format) → list_any is_newline (version each ++ byte ∷ []) ≡ false
+    one_line Two = or_from (is_newline byte) false (ne_eqb byte 10 same_line) refl
+    one_line Three = or_from (is_newline byte) false (ne_eqb byte 10 same_line) refl
+
+    other : (each : Format) → format_of_version (version each ++ byte ∷ []) ≡ None
+    other Two = long_version 50 byte []
+    other Three = long_version 51 byte []
+
+-- the bytes end after it
+pub refused-version_cut : (format : Format) (bytes : List ℕ) → bytes ≡ magic ++ version format → first_holding (line_refusals bytes) ≡ Some Truncated
+refused-version_cut Two bytes is = refused_cut bytes (version Two) is refl
+refused-version_cut Three bytes is = refused_cut bytes (version Three) is refl
 
 module _ (bytes : List ℕ) (is : HasOtherVersion bytes) where
   -- the line ends
   pub refused-other : (byte : ℕ) → byte ≡ 10 → IsDecidedLine (bytes ++ byte ∷ []) Version
   refused-other byte newline = λ more.
       refused_version _ (is.value ++ 10 ∷ more) (push bytes more byte ∙ ap₂ (λ front each. front ++ each ∷ more) is.begins newline ∙ append_assoc magic is.value (10 ∷ more))
-      is.value more refl is.one_line (bytes_eq-apart is.value (codes "2") is.other)
+      is.value more refl is.one_line is.other
 
   -- it goes on
   pub other-more : (byte : ℕ) → byte ≢ 10 → HasOtherVersion (bytes ++ byte ∷ [])
@@ -120,12 +129,12 @@ module _ (bytes : List ℕ) (is : HasOtherVersion bytes) where
     begins = ap (λ front. front ++ byte ∷ []) is.begins ∙ append_assoc magic is.value (byte ∷ []);
     one_line = list_any-append is_newline is.value (byte ∷ []) ∙ or_from (list_any is_newline is.value) _ is.one_line (or_from (is_newline byte) false (ne_eqb byte 10 same_line) refl);
     some = λ none. omega (arith, ap length none, length-append is.value (byte ∷ []));
-    other = λ same. is.some (none_before is.value (ap length same));
+    other = longer is.value is.some;
   }
     where
-      none_before : (value : List ℕ) → length (value ++ byte ∷ []) ≡ 1 → value ≡ []
-      none_before [] one = refl
-      none_before (first ∷ value) one = absurd (omega (arith, one, length-append value (byte ∷ [])))
+      longer : (value : List ℕ) → value ≢ [] → format_of_version (value ++ byte ∷ []) ≡ None
+      longer [] some = absurd (some refl)
+      longer (first ∷ value) some = long_version first byte value
 
   -- the bytes end in it
   pub refused-other_cut : first_holding (line_refusals bytes) ≡ Some Truncated

@@ -14,9 +14,10 @@ use Rattle.svn_dump.specs.PartialBody.{EndsBody, ExtendsBody, IsPartialBody}
 use Rattle.svn_dump.specs.PartialHeader.{AreHeaderLines, EndsHeader, IsBodyAfter, IsDecidedFront, IsDecidedFrontError}
 use Rattle.svn_dump.specs.PartialLine.{EndsLine, IsDecidedLine}
 use Rattle.svn_dump.specs.ReadError.{dump_error_at}
-use Rattle.svn_dump.specs.Reader.{BeginsBlock, HasReadAll, IsBodyTo, IsIn, IsInBody, IsInHeader, IsInLine, IsReadAs, IsReadTo, ReadsPart}
+use Rattle.svn_dump.specs.Reader.{BeginsBlock, HasReadAll, IsBodyTo, IsIn, IsInBody, IsInHeader, IsInLine, IsReadAs, IsReadTo, ReadsPart, RefusesBlock, RefusesHeader}
 use Rattle.svn_dump.specs.declared.error.DumpError.{DumpError}
 use Rattle.svn_dump.specs.declared.error.DumpError.TheVariants as dump
+use Rattle.svn_dump.specs.declared.format.Format.{Format}
 use Rattle.svn_dump.specs.declared.partial_body.PartialBody.{PartialBody}
 use Rattle.svn_dump.specs.declared.partial_line.PartialLine.{PartialLine}
 use Rattle.svn_dump.specs.declared.read_error.ReadError.{ReadError}
@@ -35,34 +36,35 @@ use Rattle.svn_dump.proofs.WholeBlocks.{block_refusal-front}
 -- ---- what is decided stays
 
 pub HasFirstLine-more : (bytes more : List ℕ) → HasFirstLine bytes → HasFirstLine (bytes ++ more)
-HasFirstLine-more bytes more is = record { rest = is.rest ++ more; begins = ap (λ all. all ++ more) is.begins ∙ append_assoc first_line is.rest more }
+HasFirstLine-more bytes more is = record { format = is.format; rest = is.rest ++ more; begins = ap (λ all. all ++ more) is.begins ∙ append_assoc (first_line is.format) is.rest more }
 
 pub IsDecidedError-more : (bytes more : List ℕ) (e : DumpError) → IsDecidedError bytes e → IsDecidedError (bytes ++ more) e
 IsDecidedError-more bytes more (dump.Refused number at) decided = λ after. subst (λ all. IsFirstAt all number at) (sym (append_assoc bytes more after)) (decided (more ++ after))
 IsDecidedError-more bytes more dump.Memory decided = HasFirstLine-more bytes more decided
 
-pub HasFirstLine-to : (bytes block more : List ℕ) (draft : DumpValue) (at : ℕ) → IsReadTo bytes draft at block → HasFirstLine (bytes ++ more)
-HasFirstLine-to bytes block more draft at to =
-    subst HasFirstLine (sym (ap (λ all. all ++ more) to.whole ∙ append_assoc to.front block more)) (HasFirstLine-read to.front draft to.read (block ++ more))
+module _ (format : Format) where
+  pub HasFirstLine-to : (bytes block more : List ℕ) (draft : DumpValue) (at : ℕ) → IsReadTo format bytes draft at block → HasFirstLine (bytes ++ more)
+  HasFirstLine-to bytes block more draft at to =
+      subst HasFirstLine (sym (ap (λ all. all ++ more) to.whole ∙ append_assoc to.front block more)) (HasFirstLine-read format to.front draft to.read (block ++ more))
 
--- more of a block comes
-pub IsReadTo-more : (bytes block more : List ℕ) (draft : DumpValue) (at : ℕ) → IsReadTo bytes draft at block → IsReadTo (bytes ++ more) draft at (block ++ more)
-IsReadTo-more bytes block more draft at to = record {
-  front = to.front;
-  whole = ap (λ all. all ++ more) to.whole ∙ append_assoc to.front block more;
-  read = to.read;
-  begins = to.begins;
-}
+  -- more of a block comes
+  pub IsReadTo-more : (bytes block more : List ℕ) (draft : DumpValue) (at : ℕ) → IsReadTo format bytes draft at block → IsReadTo format (bytes ++ more) draft at (block ++ more)
+  IsReadTo-more bytes block more draft at to = record {
+    front = to.front;
+    whole = ap (λ all. all ++ more) to.whole ∙ append_assoc to.front block more;
+    read = to.read;
+    begins = to.begins;
+  }
 
--- a block is added
-pub IsReadAs-adds :
-    (front block rest : List ℕ) (old new : DumpValue) → IsReadAs front old → AddsBlock block rest (history_in_bytes old) (history_in_bytes new) → (IsWholeHistory old → IsWholeHistory new) →
-    (last : List ℕ) × (block ≡ last ++ rest) × IsReadAs (front ++ last) new
-IsReadAs-adds front block rest old new is adds keeps = (
-  block_text adds.block,
-  adds.whole,
-  IsReadAs-block front old is adds.block new adds.is_block adds.adds (keeps is.whole),
-)
+  -- a block is added
+  pub IsReadAs-adds :
+      (front block rest : List ℕ) (old new : DumpValue) → IsReadAs format front old → AddsBlock format block rest (history_in_bytes old) (history_in_bytes new) → (IsWholeHistory old → IsWholeHistory new) →
+      (last : List ℕ) × (block ≡ last ++ rest) × IsReadAs format (front ++ last) new
+  IsReadAs-adds front block rest old new is adds keeps = (
+    block_text adds.block,
+    adds.whole,
+    IsReadAs-block format front old is adds.block new adds.is_block adds.adds (keeps is.whole),
+  )
 
 -- ---- the body of a block
 
@@ -81,13 +83,13 @@ module _ (reader : Reader) (header : List ℕ) (old new : PartialBody) (bytes pi
   }
 
   -- goes on
-  pub IsInBody-extends : (next : Reader) → next.draft ≡ reader.draft → next.at ≡ reader.at → ExtendsBody old new piece → IsInBody next header new (bytes ++ piece) × (0 < new.left)
-  IsInBody-extends next draft at extends =
+  pub IsInBody-extends : (next : Reader) → next.draft ≡ reader.draft → next.at ≡ reader.at → next.format ≡ reader.format → ExtendsBody old new piece → IsInBody next header new (bytes ++ piece) × (0 < new.left)
+  IsInBody-extends next draft at format extends =
       let so_far = come_to piece (λ section whole from. extends.extends section whole is.come from) in
-      let to = IsReadTo-more bytes (header ++ 10 ∷ is.come) piece reader.draft reader.at is.read in (
+      let to = IsReadTo-more reader.format bytes (header ++ 10 ∷ is.come) piece reader.draft reader.at is.read in (
         record {
           come = is.come ++ piece;
-          read = rw (draft, at, ← block_more piece) to;
+          read = rw (draft, at, format, ← block_more piece) to;
           some = is.some;
           so_far = so_far;
         },
@@ -98,43 +100,43 @@ module _ (reader : Reader) (header : List ℕ) (old new : PartialBody) (bytes pi
     abbrev pub come_all : List ℕ
     come_all = is.come ++ ends.last
 
-    pub IsReadTo-ends : IsReadTo (bytes ++ ends.last) reader.draft reader.at (header ++ 10 ∷ come_all)
-    IsReadTo-ends = rw (← block_more ends.last) (IsReadTo-more bytes (header ++ 10 ∷ is.come) ends.last reader.draft reader.at is.read)
+    pub IsReadTo-ends : IsReadTo reader.format (bytes ++ ends.last) reader.draft reader.at (header ++ 10 ∷ come_all)
+    IsReadTo-ends = rw (← block_more ends.last) (IsReadTo-more reader.format bytes (header ++ 10 ∷ is.come) ends.last reader.draft reader.at is.read)
 
     pub IsBodyTo-ends : IsBodyTo header new come_all
     IsBodyTo-ends = come_to ends.last (λ section whole from. ends.ends section whole is.come from)
 
     -- ends, and the block is refused
-    pub IsDecidedError-ends : (at : ℕ) (e : ReadError) → at ≡ reader.at → IsBlockRefusalFrom (history_in_bytes reader.draft) (header ++ 10 ∷ come_all) e → IsDecidedError (bytes ++ piece) (dump_error_at at e)
+    pub IsDecidedError-ends : (at : ℕ) (e : ReadError) → at ≡ reader.at → IsBlockRefusalFrom reader.format (history_in_bytes reader.draft) (header ++ 10 ∷ come_all) e → IsDecidedError (bytes ++ piece) (dump_error_at at e)
     IsDecidedError-ends at e same refused =
-        let decided = IsDecidedError-block (bytes ++ ends.last) (header ++ 10 ∷ come_all) reader.draft reader.at e IsReadTo-ends (BeginsBlock-append header (10 ∷ come_all) is.some) refused in
+        let decided = IsDecidedError-block reader.format (bytes ++ ends.last) (header ++ 10 ∷ come_all) reader.draft reader.at e IsReadTo-ends (BeginsBlock-append header (10 ∷ come_all) is.some) refused in
         rw (same, ends.whole, ← append_assoc bytes ends.last rest) (IsDecidedError-more (bytes ++ ends.last) rest (dump_error_at reader.at e) decided)
 
     -- or added
     pub IsReadAs-ends :
-        (draft : DumpValue) → AddsBlock (header ++ 10 ∷ come_all) [] (history_in_bytes reader.draft) (history_in_bytes draft) → (IsWholeHistory reader.draft → IsWholeHistory draft) →
-        IsReadAs (bytes ++ ends.last) draft
+        (draft : DumpValue) → AddsBlock reader.format (header ++ 10 ∷ come_all) [] (history_in_bytes reader.draft) (history_in_bytes draft) → (IsWholeHistory reader.draft → IsWholeHistory draft) →
+        IsReadAs reader.format (bytes ++ ends.last) draft
     IsReadAs-ends draft adds keeps =
         let to = IsReadTo-ends in
-        let (last, whole, read) = IsReadAs-adds to.front (header ++ 10 ∷ come_all) [] reader.draft draft to.read adds keeps in
-        subst (λ all. IsReadAs all draft) (sym (to.whole ∙ ap (λ all. to.front ++ all) (whole ∙ append-nil last))) read
+        let (last, whole, read) = IsReadAs-adds reader.format to.front (header ++ 10 ∷ come_all) [] reader.draft draft to.read adds keeps in
+        subst (λ all. IsReadAs reader.format all draft) (sym (to.whole ∙ ap (λ all. to.front ++ all) (whole ∙ append-nil last))) read
 
 -- ---- the header of a block
 
 -- what its bytes decide
 pub IsDecidedError-header :
-    (bytes header piece : List ℕ) (draft : DumpValue) (at : ℕ) (e : ReadError) → IsReadTo bytes draft at header → BeginsBlock (header ++ piece) →
+    (format : Format) (bytes header piece : List ℕ) (draft : DumpValue) (at : ℕ) (e : ReadError) → IsReadTo format bytes draft at header → BeginsBlock (header ++ piece) →
     IsDecidedFrontError (header ++ piece) e → IsDecidedError (bytes ++ piece) (dump_error_at at e)
-IsDecidedError-header bytes header piece draft at (read.Refused refusal) to begins decided =
-    IsDecidedError-block (bytes ++ piece) (header ++ piece) draft at (read.Refused refusal) (IsReadTo-more bytes header piece draft at to) begins
-    (λ more. block_refusal-front (history_in_bytes draft) ((header ++ piece) ++ more) refusal (decided more))
-IsDecidedError-header bytes header piece draft at read.Memory to begins decided = HasFirstLine-to bytes header piece draft at to
+IsDecidedError-header format bytes header piece draft at (read.Refused refusal) to begins decided =
+    IsDecidedError-block format (bytes ++ piece) (header ++ piece) draft at (read.Refused refusal) (IsReadTo-more format bytes header piece draft at to) begins
+    (λ more. block_refusal-front format (history_in_bytes draft) ((header ++ piece) ++ more) refusal (decided more))
+IsDecidedError-header format bytes header piece draft at read.Memory to begins decided = HasFirstLine-to format bytes header piece draft at to
 
 begins_lines : (header rest : List ℕ) (lines : AreHeaderLines header) → BeginsBlock (header ++ 10 ∷ rest) → BeginsBlock header
 begins_lines [] rest lines begins = absurd (cc)
 begins_lines (byte ∷ header) rest lines begins = record { some = refl; not_empty_line = begins.not_empty_line }
 
-module _ (reader : Reader) (bytes old piece new rest : List ℕ) (to : IsReadTo bytes reader.draft reader.at old) (begins : BeginsBlock (old ++ piece)) (ends : EndsHeader old piece new rest) where
+module _ (reader : Reader) (bytes old piece new rest : List ℕ) (to : IsReadTo reader.format bytes reader.draft reader.at old) (begins : BeginsBlock (old ++ piece)) (ends : EndsHeader old piece new rest) where
   -- it ends, and its body begins
   abbrev pub front_bytes : List ℕ
   front_bytes = bytes ++ (ends.last ++ 10 ∷ [])
@@ -146,8 +148,8 @@ module _ (reader : Reader) (bytes old piece new rest : List ℕ) (to : IsReadTo 
   header_bytes : old ++ (ends.last ++ 10 ∷ []) ≡ new ++ 10 ∷ []
   header_bytes = sym (append_assoc old ends.last (10 ∷ [])) ∙ ap (λ all. all ++ 10 ∷ []) (sym ends.kept)
 
-  pub IsReadTo-header : IsReadTo front_bytes reader.draft reader.at (new ++ 10 ∷ [])
-  IsReadTo-header = rw (← header_bytes) (IsReadTo-more bytes old (ends.last ++ 10 ∷ []) reader.draft reader.at to)
+  pub IsReadTo-header : IsReadTo reader.format front_bytes reader.draft reader.at (new ++ 10 ∷ [])
+  IsReadTo-header = rw (← header_bytes) (IsReadTo-more reader.format bytes old (ends.last ++ 10 ∷ []) reader.draft reader.at to)
 
   BeginsBlock-header : BeginsBlock new
   BeginsBlock-header =
@@ -172,8 +174,8 @@ module _ (reader : Reader) (bytes old piece new rest : List ℕ) (to : IsReadTo 
   -- what the header decides
   pub IsDecidedError-lengths : (at : ℕ) (refusal : Refusal) → at ≡ reader.at → IsDecidedFront (new ++ 10 ∷ []) refusal → IsDecidedError (bytes ++ piece) (dump_error_at at (read.Refused refusal))
   IsDecidedError-lengths at refusal same decided =
-      let told = IsDecidedError-block front_bytes (new ++ 10 ∷ []) reader.draft reader.at (read.Refused refusal) IsReadTo-header (BeginsBlock-append new (10 ∷ []) BeginsBlock-header)
-      (λ more. block_refusal-front (history_in_bytes reader.draft) ((new ++ 10 ∷ []) ++ more) refusal (decided more)) in
+      let told = IsDecidedError-block reader.format front_bytes (new ++ 10 ∷ []) reader.draft reader.at (read.Refused refusal) IsReadTo-header (BeginsBlock-append new (10 ∷ []) BeginsBlock-header)
+      (λ more. block_refusal-front reader.format (history_in_bytes reader.draft) ((new ++ 10 ∷ []) ++ more) refusal (decided more)) in
       rw (same, all_bytes) (IsDecidedError-more front_bytes rest (dump_error_at reader.at (read.Refused refusal)) told)
 
   -- what the rest decides
@@ -187,14 +189,14 @@ module _ (reader : Reader) (bytes old piece new rest : List ℕ) (to : IsReadTo 
       let (last, whole, read) = reads in (
         (ends.last ++ 10 ∷ []) ++ last,
         ends.whole ∙ sym (append_assoc ends.last (10 ∷ []) rest) ∙ ap (λ all. (ends.last ++ 10 ∷ []) ++ all) whole ∙ sym (append_assoc (ends.last ++ 10 ∷ []) last after.now),
-        subst (λ all. IsReadAs all next.draft) (append_assoc bytes (ends.last ++ 10 ∷ []) last) read,
+        subst (λ all. IsReadAs next.format all next.draft) (append_assoc bytes (ends.last ++ 10 ∷ []) last) read,
       )
 
 -- the same of what reading the body gave
 module _ (reader : Reader) (old piece new rest : List ℕ) (ends : EndsHeader old piece new rest) (body : PartialBody) (after : IsBodyAfter new body) (next : Reader) where
   pub IfOk-rest :
       (result : Result (Option (Bor (List ℕ))) ReadError) → IfOk result (λ left. (bytes : List ℕ) → IsInBody reader new body bytes → ReadsPart next bytes rest left) →
-      IfOk result (λ left. (bytes : List ℕ) → IsReadTo bytes reader.draft reader.at old → BeginsBlock (old ++ piece) → ReadsPart next bytes piece left)
+      IfOk result (λ left. (bytes : List ℕ) → IsReadTo reader.format bytes reader.draft reader.at old → BeginsBlock (old ++ piece) → ReadsPart next bytes piece left)
   IfOk-rest (Ok left) reads = λ bytes to begins.
       ReadsPart-rest reader bytes old piece new rest to begins ends next left
       (reads (bytes ++ (ends.last ++ 10 ∷ [])) (IsInBody-begins reader bytes old piece new rest to begins ends body after))
@@ -202,7 +204,7 @@ module _ (reader : Reader) (old piece new rest : List ℕ) (ends : EndsHeader ol
 
   pub IfErr-rest :
       (result : Result (Option (Bor (List ℕ))) ReadError) → IfErr result (λ e. (bytes : List ℕ) → IsInBody reader new body bytes → IsDecidedError (bytes ++ rest) (dump_error_at next.at e)) →
-      IfErr result (λ e. (bytes : List ℕ) → IsReadTo bytes reader.draft reader.at old → BeginsBlock (old ++ piece) → IsDecidedError (bytes ++ piece) (dump_error_at next.at e))
+      IfErr result (λ e. (bytes : List ℕ) → IsReadTo reader.format bytes reader.draft reader.at old → BeginsBlock (old ++ piece) → IsDecidedError (bytes ++ piece) (dump_error_at next.at e))
   IfErr-rest (Ok left) refused = tt
   IfErr-rest (Err e) refused = λ bytes to begins.
       IsDecidedError-rest reader bytes old piece new rest to begins ends (dump_error_at next.at e)
@@ -220,8 +222,9 @@ within-rest old piece new rest ends (Err e) within = tt
 
 -- it ends, and nothing has been read
 pub ReadsPart-line :
-    (reader : Reader) (line : PartialLine) (bytes piece rest : List ℕ) → IsInLine reader line bytes → (ends : EndsLine bytes piece rest) → IsReadAs (bytes ++ ends.last) reader.draft
-ReadsPart-line reader line bytes piece rest is ends = rw (is.draft, ends.line) IsReadAs-line
+    (reader : Reader) (line : PartialLine) (bytes piece : List ℕ) (format : Format) (rest : List ℕ) → IsInLine reader line bytes → (ends : EndsLine bytes piece format rest) →
+    IsReadAs format (bytes ++ ends.last) reader.draft
+ReadsPart-line reader line bytes piece format rest is ends = rw (is.draft, ends.line) (IsReadAs-line format)
 
 -- or is refused
 pub IsDecidedError-line : (bytes : List ℕ) (refusal : Refusal) → IsDecidedLine bytes refusal → IsDecidedError bytes (dump_error_at 0 (read.Refused refusal))
@@ -229,37 +232,46 @@ IsDecidedError-line bytes refusal decided = λ more. IsFirstAt-line (bytes ++ mo
 
 -- ---- a whole block
 
-module _ (bytes block : List ℕ) (draft : DumpValue) (at : ℕ) (is : IsReadAs bytes draft) (here : at ≡ length bytes) where
-  pub IsReadTo-here : IsReadTo (bytes ++ block) draft at block
+module _ (format : Format) (bytes block : List ℕ) (draft : DumpValue) (at : ℕ) (is : IsReadAs format bytes draft) (here : at ≡ length bytes) where
+  pub IsReadTo-here : IsReadTo format (bytes ++ block) draft at block
   IsReadTo-here = record { front = bytes; whole = refl; read = is; begins = here }
 
-  pub IsReadTo-none : IsReadTo bytes draft at []
+  pub IsReadTo-none : IsReadTo format bytes draft at []
   IsReadTo-none = record { front = bytes; whole = sym (append-nil bytes); read = is; begins = here }
 
   -- what stands against it stands against the bytes
-  pub IsDecidedError-here : (e : ReadError) → BeginsBlock block → IsBlockRefusalFrom (history_in_bytes draft) block e → IsDecidedError (bytes ++ block) (dump_error_at at e)
-  IsDecidedError-here e begins refused = IsDecidedError-block (bytes ++ block) block draft at e IsReadTo-here begins refused
+  pub IsDecidedError-here : (e : ReadError) → BeginsBlock block → IsBlockRefusalFrom format (history_in_bytes draft) block e → IsDecidedError (bytes ++ block) (dump_error_at at e)
+  IsDecidedError-here e begins refused = IsDecidedError-block format (bytes ++ block) block draft at e IsReadTo-here begins refused
+
+-- what a header decides of which nothing has come, the block decides
+pub IfErr-new :
+    {X : Type 0} (reader next : Reader) (header block : List ℕ) (result : Result X ReadError) → header ≡ [] → BeginsBlock block →
+    IfErr result (RefusesHeader reader header next block) → IfErr result (RefusesBlock reader next block)
+IfErr-new reader next header block (Ok left) none begins refused = tt
+IfErr-new reader next header block (Err e) none begins refused = λ bytes is here.
+    refused bytes (subst (IsReadTo reader.format bytes reader.draft reader.at) (sym none) (IsReadTo-none reader.format bytes [] reader.draft reader.at is here))
+    (subst (λ all. BeginsBlock (all ++ block)) (sym none) begins)
 
 -- ---- the part in progress
 
 -- a body is in progress, whatever part is named beside it
 IsInBody-same :
-    (reader next : Reader) (header : List ℕ) (body : PartialBody) (bytes : List ℕ) → next.draft ≡ reader.draft → next.at ≡ reader.at → IsInBody reader header body bytes → IsInBody next header body bytes
-IsInBody-same reader next header body bytes draft at is = record {
+    (reader next : Reader) (header : List ℕ) (body : PartialBody) (bytes : List ℕ) → next.draft ≡ reader.draft → next.at ≡ reader.at → next.format ≡ reader.format → IsInBody reader header body bytes → IsInBody next header body bytes
+IsInBody-same reader next header body bytes draft at format is = record {
   come = is.come;
-  read = rw (draft, at) is.read;
+  read = rw (draft, at, format) is.read;
   some = is.some;
   so_far = is.so_far;
 }
 
 pub IfErr-body :
-    {X : Type 0} (reader next : Reader) (header : List ℕ) (body : PartialBody) (piece : List ℕ) (at : ℕ) (result : Result X ReadError) → part.Body header body ≡ reader.part → next.draft ≡ reader.draft → next.at ≡ reader.at →
+    {X : Type 0} (reader next : Reader) (header : List ℕ) (body : PartialBody) (piece : List ℕ) (at : ℕ) (result : Result X ReadError) → part.Body header body ≡ reader.part → next.draft ≡ reader.draft → next.at ≡ reader.at → next.format ≡ reader.format →
     IfErr result (λ e. (bytes : List ℕ) → IsInBody next header body bytes → IsDecidedError (bytes ++ piece) (dump_error_at at e)) →
     IfErr result (λ e. (bytes : List ℕ) → HasReadAll reader bytes → IsDecidedError (bytes ++ piece) (dump_error_at at e))
-IfErr-body reader next header body piece at (Ok left) is draft same refused = tt
-IfErr-body reader next header body piece at (Err e) is draft same refused = λ bytes has.
+IfErr-body reader next header body piece at (Ok left) is draft same format refused = tt
+IfErr-body reader next header body piece at (Err e) is draft same format refused = λ bytes has.
     let in_body = subst (λ each. IsIn each reader bytes) (sym is) has in
-    refused bytes (IsInBody-same reader next header body bytes draft same in_body.0)
+    refused bytes (IsInBody-same reader next header body bytes draft same format in_body.0)
 
 -- ---- a piece
 
@@ -269,7 +281,7 @@ length-skipped rest block front =
     let skipped = without_empty_lines-front rest in
     omega (arith, ap length skipped.1, length-append (replicate skipped.0 10) (without_empty_lines rest), ap length front)
 
-module _ (bytes piece done rest block : List ℕ) (draft : DumpValue) (whole : piece ≡ done ++ rest) (read : IsReadAs (bytes ++ done) draft) (front : block ≡ without_empty_lines rest) where
+module _ (format : Format) (bytes piece done rest block : List ℕ) (draft : DumpValue) (whole : piece ≡ done ++ rest) (read : IsReadAs format (bytes ++ done) draft) (front : block ≡ without_empty_lines rest) where
   abbrev pub skipped : List ℕ
   skipped = replicate (without_empty_lines-front rest).0 10
 
@@ -279,8 +291,8 @@ module _ (bytes piece done rest block : List ℕ) (draft : DumpValue) (whole : p
   abbrev pub before_block : List ℕ
   before_block = (bytes ++ done) ++ skipped
 
-  pub IsReadAs-before : IsReadAs before_block draft
-  IsReadAs-before = IsReadAs-newlines (bytes ++ done) draft read (without_empty_lines-front rest).0
+  pub IsReadAs-before : IsReadAs format before_block draft
+  IsReadAs-before = IsReadAs-newlines format (bytes ++ done) draft read (without_empty_lines-front rest).0
 
   pub up_to_block : before_block ++ block ≡ bytes ++ piece
   up_to_block =
@@ -300,45 +312,46 @@ module _ (bytes piece done rest block : List ℕ) (draft : DumpValue) (whole : p
 
   -- the block is read, and what follows it is left
   pub ReadsPart-piece :
-      (next : Reader) (after : Bor (List ℕ)) → ReadsPart next before_block block (Some after) → (taken : List ℕ) × (piece ≡ taken ++ after.now) × IsReadAs (bytes ++ taken) next.draft
+      (next : Reader) (after : Bor (List ℕ)) → ReadsPart next before_block block (Some after) → (taken : List ℕ) × (piece ≡ taken ++ after.now) × IsReadAs next.format (bytes ++ taken) next.draft
   ReadsPart-piece next after reads =
       let (last, ends, told) = reads in (
         done ++ (skipped ++ last),
         whole ∙ ap (λ all. done ++ all) (rest_is ∙ ap (λ all. skipped ++ all) ends ∙ sym (append_assoc skipped last after.now))
             ∙ sym (append_assoc done (skipped ++ last) after.now),
-        subst (λ all. IsReadAs all next.draft) (append_assoc (bytes ++ done) skipped last ∙ append_assoc bytes done (skipped ++ last)) told,
+        subst (λ all. IsReadAs next.format all next.draft) (append_assoc (bytes ++ done) skipped last ∙ append_assoc bytes done (skipped ++ last)) told,
       )
 
 -- nothing but empty lines is left
-pub IsReadAs-empty : (bytes piece done rest : List ℕ) (draft : DumpValue) → piece ≡ done ++ rest → IsReadAs (bytes ++ done) draft → IsEmptyLines rest → IsReadAs (bytes ++ piece) draft
-IsReadAs-empty bytes piece done rest draft whole read empty =
-    let all_read = IsReadAs-before bytes piece done rest [] draft whole read (sym empty) in
-    subst (λ all. IsReadAs all draft) (sym (append-nil (before_block bytes piece done rest [] draft whole read (sym empty))) ∙ up_to_block bytes piece done rest [] draft whole read (sym empty)) all_read
+pub IsReadAs-empty : (format : Format) (bytes piece done rest : List ℕ) (draft : DumpValue) → piece ≡ done ++ rest → IsReadAs format (bytes ++ done) draft → IsEmptyLines rest → IsReadAs format (bytes ++ piece) draft
+IsReadAs-empty format bytes piece done rest draft whole read empty =
+    let all_read = IsReadAs-before format bytes piece done rest [] draft whole read (sym empty) in
+    subst (λ all. IsReadAs format all draft)
+    (sym (append-nil (before_block format bytes piece done rest [] draft whole read (sym empty))) ∙ up_to_block format bytes piece done rest [] draft whole read (sym empty)) all_read
 
 -- ---- the end of the bytes
 
 module _ (reader : Reader) (between : reader.part ≡ part.Blocks) where
-  read_of : (bytes : List ℕ) → HasReadAll reader bytes → IsReadAs bytes reader.draft
+  read_of : (bytes : List ℕ) → HasReadAll reader bytes → IsReadAs reader.format bytes reader.draft
   read_of bytes has = subst (λ each. IsIn each reader bytes) between has
 
   -- what finishing the draft gave
   pub IfOk-text : (result : Result DumpValue DumpError) → IfOk result (λ dump. dump ≡ reader.draft) → IfOk result IsDump → IfOk result (λ dump. (bytes : List ℕ) → HasReadAll reader bytes → IsDumpText bytes (history_in_bytes dump))
-  IfOk-text (Ok dump) same kept = λ bytes has. IsDumpText-read bytes reader.draft (read_of bytes has) dump same kept
+  IfOk-text (Ok dump) same kept = λ bytes has. IsDumpText-read reader.format bytes reader.draft (read_of bytes has) dump same kept
   IfOk-text (Err e) same kept = tt
 
   pub IfOk-names : (result : Result DumpValue DumpError) → IfOk result (λ dump. dump ≡ reader.draft) → IfOk result (λ dump. (bytes : List ℕ) → HasReadAll reader bytes → dump.names ≡ names_of (history_in_bytes dump))
-  IfOk-names (Ok dump) same = λ bytes has. IsNamed-read bytes reader.draft (read_of bytes has) dump same
+  IfOk-names (Ok dump) same = λ bytes has. IsNamed-read reader.format bytes reader.draft (read_of bytes has) dump same
   IfOk-names (Err e) same = tt
 
   pub IfOk-values : (result : Result DumpValue DumpError) → IfOk result (λ dump. dump ≡ reader.draft) → IfOk result (λ dump. (bytes : List ℕ) → HasReadAll reader bytes → dump.values ≡ values_of (history_in_bytes dump))
-  IfOk-values (Ok dump) same = λ bytes has. IsValued-read bytes reader.draft (read_of bytes has) dump same
+  IfOk-values (Ok dump) same = λ bytes has. IsValued-read reader.format bytes reader.draft (read_of bytes has) dump same
   IfOk-values (Err e) same = tt
 
   pub IfErr-end :
       (end : ℕ) (result : Result DumpValue DumpError) → IfErr result (λ e. (e ≡ dump.Refused 8 end) × (reader.draft.counts ≡ [])) →
       IfErr result (λ e. (bytes : List ℕ) → HasReadAll reader bytes → end ≡ length bytes → IsRefusal bytes e)
   IfErr-end end (Ok dump) refused = tt
-  IfErr-end end (Err e) refused = λ bytes has long. IsRefusal-end bytes reader.draft (read_of bytes has) e end long refused
+  IfErr-end end (Err e) refused = λ bytes has long. IsRefusal-end reader.format bytes reader.draft (read_of bytes has) e end long refused
 
 -- the bytes end in the first line
 pub IsRefusal-line : (bytes : List ℕ) (refusal : Refusal) → first_holding (line_refusals bytes) ≡ Some refusal → IsRefusal bytes (dump_error_at 0 (read.Refused refusal))
@@ -347,7 +360,7 @@ IsRefusal-line bytes refusal told = IsFirstAt-line bytes refusal told
 -- in a header
 pub IsRefusal-header : (reader : Reader) (header bytes : List ℕ) (refusal : Refusal) → IsInHeader reader header bytes → first_holding (front_refusals header) ≡ Some refusal → IsRefusal bytes (dump_error_at reader.at (read.Refused refusal))
 IsRefusal-header reader header bytes refusal is told =
-    IsRefusal-block bytes header reader.draft reader.at refusal is.read is.some (block_refusal-front (history_in_bytes reader.draft) header refusal told)
+    IsRefusal-block reader.format bytes header reader.draft reader.at refusal is.read is.some (block_refusal-front reader.format (history_in_bytes reader.draft) header refusal told)
 
 -- or in a body
 refused_body : (header : List ℕ) (body : PartialBody) (come : List ℕ) → IsBodyTo header body come → 0 < body.left → first_holding (front_refusals (header ++ 10 ∷ come)) ≡ Some Truncated
@@ -358,5 +371,5 @@ refused_body header body come is left =
 pub IsRefusal-body : (reader : Reader) (header : List ℕ) (body : PartialBody) (bytes : List ℕ) → IsInBody reader header body bytes × (0 < body.left) → IsRefusal bytes (dump_error_at reader.at (read.Refused Truncated))
 IsRefusal-body reader header body bytes is =
     let whole = header ++ 10 ∷ is.0.come in
-    IsRefusal-block bytes whole reader.draft reader.at Truncated is.0.read (BeginsBlock-append header (10 ∷ is.0.come) is.0.some)
-    (block_refusal-front (history_in_bytes reader.draft) whole Truncated (refused_body header body is.0.come is.0.so_far is.1))
+    IsRefusal-block reader.format bytes whole reader.draft reader.at Truncated is.0.read (BeginsBlock-append header (10 ∷ is.0.come) is.0.some)
+    (block_refusal-front reader.format (history_in_bytes reader.draft) whole Truncated (refused_body header body is.0.come is.0.so_far is.1))

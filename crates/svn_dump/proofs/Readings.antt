@@ -12,7 +12,7 @@ use Rattle.svn_dump.specs.Draft.{IsWholeHistory, dump_of}
 use Rattle.svn_dump.specs.Dump.{DumpValue, IsDump, history_in_bytes}
 use Rattle.svn_dump.specs.DumpError.{IsFirstAt, IsRefusal}
 use Rattle.svn_dump.specs.DumpText.{IsDumpText, IsSmall, first_line, names_of, values_of}
-use Rattle.svn_dump.specs.FirstRefusal.{RefusalAt, after_block, block_at, block_refusal, end_refusal, first_refusal, line_refusals, refusal_from, refusal_or}
+use Rattle.svn_dump.specs.FirstRefusal.{RefusalAt, after_block, block_at, block_refusal, end_refusal, first_refusal, format_of, line_refusals, refusal_from, refusal_or}
 use Rattle.svn_dump.specs.FrontBlock.{IsBlockRefusalFrom}
 use Rattle.svn_dump.specs.ReadError.{dump_error_at}
 use Rattle.svn_dump.specs.Reader.{BeginsBlock, IsReadAs, IsReadTo}
@@ -20,11 +20,12 @@ use Rattle.svn_dump.specs.Record.{HistoryOfBytes, history_of, with_block}
 use Rattle.svn_dump.specs.Refusal.{first_holding, number_of_refusal}
 use Rattle.svn_dump.specs.declared.error.DumpError.{DumpError}
 use Rattle.svn_dump.specs.declared.error.DumpError.TheVariants as dump
+use Rattle.svn_dump.specs.declared.format.Format.{Format}
 use Rattle.svn_dump.specs.declared.read_error.ReadError.{ReadError}
 use Rattle.svn_dump.specs.declared.read_error.ReadError.TheVariants as read
 use Rattle.svn_dump.specs.declared.refusal.Refusal.{Refusal}
 use Rattle.svn_dump.specs.declared.refusal.Refusal.TheVariants.{Revision}
-use Rattle.svn_dump.proofs.FirstRefusals.{after_first_line, first_line_taken, length-after_line, no_first, refusal_from-at, refusal_from-front, without_empty_lines-none}
+use Rattle.svn_dump.proofs.FirstRefusals.{first_refusal-line, length-after_line, refusal_from-at, refusal_from-front, without_empty_lines-none}
 use Rattle.svn_dump.proofs.Drafts.{IsWholeHistory-none}
 use Rattle.svn_dump.proofs.Histories.{length-history_in_bytes}
 
@@ -64,127 +65,124 @@ AreBlocks-one block is = (0, [], is, sym (append-nil (block_text block)), (0, re
 
 -- ---- the bytes that are read
 
--- the first line is read as nothing
-pub IsReadAs-line : IsReadAs first_line (dump_of [] [] [] [])
-IsReadAs-line = record {
-  rest = [];
-  blocks = [];
-  begins = sym (append-nil first_line);
-  follows = (0, refl);
-  tells = refl;
-  whole = IsWholeHistory-none;
-}
-
-module _ (front : List ℕ) (draft : DumpValue) (is : IsReadAs front draft) where
-  -- with empty lines after it
-  pub IsReadAs-newlines : (empty : ℕ) → IsReadAs (front ++ replicate empty 10) draft
-  IsReadAs-newlines empty = record {
-    rest = is.rest ++ replicate empty 10;
-    blocks = is.blocks ++ [];
-    begins = ap (λ all. all ++ replicate empty 10) is.begins ∙ append_assoc first_line is.rest (replicate empty 10);
-    follows = AreBlocks-append is.rest (replicate empty 10) is.blocks [] is.follows (empty, refl);
-    tells = ap history_of (append-nil is.blocks) ∙ is.tells;
-    whole = is.whole;
+module _ (format : Format) where
+  -- the first line is read as nothing
+  pub IsReadAs-line : IsReadAs format (first_line format) (dump_of [] [] [] [])
+  IsReadAs-line = record {
+    rest = [];
+    blocks = [];
+    begins = sym (append-nil (first_line format));
+    follows = (0, refl);
+    tells = refl;
+    whole = IsWholeHistory-none;
   }
 
-  -- and with one more block
-  pub IsReadAs-block : (block : Block) (new : DumpValue) → IsBlock block → with_block (history_in_bytes draft) block ≡ Some (history_in_bytes new) → IsWholeHistory new → IsReadAs (front ++ block_text block) new
-  IsReadAs-block block new is_block adds whole = record {
-    rest = is.rest ++ block_text block;
-    blocks = is.blocks ++ block ∷ [];
-    begins = ap (λ all. all ++ block_text block) is.begins ∙ append_assoc first_line is.rest (block_text block);
-    follows = AreBlocks-append is.rest (block_text block) is.blocks (block ∷ []) is.follows (AreBlocks-one block is_block);
-    tells =
-        fold-append (λ so_far each. option_and_then (λ history. with_block history each) so_far) (Some []) is.blocks (block ∷ [])
-        ∙ ap (option_and_then (λ history. with_block history block)) is.tells ∙ adds;
-    whole = whole;
-  }
+  module _ (front : List ℕ) (draft : DumpValue) (is : IsReadAs format front draft) where
+    -- with empty lines after it
+    pub IsReadAs-newlines : (empty : ℕ) → IsReadAs format (front ++ replicate empty 10) draft
+    IsReadAs-newlines empty = record {
+      rest = is.rest ++ replicate empty 10;
+      blocks = is.blocks ++ [];
+      begins = ap (λ all. all ++ replicate empty 10) is.begins ∙ append_assoc (first_line format) is.rest (replicate empty 10);
+      follows = AreBlocks-append is.rest (replicate empty 10) is.blocks [] is.follows (empty, refl);
+      tells = ap (history_of format) (append-nil is.blocks) ∙ is.tells;
+      whole = is.whole;
+    }
 
-  abbrev pub HasFirstLine-read : (more : List ℕ) → HasFirstLine (front ++ more)
-  HasFirstLine-read more = record {
-    rest = is.rest ++ more;
-    begins = ap (λ all. all ++ more) is.begins ∙ append_assoc first_line is.rest more;
-  }
+    -- and with one more block
+    pub IsReadAs-block : (block : Block) (new : DumpValue) → IsBlock block → with_block format (history_in_bytes draft) block ≡ Some (history_in_bytes new) → IsWholeHistory new → IsReadAs format (front ++ block_text block) new
+    IsReadAs-block block new is_block adds whole = record {
+      rest = is.rest ++ block_text block;
+      blocks = is.blocks ++ block ∷ [];
+      begins = ap (λ all. all ++ block_text block) is.begins ∙ append_assoc (first_line format) is.rest (block_text block);
+      follows = AreBlocks-append is.rest (block_text block) is.blocks (block ∷ []) is.follows (AreBlocks-one block is_block);
+      tells =
+          fold-append (λ so_far each. option_and_then (λ history. with_block format history each) so_far) (Some []) is.blocks (block ∷ [])
+          ∙ ap (option_and_then (λ history. with_block format history block)) is.tells ∙ adds;
+      whole = whole;
+    }
 
-  -- ---- what stands against an input that begins so
+    abbrev pub HasFirstLine-read : (more : List ℕ) → HasFirstLine (front ++ more)
+    HasFirstLine-read more = record {
+      format = format;
+      rest = is.rest ++ more;
+      begins = ap (λ all. all ++ more) is.begins ∙ append_assoc (first_line format) is.rest more;
+    }
 
-  first_refusal-line : (bytes rest : List ℕ) → bytes ≡ first_line ++ rest → first_refusal bytes ≡ refusal_from (length bytes) (length bytes) [] rest
-  unfolding first_refusal
-  first_refusal-line bytes rest begins =
-      no_first (first_holding (line_refusals bytes)) 0 _ (ap (λ all. first_holding (line_refusals all)) begins ∙ first_line_taken rest)
-      ∙ ap (refusal_from (length bytes) (length bytes) []) (ap (after_first is_newline) begins ∙ after_first_line rest)
+    -- ---- what stands against an input that begins so
 
-  refusal-after : (more : List ℕ) → (left : ℕ) × (length more < left) × (first_refusal (front ++ more) ≡ refusal_from left (length (front ++ more)) (history_in_bytes draft) more)
-  refusal-after more =
-      let all = front ++ more in
-      let begins : all ≡ first_line ++ (is.rest ++ more) = (HasFirstLine-read more).begins in
-      let shorter = length-after_line all (is.rest ++ more) begins in
-      let (left, long, same) = refusal_from-front (length all) (length all) [] (history_in_bytes draft) is.rest more is.blocks is.follows is.tells is.whole.small (omega (arith, shorter, length-append is.rest more)) in
-      (left, long, first_refusal-line all (is.rest ++ more) begins ∙ same)
+    refusal-after : (more : List ℕ) → (left : ℕ) × (length more < left) × (first_refusal (front ++ more) ≡ refusal_from format left (length (front ++ more)) (history_in_bytes draft) more)
+    refusal-after more =
+        let all = front ++ more in
+        let begins : all ≡ first_line format ++ (is.rest ++ more) = (HasFirstLine-read more).begins in
+        let shorter = length-after_line format all (is.rest ++ more) begins in
+        let (left, long, same) = refusal_from-front format (length all) (length all) [] (history_in_bytes draft) is.rest more is.blocks is.follows is.tells is.whole.small (omega (arith, shorter, length-append is.rest more)) in
+        (left, long, first_refusal-line format all (is.rest ++ more) begins ∙ same)
 
-  -- it is what stands against the block that follows, or against what follows that
-  pub first_refusal-from :
-      (block : List ℕ) → BeginsBlock block →
-      (most : ℕ) × (first_refusal (front ++ block) ≡ refusal_or (block_refusal (history_in_bytes draft) block) (length front) (option_and_then (λ after. refusal_from most (length (front ++ block)) after (after_block block)) (with_block (history_in_bytes draft) (block_at block))))
-  first_refusal-from block begins =
-      let total = length (front ++ block) in
-      let history = history_in_bytes draft in
-      let (left, long, same) = refusal-after block in
-      let longer : left ≡ suc (left - 1) = omega (arith, long) in
-      let place : total - length block ≡ length front = omega (arith, length-append front block) in
-      let later = λ (after : HistoryOfBytes). refusal_from (left - 1) total after (after_block block) in (
-        left - 1,
-        same ∙ ap (λ n. refusal_from n total history block) longer
-            ∙ refusal_from-at (left - 1) total history block block (without_empty_lines-none block begins.not_empty_line) ∙ cond-true _ _ _ begins.some
-            ∙ ap (λ n. refusal_or (block_refusal history block) n (option_and_then later (with_block history (block_at block)))) place,
-      )
+    -- it is what stands against the block that follows, or against what follows that
+    pub first_refusal-from :
+        (block : List ℕ) → BeginsBlock block →
+        (most : ℕ) × (first_refusal (front ++ block) ≡ refusal_or (block_refusal format (history_in_bytes draft) block) (length front) (option_and_then (λ after. refusal_from format most (length (front ++ block)) after (after_block block)) (with_block format (history_in_bytes draft) (block_at block))))
+    first_refusal-from block begins =
+        let total = length (front ++ block) in
+        let history = history_in_bytes draft in
+        let (left, long, same) = refusal-after block in
+        let longer : left ≡ suc (left - 1) = omega (arith, long) in
+        let place : total - length block ≡ length front = omega (arith, length-append front block) in
+        let later = λ (after : HistoryOfBytes). refusal_from format (left - 1) total after (after_block block) in (
+          left - 1,
+          same ∙ ap (λ n. refusal_from format n total history block) longer
+              ∙ refusal_from-at format (left - 1) total history block block (without_empty_lines-none block begins.not_empty_line) ∙ cond-true _ _ _ begins.some
+              ∙ ap (λ n. refusal_or (block_refusal format history block) n (option_and_then later (with_block format history (block_at block)))) place,
+        )
 
-  -- so what stands against the block stands against the input
-  pub first_refusal-block : (block : List ℕ) (refusal : Refusal) → BeginsBlock block → block_refusal (history_in_bytes draft) block ≡ Some refusal → first_refusal (front ++ block) ≡ Some (record { refusal = refusal; at = length front })
-  first_refusal-block block refusal begins told =
-      let (most, same) = first_refusal-from block begins in
-      same ∙ ap (λ first. refusal_or first (length front) (option_and_then (λ after. refusal_from most (length (front ++ block)) after (after_block block)) (with_block (history_in_bytes draft) (block_at block)))) told
+    -- so what stands against the block stands against the input
+    pub first_refusal-block : (block : List ℕ) (refusal : Refusal) → BeginsBlock block → block_refusal format (history_in_bytes draft) block ≡ Some refusal → first_refusal (front ++ block) ≡ Some (record { refusal = refusal; at = length front })
+    first_refusal-block block refusal begins told =
+        let (most, same) = first_refusal-from block begins in
+        same ∙ ap (λ first. refusal_or first (length front) (option_and_then (λ after. refusal_from format most (length (front ++ block)) after (after_block block)) (with_block format (history_in_bytes draft) (block_at block)))) told
 
-  -- and where nothing follows, that there is no revision
-  pub first_refusal-end : first_refusal front ≡ end_refusal (length front) (history_in_bytes draft)
-  first_refusal-end =
-      let (left, long, same) = refusal-after [] in
-      let longer : left ≡ suc (left - 1) = omega (arith, long) in
-      ap first_refusal (sym (append-nil front)) ∙ same ∙ ap (λ n. refusal_from n (length (front ++ [])) (history_in_bytes draft) []) longer
-      ∙ refusal_from-at (left - 1) (length (front ++ [])) (history_in_bytes draft) [] [] refl ∙ ap (λ all. end_refusal (length all) (history_in_bytes draft)) (append-nil front)
+    -- and where nothing follows, that there is no revision
+    pub first_refusal-end : first_refusal front ≡ end_refusal (length front) (history_in_bytes draft)
+    first_refusal-end =
+        let (left, long, same) = refusal-after [] in
+        let longer : left ≡ suc (left - 1) = omega (arith, long) in
+        ap first_refusal (sym (append-nil front)) ∙ same ∙ ap (λ n. refusal_from format n (length (front ++ [])) (history_in_bytes draft) []) longer
+        ∙ refusal_from-at format (left - 1) (length (front ++ [])) (history_in_bytes draft) [] [] refl ∙ ap (λ all. end_refusal (length all) (history_in_bytes draft)) (append-nil front)
 
-  -- ---- the whole dump
+    -- ---- the whole dump
 
-  pub IsDumpText-read : (dump : DumpValue) → dump ≡ draft → IsDump dump → IsDumpText front (history_in_bytes dump)
-  IsDumpText-read dump same kept = record {
-    rest = is.rest;
-    blocks = is.blocks;
-    begins = is.begins;
-    follows = is.follows;
-    tells = is.tells ∙ ap (λ one. Some (history_in_bytes one)) (sym same);
-    some_revision = λ none. kept.some_revision (nil_from_length dump.counts (sym (length-history_in_bytes dump.names dump.records dump.counts dump.values) ∙ ap length none));
-    small = subst (λ one. IsSmall (history_in_bytes one)) (sym same) is.whole.small;
-  }
+    pub IsDumpText-read : (dump : DumpValue) → dump ≡ draft → IsDump dump → IsDumpText front (history_in_bytes dump)
+    IsDumpText-read dump same kept = record {
+      format = format;
+      rest = is.rest;
+      blocks = is.blocks;
+      begins = is.begins;
+      follows = is.follows;
+      tells = is.tells ∙ ap (λ one. Some (history_in_bytes one)) (sym same);
+      some_revision = λ none. kept.some_revision (nil_from_length dump.counts (sym (length-history_in_bytes dump.names dump.records dump.counts dump.values) ∙ ap length none));
+      small = subst (λ one. IsSmall (history_in_bytes one)) (sym same) is.whole.small;
+    }
 
-  pub IsNamed-read : (dump : DumpValue) → dump ≡ draft → dump.names ≡ names_of (history_in_bytes dump)
-  IsNamed-read dump same = subst (λ one. one.names ≡ names_of (history_in_bytes one)) (sym same) is.whole.named
+    pub IsNamed-read : (dump : DumpValue) → dump ≡ draft → dump.names ≡ names_of (history_in_bytes dump)
+    IsNamed-read dump same = subst (λ one. one.names ≡ names_of (history_in_bytes one)) (sym same) is.whole.named
 
-  pub IsValued-read : (dump : DumpValue) → dump ≡ draft → dump.values ≡ values_of (history_in_bytes dump)
-  IsValued-read dump same = subst (λ one. one.values ≡ values_of (history_in_bytes one)) (sym same) is.whole.valued
+    pub IsValued-read : (dump : DumpValue) → dump ≡ draft → dump.values ≡ values_of (history_in_bytes dump)
+    IsValued-read dump same = subst (λ one. one.values ≡ values_of (history_in_bytes one)) (sym same) is.whole.valued
 
-  -- the bytes end without a revision
-  pub IsRefusal-end : (e : DumpError) (end : ℕ) → end ≡ length front → (e ≡ dump.Refused 8 end) × (draft.counts ≡ []) → IsRefusal front e
-  IsRefusal-end e end long refused =
-      let nothing : history_in_bytes draft ≡ [] = nil_from_length (history_in_bytes draft) (length-history_in_bytes draft.names draft.records draft.counts draft.values ∙ ap length refused.1) in
-      subst (IsRefusal front) (sym (refused.0 ∙ ap (dump.Refused 8) long))
-      (record { refusal = Revision; first = first_refusal-end ∙ ap (end_refusal (length front)) nothing; numbered = refl })
+    -- the bytes end without a revision
+    pub IsRefusal-end : (e : DumpError) (end : ℕ) → end ≡ length front → (e ≡ dump.Refused 8 end) × (draft.counts ≡ []) → IsRefusal front e
+    IsRefusal-end e end long refused =
+        let nothing : history_in_bytes draft ≡ [] = nil_from_length (history_in_bytes draft) (length-history_in_bytes draft.names draft.records draft.counts draft.values ∙ ap length refused.1) in
+        subst (IsRefusal front) (sym (refused.0 ∙ ap (dump.Refused 8) long))
+        (record { refusal = Revision; first = first_refusal-end ∙ ap (end_refusal (length front)) nothing; numbered = refl })
 
 -- the first line is refused
 pub IsFirstAt-line : (bytes : List ℕ) (refusal : Refusal) → first_holding (line_refusals bytes) ≡ Some refusal → IsFirstAt bytes (number_of_refusal refusal) 0
 unfolding first_refusal
 IsFirstAt-line bytes refusal first = record {
   refusal = refusal;
-  first = ap (λ o. refusal_or o 0 (refusal_from (length bytes) (length bytes) [] (after_first is_newline bytes))) first;
+  first = ap (λ o. refusal_or o 0 (option_and_then (λ format. refusal_from format (length bytes) (length bytes) [] (after_first is_newline bytes)) (format_of bytes))) first;
   numbered = refl;
 }
 
@@ -198,29 +196,30 @@ BeginsBlock-append (byte ∷ block) more begins = record { some = refl; not_empt
 from_front : (bytes front block more : List ℕ) → bytes ≡ front ++ block → bytes ++ more ≡ front ++ (block ++ more)
 from_front bytes front block more whole = ap (λ all. all ++ more) whole ∙ append_assoc front block more
 
--- what the bytes of a block decide against it, they decide against the input
-pub IsDecidedError-block :
-    (bytes block : List ℕ) (draft : DumpValue) (at : ℕ) (e : ReadError) → IsReadTo bytes draft at block → BeginsBlock block →
-    IsBlockRefusalFrom (history_in_bytes draft) block e → IsDecidedError bytes (dump_error_at at e)
-IsDecidedError-block bytes block draft at (read.Refused refusal) to begins told = λ more. record {
-  refusal = refusal;
-  first =
-      ap first_refusal (from_front bytes to.front block more to.whole)
-      ∙ first_refusal-block to.front draft to.read (block ++ more) refusal (BeginsBlock-append block more begins) (told more)
-      ∙ ap (λ (n : ℕ). Some (let found : RefusalAt = record { refusal = refusal; at = n } in found)) (sym to.begins);
-  numbered = refl;
-}
-IsDecidedError-block bytes block draft at read.Memory to begins told =
-    subst HasFirstLine (sym to.whole) (HasFirstLine-read to.front draft to.read block)
+module _ (format : Format) where
+  -- what the bytes of a block decide against it, they decide against the input
+  pub IsDecidedError-block :
+      (bytes block : List ℕ) (draft : DumpValue) (at : ℕ) (e : ReadError) → IsReadTo format bytes draft at block → BeginsBlock block →
+      IsBlockRefusalFrom format (history_in_bytes draft) block e → IsDecidedError bytes (dump_error_at at e)
+  IsDecidedError-block bytes block draft at (read.Refused refusal) to begins told = λ more. record {
+    refusal = refusal;
+    first =
+        ap first_refusal (from_front bytes to.front block more to.whole)
+        ∙ first_refusal-block format to.front draft to.read (block ++ more) refusal (BeginsBlock-append block more begins) (told more)
+        ∙ ap (λ (n : ℕ). Some (let found : RefusalAt = record { refusal = refusal; at = n } in found)) (sym to.begins);
+    numbered = refl;
+  }
+  IsDecidedError-block bytes block draft at read.Memory to begins told =
+      subst HasFirstLine (sym to.whole) (HasFirstLine-read format to.front draft to.read block)
 
--- what stands against a block that ends with the input stands against the input
-pub IsRefusal-block :
-    (bytes block : List ℕ) (draft : DumpValue) (at : ℕ) (refusal : Refusal) → IsReadTo bytes draft at block → BeginsBlock block →
-    block_refusal (history_in_bytes draft) block ≡ Some refusal → IsRefusal bytes (dump_error_at at (read.Refused refusal))
-IsRefusal-block bytes block draft at refusal to begins told = record {
-  refusal = refusal;
-  first =
-      ap first_refusal to.whole ∙ first_refusal-block to.front draft to.read block refusal begins told
-      ∙ ap (λ (n : ℕ). Some (let found : RefusalAt = record { refusal = refusal; at = n } in found)) (sym to.begins);
-  numbered = refl;
-}
+  -- what stands against a block that ends with the input stands against the input
+  pub IsRefusal-block :
+      (bytes block : List ℕ) (draft : DumpValue) (at : ℕ) (refusal : Refusal) → IsReadTo format bytes draft at block → BeginsBlock block →
+      block_refusal format (history_in_bytes draft) block ≡ Some refusal → IsRefusal bytes (dump_error_at at (read.Refused refusal))
+  IsRefusal-block bytes block draft at refusal to begins told = record {
+    refusal = refusal;
+    first =
+        ap first_refusal to.whole ∙ first_refusal-block format to.front draft to.read block refusal begins told
+        ∙ ap (λ (n : ℕ). Some (let found : RefusalAt = record { refusal = refusal; at = n } in found)) (sym to.begins);
+    numbered = refl;
+  }

@@ -1,54 +1,68 @@
 -- What a block is, by the values of its headers.
-use Rattle.std.proofs.Common.{◌≡◌, ℕ, Bool, false, List, [], ◌∷◌, length, take, refl, sym, ap, ap₂, ◌∙◌}
+use Rattle.std.proofs.Common.{◌≡◌, ℕ, Bool, List, [], ◌∷◌, length, take, refl, sym, ap, ap₂, ◌∙◌}
 use Rattle.std.specs.Prelude.{Option, Some, None, option_map}
 use Rattle.svn_dump.specs.Block.{Block, properties_length}
 use Rattle.svn_dump.specs.Field.{fields_of}
 use Rattle.svn_dump.specs.FrontBlock.{BeginsWithBlock}
 use Rattle.svn_dump.specs.Node.{Node, node_block, other_block, revision_block, sort_by_fields, uuid_block}
 use Rattle.svn_dump.specs.Property.{section_of, setting_by, setting_of}
-use Rattle.svn_dump.specs.Record.{is_delta, node_action_of, node_of_block, sort_of}
-use Rattle.svn_dump.specs.HeaderValues.{node_from_headers, setting_from_section, sort_from_headers, value_of}
+use Rattle.svn_dump.specs.Record.{has_changes, is_delta, node_action_of, node_of_block, sort_of}
+use Rattle.svn_dump.specs.HeaderValues.{has_changes_from_headers, is_delta_from_headers, node_from_headers, setting_from_section, sort_from_headers, value_of}
+use Rattle.svn_dump.specs.declared.format.Format.{Format}
+use Rattle.svn_dump.specs.declared.format.Format.TheVariants.{Two, Three}
 use Rattle.svn_dump.specs.declared.field.Field.TheVariants.{RevisionNumber, NodePath, Uuid}
 
--- ---- by the values that are there
-
-module _ (values : List (Option (List ℕ))) (properties : List ℕ) where
-  by_values : (number path uuid : Option (List ℕ)) → value_of values RevisionNumber ≡ number → value_of values NodePath ≡ path → value_of values Uuid ≡ uuid → sort_from_headers values properties ≡ sort_by_fields number (option_map (node_from_headers values properties) path) uuid
-  unfolding sort_from_headers
-  by_values number path uuid h i j =
-      ap₂ (λ a b. sort_by_fields a (option_map (node_from_headers values properties) b) (value_of values Uuid)) h i ∙ ap (sort_by_fields number (option_map (node_from_headers values properties) path)) j
-
-  pub sort_said-revision : (number : List ℕ) → value_of values RevisionNumber ≡ Some number → sort_from_headers values properties ≡ revision_block number
-  sort_said-revision number h = by_values (Some number) (value_of values NodePath) (value_of values Uuid) h refl refl
-
-  pub sort_said-node : (path : List ℕ) → value_of values RevisionNumber ≡ None → value_of values NodePath ≡ Some path → sort_from_headers values properties ≡ node_block (node_from_headers values properties path)
-  sort_said-node path h i = by_values None (Some path) (value_of values Uuid) h i refl
-
-  pub sort_said-uuid : (uuid : List ℕ) → value_of values RevisionNumber ≡ None → value_of values NodePath ≡ None → value_of values Uuid ≡ Some uuid → sort_from_headers values properties ≡ uuid_block
-  sort_said-uuid uuid h i j = by_values None None (Some uuid) h i j
-
-  pub sort_said-other : value_of values RevisionNumber ≡ None → value_of values NodePath ≡ None → value_of values Uuid ≡ None → sort_from_headers values properties ≡ other_block
-  sort_said-other h i j = by_values None None None h i j
-
--- ---- by the lines of the block
-
+-- a section at the front of the body
 setting_of-front : (is_delta : Bool) (section : Option ℕ) (properties body : List ℕ) → section ≡ Some (length properties) → properties ≡ take (length properties) body → setting_from_section is_delta properties ≡ setting_of is_delta section body
 setting_of-front is_delta section [] body long front = ap (λ n. setting_of is_delta n body) (sym long)
 setting_of-front is_delta section (byte ∷ properties) body long front =
     ap (λ all. option_map (setting_by is_delta) (section_of is_delta all)) front ∙ ap (λ n. setting_of is_delta n body) (sym long)
 
-node_of_block-front : (block : Block) (properties path : List ℕ) → setting_from_section false properties ≡ setting_of false (properties_length block.lines) block.body → node_from_headers (fields_of block.lines) properties path ≡ node_of_block block path
-node_of_block-front block properties path settled =
-    ap (λ setting. let node : Node = record { path = path; action = node_action_of block.lines; is_delta = is_delta block.lines; setting = setting } in node) settled
+-- the deltas of its headers
+is_delta-fields : (format : Format) (lines : List (List ℕ)) → is_delta_from_headers format (fields_of lines) ≡ is_delta format lines
+is_delta-fields Two lines = refl
+is_delta-fields Three lines = refl
 
-nodes-front : (block : Block) (properties : List ℕ) (path : Option (List ℕ)) → setting_from_section false properties ≡ setting_of false (properties_length block.lines) block.body → option_map (node_from_headers (fields_of block.lines) properties) path ≡ option_map (node_of_block block) path
-nodes-front block properties None settled = refl
-nodes-front block properties (Some path) settled = ap Some (node_of_block-front block properties path settled)
+has_changes-fields : (format : Format) (lines : List (List ℕ)) → has_changes_from_headers format (fields_of lines) ≡ has_changes format lines
+has_changes-fields Two lines = refl
+has_changes-fields Three lines = refl
 
--- the same that its headers say
-pub sort_from_headers-block : (bytes rest : List ℕ) (values : List (Option (List ℕ))) (properties : List ℕ) (found : BeginsWithBlock bytes values properties rest) → sort_from_headers values properties ≡ sort_of found.block
-unfolding sort_from_headers sort_of
-sort_from_headers-block bytes rest values properties found =
-    ap (λ all. sort_from_headers all properties) found.fields
-    ∙ ap (λ node. sort_by_fields (value_of (fields_of found.block.lines) RevisionNumber) node (value_of (fields_of found.block.lines) Uuid))
-    (nodes-front found.block properties (value_of (fields_of found.block.lines) NodePath) (setting_of-front false (properties_length found.block.lines) properties found.block.body found.section found.front))
+module _ (format : Format) where
+  -- ---- by the values that are there
+
+  module _ (values : List (Option (List ℕ))) (properties : List ℕ) where
+    by_values : (number path uuid : Option (List ℕ)) → value_of values RevisionNumber ≡ number → value_of values NodePath ≡ path → value_of values Uuid ≡ uuid → sort_from_headers format values properties ≡ sort_by_fields number (option_map (node_from_headers format values properties) path) uuid
+    unfolding sort_from_headers
+    by_values number path uuid h i j =
+        ap₂ (λ a b. sort_by_fields a (option_map (node_from_headers format values properties) b) (value_of values Uuid)) h i ∙ ap (sort_by_fields number (option_map (node_from_headers format values properties) path)) j
+
+    pub sort_said-revision : (number : List ℕ) → value_of values RevisionNumber ≡ Some number → sort_from_headers format values properties ≡ revision_block number
+    sort_said-revision number h = by_values (Some number) (value_of values NodePath) (value_of values Uuid) h refl refl
+
+    pub sort_said-node : (path : List ℕ) → value_of values RevisionNumber ≡ None → value_of values NodePath ≡ Some path → sort_from_headers format values properties ≡ node_block (node_from_headers format values properties path)
+    sort_said-node path h i = by_values None (Some path) (value_of values Uuid) h i refl
+
+    pub sort_said-uuid : (uuid : List ℕ) → value_of values RevisionNumber ≡ None → value_of values NodePath ≡ None → value_of values Uuid ≡ Some uuid → sort_from_headers format values properties ≡ uuid_block
+    sort_said-uuid uuid h i j = by_values None None (Some uuid) h i j
+
+    pub sort_said-other : value_of values RevisionNumber ≡ None → value_of values NodePath ≡ None → value_of values Uuid ≡ None → sort_from_headers format values properties ≡ other_block
+    sort_said-other h i j = by_values None None None h i j
+
+  -- ---- by the lines of the block
+
+  node_of_block-front : (block : Block) (properties path : List ℕ) → setting_from_section (has_changes format block.lines) properties ≡ setting_of (has_changes format block.lines) (properties_length block.lines) block.body → node_from_headers format (fields_of block.lines) properties path ≡ node_of_block format block path
+  node_of_block-front block properties path settled =
+      ap₂ (λ delta setting. let node : Node = record { path = path; action = node_action_of block.lines; is_delta = delta; setting = setting } in node)
+      (is_delta-fields format block.lines) (ap (λ changes. setting_from_section changes properties) (has_changes-fields format block.lines) ∙ settled)
+
+  nodes-front : (block : Block) (properties : List ℕ) (path : Option (List ℕ)) → setting_from_section (has_changes format block.lines) properties ≡ setting_of (has_changes format block.lines) (properties_length block.lines) block.body → option_map (node_from_headers format (fields_of block.lines) properties) path ≡ option_map (node_of_block format block) path
+  nodes-front block properties None settled = refl
+  nodes-front block properties (Some path) settled = ap Some (node_of_block-front block properties path settled)
+
+  -- the same that its headers say
+  pub sort_from_headers-block : (bytes rest : List ℕ) (values : List (Option (List ℕ))) (properties : List ℕ) (found : BeginsWithBlock bytes values properties rest) → sort_from_headers format values properties ≡ sort_of format found.block
+  unfolding sort_from_headers sort_of
+  sort_from_headers-block bytes rest values properties found =
+      ap (λ all. sort_from_headers format all properties) found.fields
+      ∙ ap (λ node. sort_by_fields (value_of (fields_of found.block.lines) RevisionNumber) node (value_of (fields_of found.block.lines) Uuid))
+      (nodes-front found.block properties (value_of (fields_of found.block.lines) NodePath) (setting_of-front (has_changes format found.block.lines) (properties_length found.block.lines) properties found.block.body found.section found.front))

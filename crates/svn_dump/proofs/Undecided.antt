@@ -1,5 +1,5 @@
 -- Bytes that decide no refusal: inputs that begin with them are refused for different reasons, or one of them for none.
-use Rattle.std.proofs.Common.{◌≡◌, ◌≢◌, ℕ, zero, suc, pred, ◌<◌, ◌≤◌, nat_le, Bool, true, false, ◌||◌, List, [], ◌∷◌, ◌++◌, length, drop, replicate, inl, inr, refl, sym, ap, subst, ◌∙◌, append_assoc, append-nil, take-append-drop, length-append, arith}
+use Rattle.std.proofs.Common.{◌≡◌, ◌≢◌, ℕ, zero, suc, pred, ◌<◌, ◌≤◌, nat_le, Bool, true, false, ◌||◌, List, [], ◌∷◌, ◌++◌, length, drop, replicate, take, inl, inr, refl, sym, ap, subst, ◌∙◌, append_assoc, append-nil, take-append-drop, length-append, arith}
 use Rattle.std.specs.Prelude.{Option, Some, None, flat_map, option_and_then}
 use Rattle.std.specs.List.{list_all, list_any}
 use Rattle.std.specs.Option.{option_or}
@@ -15,8 +15,9 @@ use Rattle.svn_dump.specs.Draft.{dump_of}
 use Rattle.svn_dump.specs.Dump.{DumpValue, history_in_bytes}
 use Rattle.svn_dump.specs.DumpError.{IsFirstAt}
 use Rattle.svn_dump.specs.DumpText.{first_line}
-use Rattle.svn_dump.specs.FirstRefusal.{RefusalAt, after_block, block_at, block_refusal, end_refusal, first_refusal, front_refusals, has_twice, header_lines, is_no_header, line_refusals, refusal_from, refusal_or}
+use Rattle.svn_dump.specs.FirstRefusal.{RefusalAt, after_block, block_at, block_refusal, end_refusal, first_refusal, front_refusals, has_twice, header_lines, is_no_header, line_refusals, magic, refusal_from, refusal_or}
 use Rattle.svn_dump.specs.Field.{fields_of}
+use Rattle.svn_dump.specs.Format.{version}
 use Rattle.svn_dump.specs.HeaderValues.{body_length_from_headers}
 use Rattle.svn_dump.specs.Node.{BlockSort, Node, NodeAction, node_block, other_block, revision_block, uuid_block}
 use Rattle.svn_dump.specs.PartialHeader.{AreHeaderLines, IsHeaderFront}
@@ -24,6 +25,8 @@ use Rattle.svn_dump.specs.PartialLine.{IsPartialLine}
 use Rattle.svn_dump.specs.Reader.{BeginsBlock, HasReadAll, IsIn, IsInBody, IsInHeader, IsReadAs}
 use Rattle.svn_dump.specs.Record.{HistoryOfBytes, sort_of, with_block, with_sort}
 use Rattle.svn_dump.specs.Refusal.{Reason, first_holding, grows_large, later_refusals, node_refusals, number_of_refusal, refusals_by, sort_refusals}
+use Rattle.svn_dump.specs.declared.format.Format.{Format}
+use Rattle.svn_dump.specs.declared.format.Format.TheVariants.{Two, Three}
 use Rattle.svn_dump.specs.declared.partial_body.PartialBody.{PartialBody}
 use Rattle.svn_dump.specs.declared.partial_line.PartialLine.{PartialLine}
 use Rattle.svn_dump.specs.declared.partial_line.PartialLine.TheVariants as line
@@ -35,7 +38,7 @@ use Rattle.svn_dump.specs.declared.refusal.Refusal.TheVariants.{Header, Length, 
 use Rattle.svn_dump.proofs.Blocks.{header_holds, BeginsWithLines-append}
 use Rattle.svn_dump.proofs.Fronts.{front-block, header_lines-line, header_lines-lines}
 use Rattle.svn_dump.proofs.PartialHeaders.{BeginsWithLines-front, refused-front_cut, refused-front_length}
-use Rattle.svn_dump.proofs.PartialLines.{refused-other, refused-other_cut, refused-short, refused-version_cut}
+use Rattle.svn_dump.proofs.PartialLines.{refused-name_cut, refused-other, refused-other_cut, refused-short, refused-version_cut}
 use Rattle.svn_dump.proofs.Readers.{IsRefusal-body}
 use Rattle.svn_dump.proofs.Readings.{BeginsBlock-append, IsFirstAt-line, IsReadAs-line, first_refusal-block, first_refusal-end, first_refusal-from}
 use Rattle.svn_dump.proofs.Refusals.{first_holding-append}
@@ -56,18 +59,24 @@ apart bytes more number other at there alone longer differ = λ decided place is
 
 -- ---- in the first line
 
-ends_of_line : IsFirstAt first_line 8 30
-ends_of_line = record { refusal = Revision; first = first_refusal-end first_line (dump_of [] [] [] []) IsReadAs-line; numbered = refl }
+ends_of_line : (format : Format) → IsFirstAt (first_line format) 8 30
+ends_of_line Two = record { refusal = Revision; first = first_refusal-end Two (first_line Two) (dump_of [] [] [] []) (IsReadAs-line Two); numbered = refl }
+ends_of_line Three = record { refusal = Revision; first = first_refusal-end Three (first_line Three) (dump_of [] [] [] []) (IsReadAs-line Three); numbered = refl }
 
 undecided-line : (shown : PartialLine) (bytes : List ℕ) → IsPartialLine shown bytes → IsUndecided bytes
 undecided-line (line.Front count) bytes is =
-    let rest = drop count first_line in
-    let whole : bytes ++ rest ≡ first_line = ap (λ all. all ++ rest) is.front ∙ take-append-drop count first_line in
-    let longer : IsFirstAt (bytes ++ rest) 8 30 = rw whole ends_of_line in
+    let rest = drop count magic ++ (version Two ++ 10 ∷ []) in
+    let whole : bytes ++ rest ≡ first_line Two =
+    ap (λ all. all ++ rest) is.front ∙ sym (append_assoc (take count magic) (drop count magic) (version Two ++ 10 ∷ [])) ∙ ap (λ all. all ++ (version Two ++ 10 ∷ [])) (take-append-drop count magic) in
+    let longer : IsFirstAt (bytes ++ rest) 8 30 = rw whole (ends_of_line Two) in
     elim (cases_lt count 28) [
       | inl few ↦ apart bytes rest 1 8 0 30 (IsFirstAt-line bytes _ (refused-short count bytes is few)) longer (λ same. omega (arith, same))
-      | inr many ↦ apart bytes rest 5 8 0 30 (IsFirstAt-line bytes _ (refused-version_cut count bytes is many)) longer (λ same. omega (arith, same))
+      | inr many ↦ apart bytes rest 5 8 0 30 (IsFirstAt-line bytes _ (refused-name_cut count bytes is many)) longer (λ same. omega (arith, same))
     ]
+undecided-line (line.Version format) bytes is =
+    let whole : bytes ++ 10 ∷ [] ≡ first_line format = ap (λ all. all ++ 10 ∷ []) is ∙ append_assoc magic (version format) (10 ∷ []) in
+    let longer : IsFirstAt (bytes ++ 10 ∷ []) 8 30 = rw whole (ends_of_line format) in
+    apart bytes (10 ∷ []) 5 8 0 30 (IsFirstAt-line bytes _ (refused-version_cut format bytes is)) longer (λ same. omega (arith, same))
 undecided-line line.OtherVersion bytes is =
     let version = ap (λ all. first_holding (line_refusals all)) (sym (append-nil (bytes ++ 10 ∷ []))) ∙ refused-other bytes is 10 refl [] in
     apart bytes (10 ∷ []) 5 2 0 0 (IsFirstAt-line bytes _ (refused-other_cut bytes is)) (IsFirstAt-line (bytes ++ 10 ∷ []) _ version) (λ same. omega (arith, same))
@@ -119,11 +128,11 @@ no_end : (history : HistoryOfBytes) (total number at : ℕ) (refusal : Refusal) 
 no_end [] total number at refusal told numbered = numbered ∙ ap (λ (found : RefusalAt). number_of_refusal found.refusal) (sym (same_Some _ _ told))
 no_end (records ∷ history) total number at refusal told numbered = absurd (none-some _ told)
 
-module _ (front : List ℕ) (draft : DumpValue) (read : IsReadAs front draft) where
+module _ (format : Format) (front : List ℕ) (draft : DumpValue) (read : IsReadAs format front draft) where
   IsFirstAt-front : (block : List ℕ) (refusal : Refusal) → BeginsBlock block → first_holding (front_refusals block) ≡ Some refusal → IsFirstAt (front ++ block) (number_of_refusal refusal) (length front)
   IsFirstAt-front block refusal begins told = record {
     refusal = refusal;
-    first = first_refusal-block front draft read block refusal begins (block_refusal-front (history_in_bytes draft) block refusal told);
+    first = first_refusal-block format front draft read block refusal begins (block_refusal-front format (history_in_bytes draft) block refusal told);
     numbered = refl;
   }
 
@@ -131,7 +140,7 @@ module _ (front : List ℕ) (draft : DumpValue) (read : IsReadAs front draft) wh
   undecided-between = λ decided place is.
       let alone = subst (λ all. IsFirstAt all decided place) (append-nil front) (is []) in
       let longer = is faulty_line in
-      let first : decided ≡ 8 = no_end (history_in_bytes draft) (length front) decided place alone.refusal (sym (first_refusal-end front draft read) ∙ alone.first) alone.numbered in
+      let first : decided ≡ 8 = no_end (history_in_bytes draft) (length front) decided place alone.refusal (sym (first_refusal-end format front draft read) ∙ alone.first) alone.numbered in
       let begins : BeginsBlock faulty_line = record { some = refl; not_empty_line = refl } in
       let second : decided ≡ 3 = same_as (front ++ faulty_line) decided 3 place (length front) longer (IsFirstAt-front faulty_line Header begins (faulty_header [] no_header)) in
       omega (arith, first, second)
@@ -152,10 +161,10 @@ undecided-header reader header bytes is =
     let more = faulty_end is.front.last in
     let (refusal, told, other) = cut_header header is.front in
     let alone : IsFirstAt bytes (number_of_refusal refusal) (length to.front) =
-    rw to.whole (IsFirstAt-front to.front reader.draft to.read header refusal is.some told) in
+    rw to.whole (IsFirstAt-front reader.format to.front reader.draft to.read header refusal is.some told) in
     let longer : IsFirstAt (bytes ++ more) 3 (length to.front) =
     rw (to.whole, append_assoc to.front header more)
-    (IsFirstAt-front to.front reader.draft to.read (header ++ more) Header (BeginsBlock-append header more is.some) (faulty_header header is.front)) in
+    (IsFirstAt-front reader.format to.front reader.draft to.read (header ++ more) Header (BeginsBlock-append header more is.some) (faulty_header header is.front)) in
     apart bytes more (number_of_refusal refusal) 3 (length to.front) (length to.front) alone longer other
 
 -- ---- in a body
@@ -185,38 +194,38 @@ sort_later history after uuid_block = refl
 sort_later history after other_block = refl
 
 -- where nothing follows a block, what follows it is refused for want of a revision alone
-nothing_later : (most total : ℕ) (after : Option HistoryOfBytes) (found : RefusalAt) → option_and_then (λ told. refusal_from most total told []) after ≡ Some found → number_of_refusal found.refusal ≡ 8
+nothing_later : (format : Format) (most total : ℕ) (after : Option HistoryOfBytes) (found : RefusalAt) → option_and_then (λ told. refusal_from format most total told []) after ≡ Some found → number_of_refusal found.refusal ≡ 8
 unfolding refusal_from
-nothing_later most total None found told = absurd (none-some found told)
-nothing_later zero total (Some after) found told = absurd (none-some found told)
-nothing_later (suc most) total (Some []) found told = ap (λ (each : RefusalAt). number_of_refusal each.refusal) (sym (same_Some _ _ told))
-nothing_later (suc most) total (Some (records ∷ history)) found told = absurd (none-some found told)
+nothing_later format most total None found told = absurd (none-some found told)
+nothing_later format zero total (Some after) found told = absurd (none-some found told)
+nothing_later format (suc most) total (Some []) found told = ap (λ (each : RefusalAt). number_of_refusal each.refusal) (sym (same_Some _ _ told))
+nothing_later format (suc most) total (Some (records ∷ history)) found told = absurd (none-some found told)
 
 -- an input that ends with a block is not refused for its form
 whole_number :
-    (front : List ℕ) (draft : DumpValue) → IsReadAs front draft → (header come : List ℕ) → AreHeaderLines header → body_length (header_lines header) ≡ Some (length come) → BeginsBlock header →
+    (format : Format) (front : List ℕ) (draft : DumpValue) → IsReadAs format front draft → (header come : List ℕ) → AreHeaderLines header → body_length (header_lines header) ≡ Some (length come) → BeginsBlock header →
     (found : RefusalAt) → first_refusal (front ++ (header ++ 10 ∷ come)) ≡ Some found → 6 ≤ number_of_refusal found.refusal
 unfolding block_refusal
-whole_number front draft read header come lines long begins found told =
+whole_number format front draft read header come lines long begins found told =
     let bytes = header ++ 10 ∷ come in
     let block = whole_block header come lines long begins in
     let history = history_in_bytes draft in
-    let (most, same) = first_refusal-from front draft read bytes (BeginsBlock-append header (10 ∷ come) begins) in
+    let (most, same) = first_refusal-from format front draft read bytes (BeginsBlock-append header (10 ∷ come) begins) in
     let (form, at, rest) = front-block bytes [] block (IsBlock-whole header come lines long begins) (whole_text header come lines long begins) in
-    let refused : block_refusal history bytes ≡ first_holding (sort_refusals history (sort_of (block_at bytes))) =
-    first_holding-append (front_refusals bytes) (sort_refusals history (sort_of (block_at bytes))) ∙ ap (λ first. option_or first (first_holding (sort_refusals history (sort_of (block_at bytes))))) form in
-    by_block most bytes (block_refusal history bytes) (sym refused) rest (sym same ∙ told)
+    let refused : block_refusal format history bytes ≡ first_holding (sort_refusals history (sort_of format (block_at bytes))) =
+    first_holding-append (front_refusals bytes) (sort_refusals history (sort_of format (block_at bytes))) ∙ ap (λ first. option_or first (first_holding (sort_refusals history (sort_of format (block_at bytes))))) form in
+    by_block most bytes (block_refusal format history bytes) (sym refused) rest (sym same ∙ told)
   where
     by_block :
-        (most : ℕ) (bytes : List ℕ) (refused : Option Refusal) → first_holding (sort_refusals (history_in_bytes draft) (sort_of (block_at bytes))) ≡ refused → after_block bytes ≡ [] →
-        refusal_or refused (length front) (option_and_then (λ after. refusal_from most (length (front ++ bytes)) after (after_block bytes)) (with_block (history_in_bytes draft) (block_at bytes))) ≡ Some found →
+        (most : ℕ) (bytes : List ℕ) (refused : Option Refusal) → first_holding (sort_refusals (history_in_bytes draft) (sort_of format (block_at bytes))) ≡ refused → after_block bytes ≡ [] →
+        refusal_or refused (length front) (option_and_then (λ after. refusal_from format most (length (front ++ bytes)) after (after_block bytes)) (with_block format (history_in_bytes draft) (block_at bytes))) ≡ Some found →
         6 ≤ number_of_refusal found.refusal
     by_block most bytes (Some refusal) first rest is =
         subst (λ (each : RefusalAt). 6 ≤ number_of_refusal each.refusal) (same_Some _ _ is)
-        (first_holding-numbered (sort_refusals (history_in_bytes draft) (sort_of (block_at bytes))) (sort_later (history_in_bytes draft) (with_sort (history_in_bytes draft) (sort_of (block_at bytes))) (sort_of (block_at bytes))) refusal first)
+        (first_holding-numbered (sort_refusals (history_in_bytes draft) (sort_of format (block_at bytes))) (sort_later (history_in_bytes draft) (with_sort (history_in_bytes draft) (sort_of format (block_at bytes))) (sort_of format (block_at bytes))) refusal first)
     by_block most bytes None first rest is =
-        let last = nothing_later most (length (front ++ bytes)) (with_block (history_in_bytes draft) (block_at bytes)) found
-        (sym (ap (λ after_all. option_and_then (λ after. refusal_from most (length (front ++ bytes)) after after_all) (with_block (history_in_bytes draft) (block_at bytes))) rest) ∙ is) in
+        let last = nothing_later format most (length (front ++ bytes)) (with_block format (history_in_bytes draft) (block_at bytes)) found
+        (sym (ap (λ after_all. option_and_then (λ after. refusal_from format most (length (front ++ bytes)) after after_all) (with_block format (history_in_bytes draft) (block_at bytes))) rest) ∙ is) in
         omega (arith, last)
 
 undecided-body : (reader : Reader) (header : List ℕ) (body : PartialBody) (bytes : List ℕ) → IsInBody reader header body bytes × (0 < body.left) → IsUndecided bytes
@@ -231,14 +240,14 @@ undecided-body reader header body bytes is =
     λ decided place refused.
     let five = same_as bytes decided 5 place reader.at (subst (λ all. IsFirstAt all decided place) (append-nil bytes) (refused [])) (IsRefusal-body reader header body bytes is) in
     let longer = refused more in
-    let six = whole_number to.front reader.draft to.read header come so_far.lines (so_far.long ∙ ap (λ n. Some n) (sym long)) is.0.some _ (sym (ap first_refusal whole) ∙ longer.first) in
+    let six = whole_number reader.format to.front reader.draft to.read header come so_far.lines (so_far.long ∙ ap (λ n. Some n) (sym long)) is.0.some _ (sym (ap first_refusal whole) ∙ longer.first) in
     omega (arith, five, longer.numbered, six)
 
 -- ---- by the part in progress
 
 undecided-in : (each : Part) (reader : Reader) (bytes : List ℕ) → IsIn each reader bytes → IsUndecided bytes
 undecided-in (part.Line shown) reader bytes is = undecided-line shown bytes is.so_far
-undecided-in part.Blocks reader bytes is = undecided-between bytes reader.draft is
+undecided-in part.Blocks reader bytes is = undecided-between reader.format bytes reader.draft is
 undecided-in (part.Header header) reader bytes is = undecided-header reader header bytes is
 undecided-in (part.Body header body) reader bytes is = undecided-body reader header body bytes is
 

@@ -1,4 +1,4 @@
--- The blocks of a dump (Subversion's dump format notes, version 2): header lines, an empty line, and a body.
+-- The blocks of a dump (Subversion's dump format notes, versions 2 and 3): header lines, an empty line, and a body.
 use Rattle.std.specs.Prelude.{◌≡◌, ℕ, ◌+◌, ◌≤◌, ◌==◌, nat_lt, Bool, List, [], ◌∷◌, ◌++◌, Option, Some, None, All, length, replicate, flat_map, count_by, codes, bytes_eq, IsTrue, IsFalse, option_and_then, if◌then◌else◌}
 use Rattle.std.specs.List.{list_any, before_first, after_first}
 use Rattle.svn_text.specs.Bytes.{is_colon, is_not_empty}

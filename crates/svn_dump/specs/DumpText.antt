@@ -1,12 +1,15 @@
--- A whole dump, as `svnadmin dump` writes it (Subversion's dump format notes, version 2).
+-- A whole dump, as `svnadmin dump` and `svnrdump dump` write it (Subversion's dump format notes, versions 2 and 3).
 use Rattle.std.specs.Prelude.{◌≡◌, ◌≢◌, ℕ, ◌≤◌, List, [], ◌∷◌, ◌++◌, None, Some, codes, flat_map, length}
 use Rattle.svn_path.specs.Names.{with_names}
 use Rattle.svn_dump.specs.Block.{Block, AreBlocks}
+use Rattle.svn_dump.specs.Format.{version}
 use Rattle.svn_dump.specs.History.{Setting, keep, put, delete, change, add, copy}
 use Rattle.svn_dump.specs.Record.{RecordOfBytes, ActionOfBytes, HistoryOfBytes, history_of}
+use Rattle.svn_dump.specs.declared.format.Format.{Format}
+use Rattle.svn_dump.specs.declared.format.Format.TheVariants.{Two, Three}
 
-abbrev pub first_line : List ℕ
-first_line = codes "SVN-fs-dump-format-version: 2" ++ 10 ∷ []
+abbrev pub first_line : Format → List ℕ
+first_line format = codes "SVN-fs-dump-format-version: " ++ (version format ++ 10 ∷ [])
 
 -- the components of the paths that an action names, and that a record names
 abbrev pub parts_of_action : ActionOfBytes → List (List ℕ)
@@ -51,12 +54,19 @@ pub record IsSmall (history : HistoryOfBytes) : Type 0 where
   pub revisions : length history ≤ most_numbered
   pub values : length (values_of history) ≤ most_numbered
 
--- the bytes are a dump, and tell this history
+-- the bytes are a dump of one of the formats, and tell this history
 pub record IsDumpText (bytes : List ℕ) (history : HistoryOfBytes) : Type 0 where
+  pub format : Format
   pub rest : List ℕ
   pub blocks : List Block
-  pub begins : bytes ≡ first_line ++ rest
+  pub begins : bytes ≡ first_line format ++ rest
   pub follows : AreBlocks rest blocks
-  pub tells : history_of blocks ≡ Some history
+  pub tells : history_of format blocks ≡ Some history
   pub some_revision : history ≢ []
   pub small : IsSmall history
+
+-- a dump of format 2 under the first line of format 3 is a dump of the same history
+abbrev pub FormatsAgree : Type 0
+FormatsAgree =
+    (rest : List ℕ) (history : HistoryOfBytes) →
+    IsDumpText (first_line Two ++ rest) history → IsDumpText (first_line Three ++ rest) history

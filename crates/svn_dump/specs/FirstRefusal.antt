@@ -1,11 +1,13 @@
 -- The first reason against bytes as a dump: of the first block against which there is one, the first in their order.
-use Rattle.std.specs.Prelude.{◌≡◌, ℕ, zero, suc, ◌-◌, ◌==◌, nat_eq, nat_lt, Bool, false, not, ◌&&◌, ◌||◌, List, [], ◌∷◌, ◌++◌, Option, Some, None, is_none, bytes_eq, codes, count_by, drop, flat_map, length, option_and_then, take, unwrap_or, if◌then◌else◌}
+use Rattle.std.specs.Prelude.{◌≡◌, ℕ, zero, suc, ◌-◌, ◌==◌, nat_eq, nat_lt, Bool, false, not, ◌&&◌, ◌||◌, List, [], ◌∷◌, ◌++◌, Option, Some, None, is_none, codes, count_by, drop, flat_map, length, option_and_then, take, unwrap_or, if◌then◌else◌}
 use Rattle.std.specs.List.{after_first, before_first, list_any, slice_split, starts_with}
 use Rattle.svn_text.specs.Bytes.{is_colon, is_not_empty}
 use Rattle.svn_dump.specs.Block.{Block, body_length, header_name, is_named, listed_names}
 use Rattle.svn_text.specs.Line.{is_newline, line_text}
+use Rattle.svn_dump.specs.Format.{format_of_version}
 use Rattle.svn_dump.specs.Record.{HistoryOfBytes, sort_of, with_block}
 use Rattle.svn_dump.specs.Refusal.{Reason, first_holding, reason, sort_refusals}
+use Rattle.svn_dump.specs.declared.format.Format.{Format}
 use Rattle.svn_dump.specs.declared.refusal.Refusal.{Refusal}
 use Rattle.svn_dump.specs.declared.refusal.Refusal.TheVariants.{Magic, Version, Header, Length, Truncated, Revision}
 
@@ -19,11 +21,15 @@ pub record RefusalAt : Type 0 where
 abbrev pub magic : List ℕ
 magic = codes "SVN-fs-dump-format-version: "
 
+-- the format that the first line gives
+abbrev pub format_of : List ℕ → Option Format
+format_of bytes = format_of_version (drop (length magic) (before_first is_newline bytes))
+
 -- a line that isn't complete has no value yet
 abbrev pub line_refusals : List ℕ → List Reason
 line_refusals bytes =
     reason Magic (not (starts_with nat_eq bytes magic))
-    ∷ reason Version (list_any is_newline bytes && not (bytes_eq (drop (length magic) (before_first is_newline bytes)) (codes "2")))
+    ∷ reason Version (list_any is_newline bytes && is_none (format_of bytes))
     ∷ reason Truncated (not (list_any is_newline bytes))
     ∷ []
 
@@ -84,8 +90,8 @@ abbrev pub after_block : List ℕ → List ℕ
 after_block bytes = drop (body_length_at bytes) (drop 1 (after_lines bytes))
 
 -- the first reason against it after a history
-unfoldable pub block_refusal : HistoryOfBytes → List ℕ → Option Refusal
-block_refusal history bytes = first_holding (front_refusals bytes ++ sort_refusals history (sort_of (block_at bytes)))
+unfoldable pub block_refusal : Format → HistoryOfBytes → List ℕ → Option Refusal
+block_refusal format history bytes = first_holding (front_refusals bytes ++ sort_refusals history (sort_of format (block_at bytes)))
 
 -- ---- the whole dump
 
@@ -101,15 +107,16 @@ refusal_or (Some refusal) at later = Some (record { refusal = refusal; at = at }
 
 -- in the blocks that the rest of so many bytes begins with, after a history; each block takes bytes, so there are fewer
 -- blocks than bytes
-unfoldable pub refusal_from : ℕ → ℕ → HistoryOfBytes → List ℕ → Option RefusalAt
-refusal_from zero total history rest = None
-refusal_from (suc most) total history rest =
+unfoldable pub refusal_from : Format → ℕ → ℕ → HistoryOfBytes → List ℕ → Option RefusalAt
+refusal_from format zero total history rest = None
+refusal_from format (suc most) total history rest =
     let bytes = without_empty_lines rest in
     if is_not_empty bytes
-    then refusal_or (block_refusal history bytes) (total - length bytes)
-    (option_and_then (λ after. refusal_from most total after (after_block bytes)) (with_block history (block_at bytes)))
+    then refusal_or (block_refusal format history bytes) (total - length bytes)
+    (option_and_then (λ after. refusal_from format most total after (after_block bytes)) (with_block format history (block_at bytes)))
     else end_refusal total history
 
 unfoldable pub first_refusal : List ℕ → Option RefusalAt
 first_refusal bytes =
-    refusal_or (first_holding (line_refusals bytes)) 0 (refusal_from (length bytes) (length bytes) [] (after_first is_newline bytes))
+    refusal_or (first_holding (line_refusals bytes)) 0
+    (option_and_then (λ format. refusal_from format (length bytes) (length bytes) [] (after_first is_newline bytes)) (format_of bytes))

@@ -13,6 +13,7 @@ use Rattle.svn_dump.specs.Node.{BlockSort}
 use Rattle.svn_dump.specs.NumberedRecord.{IsFirstReason}
 use Rattle.svn_dump.specs.Record.{HistoryOfBytes, with_block, with_sort}
 use Rattle.svn_dump.specs.Refusal.{sort_refusals}
+use Rattle.svn_dump.specs.declared.format.Format.{Format}
 use Rattle.svn_dump.specs.declared.read_error.ReadError.{ReadError}
 use Rattle.svn_dump.specs.declared.read_error.ReadError.TheVariants as read
 
@@ -46,20 +47,20 @@ pub record BeginsWithBlock (bytes : List ℕ) (values : List (Option (List ℕ))
 -- ---- what it makes of a history
 
 -- the bytes begin with a block, and the rest follows; the block makes the new history of the old one
-pub record AddsBlock (bytes rest : List ℕ) (old new : HistoryOfBytes) : Type 0 where
+pub record AddsBlock (format : Format) (bytes rest : List ℕ) (old new : HistoryOfBytes) : Type 0 where
   pub block : Block
   pub is_block : IsBlock block
   pub whole : bytes ≡ block_text block ++ rest
-  pub adds : with_block old block ≡ Some new
+  pub adds : with_block format old block ≡ Some new
 
 -- the same of the histories of two dumps
-abbrev pub AddsBlockTo : DumpValue → DumpValue → List ℕ → List ℕ → Type 0
-AddsBlockTo old new bytes rest = AddsBlock bytes rest (history_in_bytes old) (history_in_bytes new)
+abbrev pub AddsBlockTo : Format → DumpValue → DumpValue → List ℕ → List ℕ → Type 0
+AddsBlockTo format old new bytes rest = AddsBlock format bytes rest (history_in_bytes old) (history_in_bytes new)
 
 -- the error is the first reason against the block, of every input that begins with these bytes, or want of memory
-abbrev pub IsBlockRefusalFrom : HistoryOfBytes → List ℕ → ReadError → Type 0
-IsBlockRefusalFrom history bytes (read.Refused refusal) = (more : List ℕ) → block_refusal history (bytes ++ more) ≡ Some refusal
-IsBlockRefusalFrom history bytes read.Memory = Unit {0}
+abbrev pub IsBlockRefusalFrom : Format → HistoryOfBytes → List ℕ → ReadError → Type 0
+IsBlockRefusalFrom format history bytes (read.Refused refusal) = (more : List ℕ) → block_refusal format history (bytes ++ more) ≡ Some refusal
+IsBlockRefusalFrom format history bytes read.Memory = Unit {0}
 
 -- the history of a dump that is being read gets a block of that sort
 abbrev pub AddsSort : DumpValue → BlockSort → DumpValue → Type 0

@@ -14,6 +14,8 @@ use Rattle.svn_dump.specs.declared.node_action.NodeAction.{NodeAction as ReadAct
 use Rattle.svn_dump.specs.declared.node_action.NodeAction.TheVariants as action
 use Rattle.svn_dump.specs.declared.field.Field.{Field}
 use Rattle.svn_dump.specs.declared.field.Field.TheVariants as field
+use Rattle.svn_dump.specs.declared.format.Format.{Format}
+use Rattle.svn_dump.specs.declared.format.Format.TheVariants.{Two, Three}
 use Rattle.svn_dump.specs.declared.section.Entry.{Entry}
 
 abbrev pub value_of : List (Option (List ℕ)) → Field → Option (List ℕ)
@@ -32,8 +34,13 @@ body_length_from_headers values =
 abbrev pub are_of_node : List (Option (List ℕ)) → Bool
 are_of_node values = is_none (value_of values field.RevisionNumber) && is_some (value_of values field.NodePath)
 
-abbrev pub is_delta_from_headers : List (Option (List ℕ)) → Bool
-is_delta_from_headers values = says_true (value_of values field.PropertiesDelta) || says_true (value_of values field.TextDelta)
+abbrev pub is_delta_from_headers : Format → List (Option (List ℕ)) → Bool
+is_delta_from_headers Two values = says_true (value_of values field.PropertiesDelta) || says_true (value_of values field.TextDelta)
+is_delta_from_headers Three values = false
+
+abbrev pub has_changes_from_headers : Format → List (Option (List ℕ)) → Bool
+has_changes_from_headers Two values = false
+has_changes_from_headers Three values = says_true (value_of values field.PropertiesDelta)
 
 -- what a property section says of the mergeinfo; it is empty where there is none
 abbrev pub setting_from_section : Bool → List ℕ → Option (Setting (List ℕ))
@@ -68,25 +75,25 @@ node_action_view action.Change = node_change
 node_action_view (action.Add replace kind) = node_add replace kind
 node_action_view (action.Copy replace from_rev from) = node_copy replace from_rev from.now
 
-abbrev pub node_from_headers : List (Option (List ℕ)) → List ℕ → List ℕ → Node
-node_from_headers values properties path = record {
+abbrev pub node_from_headers : Format → List (Option (List ℕ)) → List ℕ → List ℕ → Node
+node_from_headers format values properties path = record {
   path = path;
   action = node_action_from_headers values;
-  is_delta = is_delta_from_headers values;
-  setting = setting_from_section false properties;
+  is_delta = is_delta_from_headers format values;
+  setting = setting_from_section (has_changes_from_headers format values) properties;
 }
 
--- what a block is, given the values of its headers and its property section
-unfoldable pub sort_from_headers : List (Option (List ℕ)) → List ℕ → BlockSort
-sort_from_headers values properties =
-    sort_by_fields (value_of values field.RevisionNumber) (option_map (node_from_headers values properties) (value_of values field.NodePath))
+-- what a block of a format is, given the values of its headers and its property section
+unfoldable pub sort_from_headers : Format → List (Option (List ℕ)) → List ℕ → BlockSort
+sort_from_headers format values properties =
+    sort_by_fields (value_of values field.RevisionNumber) (option_map (node_from_headers format values properties) (value_of values field.NodePath))
     (value_of values field.Uuid)
 
 -- ---- the block at the front of the bytes
 
 abbrev pub sort_of_front : BlockFront → BlockSort
-sort_of_front front = sort_from_headers front.headers front.properties.now
+sort_of_front front = sort_from_headers front.format front.headers front.properties.now
 
 -- the node block, given the value of its `Node-path`
 abbrev pub node_of_front : BlockFront → List ℕ → Node
-node_of_front front path = node_from_headers front.headers front.properties.now path
+node_of_front front path = node_from_headers front.format front.headers front.properties.now path

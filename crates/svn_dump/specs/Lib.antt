@@ -8,6 +8,7 @@ pub mod Fault
 pub mod Feed
 pub mod Field
 pub mod FirstRefusal
+pub mod Format
 pub mod FrontBlock
 pub mod HeaderValues
 pub mod Headers

@@ -1,4 +1,4 @@
--- What the headers of a node block say (Subversion's dump format notes, version 2, node records).
+-- What the headers of a node block say (Subversion's dump format notes, versions 2 and 3, node records).
 use Rattle.std.specs.Prelude.{ℕ, Bool, true, false, List, Option, Some, None, bytes_eq, codes, option_and_then, option_map, if◌then◌else◌}
 use Rattle.svn_dump.specs.History.{Setting}
 use Rattle.svn_text.specs.Number.{greatest_revision, number_up_to}
@@ -40,8 +40,9 @@ is_change node_change = true
 is_change (node_add replace kind) = false
 is_change (node_copy replace from_rev from) = false
 
--- a node block: the value of `Node-path`, what it does, if its headers say one thing, whether it holds a difference to
--- an earlier text or section, and what its property section says of mergeinfo, if it is one
+-- a node block: the value of `Node-path`, what it does, if its headers say one thing, whether it is said to hold a
+-- difference to an earlier text or section that its format doesn't have, and what its property section says of mergeinfo,
+-- if it is one
 pub record Node : Type 0 where
   pub path : List ℕ
   pub action : Option NodeAction

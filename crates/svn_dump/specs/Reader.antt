@@ -15,19 +15,20 @@ use Rattle.svn_dump.specs.PartialBody.{IsPartialBody}
 use Rattle.svn_dump.specs.PartialHeader.{AreHeaderLines, IsHeaderFront, is_node}
 use Rattle.svn_dump.specs.PartialLine.{IsPartialLine}
 use Rattle.svn_dump.specs.Record.{history_of}
+use Rattle.svn_dump.specs.declared.format.Format.{Format}
 use Rattle.svn_dump.specs.declared.partial_body.PartialBody.{PartialBody}
 use Rattle.svn_dump.specs.declared.partial_line.PartialLine.{PartialLine}
 use Rattle.svn_dump.specs.declared.reader.Part.{Part}
 use Rattle.svn_dump.specs.declared.reader.Part.TheVariants as part
 use Rattle.svn_dump.specs.declared.reader.Reader.{Reader}
 
--- the bytes are a first line and whole blocks, with empty lines beside them, which tell the history of this dump
-pub record IsReadAs (bytes : List ℕ) (draft : DumpValue) : Type 0 where
+-- the bytes are the first line of a format and whole blocks, with empty lines beside them, which tell the history of this dump
+pub record IsReadAs (format : Format) (bytes : List ℕ) (draft : DumpValue) : Type 0 where
   pub rest : List ℕ
   pub blocks : List Block
-  pub begins : bytes ≡ first_line ++ rest
+  pub begins : bytes ≡ first_line format ++ rest
   pub follows : AreBlocks rest blocks
-  pub tells : history_of blocks ≡ Some (history_in_bytes draft)
+  pub tells : history_of format blocks ≡ Some (history_in_bytes draft)
   pub whole : IsWholeHistory draft
 
 -- the bytes begin a block
@@ -36,10 +37,10 @@ pub record BeginsBlock (bytes : List ℕ) : Type 0 where
   pub not_empty_line : IsFalse (begins_with_newline bytes)
 
 -- the bytes are read up to a block that begins there, of which so much has come
-pub record IsReadTo (bytes : List ℕ) (draft : DumpValue) (at : ℕ) (block : List ℕ) : Type 0 where
+pub record IsReadTo (format : Format) (bytes : List ℕ) (draft : DumpValue) (at : ℕ) (block : List ℕ) : Type 0 where
   pub front : List ℕ
   pub whole : bytes ≡ front ++ block
-  pub read : IsReadAs front draft
+  pub read : IsReadAs format front draft
   pub begins : at ≡ length front
 
 -- so much of the body has come
@@ -59,19 +60,19 @@ pub record IsInLine (reader : Reader) (line : PartialLine) (bytes : List ℕ) : 
   pub at : reader.at ≡ 0
 
 pub record IsInHeader (reader : Reader) (header bytes : List ℕ) : Type 0 where
-  pub read : IsReadTo bytes reader.draft reader.at header
+  pub read : IsReadTo reader.format bytes reader.draft reader.at header
   pub some : BeginsBlock header
   pub front : IsHeaderFront header
 
 pub record IsInBody (reader : Reader) (header : List ℕ) (body : PartialBody) (bytes : List ℕ) : Type 0 where
   pub come : List ℕ
-  pub read : IsReadTo bytes reader.draft reader.at (header ++ 10 ∷ come)
+  pub read : IsReadTo reader.format bytes reader.draft reader.at (header ++ 10 ∷ come)
   pub some : BeginsBlock header
   pub so_far : IsBodyTo header body come
 
 abbrev pub IsIn : Part → Reader → List ℕ → Type 0
 IsIn (part.Line line) reader bytes = IsInLine reader line bytes
-IsIn part.Blocks reader bytes = IsReadAs bytes reader.draft
+IsIn part.Blocks reader bytes = IsReadAs reader.format bytes reader.draft
 IsIn (part.Header header) reader bytes = IsInHeader reader header bytes
 IsIn (part.Body header body) reader bytes = IsInBody reader header body bytes × (0 < body.left)
 
@@ -83,7 +84,7 @@ HasReadAll reader bytes = IsIn reader.part reader bytes
 abbrev pub ReadsPart : Reader → List ℕ → List ℕ → Option (Bor (List ℕ)) → Type 0
 ReadsPart new bytes piece None = HasReadAll new (bytes ++ piece)
 ReadsPart new bytes piece (Some rest) =
-    (last : List ℕ) × (piece ≡ last ++ rest.now) × IsReadAs (bytes ++ last) new.draft
+    (last : List ℕ) × (piece ≡ last ++ rest.now) × IsReadAs new.format (bytes ++ last) new.draft
 
 -- ---- what a call promises of all bytes that were read before it
 
@@ -105,27 +106,27 @@ RefusesUpTo old new end piece e =
 
 -- of a block that begins after all bytes
 abbrev pub ReadsBlock : Reader → Reader → List ℕ → Option (Bor (List ℕ)) → Type 0
-ReadsBlock old new block left = (bytes : List ℕ) → IsReadAs bytes old.draft → old.at ≡ length bytes → ReadsPart new bytes block left
+ReadsBlock old new block left = (bytes : List ℕ) → IsReadAs old.format bytes old.draft → old.at ≡ length bytes → ReadsPart new bytes block left
 
 abbrev pub RefusesBlock : Reader → Reader → List ℕ → ReadError → Type 0
 RefusesBlock old new block e =
-    (bytes : List ℕ) → IsReadAs bytes old.draft → old.at ≡ length bytes → IsDecidedError (bytes ++ block) (dump_error_at new.at e)
+    (bytes : List ℕ) → IsReadAs old.format bytes old.draft → old.at ≡ length bytes → IsDecidedError (bytes ++ block) (dump_error_at new.at e)
 
 -- of more of a header
 abbrev pub ReadsHeader : Reader → List ℕ → Reader → List ℕ → Option (Bor (List ℕ)) → Type 0
 ReadsHeader old header new piece left =
-    (bytes : List ℕ) → IsReadTo bytes old.draft old.at header → BeginsBlock (header ++ piece) → ReadsPart new bytes piece left
+    (bytes : List ℕ) → IsReadTo old.format bytes old.draft old.at header → BeginsBlock (header ++ piece) → ReadsPart new bytes piece left
 
 abbrev pub RefusesHeader : Reader → List ℕ → Reader → List ℕ → ReadError → Type 0
 RefusesHeader old header new piece e =
-    (bytes : List ℕ) → IsReadTo bytes old.draft old.at header → BeginsBlock (header ++ piece) → IsDecidedError (bytes ++ piece) (dump_error_at new.at e)
+    (bytes : List ℕ) → IsReadTo old.format bytes old.draft old.at header → BeginsBlock (header ++ piece) → IsDecidedError (bytes ++ piece) (dump_error_at new.at e)
 
 -- and of a block whose last byte has come: it is added, or decides this error
 abbrev pub AddsWholeBlock : Reader → List ℕ → PartialBody → Reader → Type 0
 AddsWholeBlock old header body new =
-    (come : List ℕ) → IsBodyTo header body come → body.left ≡ 0 → BeginsBlock header → AddsBlockTo old.draft new.draft (header ++ 10 ∷ come) []
+    (come : List ℕ) → IsBodyTo header body come → body.left ≡ 0 → BeginsBlock header → AddsBlockTo old.format old.draft new.draft (header ++ 10 ∷ come) []
 
 abbrev pub RefusesWholeBlock : Reader → List ℕ → PartialBody → ReadError → Type 0
 RefusesWholeBlock old header body e =
     (come : List ℕ) → IsBodyTo header body come → body.left ≡ 0 → BeginsBlock header → IsWholeHistory old.draft →
-    IsBlockRefusalFrom (history_in_bytes old.draft) (header ++ 10 ∷ come) e
+    IsBlockRefusalFrom old.format (history_in_bytes old.draft) (header ++ 10 ∷ come) e

@@ -1,4 +1,5 @@
--- What the blocks of a dump say of the history: revisions, and records of paths (Subversion's dump format notes).
+-- What the blocks of a dump say of the history: revisions, and records of paths (Subversion's dump format notes,
+-- versions 2 and 3).
 use Rattle.std.specs.Prelude.{ℕ, pred, ◌==◌, nat_le, nat_lt, Bool, false, not, ◌&&◌, ◌||◌, List, [], ◌∷◌, ◌++◌, Option, Some, None, fold, length, codes, bytes_eq, option_map, option_and_then, if◌then◌else◌}
 use Rattle.std.specs.List.{list_all, list_any}
 use Rattle.svn_path.specs.Components.{parts_of, is_dot}
@@ -7,6 +8,8 @@ use Rattle.svn_dump.specs.History.{Setting, Action, delete, change, add, copy, R
 use Rattle.svn_dump.specs.Node.{BlockSort, Node, NodeAction, action_named, node_add, node_change, node_copy, node_delete, is_change, node_block, other_block, revision_block, sort_by_fields, uuid_block}
 use Rattle.svn_text.specs.Number.{number_of}
 use Rattle.svn_dump.specs.Property.{setting_of}
+use Rattle.svn_dump.specs.declared.format.Format.{Format}
+use Rattle.svn_dump.specs.declared.format.Format.TheVariants.{Two, Three}
 
 -- components and mergeinfo texts as bytes
 abbrev pub RecordOfBytes : Type 0
@@ -85,9 +88,15 @@ abbrev pub says_true : Option (List ℕ) → Bool
 says_true None = false
 says_true (Some value) = bytes_eq value (codes "true")
 
--- a section or a text that is a difference to an earlier one
-abbrev pub is_delta : List (List ℕ) → Bool
-is_delta lines = says_true (field (codes "Prop-delta") lines) || says_true (field (codes "Text-delta") lines)
+-- a section or a text that is said to be a difference to an earlier one, which format 2 doesn't have
+abbrev pub is_delta : Format → List (List ℕ) → Bool
+is_delta Two lines = says_true (field (codes "Prop-delta") lines) || says_true (field (codes "Text-delta") lines)
+is_delta Three lines = false
+
+-- a section that holds changes to the properties, and not all of them, which format 3 has
+abbrev pub has_changes : Format → List (List ℕ) → Bool
+has_changes Two lines = false
+has_changes Three lines = says_true (field (codes "Prop-delta") lines)
 
 abbrev pub node_action_of : List (List ℕ) → Option NodeAction
 node_action_of lines =
@@ -95,17 +104,17 @@ node_action_of lines =
     (action_named (field (codes "Node-kind") lines) (field (codes "Node-copyfrom-rev") lines) (field (codes "Node-copyfrom-path") lines))
     (field (codes "Node-action") lines)
 
-abbrev pub node_of_block : Block → List ℕ → Node
-node_of_block block path = record {
+abbrev pub node_of_block : Format → Block → List ℕ → Node
+node_of_block format block path = record {
   path = path;
   action = node_action_of block.lines;
-  is_delta = is_delta block.lines;
-  setting = setting_of false (properties_length block.lines) block.body;
+  is_delta = is_delta format block.lines;
+  setting = setting_of (has_changes format block.lines) (properties_length block.lines) block.body;
 }
 
-unfoldable pub sort_of : Block → BlockSort
-sort_of block =
-    sort_by_fields (field (codes "Revision-number") block.lines) (option_map (node_of_block block) (field (codes "Node-path") block.lines))
+unfoldable pub sort_of : Format → Block → BlockSort
+sort_of format block =
+    sort_by_fields (field (codes "Revision-number") block.lines) (option_map (node_of_block format block) (field (codes "Node-path") block.lines))
     (field (codes "UUID") block.lines)
 
 -- ---- the history
@@ -128,9 +137,9 @@ with_sort history (node_block node) = option_map (with_record history) (record_o
 with_sort history uuid_block = Some history
 with_sort history other_block = None
 
-abbrev pub with_block : HistoryOfBytes → Block → Option HistoryOfBytes
-with_block history block = with_sort history (sort_of block)
+abbrev pub with_block : Format → HistoryOfBytes → Block → Option HistoryOfBytes
+with_block format history block = with_sort history (sort_of format block)
 
 -- the history that these blocks tell, one after another
-abbrev pub history_of : List Block → Option HistoryOfBytes
-history_of blocks = fold (λ so_far block. option_and_then (λ history. with_block history block) so_far) (Some []) blocks
+abbrev pub history_of : Format → List Block → Option HistoryOfBytes
+history_of format blocks = fold (λ so_far block. option_and_then (λ history. with_block format history block) so_far) (Some []) blocks

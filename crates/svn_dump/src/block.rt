@@ -5,6 +5,7 @@ ghost use Rattle.svn_dump.specs.FrontBlock.{BeginsWithBlock, BeginsWithHeaders};
 ghost use Rattle.svn_dump.specs.PartialHeader.{IsDecidedFront};
 ghost use Rattle.svn_text.specs.Bytes.{is_not_empty};
 
+use crate::format::Format;
 use crate::headers::Headers;
 use crate::length::lengths_of;
 use crate::line::{header_of, split_line};
@@ -13,6 +14,8 @@ use crate::refusal::Refusal;
 /// What is read of a block.
 #[derive(Drop)]
 pub(crate) struct BlockFront<'a> {
+    /// The format of its dump.
+    pub(crate) format: Format,
     pub(crate) headers: Headers<'a>,
     /// The property section at the front of the body, empty where there is none or it isn't read.
     pub(crate) properties: &'a [u8],
@@ -51,13 +54,17 @@ pub(crate) fn headers_of(bytes: &[u8]) -> Result<(Headers<'_>, Option<&[u8]>), R
     Ok((headers, None))
 }
 
-/// The block that the bytes begin with, and what follows it, or `None` where the bytes end in it. The text of its body is
-/// skipped.
-pub(crate) fn first_block(bytes: &[u8]) -> Result<Option<(BlockFront<'_>, &[u8])>, Refusal>
+/// The block of a dump of this format that the bytes begin with, and what follows it, or `None` where the bytes end in it.
+/// The text of its body is skipped.
+pub(crate) fn first_block(
+    format: Format,
+    bytes: &[u8],
+) -> Result<Option<(BlockFront<'_>, &[u8])>, Refusal>
     requires some { IsTrue (is_not_empty bytes.now) }
     requires not_empty_line { IsFalse (begins_with_newline bytes.now) }
     ensures found { IfOk result (λ found. IfSome found
         (λ parts. BeginsWithBlock bytes.now parts.0.headers parts.0.properties.now parts.1.now)) }
+    ensures format { IfOk result (λ found. IfSome found (λ parts. parts.0.format ≡ format)) }
     ensures refused { IfErr result (IsDecidedFront bytes.now) }
 {
     let (headers, rest) = headers_of(bytes)?;
@@ -74,6 +81,7 @@ pub(crate) fn first_block(bytes: &[u8]) -> Result<Option<(BlockFront<'_>, &[u8])
     let (properties, _) = body.split_at(section as usize);
     Ok(Some((
         BlockFront {
+            format,
             headers,
             properties,
         },

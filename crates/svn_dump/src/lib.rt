@@ -7,6 +7,7 @@ mod dump;
 mod error;
 mod feed;
 mod field;
+mod format;
 mod headers;
 mod kind;
 mod length;

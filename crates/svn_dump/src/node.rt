@@ -6,11 +6,13 @@ ghost use Rattle.svn_path.specs.Names.{with_names};
 ghost use Rattle.svn_dump.specs.Draft.{Extends};
 ghost use Rattle.svn_dump.specs.Record.{has_dot, is_late, is_long, is_root_action, paths_read, record_of, says_true};
 ghost use Rattle.svn_dump.specs.Refusal.{action_refusals, first_holding};
-ghost use Rattle.svn_dump.specs.HeaderValues.{node_action_view, is_delta_from_headers, node_of_front};
+ghost use Rattle.svn_dump.specs.HeaderValues.{has_changes_from_headers, is_delta_from_headers};
+ghost use Rattle.svn_dump.specs.HeaderValues.{node_action_view, node_of_front};
 ghost use Rattle.svn_dump.specs.NumberedRecord.{IsAcceptedAs, IsActOfNode, IsFirstAtAnySize, IsFirstReason, IsNumberedPath, IsRecordOfNode, IsTooLarge, has_long_source, is_act_large, is_path_large, record_refusals, texts_of_node};
 
 use crate::block::BlockFront;
 use crate::field::Field;
+use crate::format::Format;
 use crate::headers::Headers;
 use crate::mergeinfo::Mergeinfo;
 use crate::node_action::NodeAction;
@@ -48,11 +50,27 @@ fn says_true(value: Option<&[u8]>) -> bool
     }
 }
 
-/// Whether a section or the text of the block is a difference to an earlier one.
-fn is_delta(headers: &Headers) -> bool
-    ensures { result ≡ is_delta_from_headers headers.now }
+/// Whether the section or the text of the block is said to be a difference to an earlier one, which format 2 does not have.
+fn is_delta(format: Format, headers: &Headers) -> bool
+    ensures { result ≡ is_delta_from_headers format headers.now }
 {
-    says_true(headers.get(Field::PropertiesDelta)) || says_true(headers.get(Field::TextDelta))
+    match format {
+        Format::Two => {
+            says_true(headers.get(Field::PropertiesDelta))
+                || says_true(headers.get(Field::TextDelta))
+        }
+        Format::Three => false,
+    }
+}
+
+/// Whether the section holds changes to the properties, and not all of them, which format 3 has.
+fn has_changes(format: Format, headers: &Headers) -> bool
+    ensures { result ≡ has_changes_from_headers format headers.now }
+{
+    match format {
+        Format::Two => false,
+        Format::Three => says_true(headers.get(Field::PropertiesDelta)),
+    }
 }
 
 /// Whether a path that is read has a component `.` or `..`.
@@ -72,7 +90,7 @@ fn refusal_of(rev: u32, found: &BlockFront, path: &[u8], action: NodeAction) -> 
 {
     if has_dot_in_paths(path, action) {
         Some(Refusal::BadPath)
-    } else if is_delta(&found.headers) {
+    } else if is_delta(found.format, &found.headers) {
         Some(Refusal::Delta)
     } else if action.is_late(rev) {
         Some(Refusal::CopyRevision)
@@ -149,7 +167,8 @@ fn judge<'a>(
     ensures ok { IfOk result (λ read. IsAcceptedAs revisions (node_of_front found.now path.now) read.0 read.1 read.2) }
     ensures refused { IfErr result (IsFirstAtAnySize revisions (node_of_front found.now path.now)) }
 {
-    let Some(mergeinfo) = Mergeinfo::of(false, found.properties) else {
+    let changes = has_changes(found.format, &found.headers);
+    let Some(mergeinfo) = Mergeinfo::of(changes, found.properties) else {
         return Err(Refusal::Props);
     };
     let (Some(rev), Some(action)) = (revisions.checked_sub(1), NodeAction::of(&found.headers))

@@ -13,6 +13,7 @@ use crate::block::{BlockFront, first_block, headers_of, skip_empty_lines};
 use crate::draft::Draft;
 use crate::dump::Dump;
 use crate::error::DumpError;
+use crate::format::Format;
 use crate::partial_body::PartialBody;
 use crate::partial_header::PartialHeader;
 use crate::partial_line::PartialLine;
@@ -40,6 +41,8 @@ pub(crate) struct Reader {
     pub(crate) alloc: Global,
     pub(crate) draft: Draft,
     pub(crate) part: Part,
+    /// The format that the first line gave, format 2 until it has come.
+    pub(crate) format: Format,
     /// The offset at which the block in progress begins.
     pub(crate) at: u64,
 }
@@ -54,6 +57,7 @@ impl Reader {
             alloc,
             draft: Draft::new(alloc),
             part: Part::Line(PartialLine::Front(0)),
+            format: Format::Two,
             at: 0,
         }
     }
@@ -113,7 +117,10 @@ impl Reader {
                 self.part = Part::Line(line);
                 Ok(None)
             }
-            Some(rest) => Ok(Some(rest)),
+            Some((format, rest)) => {
+                self.format = format;
+                Ok(Some(rest))
+            }
         }
     }
 
@@ -127,7 +134,7 @@ impl Reader {
         ensures keeps { OnOk result (IsWholeHistory self.old.draft → IsWholeHistory self.new.draft) }
         ensures refused { IfErr result (RefusesBlock self.old self.new block.now) }
     {
-        match first_block(block)? {
+        match first_block(self.format, block)? {
             None => self.read_header(PartialHeader::new(self.alloc), block),
             Some((found, rest)) => {
                 self.draft.add(self.alloc, &found)?;
@@ -193,6 +200,7 @@ impl Reader {
     fn add_block(&mut self, header: &PartialHeader, body: &PartialBody) -> Result<(), ReadError>
         ensures part { self.new.part ≡ self.old.part }
         ensures at { self.new.at ≡ self.old.at }
+        ensures format { self.new.format ≡ self.old.format }
         ensures added { OnOk result (AddsWholeBlock self.old header.now body.now self.new) }
         ensures keeps { OnOk result (IsWholeHistory self.old.draft → IsWholeHistory self.new.draft) }
         ensures refused { IfErr result (RefusesWholeBlock self.old header.now body.now) }
@@ -202,6 +210,7 @@ impl Reader {
         self.draft.add(
             self.alloc,
             &BlockFront {
+                format: self.format,
                 headers,
                 properties,
             },
@@ -226,6 +235,7 @@ impl Reader {
             alloc: _,
             draft,
             part,
+            format: _,
             at,
         } = self;
         match part {

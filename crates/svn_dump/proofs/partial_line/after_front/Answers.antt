@@ -1,17 +1,15 @@
-use Rattle.svn_dump.proofs.PartialLines.{line-after, other-version, refused-name, refused-none}
+use Rattle.svn_dump.proofs.PartialLines.{IfErr-front, IfOk-front, front-next, refused-name}
 use Rattle.svn_dump.proofs.partial_line.after_front.Goals as goal
 
 pub returns-then-is_next-clause-ok : goal.returns-then-is_next-clause-ok
-returns-then-is_next-clause-ok c = λ bytes is. line-after c.args.count bytes is c.args.byte c.if-is_next.ensures.1 c.then_some.result c.then_some.ensures
+returns-then-is_next-clause-ok c = λ bytes is. front-next c.args.count bytes is c.args.byte c.if-is_next.ensures.0 c.if-is_next.ensures.1
 
-pub returns-then-count-lt-NAME_LENGTH-clause-refused : goal.returns-then-count-lt-NAME_LENGTH-clause-refused
-returns-then-count-lt-NAME_LENGTH-clause-refused c = λ bytes is.
-    refused-name c.args.count bytes is c.args.byte c.if-count-lt-NAME_LENGTH.true (c.if-is_next.ensures is.within)
+pub returns-then-count-lt28-clause-refused : goal.returns-then-count-lt28-clause-refused
+returns-then-count-lt28-clause-refused c = λ bytes is.
+    refused-name c.args.count bytes is c.args.byte c.if-count-lt28.true (c.if-is_next.ensures c.if-count-lt28.true)
 
-pub returns-then-byte-eq10-clause-refused : goal.returns-then-byte-eq10-clause-refused
-returns-then-byte-eq10-clause-refused c = λ bytes is.
-    refused-none c.args.count bytes is c.args.byte c.if-count-lt-NAME_LENGTH.false (c.if-is_next.ensures is.within) c.if-byte-eq10.true
+pub returns-else-count-lt28-clause-refused : goal.returns-else-count-lt28-clause-refused
+returns-else-count-lt28-clause-refused c = IfErr-front c.args.count c.args.byte c.if-count-lt28.false c.after_name.result c.after_name.ensures.refused
 
-pub returns-else-byte-eq10-clause-ok : goal.returns-else-byte-eq10-clause-ok
-returns-else-byte-eq10-clause-ok c = λ bytes is.
-    other-version c.args.count bytes is c.args.byte c.if-count-lt-NAME_LENGTH.false (c.if-is_next.ensures is.within) c.if-byte-eq10.false
+pub returns-else-count-lt28-clause-ok : goal.returns-else-count-lt28-clause-ok
+returns-else-count-lt28-clause-ok c = IfOk-front c.args.count c.args.byte c.if-count-lt28.false c.after_name.result c.after_name.ensures.ok

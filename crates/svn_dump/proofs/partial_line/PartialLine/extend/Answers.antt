@@ -3,18 +3,9 @@ use Rattle.std.proofs.lemmas.Result.{err_from_is_err_and}
 use Rattle.svn_dump.proofs.PartialLines.{IsDecidedLine-piece, piece-behind}
 use Rattle.svn_dump.proofs.partial_line.PartialLine.extend.Goals as goal
 
-pub returns-in_err-after-clause-refused : goal.returns-in_err-after-clause-refused
-returns-in_err-after-clause-refused c =
+pub returns-in_err-format-clause-refused : goal.returns-in_err-format-clause-refused
+returns-in_err-format-clause-refused c =
     let (error, errs, same) = err_from_is_err_and c.from_residual.result c.from_residual.ensures.1 in
     rw (errs, same) (λ bytes is.
     let (done, whole, so_far) = c.loop-rest.invariant.1 bytes is in
-    IsDecidedLine-piece bytes done c.loop-rest.rest.now c.args.piece.now whole c.in-len1-up.len_at_least c.in_err-after.field-0.0 (c.in_err-after.ensures.refused (bytes ++ done) so_far))
-
-pub returns-in-None-clause-ok : goal.returns-in-None-clause-ok
-returns-in-None-clause-ok c = λ bytes is.
-    let (done, whole, so_far) = c.loop-rest.invariant.1 bytes is in
-    let rest = c.loop-rest.rest.now in record {
-      last = done ++ get_or rest 0 0 ∷ [];
-      whole = piece-behind done rest c.args.piece.now whole c.in-len1-up.len_at_least;
-      line = sym (append_assoc bytes done (get_or rest 0 0 ∷ [])) ∙ (rw c.in-None.is at c.in_ok-after.ensures.ok (bytes ++ done) so_far);
-    }
+    IsDecidedLine-piece bytes done c.loop-rest.rest.now c.args.piece.now whole c.in-len1-up.len_at_least c.in_err-format.field-0.0 (c.in_err-format.ensures.refused (bytes ++ done) so_far))

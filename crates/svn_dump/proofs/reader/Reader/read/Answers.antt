@@ -26,10 +26,10 @@ returns-in_err-after-clause-refused c =
     let front = c.in-Some-skip_empty_lines.ensures.same in
     rw (errs, same) (λ bytes has long.
     let (done, whole, read) = c.loop-block.invariant.reads bytes has long in
-    IsDecidedError-piece bytes c.args.piece.now done c.loop-block.rest.now block c.loop-block.self.draft whole read front _
-    (c.in_err-after.ensures.refused (before_block bytes c.args.piece.now done c.loop-block.rest.now block c.loop-block.self.draft whole read front)
-    (IsReadAs-before bytes c.args.piece.now done c.loop-block.rest.now block c.loop-block.self.draft whole read front)
-    (at_block bytes c.args.piece.now done c.loop-block.rest.now block c.loop-block.self.draft whole read front c.args.end long)))
+    IsDecidedError-piece c.loop-block.self.format bytes c.args.piece.now done c.loop-block.rest.now block c.loop-block.self.draft whole read front _
+    (c.in_err-after.ensures.refused (before_block c.loop-block.self.format bytes c.args.piece.now done c.loop-block.rest.now block c.loop-block.self.draft whole read front)
+    (IsReadAs-before c.loop-block.self.format bytes c.args.piece.now done c.loop-block.rest.now block c.loop-block.self.draft whole read front)
+    (at_block c.loop-block.self.format bytes c.args.piece.now done c.loop-block.rest.now block c.loop-block.self.draft whole read front c.args.end long)))
 
 pub returns-in_default-2-clause-ok : goal.returns-in_default-2-clause-ok
 returns-in_default-2-clause-ok c = λ bytes has long.
@@ -37,10 +37,10 @@ returns-in_default-2-clause-ok c = λ bytes has long.
     let front = c.in-Some-skip_empty_lines.ensures.same in
     let (done, whole, read) = c.loop-block.invariant.reads bytes has long in
     let reads = rw c.in_default-2.is at c.in_ok-after.ensures.ok in
-    HasReadAll-piece bytes c.args.piece.now done c.loop-block.rest.now block c.loop-block.self.draft whole read front c.read_block.new.self
-    (reads (before_block bytes c.args.piece.now done c.loop-block.rest.now block c.loop-block.self.draft whole read front)
-    (IsReadAs-before bytes c.args.piece.now done c.loop-block.rest.now block c.loop-block.self.draft whole read front)
-    (at_block bytes c.args.piece.now done c.loop-block.rest.now block c.loop-block.self.draft whole read front c.args.end long))
+    HasReadAll-piece c.loop-block.self.format bytes c.args.piece.now done c.loop-block.rest.now block c.loop-block.self.draft whole read front c.read_block.new.self
+    (reads (before_block c.loop-block.self.format bytes c.args.piece.now done c.loop-block.rest.now block c.loop-block.self.draft whole read front)
+    (IsReadAs-before c.loop-block.self.format bytes c.args.piece.now done c.loop-block.rest.now block c.loop-block.self.draft whole read front)
+    (at_block c.loop-block.self.format bytes c.args.piece.now done c.loop-block.rest.now block c.loop-block.self.draft whole read front c.args.end long))
 
 pub loop-block-smaller : goal.loop-block-smaller
 loop-block-smaller c =
@@ -59,13 +59,13 @@ loop-block-preserved c =
       keeps = λ before. ensured.keeps (c.loop-block.invariant.keeps before);
       reads = λ bytes has long.
           let (done, whole, read) = c.loop-block.invariant.reads bytes has long in
-          ReadsPart-piece bytes c.args.piece.now done c.loop-block.rest.now block c.loop-block.self.draft whole read front c.read_block.new.self c.in-Some-2.after
-          (reads_all (before_block bytes c.args.piece.now done c.loop-block.rest.now block c.loop-block.self.draft whole read front)
-          (IsReadAs-before bytes c.args.piece.now done c.loop-block.rest.now block c.loop-block.self.draft whole read front)
-          (at_block bytes c.args.piece.now done c.loop-block.rest.now block c.loop-block.self.draft whole read front c.args.end long));
+          ReadsPart-piece c.loop-block.self.format bytes c.args.piece.now done c.loop-block.rest.now block c.loop-block.self.draft whole read front c.read_block.new.self c.in-Some-2.after
+          (reads_all (before_block c.loop-block.self.format bytes c.args.piece.now done c.loop-block.rest.now block c.loop-block.self.draft whole read front)
+          (IsReadAs-before c.loop-block.self.format bytes c.args.piece.now done c.loop-block.rest.now block c.loop-block.self.draft whole read front)
+          (at_block c.loop-block.self.format bytes c.args.piece.now done c.loop-block.rest.now block c.loop-block.self.draft whole read front c.args.end long));
     }
 
 pub returns-clause-ok : goal.returns-clause-ok
 returns-clause-ok c = λ bytes has long.
     let (done, whole, read) = c.loop-block.invariant.reads bytes has long in
-    rw c.loop-block.invariant.between (IsReadAs-empty bytes c.args.piece.now done c.loop-block.rest.now c.loop-block.self.draft whole read c.in_default-skip_empty_lines.ensures.same)
+    rw c.loop-block.invariant.between (IsReadAs-empty c.loop-block.self.format bytes c.args.piece.now done c.loop-block.rest.now c.loop-block.self.draft whole read c.in_default-skip_empty_lines.ensures.same)

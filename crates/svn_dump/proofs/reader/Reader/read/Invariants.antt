@@ -10,7 +10,7 @@ pub record IsBetween (first reader : Reader) (end : ℕ) (piece rest : List ℕ)
   pub within : length rest ≤ length piece
   pub between : reader.part ≡ Blocks
   pub keeps : IsWholeHistory first.draft → IsWholeHistory reader.draft
-  pub reads : (bytes : List ℕ) → HasReadAll first bytes → end ≡ length (bytes ++ piece) → (done : List ℕ) × (piece ≡ done ++ rest) × IsReadAs (bytes ++ done) reader.draft
+  pub reads : (bytes : List ℕ) → HasReadAll first bytes → end ≡ length (bytes ++ piece) → (done : List ℕ) × (piece ≡ done ++ rest) × IsReadAs reader.format (bytes ++ done) reader.draft
 
 abbrev pub invariant-loop-block : goal.invariant-loop-block
 invariant-loop-block l = IsBetween l.fn.self l.self l.end l.piece l.rest

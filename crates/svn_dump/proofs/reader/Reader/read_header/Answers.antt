@@ -7,7 +7,7 @@ pub returns-in_err-extend-clause-refused : goal.returns-in_err-extend-clause-ref
 returns-in_err-extend-clause-refused c =
     let (error, errs, same) = err_from_is_err_and c.from_residual.result c.from_residual.ensures.1 in
     rw (errs, same) (λ bytes to begins.
-    IsDecidedError-header bytes c.args.header c.args.piece.now c.args.self.now.draft c.args.self.now.at c.in_err-extend.field-0.0 to begins c.in_err-extend.ensures.refused)
+    IsDecidedError-header c.args.self.now.format bytes c.args.header c.args.piece.now c.args.self.now.draft c.args.self.now.at c.in_err-extend.field-0.0 to begins c.in_err-extend.ensures.refused)
 
 pub returns-in_err-body-in-Some-clause-refused : goal.returns-in_err-body-in-Some-clause-refused
 returns-in_err-body-in-Some-clause-refused c =

@@ -15,5 +15,5 @@ returns-in-Some-clause-ok c = λ bytes is.
     let ends = reads bytes is.so_far in (
       ends.last,
       ends.whole,
-      ReadsPart-line c.args.self.now c.args.line bytes c.args.piece.now c.in-Some.rest.now is ends,
+      ReadsPart-line c.args.self.now c.args.line bytes c.args.piece.now c.in-Some.format c.in-Some.rest.now is ends,
     )
