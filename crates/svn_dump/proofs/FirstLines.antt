@@ -1,5 +1,5 @@
 -- The first line of a dump, and what stands against it.
-use Rattle.std.proofs.Common.{◌≡◌, ◌≢◌, ℕ, true, false, List, ◌∷◌, ◌++◌, length, take, drop, not, ◌&&◌, ◌||◌, refl, sym, ap, ap₂, ◌∙◌, take-append-drop, length-append, get_or, ◌-◌, arith, eq-eqb, eqb-true}
+use Rattle.std.proofs.Common.{◌≡◌, ◌≢◌, ℕ, true, List, ◌∷◌, ◌++◌, length, take, drop, ◌&&◌, ◌||◌, refl, sym, ap, ap₂, ◌∙◌, take-append-drop, length-append, get_or, ◌-◌, arith, eq-eqb, eqb-true}
 use Rattle.std.specs.Prelude.{Some, None, IsFalse, is_none, nat_eq}
 use Rattle.std.specs.List.{before_first, list_any, position_or_len, starts_with}
 use Rattle.std.proofs.lemmas.Bool.{cond-false, cond-true, not_from_false, not_from_true, false_from_ne_true}

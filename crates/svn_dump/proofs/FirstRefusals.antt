@@ -45,11 +45,11 @@ and_true false y e none = absurd (both_ways _ refl e)
 -- ---- the histories of blocks
 
 module _ (format : Format) where
-  abbrev told_by : Option HistoryOfBytes → Block → Option HistoryOfBytes
+  abbrev pub told_by : Option HistoryOfBytes → Block → Option HistoryOfBytes
   told_by so_far block = option_and_then (λ history. with_block format history block) so_far
 
   -- the first of some blocks leaves a history, and the others go on with it
-  after_first_block :
+  pub after_first_block :
       (o : Option HistoryOfBytes) (blocks : List Block) (last : HistoryOfBytes) → fold told_by o blocks ≡ Some last →
       (after : HistoryOfBytes) × (o ≡ Some after) × (fold told_by (Some after) blocks ≡ Some last)
   after_first_block None blocks last tells = absurd (none-some last (sym (fold_stays told_by None (λ block. refl) blocks) ∙ tells))
@@ -308,7 +308,7 @@ pub after_first_line : (format : Format) (rest : List ℕ) → after_first is_ne
 after_first_line Two rest = refl
 after_first_line Three rest = refl
 
-format_of-line : (format : Format) (rest : List ℕ) → format_of (first_line format ++ rest) ≡ Some format
+pub format_of-line : (format : Format) (rest : List ℕ) → format_of (first_line format ++ rest) ≡ Some format
 format_of-line Two rest = refl
 format_of-line Three rest = refl
 

@@ -22,6 +22,7 @@ pub mod Belows
 pub mod Entries
 pub mod Faults
 pub mod FirstRevisions
+pub mod Formats
 pub mod Grouped
 pub mod Growing
 pub mod Histories

@@ -257,9 +257,16 @@ node_refusals-larger revisions node few many refusal more e =
     (later_refusals (pred revisions) node few node.action) (later_refusals (pred revisions) node many node.action) refusal
     (later_refusals-larger (pred revisions) node few many refusal node.action more) e
 
+-- a node block that has a record is said to hold no delta that its format doesn't have
+pub no_delta : (rev : ℕ) (node : Node) (each : RecordOfBytes) → record_of rev node ≡ Some each → node.is_delta ≡ false
+no_delta rev node each told =
+    let is = record_of-Some rev node each told in
+    let none = (is_allowed-parts rev node is.action is.all).none in
+    (none_holds-parts Delta _ _ (none_holds-parts BadPath _ _ none).1).0
+
 -- ---- a block
 
-map_parts : {A B : Type 0} (f : A → B) (o : Option A) (y : B) → option_map f o ≡ Some y → (x : A) × (o ≡ Some x) × (f x ≡ y)
+pub map_parts : {A B : Type 0} (f : A → B) (o : Option A) (y : B) → option_map f o ≡ Some y → (x : A) × (o ≡ Some x) × (f x ≡ y)
 map_parts f None y e = absurd (none-some y e)
 map_parts f (Some x) y e = (x, refl, same_Some (f x) y e)
 

@@ -1,7 +1,7 @@
 //! Reading a dump that is there as a whole.
 ghost use Rattle.std.specs.Prelude.{◌≡◌, ◌↔◌, None, IfErr, IfOk, IsErrOf};
 ghost use Rattle.svn_dump.specs.Dump.{history_in_bytes};
-ghost use Rattle.svn_dump.specs.DumpText.{IsDumpText, names_of, values_of};
+ghost use Rattle.svn_dump.specs.DumpText.{FormatsAgree, IsDumpText, names_of, values_of};
 ghost use Rattle.svn_dump.specs.DumpError.{IsRefusal};
 ghost use Rattle.svn_dump.specs.FirstRefusal.{first_refusal, line_refusals};
 ghost use Rattle.svn_dump.specs.Property.{SectionsAreExact};
@@ -27,6 +27,9 @@ pub fn read(alloc: Global, bytes: &[u8]) -> Result<Dump, DumpError>
 
     // A property section is read as its form says.
     ensures sections { SectionsAreExact }
+
+    // A dump of format 2 may have the first line of format 3.
+    ensures formats { FormatsAgree }
 
     ensures ok { IfOk result (λ dump. IsDumpText bytes.now (history_in_bytes dump)) }
     ensures names { IfOk result (λ dump. dump.names ≡ names_of (history_in_bytes dump)) }

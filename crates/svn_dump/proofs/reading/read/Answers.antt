@@ -3,6 +3,7 @@ use Rattle.std.proofs.lemmas.Result.{err_from_is_err_and}
 use Rattle.svn_dump.specs.declared.error.DumpError.TheVariants as dump
 use Rattle.svn_dump.proofs.Feeds.{IsRefusal-decided, first_line-memory}
 use Rattle.svn_dump.proofs.FirstRefusals.{exactly, one_history}
+use Rattle.svn_dump.proofs.Formats.{formats_agree}
 use Rattle.svn_dump.proofs.Sections.{section_of-both}
 use Rattle.svn_dump.proofs.reading.read.Goals as goal
 
@@ -14,6 +15,9 @@ returns-in_err-feed-clause-one c = one_history c.args.bytes.now
 
 pub returns-in_err-feed-clause-sections : goal.returns-in_err-feed-clause-sections
 returns-in_err-feed-clause-sections c = section_of-both
+
+pub returns-in_err-feed-clause-formats : goal.returns-in_err-feed-clause-formats
+returns-in_err-feed-clause-formats c = formats_agree
 
 pub returns-in_err-feed-clause-refused : goal.returns-in_err-feed-clause-refused
 returns-in_err-feed-clause-refused c =
@@ -34,3 +38,6 @@ returns-clause-one c = one_history c.args.bytes.now
 
 pub returns-clause-sections : goal.returns-clause-sections
 returns-clause-sections c = section_of-both
+
+pub returns-clause-formats : goal.returns-clause-formats
+returns-clause-formats c = formats_agree

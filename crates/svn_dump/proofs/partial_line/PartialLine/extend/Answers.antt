@@ -1,6 +1,6 @@
-use Rattle.std.proofs.Common.{◌++◌, ◌∷◌, [], get_or, sym, ◌∙◌, append_assoc}
+use Rattle.std.proofs.Common.{◌++◌}
 use Rattle.std.proofs.lemmas.Result.{err_from_is_err_and}
-use Rattle.svn_dump.proofs.PartialLines.{IsDecidedLine-piece, piece-behind}
+use Rattle.svn_dump.proofs.PartialLines.{IsDecidedLine-piece}
 use Rattle.svn_dump.proofs.partial_line.PartialLine.extend.Goals as goal
 
 pub returns-in_err-format-clause-refused : goal.returns-in_err-format-clause-refused
