@@ -22,7 +22,7 @@ fn revision_numbers_may_begin_with_zeros(rt: HostRuntime) -> Result<(), Fail> {
     check_blocks(rt.alloc(), ZERO, two, "")
 }
 
-const BODIES: &str = "
+pub(crate) const BODIES: &str = "
 revisions of 0 0 = |||
 revisions of 0 0 = UUID: 0|Content-length: 5||Node|
 revisions of 0 1|r1 /a add a file = Node-path: a|Node-kind: file|Node-action: add|Content-length: 8||hello...
@@ -36,7 +36,7 @@ fn empty_lines_and_bodies_are_skipped(rt: HostRuntime) -> Result<(), Fail> {
     check_blocks(rt.alloc(), ONE, BODIES, "")
 }
 
-const OTHER_NAMES: &str = "
+pub(crate) const OTHER_NAMES: &str = "
 revisions of 0 1|r1 /a change = ||Text-content-md5: 0|Node-path: a|Text-content-md5: 1|Node-action: change||||
 revisions of 0 1|r1 /a/b add a file = Node-path:/a//b/|Node-kind:file|Node-action:add||
 revisions of 0 0 0 = Revision-number:2|revision-number: 7|Other: :||
@@ -47,7 +47,7 @@ fn other_header_names_are_ignored(rt: HostRuntime) -> Result<(), Fail> {
     check_blocks(rt.alloc(), ONE, OTHER_NAMES, "")
 }
 
-const SORTS: &str = "
+pub(crate) const SORTS: &str = "
 revisions of 0 0 0 = Revision-number: 2|Node-path: ..|Node-action: none|Node-copyfrom-rev: x||
 revisions of 0 0 0 = Revision-number: 2|Node-path: a|Prop-delta: true|Prop-content-length: 10||PROPS-EN.|
 revisions of 0 0 0 = UUID: 0|Revision-number: 2|Text-delta: true||
@@ -60,7 +60,7 @@ fn revisions_come_before_paths_and_paths_before_identifiers(rt: HostRuntime) -> 
     check_blocks(rt.alloc(), ONE, SORTS, "")
 }
 
-const ACTIONS: &str = "
+pub(crate) const ACTIONS: &str = "
 revisions of 0 1|r1 /a delete = Node-path: a|Node-action: delete|Node-kind: link|Node-copyfrom-rev: 9||
 revisions of 0 1|r1 /a delete = Node-path: a|Node-action: delete|Node-copyfrom-rev: 9|Node-copyfrom-path: ..||
 revisions of 0 1|r1 /a change = Node-path: a|Node-action: change|Node-kind: |Node-copyfrom-path: ../a||
@@ -74,7 +74,7 @@ fn headers_that_an_action_does_not_need_are_ignored(rt: HostRuntime) -> Result<(
     check_blocks(rt.alloc(), ONE, ACTIONS, "")
 }
 
-const NO_DELTAS: &str = "
+pub(crate) const NO_DELTAS: &str = "
 revisions of 0 1|r1 /a change = Node-path: a|Node-action: change|Text-delta: True|Prop-delta: TRUE||
 revisions of 0 1|r1 /a change = Node-path: a|Node-action: change|Text-delta: true |Prop-delta:  true||
 revisions of 0 1|r1 /a change = Node-path: a|Node-action: change|Text-delta: true\r|Prop-delta: ||

@@ -25,3 +25,5 @@ mod refused_growths;
 mod refused_nodes;
 #[cfg(test)]
 mod samples;
+#[cfg(test)]
+mod version_3;

@@ -112,7 +112,7 @@ fn the_last_text_of_a_section_is_taken_as_it_is(rt: HostRuntime) -> Result<(), F
     check_dump(rt.alloc(), ONE, TWO_TEXTS, LAST_TEXT)
 }
 
-const NO_TEXTS: &str = "
+pub(crate) const NO_TEXTS: &str = "
 revisions of 0 1|r1 / change none = Node-path: |Node-action: change|Prop-content-length: 10||PROPS-END|
 revisions of 0 1|r1 / change none = Node-path: |Node-action: change|Prop-content-length: 39||K 14|svn:mergeinfo2|V 4|/a:1|PROPS-END|
 revisions of 0 1|r1 / change none = Node-path: |Node-action: change|Prop-content-length: 28||K 001|a|V 0002|b||PROPS-END|

@@ -1,7 +1,7 @@
 //! Dumps that come in pieces.
 ghost use Rattle.std.specs.Prelude.{◌≡◌, ◌+◌, ◌<◌, ◌≤◌, ◌^◌, length};
 
-use crate::samples::{ONE, START};
+use crate::samples::{ONE, ONE_3, START};
 use std::alloc::Global;
 use std::test::Fail;
 use svn_dump::{Dump, DumpError, Feed};
@@ -81,6 +81,15 @@ Content-length: 12
 PROPS-EN.
 ..";
 
+const DELETED: &str = "Node-path:
+Node-action: change
+Prop-content-length: 16
+
+D 1
+a
+PROPS-END
+";
+
 const ACTION: &str = "Node-path: a
 Node-action: add
 
@@ -91,12 +100,15 @@ fn a_refusal_comes_with_the_byte_that_decides_it(rt: HostRuntime) -> Result<(), 
     for (front, last, number, at) in [
         ("", "x", 1, 0),
         ("SVN-fs-dump-format-version:", "2", 1, 0),
+        ("SVN-fs-dump-format-version: ", "\n", 2, 0),
         ("SVN-fs-dump-format-version: 4", "\n", 2, 0),
+        ("SVN-fs-dump-format-version: 33", "\n", 2, 0),
         (START, "Revision-number: 1\n\n", 8, 31),
         (ONE, "Node-path a\n", 3, 71),
         (ONE, LENGTH, 4, 71),
         (ONE, SECTION, 6, 71),
         (ONE, ACTION, 7, 71),
+        (ONE_3, DELETED, 6, 71),
     ] {
         check_decided(rt.alloc(), front, last, number, at)?;
     }

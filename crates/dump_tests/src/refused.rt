@@ -11,7 +11,12 @@ const FIRST_LINES: &str = "
 1 svn-fs-dump-format-version: 2||
 1 SVN-fs-dump-format-version:2||
 2 SVN-fs-dump-format-version: 4||
-2 SVN-fs-dump-format-version: 3||Revision-number: 0||
+2 SVN-fs-dump-format-version: 23||
+2 SVN-fs-dump-format-version: 32||
+2 SVN-fs-dump-format-version: 33||
+2 SVN-fs-dump-format-version: 3 ||
+2 SVN-fs-dump-format-version: 3\r|\r|
+2 SVN-fs-dump-format-version:  3||
 2 SVN-fs-dump-format-version: 02||
 2 SVN-fs-dump-format-version: 03||
 2 SVN-fs-dump-format-version: 22||
@@ -21,10 +26,13 @@ const FIRST_LINES: &str = "
 2 SVN-fs-dump-format-version: ||
 5 SVN-fs-dump-format-version: 2
 5 SVN-fs-dump-format-version: 4
+5 SVN-fs-dump-format-version: 3
+5 SVN-fs-dump-format-version: 33
+5 SVN-fs-dump-format-version: 
 ";
 
 #[test]
-fn first_lines_have_version_2(rt: HostRuntime) -> Result<(), Fail> {
+fn first_lines_have_version_2_or_3(rt: HostRuntime) -> Result<(), Fail> {
     check_refusals(rt.alloc(), "", 0, FIRST_LINES, "")
 }
 

@@ -23,6 +23,25 @@ Revision-number: 1
 
 ";
 
+/// The first line of format 3 and an empty one, and the same with revisions 0 and 1, as long as those of format 2.
+pub(crate) const START_3: &str = "SVN-fs-dump-format-version: 3
+
+";
+
+pub(crate) const ZERO_3: &str = "SVN-fs-dump-format-version: 3
+
+Revision-number: 0
+
+";
+
+pub(crate) const ONE_3: &str = "SVN-fs-dump-format-version: 3
+
+Revision-number: 0
+
+Revision-number: 1
+
+";
+
 /// The text of a part of a line, in which the long text stands for each `*`.
 fn text_of(alloc: Global, part: &str, long: &str) -> Result<String, Fail> {
     let text = part.replace(alloc, '|', "\n")?;

@@ -1,7 +1,7 @@
--- The property section of a node (Subversion's `notes/dump-load-format.txt`): entries and an end. An entry is a name and a
--- value, with their lengths before them. A section under `Prop-delta: true` holds changes to the node's properties, and
--- may have entries of deleted ones too, which are a name with its length (there, "SVN DUMPFILE VERSION 3 FORMAT"). Any other
--- section is the whole list of properties.
+-- The property section of a node (Subversion's dump format notes, `notes/dump-load-format.txt`, "property sections"):
+-- entries and an end. An entry is a name and a value, with their lengths before them. In version 3 a section under
+-- `Prop-delta: true` is a delta: it holds changes to the node's properties, and may have entries of deleted ones too,
+-- which are a name with its length. Any other section is the whole list of properties.
 use Rattle.std.specs.Prelude.{◌≡◌, ◌≢◌, ◌↔◌, ℕ, zero, suc, ◌+◌, ◌==◌, nat_eq, nat_lt, Bool, IsTrue, ◌&&◌, List, [], ◌∷◌, ◌++◌, Option, Some, None, codes, bytes_eq, drop, fold, length, option_map, option_and_then, slice_index, take, if◌then◌else◌}
 use Rattle.std.specs.List.{after_first, before_first, list_any, starts_with}
 use Rattle.std.specs.Option.{option_or}

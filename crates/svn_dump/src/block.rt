@@ -54,8 +54,8 @@ pub(crate) fn headers_of(bytes: &[u8]) -> Result<(Headers<'_>, Option<&[u8]>), R
     Ok((headers, None))
 }
 
-/// The block of a dump of this format that the bytes begin with, and what follows it, or `None` where the bytes end in it.
-/// The text of its body is skipped.
+/// The block of a dump of this format that the bytes begin with, and what follows it, or `None` where the bytes end in
+/// it. The text of its body is skipped.
 pub(crate) fn first_block(
     format: Format,
     bytes: &[u8],

@@ -50,7 +50,8 @@ fn says_true(value: Option<&[u8]>) -> bool
     }
 }
 
-/// Whether the section or the text of the block is said to be a difference to an earlier one, which format 2 does not have.
+/// Whether the section or the text of the block is said to be a difference to an earlier one, which format 2 does not
+/// have.
 fn is_delta(format: Format, headers: &Headers) -> bool
     ensures { result ≡ is_delta_from_headers format headers.now }
 {

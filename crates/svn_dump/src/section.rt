@@ -77,7 +77,7 @@ fn split_entry(is_delta: bool, bytes: &[u8]) -> Option<(Entry<'_>, &[u8])>
     }
 }
 
-/// What the section says of the mergeinfo, which holds changes or the whole list, and `None` if the bytes are no section.
+/// What a section of changes or of the whole list says of the mergeinfo, and `None` if the bytes are no section.
 pub(crate) fn mergeinfo_of(is_delta: bool, section: &[u8]) -> Option<Mergeinfo<'_>>
     ensures { option_map mergeinfo_view result ≡ option_map (setting_by is_delta) (section_of is_delta section.now) }
 {
