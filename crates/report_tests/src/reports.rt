@@ -321,26 +321,51 @@ fn query_about_copies(alloc: Global, count: u32, rev: u32) -> Result<Vec<u8>, Al
     Ok(query)
 }
 
-// Whether the path through forty copies of the root was at this one in a revision.
+// Whether the path through so many copies of the root was at this one in a revision.
 fn is_path_through_copies<R: Threads + Wait + Sync>(
     rt: &R,
     alloc: Global,
     dump: &[u8],
+    count: u32,
     rev: u32,
     wanted: &[u8],
 ) -> Result<bool, RunError> {
-    let query = query_about_copies(alloc, 40, rev)?;
+    let query = query_about_copies(alloc, count, rev)?;
     reports(rt, alloc, dump, query.as_slice(), wanted)
 }
 
+// Whether it was the root in revision 0, and the first copy in revision 1.
+fn was_root_then_first_copy<R: Threads + Wait + Sync>(
+    rt: &R,
+    alloc: Global,
+    dump: &[u8],
+    count: u32,
+) -> Result<bool, RunError> {
+    for (rev, wanted) in [(0, b"#1 ok\n/\n".as_slice()), (1, b"#1 ok\n/x1\n")] {
+        if !is_path_through_copies(rt, alloc, dump, count, rev, wanted)? {
+            return Ok(false);
+        }
+    }
+    Ok(true)
+}
+
+// The same for the dump of so many copies.
+fn are_copies_located<R: Threads + Wait + Sync>(
+    rt: &R,
+    alloc: Global,
+    count: u32,
+) -> Result<bool, RunError> {
+    let dump = copies_of_the_root(alloc, count)?;
+    let was_there = was_root_then_first_copy(rt, alloc, dump.as_slice(), count);
+    drop(dump);
+    was_there
+}
+
+// A path through copies may have more components than a record of a dump may name.
 #[test]
 fn copies_in_copies_are_located_at_their_sources(rt: HostRuntime) -> Result<(), Fail> {
-    let dump = copies_of_the_root(rt.alloc(), 40)?;
-    for (rev, wanted) in [(0, b"#1 ok\n/\n".as_slice()), (1, b"#1 ok\n/x1\n")] {
-        assert!(rt;
-            is_path_through_copies(&rt, rt.alloc(), dump.as_slice(), rev, wanted)?,
-            "{rev}"
-        );
+    for count in [40, 1100] {
+        assert!(rt; are_copies_located(&rt, rt.alloc(), count)?, "{count}");
     }
     Ok(())
 }
