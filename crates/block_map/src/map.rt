@@ -60,7 +60,7 @@ impl Map {
         requires sources { HaveSources start ends.now records.now }
         ensures lo { IfOk result (λ map. map.lo ≡ start) }
         ensures records { IfOk result (λ map. map.records ≡ records_at_ticks ends.now records.now) }
-        ensures few { IfOk result (λ map. map.nodes ≤ most_nodes (length records.now)) }
+        ensures few_nodes { IfOk result (λ map. map.nodes ≤ most_nodes (length records.now)) }
         ensures nodes { IfOk result (λ map. map.nodes ≤ nodes_for map.records) }
 
         // Of the first records of a dump it is a map that shows what the records of the dump say.

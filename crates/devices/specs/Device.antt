@@ -2,22 +2,28 @@
 use Rattle.std.specs.Prelude.{ℕ, ◌==◌, Bool, List, Option, Result, Ok, Err, if◌then◌else◌}
 use Rattle.devices.specs.declared.device.Device.{Device}
 
--- the bytes that are left, where the device reports them, how many calls were made, how many of them gave no bytes, which
--- is the end of the input, how many failed, and whether one failed
+-- a reader and how it was called
 pub record PullState : Type 0 where
+  -- the bytes that are left, where the device reports them
   pub left : Option (List ℕ)
   pub calls : ℕ
+  -- how many calls gave no bytes, which is the end of the input
   pub ends : ℕ
+  -- how many calls failed
   pub failures : ℕ
+  -- whether one failed
   pub has_failed : Bool
 
--- the bytes that went out, where the device reports them, how many calls were made and how many of them failed, whether
--- one failed, and whether it was flushed after the last call of `push`; a new device was not
+-- a writer and how it was called
 pub record PushState : Type 0 where
+  -- the bytes that went out, where the device reports them
   pub gone : Option (List ℕ)
   pub calls : ℕ
+  -- how many calls failed
   pub failures : ℕ
+  -- whether one failed
   pub has_failed : Bool
+  -- whether it was flushed after the last call of `push`; a new device was not
   pub is_flushed : Bool
 
 -- one for a call that gave no bytes

@@ -1,5 +1,5 @@
 -- The answer to a query on a history in bytes: a status, and for `ok` the result lines.
-use Rattle.std.specs.Prelude.{◌≡◌, ℕ, ◌+◌, nat_le, List, [], ◌∷◌, ◌++◌, Option, Some, None, All, IfSome, codes, decimal, flat_map, length, map, option_and_then, option_map, reverse, slice_get, bytes_eq, if◌then◌else◌}
+use Rattle.std.specs.Prelude.{◌≡◌, ◌≢◌, ℕ, ◌+◌, nat_le, List, [], ◌∷◌, ◌++◌, Option, Some, None, All, IfSome, codes, decimal, flat_map, length, map, option_and_then, option_map, reverse, slice_get, bytes_eq, if◌then◌else◌}
 use Rattle.std.specs.Borrow.{Bor}
 use Rattle.path_index.specs.Index.{segment_view}
 use Rattle.path_index.specs.Segment.{Segment, rename_segment, segments_of}
@@ -238,3 +238,13 @@ IsByMergeinfo (kept.Log segments hits) = ⊥
 IsByMergeinfo (kept.Mergeinfo value) = Unit {0}
 IsByMergeinfo (kept.Merged revisions) = Unit {0}
 IsByMergeinfo (kept.Eligible revisions) = Unit {0}
+
+-- the answer refuses the query itself, or a peg that is not there
+abbrev pub IsRefusedUnread : KeptAnswer → Type 0
+IsRefusedUnread (kept.Refused why) = why ≢ status.MalformedMergeinfo
+IsRefusedUnread (kept.Location path) = ⊥
+IsRefusedUnread (kept.Segments segments) = ⊥
+IsRefusedUnread (kept.Log segments hits) = ⊥
+IsRefusedUnread (kept.Mergeinfo value) = ⊥
+IsRefusedUnread (kept.Merged revisions) = ⊥
+IsRefusedUnread (kept.Eligible revisions) = ⊥

@@ -3,7 +3,7 @@ ghost use Rattle.std.specs.Prelude.{IfOk};
 ghost use Rattle.query_answer.specs.Answer.{IsAnswer};
 ghost use Rattle.query_answer.specs.Query.{query_view};
 ghost use Rattle.query_answer.specs.Repo.{answer_in, text_read_for};
-ghost use Rattle.query_answer.specs.Worker.{IsSeenOf, KnowsWhatWasRead, Learns};
+ghost use Rattle.query_answer.specs.Worker.{IsSeenOf, IsUnreadWhereRefused, KnowsWhatWasRead, Learns};
 
 mod eligible;
 mod locate;
@@ -39,6 +39,7 @@ pub fn answer<'r>(
     ensures seen { IsSeenOf repo.now.values memo.now seen.new }
     ensures learns { Learns repo.now.values (text_read_for repo.now (query_view query.now)) seen.old seen.new }
     ensures knows { KnowsWhatWasRead result (text_read_for repo.now (query_view query.now)) seen.new }
+    ensures unread { IsUnreadWhereRefused result seen.old seen.new }
 {
     match query {
         Query::Bad => Ok(Answer::Refused(Status::BadQuery)),

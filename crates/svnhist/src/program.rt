@@ -46,7 +46,8 @@ pub(crate) fn run<R: Threads + Wait + Sync, I: Pull, O: Push, E: Push>(
         IsFailed (I.state input.old) (I.state input.new) (O.state output.old) (O.state output.new) }
     ensures failure_line { exit_status result ≡ 3 →
         IsFailureLine (O.state output.old) (O.state output.new) (E.state errors.old) (E.state errors.new) }
-    ensures memory { exit_status result ≡ 4 → PrintsLine (E.state errors.old) (E.state errors.new) (line_of RunError.Memory) }
+    ensures memory { exit_status result ≡ 4 →
+        PrintsLine (E.state errors.old) (E.state errors.new) (line_of RunError.Memory) }
     ensures known { exit_status result ≤ 4 }
     ensures silent { exit_status result ≡ 0 → errors.new ≡ errors.old }
     ensures quiet { (exit_status result ≡ 0) ⊎ (exit_status result ≡ 3) ⊎ (output.new ≡ output.old) }

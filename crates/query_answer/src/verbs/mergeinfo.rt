@@ -6,7 +6,7 @@ ghost use Rattle.query_answer.specs.Answer.{IsAnswer};
 ghost use Rattle.query_answer.specs.Effective.{own_or_inherited};
 ghost use Rattle.query_answer.specs.Peg.{peg_view};
 ghost use Rattle.query_answer.specs.Repo.{IsTargetFound, effective_in, mergeinfo_answer, nearest_text_at, nearest_text_in};
-ghost use Rattle.query_answer.specs.Worker.{IsSeenOf, Knows, KnowsWhatWasRead, Learns};
+ghost use Rattle.query_answer.specs.Worker.{IsSeenOf, IsUnreadWhereRefused, Knows, KnowsWhatWasRead, Learns};
 
 use crate::answers::Answer;
 use crate::inheritance::rest_below;
@@ -33,6 +33,7 @@ pub(crate) fn answer_mergeinfo<'r>(
     ensures seen { IsSeenOf repo.now.values memo.now seen.new }
     ensures learns { Learns repo.now.values (nearest_text_at repo.now (peg_view peg.now)) seen.old seen.new }
     ensures knows { KnowsWhatWasRead result (nearest_text_at repo.now (peg_view peg.now)) seen.new }
+    ensures unread { IsUnreadWhereRefused result seen.old seen.new }
 {
     let target = match repo.find_target(alloc, peg)? {
         Ok(target) => target,

@@ -1,13 +1,13 @@
 //! A source and a target.
-ghost use Rattle.std.specs.Prelude.{◌≡◌, IfOk, option_map};
-ghost use Rattle.query_answer.specs.Answer.{IsAnswer};
+ghost use Rattle.std.specs.Prelude.{◌≡◌, IfOk, option_map, ⊥};
+ghost use Rattle.query_answer.specs.Answer.{IsAnswer, IsRefusedUnread};
 ghost use Rattle.query_answer.specs.Peg.{peg_view};
 ghost use Rattle.query_answer.specs.Repo.{IsPair, IsPairFound, effective_in, nearest_text_at, pair_answer};
 ghost use Rattle.query_answer.specs.Held.{rest_of};
 ghost use Rattle.query_answer.specs.HeldValue.{own_or_below};
 ghost use Rattle.svn_path.specs.Path.{components_of};
 ghost use Rattle.value_memo.specs.Parsed.{parsed_view};
-ghost use Rattle.query_answer.specs.Worker.{IsSeenOf, KnowsWhatWasRead, Learns};
+ghost use Rattle.query_answer.specs.Worker.{IsSeenOf, IsUnreadWhereRefused, KnowsWhatWasRead, Learns};
 
 use super::eligible::eligible_of;
 use super::merged::merged_of;
@@ -72,6 +72,7 @@ pub(crate) fn answer_pair<'r>(
     ensures seen { IsSeenOf repo.now.values memo.now seen.new }
     ensures learns { Learns repo.now.values (nearest_text_at repo.now (peg_view target.now)) seen.old seen.new }
     ensures knows { KnowsWhatWasRead result (nearest_text_at repo.now (peg_view target.now)) seen.new }
+    ensures unread { IsUnreadWhereRefused result seen.old seen.new }
 {
     let pair = match Pair::find(alloc, repo, source, target)? {
         Ok(pair) => pair,
@@ -106,7 +107,8 @@ fn revisions(
     requires pair { IsPair repo.now source.now target.now pair.now }
     requires value { effective_in repo.now pair.now.target.path target.now.rev
         ≡ option_map (own_or_below (components_of repo.now.names (rest_of pair.now.target))) (parsed_view parsed) }
-    ensures { IfOk result (IsAnswer repo.now.names (pair_answer repo.now wanted source.now target.now)) }
+    ensures answer { IfOk result (IsAnswer repo.now.names (pair_answer repo.now wanted source.now target.now)) }
+    ensures found { IfOk result (λ answer. IsRefusedUnread answer → ⊥) }
 {
     let Parsed::Good(value) = parsed else {
         return Ok(Answer::Refused(Status::MalformedMergeinfo));

@@ -4,7 +4,7 @@ use Rattle.query_answer.specs.Repo.{trees_in_bytes}
 use Rattle.query_answer.specs.declared.status.Status.TheVariants as status
 use Rattle.svn_dump.specs.Dump.{history_in_bytes}
 use Rattle.query_answer.proofs.AnswerTexts.{IsAnswer-Refused, answer_of-bad, answer_of-locate, answer_of-segments, answer_of-log, answer_of-mergeinfo, answer_of-merged, answer_of-eligible}
-use Rattle.query_answer.proofs.WorkersSeen.{KnowsWhatWasRead-from}
+use Rattle.query_answer.proofs.WorkersSeen.{IsUnreadWhereRefused-same, KnowsWhatWasRead-from}
 use Rattle.query_answer.proofs.verbs.answer.Goals as goal
 
 pub returns-in-Bad : goal.returns-in-Bad
@@ -14,6 +14,7 @@ returns-in-Bad c =
       seen = c.requires.seen;
       learns = inl refl;
       knows = λ none. absurd none;
+      unread = λ _. refl;
     }
 
 pub returns-in-Locate : goal.returns-in-Locate
@@ -23,6 +24,7 @@ returns-in-Locate c =
       seen = c.requires.seen;
       learns = inl refl;
       knows = rw c.in-Locate.is (KnowsWhatWasRead-from c.answer_locate.result None c.args.seen.now tt);
+      unread = IsUnreadWhereRefused-same c.answer_locate.result c.args.seen.now;
     }
 
 pub returns-in-Segments : goal.returns-in-Segments
@@ -32,6 +34,7 @@ returns-in-Segments c =
       seen = c.requires.seen;
       learns = inl refl;
       knows = rw c.in-Segments.is (KnowsWhatWasRead-from c.answer_segments.result None c.args.seen.now tt);
+      unread = IsUnreadWhereRefused-same c.answer_segments.result c.args.seen.now;
     }
 
 pub returns-in-Log : goal.returns-in-Log
@@ -41,6 +44,7 @@ returns-in-Log c =
       seen = c.requires.seen;
       learns = inl refl;
       knows = rw c.in-Log.is (KnowsWhatWasRead-from c.answer_log.result None c.args.seen.now tt);
+      unread = IsUnreadWhereRefused-same c.answer_log.result c.args.seen.now;
     }
 
 pub returns-in-Mergeinfo : goal.returns-in-Mergeinfo

@@ -7,7 +7,7 @@ use Rattle.query_answer.proofs.verbs.mergeinfo.answer_mergeinfo.Goals as goal
 pub returns-in-Err : goal.returns-in-Err
 returns-in-Err c =
     let found : IsTargetOrNone c.args.repo.now c.args.peg.now (Err c.in-Err.status) = rw c.in-Err.is at c.in_ok-target.ensures in
-    record { answer = IsAnswer-Refused c.args.repo.now.names _ c.in-Err.status (found _); seen = c.requires.seen; learns = inl refl; knows = λ none. absurd none }
+    record { answer = IsAnswer-Refused c.args.repo.now.names _ c.in-Err.status (found _); seen = c.requires.seen; learns = inl refl; knows = λ none. absurd none; unread = λ _. refl }
 
 pub printed-requires-clause-target : goal.printed-requires-clause-target
 printed-requires-clause-target c =

@@ -7,7 +7,7 @@ use Rattle.query_answer.specs.Peg.{peg_view}
 use Rattle.query_answer.specs.Repo.{IsNearestIn, IsPairFound, nearest_text_at}
 use Rattle.query_answer.proofs.AnswerTexts.{IsAnswer-Pair_refused}
 use Rattle.query_answer.proofs.EffectiveValues.{effective_in-below, effective_in-none, mergeinfo-found, nearest_text-found, nearest_text-none, nearest_text_at-peg}
-use Rattle.query_answer.proofs.WorkersSeen.{IsSeenOf-after, Knows-after, KnowsWhatWasRead-from, Learns-after}
+use Rattle.query_answer.proofs.WorkersSeen.{IsSeenOf-after, IsUnreadWhereRefused-found, IsUnreadWhereRefused-same, Knows-after, KnowsWhatWasRead-from, Learns-after}
 use Rattle.query_answer.proofs.verbs.pair.answer_pair.Goals as goal
 
 pub returns-in-Err-clause-answer : goal.returns-in-Err-clause-answer
@@ -76,3 +76,9 @@ returns-clause-knows c =
     (nearest_text_at-peg c.args.repo.now c.args.target.now c.in-Ok.pair.target.path pair.target_is.path.spells
     ∙ nearest_text-found c.args.repo.now pair.source_is.kept c.in-Ok.pair.target.path c.args.target.now.rev c.in-Some.found near c.mergeinfo_text.result.now c.mergeinfo_text.ensures)
     c.value.result c.in_ok-parsed.parsed c.value.follows.lender-at-none c.in_ok-parsed.was c.value.follows.holds-at-none)
+
+pub returns-in_default-clause-unread : goal.returns-in_default-clause-unread
+returns-in_default-clause-unread c = IsUnreadWhereRefused-same c.revisions.result c.args.seen.now
+
+pub returns-clause-unread : goal.returns-clause-unread
+returns-clause-unread c = IsUnreadWhereRefused-found c.revisions-2.result c.args.seen.now _ c.revisions-2.ensures.found

@@ -19,24 +19,24 @@ eligible_of-requires-clause-held c =
     let names = c.args.repo.now.names in
     c.new-held.ensures.held names (subst (IsPathOf names) (sym c.rest.ensures) (IsPathOf-rest names c.args.pair.now.target c.requires.pair.target_is.path.of_names))
 
-pub returns-in_ok-merged_of-in-Merged : goal.returns-in_ok-merged_of-in-Merged
-returns-in_ok-merged_of-in-Merged c =
+pub returns-in_ok-merged_of-in-Merged-clause-answer : goal.returns-in_ok-merged_of-in-Merged-clause-answer
+returns-in_ok-merged_of-in-Merged-clause-answer c =
     let dump = c.args.repo.now in
     let is : effective_in dump c.args.pair.now.target.path c.args.target.now.rev ≡ Some (held_value dump.names c.new-held.result) =
     c.requires.value ∙ ap (λ read. option_map (own_or_below (components_of dump.names (rest_of c.args.pair.now.target))) (parsed_view read)) c.in-Good.is
     ∙ ap (λ rest. Some (own_or_below (components_of dump.names rest) c.in-Good.value.now)) (sym c.rest.ensures) ∙ ap Some (sym (c.new-held.ensures.value dump.names)) in
     rw c.in-Merged.is (IsAnswer-Merged dump c.args.source.now c.args.target.now c.args.pair.now c.requires.pair c.new-held.result is c.in_ok-merged_of-in-Merged.field-0 c.in_ok-merged_of-in-Merged.ensures)
 
-pub returns-in_ok-eligible_of-in-Eligible : goal.returns-in_ok-eligible_of-in-Eligible
-returns-in_ok-eligible_of-in-Eligible c =
+pub returns-in_ok-eligible_of-in-Eligible-clause-answer : goal.returns-in_ok-eligible_of-in-Eligible-clause-answer
+returns-in_ok-eligible_of-in-Eligible-clause-answer c =
     let dump = c.args.repo.now in
     let is : effective_in dump c.args.pair.now.target.path c.args.target.now.rev ≡ Some (held_value dump.names c.new-held.result) =
     c.requires.value ∙ ap (λ read. option_map (own_or_below (components_of dump.names (rest_of c.args.pair.now.target))) (parsed_view read)) c.in-Good.is
     ∙ ap (λ rest. Some (own_or_below (components_of dump.names rest) c.in-Good.value.now)) (sym c.rest.ensures) ∙ ap Some (sym (c.new-held.ensures.value dump.names)) in
     rw c.in-Eligible.is (IsAnswer-Eligible dump c.args.source.now c.args.target.now c.args.pair.now c.requires.pair c.new-held.result is c.in_ok-eligible_of-in-Eligible.field-0 c.in_ok-eligible_of-in-Eligible.ensures)
 
-pub returns-in_default : goal.returns-in_default
-returns-in_default c =
+pub returns-in_default-clause-answer : goal.returns-in_default-clause-answer
+returns-in_default-clause-answer c =
     let dump = c.args.repo.now in
     let malformed : effective_in dump c.args.pair.now.target.path c.args.target.now.rev ≡ None =
     c.requires.value ∙ ap (λ read. option_map (own_or_below (components_of dump.names (rest_of c.args.pair.now.target))) (parsed_view read)) c.in_default.is in
