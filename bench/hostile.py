@@ -523,7 +523,7 @@ SHAPES = [
 COLLIDING = [
     (of_dump(names_that_hash_to_zero, 100000), of_dump(ordinary_names, 100000)),
     (of_dump(mergeinfo_that_hashes_to_zero, 100000), of_dump(ordinary_mergeinfo, 100000)),
-    (of_dump(names_whose_halves_cancel, 20000), of_dump(names_of_equal_quarters, 20000)),
+    (of_dump(names_whose_halves_cancel, 100000), of_dump(names_of_equal_quarters, 100000)),
 ]
 
 
