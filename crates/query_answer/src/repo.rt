@@ -1,10 +1,10 @@
 //! What queries are answered from.
-ghost use Rattle.std.specs.Prelude.{◌≡◌, ◌<◌, ◌≤◌, length, option_map, slice_get, None, Some, IfOk, IfSome};
+ghost use Rattle.std.specs.Prelude.{◌≡◌, ◌<◌, length, slice_get, None, Some, IfOk};
 ghost use Rattle.svn_path.specs.Path.{same_name};
 ghost use Rattle.svn_dump.specs.Dump.{IsDump, history_view};
 ghost use Rattle.svn_dump.specs.Fault.{first_fault};
 ghost use Rattle.block_map.specs.Ends.{ends_of};
-ghost use Rattle.block_map.specs.Map.{IsMapOf, revision_in};
+ghost use Rattle.block_map.specs.Map.{IsMapOf};
 ghost use Rattle.path_index.specs.Index.{location_in};
 
 use crate::peg::Peg;

@@ -35,7 +35,6 @@ pub(crate) struct Draft {
 }
 
 impl Model for Draft {
-    ghost use Rattle.std.specs.Prelude.{[]};
     ghost use Rattle.svn_dump.specs.Dump.{DumpValue};
     ghost use Rattle.svn_dump.specs.Draft.{IsDraft, dump_of};
 

@@ -1,5 +1,5 @@
 //! What is kept of a dump that is read in pieces.
-ghost use Rattle.std.specs.Prelude.{◌≡◌, ◌<◌, ◌≤◌, ◌++◌, ◌∷◌, ℕ, List, [], length, IfErr, IfOk, IfSome, IsErrOf, OnOk};
+ghost use Rattle.std.specs.Prelude.{◌≡◌, ◌<◌, ◌≤◌, ℕ, List, [], length, IfErr, IfOk, IfSome, IsErrOf, OnOk};
 ghost use Rattle.svn_dump.specs.Draft.{IsWholeHistory};
 ghost use Rattle.svn_dump.specs.Dump.{history_in_bytes};
 ghost use Rattle.svn_dump.specs.DumpError.{IsRefusal};

@@ -6,7 +6,6 @@ ghost use Rattle.svn_dump.specs.NumberedRecord.{IsTooLarge, is_full_with};
 
 use crate::read_error::ReadError;
 use crate::record::ValueId;
-use crate::refusal::Refusal;
 use std::alloc::Global;
 use std::marker::Model;
 use svn_text::TextTable;

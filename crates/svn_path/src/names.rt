@@ -29,9 +29,7 @@ pub struct Names {
 }
 
 impl Model for Names {
-    ghost use Rattle.std.specs.Prelude.{ℕ, List, ◌≤◌, All, length, bytes_eq};
-    ghost use Rattle.std.specs.List.{IsDistinct};
-    ghost use Rattle.svn_path.specs.Components.{IsComponent};
+    ghost use Rattle.std.specs.Prelude.{ℕ, List};
     ghost use Rattle.svn_path.specs.Names.{IsTable};
 
     ghost Value = { List (List ℕ) };

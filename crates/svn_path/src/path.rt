@@ -1,5 +1,5 @@
 //! A path as the list of the numbers of its components.
-ghost use Rattle.std.specs.Prelude.{◌≡◌, ℕ, ◌<◌, ◌≤◌, ◌↔◌, List, [], ◌++◌, Some, drop, take, length, IsTrue, IfOk, OnOk, OnErr, IsErrOf, refl};
+ghost use Rattle.std.specs.Prelude.{◌≡◌, ℕ, ◌≤◌, ◌↔◌, List, [], ◌++◌, Some, drop, take, length, IsTrue, IfOk, OnOk, OnErr, IsErrOf, refl};
 ghost use Rattle.std.specs.Cmp.{partial_equiv_from_equiv, partial_order_from_agreeing_total};
 ghost use Rattle.std.specs.Cmp.Lexicographic.{pointwise, slice_cmp};
 ghost use Rattle.std.specs.Ordering.{as_partial_cmp};

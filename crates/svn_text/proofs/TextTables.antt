@@ -1,6 +1,6 @@
 -- What the maps of a table of texts find, and what a new text leaves of it.
-use Rattle.std.proofs.Common.{◌≡◌, ℕ, zero, suc, ◌<◌, ◌==◌, ◌⊎◌, Bool, true, false, cond, List, [], ◌∷◌, ◌++◌, None, Some, length, get_or, map, slice_get, bytes_eq, IfSome, IsSome, Option, refl, sym, ap, subst, ◌∙◌, inl, inr, arith, Ordering}
-use Rattle.std.proofs.lemmas.Bool.{both_ways, cases_Bool, cond-false, false_from_ne_true}
+use Rattle.std.proofs.Common.{◌≡◌, ℕ, zero, suc, ◌<◌, ◌⊎◌, true, false, List, [], ◌∷◌, ◌++◌, None, Some, length, slice_get, bytes_eq, IfSome, IsSome, Option, refl, sym, ap, subst, ◌∙◌, inl, inr, arith, Ordering}
+use Rattle.std.proofs.lemmas.Bool.{both_ways, cond-false, false_from_ne_true}
 use Rattle.std.proofs.lemmas.Bool.Decides.{Decides-eqb}
 use Rattle.std.proofs.lemmas.Cmp.{nat_list_eq_equiv}
 use Rattle.std.proofs.lemmas.List.{length_push, length-map}

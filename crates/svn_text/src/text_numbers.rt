@@ -1,12 +1,12 @@
 //! The numbers of texts, in maps.
-ghost use Rattle.std.specs.Prelude.{◌≡◌, IfOk, OnOk};
+ghost use Rattle.std.specs.Prelude.{◌≡◌, OnOk};
 ghost use Rattle.svn_text.specs.TextTable.{hash_of, first_of, other_of, IsFoundAt, KeepsFound};
 
 use std::alloc::{AllocError, Global};
 use std::collections::BTreeMap;
 
-/// Numbers of texts. The first text of a hash stands by the hash alone, which is compared in no time. Texts whose hash an
-/// earlier one has are few, but where they are chosen, and these stand by their bytes.
+/// Numbers of texts. The first text of each hash stands by the hash alone, so that most look-ups compare numbers. A text
+/// whose hash an earlier one has stands by its bytes. There are few of these, but where somebody chose them.
 #[derive(Drop)]
 pub(crate) struct TextNumbers {
     firsts: BTreeMap<u64, u32>,

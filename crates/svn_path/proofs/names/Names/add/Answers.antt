@@ -1,6 +1,5 @@
-use Rattle.std.proofs.Common.{◌≡◌, List, All, ℕ, sym, subst, ◌∙◌}
+use Rattle.std.proofs.Common.{All, sym, subst}
 use Rattle.svn_path.specs.Components.{IsComponent}
-use Rattle.svn_path.specs.Names.{with_name}
 use Rattle.svn_path.proofs.Tables.{All-with_name}
 use Rattle.svn_path.proofs.names.Names.add.Goals as goal
 

@@ -1,4 +1,4 @@
-use Rattle.std.proofs.Common.{◌≡◌, Some, sym, ap, subst, ◌∙◌, inr}
+use Rattle.std.proofs.Common.{◌≡◌, Some, ap, subst, ◌∙◌, inr}
 use Rattle.svn_text.specs.TextTable.{has_text, items_of, other_of}
 use Rattle.svn_text.proofs.TextTables.{AreFound-other}
 use Rattle.svn_text.proofs.text_numbers.TextNumbers.put.Goals as goal

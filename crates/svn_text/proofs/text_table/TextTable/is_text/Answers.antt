@@ -2,7 +2,6 @@ use Rattle.std.proofs.Common.{◌≡◌, None, Some, slice_get, bytes_eq, sym, a
 use Rattle.std.proofs.lemmas.Grind.{common_steps}
 use Rattle.std.proofs.lemmas.Option.{same_Some, gets}
 use Rattle.std.proofs.lemmas.Slice.Eq.{bytes_eq-Decides}
-use Rattle.svn_text.specs.TextTable.{items_of}
 use Rattle.svn_text.proofs.TextTables.{slice_get-items_of, slice_get-items_of-None}
 use Rattle.svn_text.proofs.text_table.TextTable.is_text.Goals as goal
 
