@@ -2,8 +2,8 @@
 
 use query_pool::NoGate;
 use sample_dumps::{
-    AT_SIGN, COPIED_MERGEINFO, DELETE_AND_COPY, DUMPED, EMPTY, FIRST, GONE, MERGED,
-    MERGEINFO_TEXTS, MOVES, NESTED, REPLACE, REPLACED, SPARSE, copies_of_the_root, joined,
+    AT_SIGN, COPIED_MERGEINFO, DELETE_AND_COPY, DELETED_MERGEINFO, DUMPED, EMPTY, FIRST, GONE,
+    MERGED, MERGEINFO_TEXTS, MOVES, NESTED, REPLACE, REPLACED, SPARSE, copies_of_the_root, joined,
 };
 use std::alloc::{AllocError, Global};
 use std::sync::Wait;
@@ -139,7 +139,7 @@ const LOGS: [Row; 5] = [
     },
 ];
 
-const MERGES: [Row; 6] = [
+const MERGES: [Row; 7] = [
     // The nearest path that has mergeinfo decides.
     Row {
         dump: MERGED,
@@ -150,6 +150,11 @@ const MERGES: [Row; 6] = [
         dump: COPIED_MERGEINFO,
         queries: b"mergeinfo\t/c@2\nmergeinfo\t/d@3\n",
         report: b"#1 ok\n/s:4\n#2 ok\n",
+    },
+    Row {
+        dump: DELETED_MERGEINFO,
+        queries: b"mergeinfo\t/c@2\nmergeinfo\t/c@3\nmergeinfo\t/t@3\nmergeinfo\t/d@1\nmergeinfo\t/e@1\n",
+        report: b"#1 ok\n/s:4\n#2 ok\n#3 ok\n/s:4\n#4 ok\n#5 ok\n/s:4\n",
     },
     // Each value is printed in one form.
     Row {

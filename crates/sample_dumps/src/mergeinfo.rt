@@ -165,6 +165,74 @@ Content-length: 10
 PROPS-END
 ";
 
+/// A dump of format 3. `t` has mergeinfo, which its copy `c` keeps until the property is deleted there. `d` sets and
+/// deletes it at once, and `e` deletes and sets it.
+pub const DELETED_MERGEINFO: &[u8] = b"SVN-fs-dump-format-version: 3
+
+Revision-number: 0
+
+Revision-number: 1
+
+Node-path: t
+Node-kind: dir
+Node-action: add
+Prop-delta: true
+Prop-content-length: 38
+Content-length: 38
+
+K 13
+svn:mergeinfo
+V 4
+/s:4
+PROPS-END
+Node-path: d
+Node-kind: dir
+Node-action: add
+Prop-delta: true
+Prop-content-length: 57
+Content-length: 57
+
+K 13
+svn:mergeinfo
+V 4
+/s:4
+D 13
+svn:mergeinfo
+PROPS-END
+Node-path: e
+Node-kind: dir
+Node-action: add
+Prop-delta: true
+Prop-content-length: 57
+Content-length: 57
+
+D 13
+svn:mergeinfo
+K 13
+svn:mergeinfo
+V 4
+/s:4
+PROPS-END
+Revision-number: 2
+
+Node-path: c
+Node-action: add
+Node-copyfrom-rev: 1
+Node-copyfrom-path: t
+
+Revision-number: 3
+
+Node-path: c
+Node-action: change
+Prop-delta: true
+Prop-content-length: 29
+Content-length: 29
+
+D 13
+svn:mergeinfo
+PROPS-END
+";
+
 /// The mergeinfo of `a` changes from `/s:1` to `/s:2`.
 pub const TWO_TEXTS: &[u8] = b"SVN-fs-dump-format-version: 2
 

@@ -55,8 +55,8 @@ is_late rev (node_copy replace from_rev from) = nat_le rev from_rev
 abbrev pub is_root_action : List ℕ → NodeAction → Bool
 is_root_action path action = is_root path && not (is_change action)
 
--- every path is one, and not too long; sections and texts are whole; a copy is of an earlier revision; and nothing
--- happens to the root but changes, and nothing in revision 0
+-- every path is one, and not too long; nothing is a difference that the format doesn't have; a copy is of an earlier
+-- revision; and nothing happens to the root but changes, and nothing in revision 0
 abbrev pub is_allowed : ℕ → List ℕ → Bool → NodeAction → Bool
 is_allowed rev path is_delta action =
     list_all (λ each. not (has_dot each) && not (is_long each)) (paths_read path action)

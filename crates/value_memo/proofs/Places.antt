@@ -1,5 +1,5 @@
 -- What the places of a memo's cells show, and what changes where one of them is answered.
-use Rattle.std.proofs.Common.{◌≡◌, ℕ, ◌+◌, ◌<◌, ◌≤◌, arith, Bool, List, [], ◌∷◌, length, map, get_or, zero, suc, cond, true, false, Option, Some, None, is_some, slice_get, slice_set, refl, sym, ap, ◌∙◌}
+use Rattle.std.proofs.Common.{◌≡◌, ◌≢◌, ℕ, ◌+◌, ◌<◌, ◌≤◌, arith, Bool, List, [], ◌∷◌, length, map, get_or, zero, suc, cond, true, false, Option, Some, None, is_some, slice_get, slice_set, refl, sym, ap, ◌∙◌}
 use mir.Val.{bool_byte}
 use Rattle.std.specs.Option.{ForSome, option_flatten}
 use Rattle.std.proofs.Math.Seq.{map-set_same}
@@ -27,6 +27,13 @@ map-unchanged f xs i x y there same = map-set_same f xs i y x (same ∙ ap f (sy
 map-id : (xs : List ℕ) → map (λ x. x) xs ≡ xs
 map-id [] = refl
 map-id (x ∷ xs) = ap (λ l. x ∷ l) (map-id xs)
+
+slice_get-set_other : {X : Type 0} (xs : List X) (i other : ℕ) (y : X) → other ≢ i → slice_get (slice_set xs i y) other ≡ slice_get xs other
+slice_get-set_other [] i other y apart = refl
+slice_get-set_other (x ∷ xs) zero zero y apart = absurd (apart refl)
+slice_get-set_other (x ∷ xs) zero (suc other) y apart = refl
+slice_get-set_other (x ∷ xs) (suc i) zero y apart = refl
+slice_get-set_other (x ∷ xs) (suc i) (suc other) y apart = slice_get-set_other xs i other y (λ same. apart (ap suc same))
 
 -- ---- before anything was asked
 
@@ -72,6 +79,7 @@ module _ (places : List PlaceValue) (parses at : ℕ) (place : PlaceValue) (ther
     IsAnswered-place more least most counted = record {
       memo = map-unchanged (λ p. p.cell) places at place new there answered.cell;
       texts = texts-set;
+      others = λ other apart. ap (λ own. slice_get own other) (map-set (λ p. p.own) places at new) ∙ slice_get-set_other (map (λ p. p.own) places) at other new.own apart;
       known = text_at-answered more;
       again = λ before. absurd (none-some text (sym (text_at-place ∙ unknown) ∙ before));
       asked = λ _. asked_of-answered more;
@@ -91,6 +99,7 @@ pub IsAnswered-again : (seen : SeenValue) (id : ℕ) (text : List ℕ) → text_
 IsAnswered-again seen id text known = record {
   memo = refl;
   texts = sym (set_same seen.texts id (Some text) (slice_get-answered seen.texts id text known));
+  others = λ other apart. refl;
   known = known;
   again = λ _. refl;
   asked = λ unknown. absurd (none-some text (sym unknown ∙ known));

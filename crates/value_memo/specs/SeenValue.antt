@@ -1,6 +1,6 @@
 -- What one worker knows of a memo: for each number the text that it was answered for and whether it keeps the reading
--- itself, and how many texts it read.
-use Rattle.std.specs.Prelude.{◌≡◌, ℕ, ◌+◌, ◌≤◌, Bool, true, false, List, Option, Some, None, is_some, map, slice_get, slice_set}
+-- itself, and how many readings of texts it counted.
+use Rattle.std.specs.Prelude.{◌≡◌, ◌≢◌, ℕ, ◌+◌, ◌≤◌, Bool, true, false, List, Option, Some, None, is_some, map, slice_get, slice_set}
 use Rattle.std.specs.List.{count_by}
 use Rattle.std.specs.Option.{ForSome, option_flatten}
 use Rattle.value_memo.specs.PlaceValue.{PlaceValue}
@@ -12,7 +12,7 @@ pub record SeenValue : Type 0 where
   pub texts : List (Option (List ℕ))
   -- which readings are the worker's own, and not those of the cells
   pub own : List Bool
-  -- how many texts it read
+  -- how many readings of texts it counted
   pub parses : ℕ
 
 -- what the places of a memo's cells show
@@ -40,11 +40,12 @@ MayAsk seen id text = ForSome (text_at seen id) (λ before. before ≡ text)
 abbrev pub AsksOnly : List (List ℕ) → SeenValue → Type 0
 AsksOnly values seen = (id : ℕ) → ForSome (text_at seen id) (λ before. slice_get values id ≡ Some before)
 
--- the number was answered for with this text, and all others stay; at most a new number's text is read, and it is where
--- the worker keeps the reading itself
+-- the number was answered for with this text, and all others stay; at most one reading is counted, of a new number, and
+-- one is where the worker keeps it itself
 pub record IsAnswered (old : SeenValue) (id : ℕ) (text : List ℕ) (new : SeenValue) : Type 0 where
   pub memo : new.memo ≡ old.memo
   pub texts : new.texts ≡ slice_set old.texts id (Some text)
+  pub others : (other : ℕ) → other ≢ id → slice_get new.own other ≡ slice_get old.own other
   pub known : text_at new id ≡ Some text
   pub again : text_at old id ≡ Some text → new ≡ old
   pub asked : text_at old id ≡ None → asked_of new ≡ asked_of old + 1

@@ -14,7 +14,7 @@ use std::marker::Model;
 use svn_dump::ValueId;
 
 /// What one worker knows of a memo. It is seen as the memo, the text that each number was answered for, whether the
-/// worker keeps the reading of it itself, and how many texts the worker read.
+/// worker keeps the reading of it itself, and how many readings of texts it counted.
 #[derive(Drop)]
 pub struct Seen<'t> {
     places: Vec<Place<'t>>,
@@ -71,7 +71,7 @@ impl<'t> Seen<'t> {
         })
     }
 
-    /// How many texts the worker read.
+    /// How many readings of texts the worker counted, one for each that it made.
     pub fn parses(&self) -> u64
         ensures parses { result ≡ self.now.parses }
         ensures asked { result ≤ asked_of self.now }
