@@ -1,6 +1,6 @@
 -- The answer to a query, by what was found of its peg and of the peg's path.
-use Rattle.std.proofs.Common.{◌≡◌, ℕ, ◌<◌, ◌≤◌, true, false, List, [], ◌∷◌, Option, Some, None, option_map, length, map, bytes_eq, refl, sym, ap, ap₂, subst, ◌∙◌}
-use Rattle.std.specs.Prelude.{◌++◌, All, Err, Vec, codes, decimal, filter_map, flat_map, option_and_then, reverse, slice_get, zero, suc}
+use Rattle.std.proofs.Common.{◌≡◌, ℕ, ◌<◌, ◌≤◌, Bool, true, false, List, [], ◌∷◌, Option, Some, None, option_map, length, map, bytes_eq, refl, sym, ap, ap₂, subst, ◌∙◌}
+use Rattle.std.specs.Prelude.{◌++◌, if◌then◌else◌, nat_le, All, Err, Vec, codes, decimal, filter_map, flat_map, option_and_then, reverse, slice_get, zero, suc}
 use Rattle.std.specs.declared.alloc.Global.{Global}
 use Rattle.std.proofs.lemmas.List.{reverse-reverse}
 use Rattle.std.proofs.lemmas.List.Elements.{All-cons, All-head, All-nil, All-tail}
@@ -23,7 +23,7 @@ use Rattle.svn_dump.specs.Location.{location}
 use Rattle.svn_dump.specs.Record.{HistoryOfBytes}
 use Rattle.svn_dump.specs.Tree.{is_there, tree_of}
 use Rattle.svn_dump.specs.declared.record.NodeRecord.{NodeRecord}
-use Rattle.query_answer.specs.Answer.{Answer, IsAnswer, IsLocationOf, HasPathOf, TreesOfBytes, if_both_exist, if_peg_exists, with_effective_mergeinfo, with_value, answer_of, eligible_line, eligible_lines, hit_line, locate_lines, location_line, log_line, log_lines, merged_line, merged_lines, mergeinfo_lines, ok_answer, refused_answer, segment_in_bytes, segment_line, segments_in_bytes, segments_lines}
+use Rattle.query_answer.specs.Answer.{Answer, IsAnswer, IsLocationOf, HasPathOf, TreesOfBytes, if_both_exist, if_peg_exists, with_effective_mergeinfo, with_value, answer_of, eligible_line, eligible_lines, hit_line, locate_lines, location_line, log_line, log_lines, merged_line, merged_lines, mergeinfo_lines, needs_mergeinfo, ok_answer, refuse_or, refused_answer, segment_in_bytes, segment_line, segments_in_bytes, segments_lines}
 use Rattle.query_answer.specs.Peg.{Peg, PegValue, peg_view}
 use Rattle.query_answer.specs.Query.{bad, eligible, locate, log, merged, mergeinfo, segments}
 use Rattle.query_answer.specs.Held.{held_value}
@@ -52,6 +52,17 @@ module _ (trees : TreesOfBytes) (peg : Peg) (answer : Answer) where
 
   pub if_peg_exists-present : peg.rev < length trees → is_there bytes_eq (tree_of trees peg.rev) peg.path ≡ true → if_peg_exists trees peg answer ≡ answer
   if_peg_exists-present within there = rw (lt-leb _ _ within, there) refl
+
+-- whatever would be answered about a peg is refused, so it is for the peg
+pub refused_peg : (trees : TreesOfBytes) (peg : Peg) (why : Status)
+    → ((answer : Answer) → if_peg_exists trees peg answer ≡ refused_answer why) → needs_mergeinfo why ≡ false
+refused_peg trees peg why refused = by (nat_le (length trees) peg.rev) (is_there bytes_eq (tree_of trees peg.rev) peg.path) refused
+  where
+    by : (late there : Bool) → ((answer : Answer) → refuse_or (if late then status.NoSuchRevision else (if there then status.Ok else status.NoSuchPath)) answer ≡ refused_answer why)
+        → needs_mergeinfo why ≡ false
+    by true there all = subst (λ each. needs_mergeinfo each ≡ false) (ap (λ (answer : Answer). answer.status) (all (ok_answer []))) refl
+    by false true all = let never : [] ∷ [] ≡ [] = ap (λ (answer : Answer). answer.lines) (all (ok_answer ([] ∷ []))) in cc
+    by false false all = subst (λ each. needs_mergeinfo each ≡ false) (ap (λ (answer : Answer). answer.status) (all (ok_answer []))) refl
 
 -- ---- by what is asked
 

@@ -1,9 +1,10 @@
 -- What a worker knows at first, and once a reading that borrows from it has ended.
-use Rattle.std.proofs.Common.{◌≡◌, ℕ, ◌≤◌, List, Option, Some, length, slice_get, inl, inr, refl, sym, subst, ◌∙◌}
+use Rattle.std.proofs.Common.{◌≡◌, ℕ, ◌≤◌, true, List, Option, Some, length, slice_get, inl, inr, refl, sym, subst, ◌∙◌}
+use Rattle.std.proofs.lemmas.Bool.{both_ways}
 use Rattle.std.specs.Prelude.{Result, Ok, Err, IfOk, MatchResult, OnOk}
 use Rattle.value_memo.specs.SeenValue.{IsAnswered, SeenValue, nothing_seen}
 use Rattle.value_memo.proofs.Callers.{AsksOnly-answered, AsksOnly-nothing_seen}
-use Rattle.query_answer.specs.Answer.{IsRefusedUnread}
+use Rattle.query_answer.specs.Answer.{kept_status, needs_mergeinfo}
 use Rattle.query_answer.specs.Worker.{IsSeenOf, IsUnreadWhereRefused, Knows, KnowsWhatWasRead, Learns}
 use Rattle.query_answer.specs.declared.answers.Answer.{Answer as KeptAnswer}
 use Rattle.std.specs.declared.alloc.AllocError.{AllocError}
@@ -37,7 +38,7 @@ OnOk-from (Ok value) fact = fact
 OnOk-from (Err e) fact = tt
 
 pub KnowsWhatWasRead-from : (result : Result KeptAnswer AllocError) (read : Option (List ℕ)) (seen : SeenValue) → Knows read seen → KnowsWhatWasRead result read seen
-KnowsWhatWasRead-from (Ok answer) read seen knows = λ by_mergeinfo. knows
+KnowsWhatWasRead-from (Ok answer) read seen knows = λ needed. knows
 KnowsWhatWasRead-from (Err e) read seen knows = tt
 
 -- nothing was read
@@ -46,7 +47,7 @@ IsUnreadWhereRefused-same (Ok answer) seen = λ refused. refl
 IsUnreadWhereRefused-same (Err e) seen = tt
 
 -- the pegs are there
-pub IsUnreadWhereRefused-found : (result : Result KeptAnswer AllocError) (old new : SeenValue) → IfOk result (λ answer. IsRefusedUnread answer → ⊥)
+pub IsUnreadWhereRefused-found : (result : Result KeptAnswer AllocError) (old new : SeenValue) → IfOk result (λ answer. needs_mergeinfo (kept_status answer) ≡ true)
     → IsUnreadWhereRefused result old new
-IsUnreadWhereRefused-found (Ok answer) old new found = λ refused. absurd (found refused)
+IsUnreadWhereRefused-found (Ok answer) old new found = λ refused. absurd (both_ways _ refused found)
 IsUnreadWhereRefused-found (Err e) old new found = tt

@@ -1,5 +1,5 @@
 -- The answer to a query on a history in bytes: a status, and for `ok` the result lines.
-use Rattle.std.specs.Prelude.{◌≡◌, ◌≢◌, ℕ, ◌+◌, nat_le, List, [], ◌∷◌, ◌++◌, Option, Some, None, All, IfSome, codes, decimal, flat_map, length, map, option_and_then, option_map, reverse, slice_get, bytes_eq, if◌then◌else◌}
+use Rattle.std.specs.Prelude.{◌≡◌, ℕ, ◌+◌, nat_le, Bool, true, false, List, [], ◌∷◌, ◌++◌, Option, Some, None, All, IfSome, codes, decimal, flat_map, length, map, option_and_then, option_map, reverse, slice_get, bytes_eq, if◌then◌else◌}
 use Rattle.std.specs.Borrow.{Bor}
 use Rattle.path_index.specs.Index.{segment_view}
 use Rattle.path_index.specs.Segment.{Segment, rename_segment, segments_of}
@@ -229,22 +229,20 @@ pub record IsAnswer (names : List (List ℕ)) (answer : Answer) (each : KeptAnsw
   pub names_of : HasPathsOf names each
   pub same : answer_in_bytes names each ≡ answer
 
--- the result lines of the answer are found by mergeinfo
-abbrev pub IsByMergeinfo : KeptAnswer → Type 0
-IsByMergeinfo (kept.Refused status) = ⊥
-IsByMergeinfo (kept.Location path) = ⊥
-IsByMergeinfo (kept.Segments segments) = ⊥
-IsByMergeinfo (kept.Log segments hits) = ⊥
-IsByMergeinfo (kept.Mergeinfo value) = Unit {0}
-IsByMergeinfo (kept.Merged revisions) = Unit {0}
-IsByMergeinfo (kept.Eligible revisions) = Unit {0}
+-- its status, whatever the names are
+abbrev pub kept_status : KeptAnswer → Status
+kept_status (kept.Refused why) = why
+kept_status (kept.Location path) = status.Ok
+kept_status (kept.Segments segments) = status.Ok
+kept_status (kept.Log segments hits) = status.Ok
+kept_status (kept.Mergeinfo value) = status.Ok
+kept_status (kept.Merged revisions) = status.Ok
+kept_status (kept.Eligible revisions) = status.Ok
 
--- the answer refuses the query itself, or a peg that is not there
-abbrev pub IsRefusedUnread : KeptAnswer → Type 0
-IsRefusedUnread (kept.Refused why) = why ≢ status.MalformedMergeinfo
-IsRefusedUnread (kept.Location path) = ⊥
-IsRefusedUnread (kept.Segments segments) = ⊥
-IsRefusedUnread (kept.Log segments hits) = ⊥
-IsRefusedUnread (kept.Mergeinfo value) = ⊥
-IsRefusedUnread (kept.Merged revisions) = ⊥
-IsRefusedUnread (kept.Eligible revisions) = ⊥
+-- where a query asks about mergeinfo, an answer of this status takes a look at it
+abbrev pub needs_mergeinfo : Status → Bool
+needs_mergeinfo status.Ok = true
+needs_mergeinfo status.BadQuery = false
+needs_mergeinfo status.NoSuchRevision = false
+needs_mergeinfo status.NoSuchPath = false
+needs_mergeinfo status.MalformedMergeinfo = true

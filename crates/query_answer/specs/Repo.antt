@@ -1,5 +1,5 @@
 -- A repository: a dump of a lawful history, and the answers to queries about it.
-use Rattle.std.specs.Prelude.{◌≡◌, ℕ, ◌<◌, ◌≤◌, List, Option, Some, None, IfSome, Result, Ok, Err, All, bytes_eq, length, map, option_map}
+use Rattle.std.specs.Prelude.{◌≡◌, ℕ, ◌<◌, ◌≤◌, List, Option, Some, None, IfSome, IsFalse, Result, Ok, Err, All, bytes_eq, length, map, option_map}
 use Rattle.path_index.specs.History.{history_to, trees_to}
 use Rattle.path_index.specs.Index.{AreMaximal, AreSegmentsOf, IndexValue, IsThere, segment_view}
 use Rattle.path_index.specs.Operative.{operative_of}
@@ -16,7 +16,7 @@ use Rattle.svn_dump.specs.declared.record.ValueId.{ValueId}
 use Rattle.block_map.specs.Ends.{ends_of}
 use Rattle.block_map.specs.Map.{IsEndIn, IsMapOf, MapValue, revision_in}
 use Rattle.block_map.specs.declared.nearest.Nearest.{Nearest}
-use Rattle.query_answer.specs.Answer.{Answer, HasPathOf, TreesOfBytes, if_both_exist, if_peg_exists, with_effective_mergeinfo, with_value, answer_of, eligible_lines, locate_lines, log_lines, merged_lines, mergeinfo_lines, ok_answer, refused_answer, segments_lines}
+use Rattle.query_answer.specs.Answer.{Answer, HasPathOf, TreesOfBytes, if_both_exist, if_peg_exists, with_effective_mergeinfo, with_value, answer_of, eligible_lines, locate_lines, log_lines, merged_lines, mergeinfo_lines, needs_mergeinfo, ok_answer, refused_answer, segments_lines}
 use Rattle.query_answer.specs.Effective.{NearestMergeinfo, effective_value, nearest, nearest_text}
 use Rattle.query_answer.specs.Merged.{eligible_revisions, merged_revisions, value_has}
 use Rattle.query_answer.specs.Peg.{Peg, PegValue, peg_view}
@@ -170,7 +170,7 @@ nearest_text_in dump path rev = nearest_text (tree_of (trees_in_bytes dump) rev)
 abbrev pub nearest_text_at : DumpValue → Peg → Option (List ℕ)
 nearest_text_at dump peg = nearest_text (tree_of (trees_in_bytes dump) peg.rev) peg.path
 
--- for a query: that of the path whose mergeinfo is asked for, or of the target
+-- for a query, if its pegs are there: that of the path whose mergeinfo is asked for, or of the target
 abbrev pub text_read_for : DumpValue → Query → Option (List ℕ)
 text_read_for dump query.bad = None
 text_read_for dump (query.locate peg rev) = None
@@ -193,8 +193,9 @@ pub record IsPair (dump : DumpValue) (source target : PegValue) (pair : Pair) : 
 abbrev pub IsPairFound : DumpValue → PegValue → PegValue → Result Pair Status → Type 0
 IsPairFound dump source target (Ok pair) = IsPair dump source target pair
 IsPairFound dump source target (Err status) =
-    (answer : MergeInfoValue → Answer)
-    → if_both_exist (trees_in_bytes dump) (peg_view source) (peg_view target) answer ≡ refused_answer status
+    ((answer : MergeInfoValue → Answer)
+    → if_both_exist (trees_in_bytes dump) (peg_view source) (peg_view target) answer ≡ refused_answer status)
+    × IsFalse (needs_mergeinfo status)
 
 -- which revisions are asked for
 abbrev pub pair_answer : DumpValue → Wanted → PegValue → PegValue → Answer

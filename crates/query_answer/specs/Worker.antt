@@ -1,7 +1,7 @@
 -- What a worker may know of the mergeinfo texts of a dump, and what it learns by an answer.
-use Rattle.std.specs.Prelude.{◌≡◌, ℕ, ◌≤◌, List, Option, Some, IfSome, Result, Ok, Err, ◌⊎◌, length, slice_get}
+use Rattle.std.specs.Prelude.{◌≡◌, ℕ, ◌≤◌, List, Option, Some, IfSome, IsFalse, IsTrue, Result, Ok, Err, ◌⊎◌, length, slice_get}
 use Rattle.std.specs.declared.alloc.AllocError.{AllocError}
-use Rattle.query_answer.specs.Answer.{IsByMergeinfo, IsRefusedUnread}
+use Rattle.query_answer.specs.Answer.{kept_status, needs_mergeinfo}
 use Rattle.query_answer.specs.declared.answers.Answer.{Answer as KeptAnswer}
 use Rattle.value_memo.specs.SeenValue.{AsksOnly, IsAnswered, SeenValue, text_at}
 
@@ -27,12 +27,12 @@ Learns texts read old new = (new ≡ old) ⊎ HasLearnt texts read old new
 abbrev pub Knows : Option (List ℕ) → SeenValue → Type 0
 Knows read seen = IfSome read (λ text. (id : ℕ) × (text_at seen id ≡ Some text))
 
--- where the result lines of an answer are found by mergeinfo, it knows the text that was read for them
+-- where the answer takes a look at mergeinfo, the worker knows the text
 abbrev pub KnowsWhatWasRead : Result KeptAnswer AllocError → Option (List ℕ) → SeenValue → Type 0
-KnowsWhatWasRead (Ok answer) read seen = IsByMergeinfo answer → Knows read seen
+KnowsWhatWasRead (Ok answer) read seen = IsTrue (needs_mergeinfo (kept_status answer)) → Knows read seen
 KnowsWhatWasRead (Err e) read seen = Unit {0}
 
 -- where the query or a peg is refused, the worker is as before
 abbrev pub IsUnreadWhereRefused : Result KeptAnswer AllocError → SeenValue → SeenValue → Type 0
-IsUnreadWhereRefused (Ok answer) old new = IsRefusedUnread answer → new ≡ old
+IsUnreadWhereRefused (Ok answer) old new = IsFalse (needs_mergeinfo (kept_status answer)) → new ≡ old
 IsUnreadWhereRefused (Err e) old new = Unit {0}

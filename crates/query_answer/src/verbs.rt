@@ -24,9 +24,10 @@ use value_memo::{Memo, Seen};
 
 /// The answer to a query.
 ///
-/// The memo has a cell for each mergeinfo text of the repository, and the worker was answered for such texts alone. At
-/// most one text is read, whatever the answer: the nearest mergeinfo of the path of `mergeinfo`, or of the target of
-/// `merged` and `eligible`. What it says is there for other workers, and for the worker's own next queries.
+/// The memo has a cell for each mergeinfo text of the repository, and the worker was answered for such texts alone. It is
+/// answered for one text more at most, also where memory runs out: the nearest mergeinfo of the path of `mergeinfo`, or
+/// of the target of `merged` and `eligible`, and for none where the query or a peg is refused. The next queries of the
+/// worker find what the text says, and so do other workers once it is in the memo.
 pub fn answer<'r>(
     alloc: Global,
     repo: &'r Repo,

@@ -1,6 +1,6 @@
 //! A source and a target.
-ghost use Rattle.std.specs.Prelude.{◌≡◌, IfOk, option_map, ⊥};
-ghost use Rattle.query_answer.specs.Answer.{IsAnswer, IsRefusedUnread};
+ghost use Rattle.std.specs.Prelude.{◌≡◌, IfOk, IsTrue, option_map};
+ghost use Rattle.query_answer.specs.Answer.{IsAnswer, kept_status, needs_mergeinfo};
 ghost use Rattle.query_answer.specs.Peg.{peg_view};
 ghost use Rattle.query_answer.specs.Repo.{IsPair, IsPairFound, effective_in, nearest_text_at, pair_answer};
 ghost use Rattle.query_answer.specs.Held.{rest_of};
@@ -108,7 +108,7 @@ fn revisions(
     requires value { effective_in repo.now pair.now.target.path target.now.rev
         ≡ option_map (own_or_below (components_of repo.now.names (rest_of pair.now.target))) (parsed_view parsed) }
     ensures answer { IfOk result (IsAnswer repo.now.names (pair_answer repo.now wanted source.now target.now)) }
-    ensures found { IfOk result (λ answer. IsRefusedUnread answer → ⊥) }
+    ensures found { IfOk result (λ answer. IsTrue (needs_mergeinfo (kept_status answer))) }
 {
     let Parsed::Good(value) = parsed else {
         return Ok(Answer::Refused(Status::MalformedMergeinfo));

@@ -1,4 +1,5 @@
 use Rattle.std.proofs.Common.{None, inl, refl}
+use Rattle.std.proofs.lemmas.Bool.{false≢true}
 use Rattle.query_answer.specs.Peg.{peg_view}
 use Rattle.query_answer.specs.Repo.{trees_in_bytes}
 use Rattle.query_answer.specs.declared.status.Status.TheVariants as status
@@ -13,7 +14,7 @@ returns-in-Bad c =
       answer = rw c.in-Bad.is (IsAnswer-Refused c.args.repo.now.names _ status.BadQuery (answer_of-bad (history_in_bytes c.args.repo.now) (trees_in_bytes c.args.repo.now)));
       seen = c.requires.seen;
       learns = inl refl;
-      knows = λ none. absurd none;
+      knows = λ needed. absurd (false≢true needed);
       unread = λ _. refl;
     }
 

@@ -1,4 +1,5 @@
 use Rattle.std.proofs.Common.{Ok, Err, None, Some, ap, sym, subst, ◌∙◌, arith, drop, option_map}
+use Rattle.std.proofs.lemmas.Bool.{both_ways}
 use Rattle.svn_path.specs.Path.{components_of}
 use Rattle.value_memo.specs.Parsed.{parsed_view}
 use Rattle.query_answer.specs.Held.{rest_after}
@@ -14,7 +15,12 @@ pub returns-in-Err-clause-answer : goal.returns-in-Err-clause-answer
 returns-in-Err-clause-answer c =
     let found : IsPairFound c.args.repo.now c.args.source.now c.args.target.now (Err c.in-Err.status) = rw c.in-Err.is at c.in_ok-pair.ensures in
     IsAnswer-Pair_refused c.args.repo.now c.args.wanted c.args.source.now c.args.target.now c.in-Err.status
-    (λ answer. found (answer (peg_view c.args.source.now) (peg_view c.args.target.now)))
+    (λ answer. found.0 (answer (peg_view c.args.source.now) (peg_view c.args.target.now)))
+
+pub returns-in-Err-clause-knows : goal.returns-in-Err-clause-knows
+returns-in-Err-clause-knows c =
+    let found : IsPairFound c.args.repo.now c.args.source.now c.args.target.now (Err c.in-Err.status) = rw c.in-Err.is at c.in_ok-pair.ensures in
+    λ needed. absurd (both_ways _ found.1 needed)
 
 pub revisions-requires-clause-value : goal.revisions-requires-clause-value
 revisions-requires-clause-value c =
