@@ -9,8 +9,22 @@ from tree import ROOT
 STRIP = os.path.join(ROOT, "examples", "strip-texts")
 FIRST_LINE = b"SVN-fs-dump-format-version: 2\n\n"
 START = FIRST_LINE + b"Revision-number: 0\n\nRevision-number: 1\n\n"
+START_3 = START.replace(b"2", b"3", 1)
 FILE = b"Node-path: a\nNode-kind: file\nNode-action: add\n"
 TEXT = b"Text-content-length: 30\n\nNode-path: b\nNode-action: add\n\n"
+SET, SET_LATER = (b"K 13\nsvn:mergeinfo\nV 4\n/s:%d\n" % rev for rev in (1, 2))
+DELETED = b"D 13\nsvn:mergeinfo\n"
+OTHERS = b"K 1\nn\nV 4\nD 1\n\nD 1\nm\n"
+# Sections of changes as lists of their entries, and what is left of them.
+CHANGES = [
+    ([SET], [SET]),
+    ([OTHERS, DELETED, OTHERS, SET_LATER], [DELETED, SET_LATER]),
+    ([SET, OTHERS, DELETED], [SET, DELETED]),
+    ([SET, SET_LATER, DELETED, DELETED, SET], [SET, SET_LATER, DELETED, DELETED, SET]),
+    ([OTHERS], []),
+    ([DELETED], [DELETED]),
+    ([], []),
+]
 # A dump, and what is left of it.
 WHOLE = FIRST_LINE + b"""UUID: 1
 
@@ -103,7 +117,7 @@ FAULTY = {
 # Dumps that are not well formed.
 MALFORMED = {
     "nothing": b"",
-    "another format": FIRST_LINE.replace(b"2", b"3"),
+    "another format": FIRST_LINE.replace(b"2", b"4"),
     "a line without a colon": START + b"Node-path\n\n",
     "a header without a name": START + FILE + b": 1\n\n",
     "a header that occurs twice": START + FILE + b"Node-kind: dir\n\n",
@@ -115,6 +129,15 @@ MALFORMED = {
     "a property without a value": START + FILE + b"Prop-content-length: 16\n\nK 1\na\nPROPS-END\n\n",
     "a length of a name that is too great": START + FILE + b"Prop-content-length: 22\n\nK 9\na\nV 1\nb\nPROPS-END\n\n",
     "a property that was deleted": START + FILE + b"Prop-content-length: 16\n\nD 1\na\nPROPS-END\n\n",
+    "a property that was deleted, in format 3": START_3 + FILE + b"Prop-content-length: 16\n\nD 1\na\nPROPS-END\n\n",
+    "a property that was deleted, in another sort of list":
+        START_3 + FILE + b"Prop-delta: True\nProp-content-length: 16\n\nD 1\na\nPROPS-END\n\n",
+    "changes in format 2":
+        START + FILE + b"Prop-delta: true\nProp-content-length: 16\n\nD 1\na\nPROPS-END\n\n",
+    "a property that was deleted, with a value":
+        START_3 + FILE + b"Prop-delta: true\nProp-content-length: 22\n\nD 1\na\nV 1\nb\nPROPS-END\n\n",
+    "a length of a deleted name that is too great":
+        START_3 + FILE + b"Prop-delta: true\nProp-content-length: 16\n\nD 9\na\nPROPS-END\n\n",
     "an end within a line": START + FILE[:-1],
     "an end within headers": START + FILE,
     "an end within a text": START + FILE + TEXT[:-9],
@@ -126,7 +149,9 @@ def recorded():
     """The dumps with queries that are kept in the tree."""
     for folder in ("interop", "examples"):
         for path in sorted(glob.glob(os.path.join(ROOT, folder, "*.dump"))):
-            yield os.path.relpath(path, ROOT), path, path[:-len(".dump")] + ".queries"
+            stem = os.path.basename(path)[:-len(".dump")]
+            # The dumps of a repository in format 3 have the queries of that in format 2.
+            yield os.path.relpath(path, ROOT), path, os.path.join(ROOT, folder, stem.partition("-")[0] + ".queries")
 
 
 def content(path):
@@ -156,9 +181,37 @@ def refuse(program, name, dump):
     return name, ((1, 1, 1), b"strip-texts"), (statuses, said.partition(b":")[0])
 
 
+def in_format_3(dump):
+    return dump.replace(b"2", b"3", 1)
+
+
+def changing(sections, text):
+    """A dump in format 3 that adds a file and changes it by each of these sections, and by a text if there is one."""
+    length = b"Text-content-length: %d\n" % len(text) if text else b""
+    parts = [START_3 + FILE + b"\n"]
+    for rev, entries in enumerate(sections, 2):
+        section = b"".join(entries) + b"PROPS-END\n"
+        parts.append(b"Revision-number: %d\n\nNode-path: a\nNode-action: change\nProp-delta: true\nText-delta: true\n"
+                     b"Prop-content-length: %d\n%sContent-length: %d\n\n%s%s\n"
+                     % (rev, len(section), length, len(section + text), section, text))
+    return b"".join(parts)
+
+
+def run_changes(program, folder):
+    """Runs on a dump whose sections have changes."""
+    whole, left = changing([each for each, _ in CHANGES], b"text\n"), changing([each for _, each in CHANGES], b"")
+    queries = os.path.join(folder, "queries")
+    with open(queries, "wb") as file:
+        file.writelines(b"mergeinfo\ta@%d\n" % rev for rev in range(1, len(CHANGES) + 2))
+    return [("what is left of changes", (0, left, b""), outcome_of([STRIP], whole)),
+            compare(program, "changes", whole, queries)]
+
+
 def run_stripped(program, folder):
     """Of each run its name, what is wanted and what was found."""
     outcomes = [compare(program, name, content(path), queries) for name, path, queries in recorded()]
     outcomes.append(("what is left", (0, LEFT, b""), outcome_of([STRIP], WHOLE)))
+    outcomes.append(("what is left in format 3", (0, in_format_3(LEFT), b""), outcome_of([STRIP], in_format_3(WHOLE))))
+    outcomes += run_changes(program, folder)
     outcomes += [compare(program, name, dump, os.devnull) for name, dump in {**FAULTY, "what is left": WHOLE}.items()]
     return outcomes + [refuse(program, name, dump) for name, dump in MALFORMED.items()]
