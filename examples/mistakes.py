@@ -44,6 +44,11 @@ PATHS = [b"trunk", b"trunk/src", b"with space", b"a@b", "\u00fc".encode()]
 WHOLE = FIRST + revision(1, *map(added, PATHS), added(b"trunk/src/a", b"file"))
 COPY = copied(b"branch", b"trunk")
 EDITED = with_mergeinfo(b"trunk", b"/main:1", len(b"/trunk:1"))
+# Records that `svnrdump` writes: a new directory, and a property that was deleted.
+PART_3 = (b"Node-path: tags\nNode-kind: dir\nNode-action: add\nProp-delta: true\nProp-content-length: 10\n"
+          b"Content-length: 10\n\nPROPS-END\n\n")
+DELETION_3 = (b"Node-path: trunk\nNode-action: change\nProp-delta: true\nProp-content-length: 16\n"
+              b"Content-length: 16\n\nD 1\na\nPROPS-END\n\n")
 # What is given as DUMP, and its refusal.
 REFUSED = [
     ("nothing", b"", "1 Magic at byte 0"),
@@ -56,7 +61,6 @@ REFUSED = [
     ("UTF-16", WHOLE.decode().encode("utf-16"), "1 Magic at byte 0"),
     ("a line before the first", b"Welcome\n" + WHOLE, "1 Magic at byte 0"),
     ("an empty line before the first", b"\n" + WHOLE, "1 Magic at byte 0"),
-    ("format 3", WHOLE.replace(b": 2\n", b": 3\n", 1), "2 Version at byte 0"),
     ("CR LF", WHOLE.replace(b"\n", b"\r\n"), "2 Version at byte 0"),
     ("progress", FIRST + b"* Dumped revision 0.\n" + WHOLE[len(FIRST):], "3 Header at byte %d" % len(FIRST)),
     ("a line after the end", WHOLE + b"bye\n", "3 Header at byte %d" % len(WHOLE)),
@@ -64,6 +68,8 @@ REFUSED = [
     ("a message at the end", WHOLE + b"svnadmin: E160006\n", "5 Truncated at byte %d" % len(WHOLE)),
     ("an edited value", WHOLE + EDITED, "6 Props at byte %d" % len(WHOLE)),
     ("two dumps", WHOLE + HEAD + revision(2), "7 BadRecord at byte %d" % len(WHOLE)),
+    ("a part in format 3", WHOLE + revision(2, PART_3), "10 Delta at byte %d" % len(WHOLE + revision(2))),
+    ("a deletion in format 3", WHOLE + revision(2, DELETION_3), "6 Props at byte %d" % len(WHOLE + revision(2))),
     ("a part", HEAD + UUID + revision(5), "8 Revision at byte %d" % len(HEAD + UUID)),
     ("a revision that was dropped", WHOLE + revision(3), "8 Revision at byte %d" % len(WHOLE)),
     ("no revision", HEAD + UUID, "8 Revision at byte %d" % len(HEAD + UUID)),

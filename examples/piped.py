@@ -13,7 +13,7 @@ ABOUT_FILES = b"log\tfile-0@1\nsegments\tfile-%d@1\nlocate\tfile@1\t0\n" % (FILE
 ENDLESS = 'ulimit -v 1000000; { printf "$3"; yes; } | timeout 20 "$1" /dev/stdin "$2" 0 1'
 REFUSED = {
     "": "1 Magic at byte 0",
-    r"SVN-fs-dump-format-version: 3\n": "2 Version at byte 0",
+    r"SVN-fs-dump-format-version: 4\n": "2 Version at byte 0",
     r"SVN-fs-dump-format-version: 2\nRevision-number: 1\n\n": "8 Revision at byte 30",
 }
 
