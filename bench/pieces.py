@@ -2,11 +2,13 @@
 
 Small records and mergeinfo end with a block that every reader refuses, so the program reads them and builds nothing.
 Large texts are a valid dump with few records. Each is measured in turns with another reader of the same bytes: the
-program of an older build, which `--before` names, or a command that counts through a pipe.
+program of an older build, which `--before` names, or a command that counts through a pipe. The same histories in format
+3 are read beside those in format 2.
 
 The share of hashing is that of reading the mergeinfo (`functions.py`). The memory is that of the whole job with ten
 queries, by the two builds, on the histories of `maps.py`.
 """
+import math
 import os
 import re
 
@@ -29,6 +31,8 @@ PIPES = {"small records": (GREP, 2.2), "mergeinfo": (GREP, 3.5), "large texts": 
 MOST_OF_BEFORE = 1
 MOST_OF_HASHING = 0.1
 MOST_FOR_TEXTS = 20
+# What a byte in format 3 may take of the processor time of one in format 2.
+MOST_OF_FORMAT_2 = 1.1
 # What the memory may be of what it was, less the size of the dump.
 MOST_OF_REST = 1.1
 # Functions that hash, and those into which hashing is compiled. All that such a function does counts as hashing.
@@ -41,18 +45,20 @@ def words_of(program, dump, queries=os.devnull):
 
 
 class Reader:
-    """A command that reads a dump, and its best run so far."""
+    """A command that reads a dump, its best run so far, and the least processor time."""
 
     def __init__(self, words, feeder, status):
         self.words = words
         self.feeder = feeder
         self.status = status
         self.best = None
+        self.processor = math.inf
 
     def run_once(self):
         taken = run(self.words, self.feeder, os.devnull)
         if taken.status != self.status:
             raise Failed("%s ended with %d: %s" % (" ".join(self.words), taken.status, taken.errors.decode()))
+        self.processor = min(self.processor, taken.processor)
         if self.best is None or taken.wall < self.best.wall:
             self.best = taken
 
@@ -95,14 +101,55 @@ def pipe_pair(program, name, path):
     return Pair("%s from a pipe" % name, path, ours, "`%s`" % " ".join(words), Reader(words, feeder, 0), most)
 
 
-def make(folder, name, is_quick):
+def make(folder, name, is_quick, form=2):
     """The path of a generated dump."""
     options, full, quick, status = DUMPS[name]
-    path = os.path.join(folder, name.replace(" ", "-"))
+    path = os.path.join(folder, "%s-%d" % (name.replace(" ", "-"), form))
     with open(path, "wb") as file:
-        generate(options + ["--revisions", str(quick if is_quick else full)]
+        generate(options + ["--format", str(form), "--revisions", str(quick if is_quick else full)]
                  + (["--faulty-end"] if status == REFUSED else []), file)
     return path
+
+
+# ---- formats
+
+class Formats:
+    """Readers of a history from a file, in format 2 and in format 3."""
+
+    def __init__(self, program, name, folder, is_quick):
+        self.name = name
+        # Two dumps of large texts in full size would fill many a disk.
+        self.paths = [make(folder, name, is_quick or name == "large texts", form) for form in (2, 3)]
+        self.sizes = [os.path.getsize(path) for path in self.paths]
+        self.readers = [Reader(words_of(program, path), None, DUMPS[name][-1]) for path in self.paths]
+
+    def measure(self, times):
+        for path in self.paths:
+            load_into_cache(path)
+        for _ in range(times):
+            for reader in self.readers:
+                reader.run_once()
+        for path in self.paths:
+            os.remove(path)
+
+    def ratio(self):
+        two, three = [reader.processor / size for reader, size in zip(self.readers, self.sizes)]
+        return three / two
+
+    def print_row(self):
+        cells = ["%.1f | %.3f" % (size / 1e6, reader.processor) for size, reader in zip(self.sizes, self.readers)]
+        print("| %s | %s | %.3f |" % (self.name, " | ".join(cells), self.ratio()))
+
+    def print_criterion(self):
+        print_criterion("%s, a byte in format 3 relative to format 2" % self.name, MOST_OF_FORMAT_2, self.ratio())
+
+
+def measured_formats(program, folder, given):
+    found = []
+    for name in DUMPS:
+        found.append(Formats(program, name, folder, given.quick))
+        found[-1].measure(given.times)
+    return found
 
 
 # ---- hashing
@@ -153,11 +200,15 @@ def measured_memory(program, before, folder, is_quick):
 
 # ---- tables
 
-def print_tables(given, pairs, memories, tool, shares, peak):
+def print_tables(given, pairs, formats, memories, tool, shares, peak):
     print("## Reading in pieces\n\nThe best of %d measurements.\n" % given.times)
     print("| what is read | MB | seconds | beside it | seconds | relative |\n|---|---|---|---|---|---|")
     for pair in pairs:
         pair.print_row()
+    print("\n| what is read | format 2, MB | processor s | format 3, MB | processor s | relative, for a byte |\n"
+          "|---|---|---|---|---|---|")
+    for each in formats:
+        each.print_row()
     if memories:
         print("\n| history | dump, MB | peak MB, before | peak MB |\n|---|---|---|---|")
     for memory in memories:
@@ -165,8 +216,8 @@ def print_tables(given, pairs, memories, tool, shares, peak):
     if tool:
         print_shares(tool, shares)
     print("\n| criterion | at most | measured | |\n|---|---|---|---|")
-    for pair in pairs:
-        pair.print_criterion()
+    for each in pairs + formats:
+        each.print_criterion()
     if tool:
         print_criterion("mergeinfo, share of functions that hash", MOST_OF_HASHING, share_of_hashing(shares))
     print_criterion("large texts from a pipe, peak MB", MOST_FOR_TEXTS, peak / 1e6)
@@ -188,6 +239,7 @@ def run_pieces(program, folder, given):
     peak = peak_of(words_of(program, "/dev/stdin"), ["cat", paths["large texts"]])
     for path in paths.values():
         os.remove(path)
+    formats = measured_formats(program, folder, given)
     memories = measured_memory(program, given.before, folder, given.quick) if given.before else []
-    print_tables(given, pairs, memories, tool, shares, peak)
+    print_tables(given, pairs, formats, memories, tool, shares, peak)
     return 0
