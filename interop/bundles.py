@@ -1,7 +1,8 @@
 """Draws bundles at random: the dump of a history of a few revisions, and queries about its paths.
 
-`bundle_of` gives the same bytes for the same seed. Most histories are lawful. Some have one faulty record; in some a
-block or a few bytes of the dump are changed afterwards, and in a few the first line of the bundle.
+`bundle_of` gives the same bytes for the same seed. Half of the dumps are of format 3. Most histories are lawful. Some
+have one faulty record; a few have property sections or deltas that do not fit; in some a block or a few bytes of the
+dump are changed afterwards, and in a few the first line of the bundle.
 """
 import random
 
@@ -23,7 +24,20 @@ MALFORMED = [b"/a", b"/a:0", b"/a:2147483648", b"/a:5-3", b"/a:3-3", b"/a/../b:1
              b"/a:1,,2", b"/a:1 ,2", b"/a:1 ", b"/a:x", b"/a:1-2-3", b"/a:*", b"/a:1\r\n", b"\n\n", b"/a:1\n\n",
              b"\n/a:1", b" "]
 BODIES = [b"x", b"\n", b"text\n", b"\n\nNode-path: a\nNode-action: delete\n\n", b"Revision-number: 1\n\n", b"\xff\x00"]
-NO_DELTA = [b"Prop-delta: false", b"Text-delta: TRUE"]
+PROP_DELTA = b"Prop-delta: true"
+TEXT_DELTA = b"Text-delta: true"
+# With these, as with all but the four bytes `true`, a property section is a complete list.
+NO_PROP_DELTA = [b"Prop-delta: false", b"Prop-delta: True", b"Prop-delta: true ", b"Prop-delta:  true",
+                 b"Prop-delta: true\r", b"Prop-delta: tru", b"Prop-delta: 1", b"Prop-delta:"]
+NO_TEXT_DELTA = [b"Text-delta: TRUE", b"Text-delta:  true", b"Text-delta: false"]
+# Parts of a property section, of which few fit anywhere and some only into one with changes.
+ODD_ENTRIES = [b"D 13\nsvn:mergeinfo\n", b"D 1\na\n", b"D 12\nsvn:mergeinfo\n", b"D 14\nsvn:mergeinfo\n",
+               b"D 13\nsvn:mergeinfo\nV 4\n/a:1\n", b"K 13\nsvn:mergeinfo\nD 4\n/a:1\n", b"K 13\nsvn:mergeinfo\n",
+               b"D 1\na\nV 1\na\n", b"D 0\n\nV 0\n\n", b"K 1\na\nD 1\na\n", b"K 0\n\nD 0\n\n",
+               b"d 13\nsvn:mergeinfo\n", b"D13\nsvn:mergeinfo\n", b"D  13\nsvn:mergeinfo\n",
+               b"D 13 \nsvn:mergeinfo\n", b"D 13\nsvn:mergeinfo", b"D 13\nsvn:mergeinfo\n\n",
+               b"D 013\nsvn:mergeinfo\n", b"D 0\n\n", b"D \n\n", b"D\n\n", b"D 9223372036854775807\n\n",
+               b"D 9223372036854775808\n\n", b"V 1\na\n", b"PROPS-END\n", b"\n"]
 UNREAD_HEADERS = [b"Text-content-md5: d41d8cd98f00b204e9800998ecf8427e", b"X:", b"X:  y", b"Node-kind-2: dir",
                   b"node-path: z", b"Node-copyfrom-: 1"]
 ODD_HEADERS = {
@@ -56,12 +70,18 @@ ODD_QUERIES = [b"", b"\t", b"locate", b"log\t", b"log\ta", b"log\ta@", b"log\ta@
                b"merged\t@1\t" + b"/a" * 1500 + b"@1"]
 ODD_FIELDS = [b"", b"1", b"a", b"a@", b"@", b"@x", b"a@-1", b"a@ 1", b"@1 ", b"@1\r", b"@HEAD", b"a@2147483648",
               b"./a@1", b"a/../b@0", b"..@1", b"a/.@2147483647"]
+ODD_FORMATS = [b"", b"0", b"1", b"4", b"02", b"03", b"2 ", b"3 ", b"3\r", b" 3", b"23", b"33", b"2\n3"]
 # The bytes that a change writes.
 BYTES = (b"\n", b"0", b"1", b"2", b"7", b" ", b":", b"/", b"@", b"-", b",", b"*", b".", b"\t", b"a", b"\r", b"\xff")
 
 
 def is_below(path, above):
     return path[:len(above)] == above
+
+
+def has_line(lines, name):
+    """Whether one of the header lines has the name."""
+    return any(line.startswith(name + b":") for line in lines)
 
 
 def changed(lot, text):
@@ -88,9 +108,31 @@ class Draft:
         self.merges = []
         # The share of the queries that have a source and a target.
         self.pairs = lot.choice((0.3, 0.3, 0.3, 0.8))
+        self.draw_format()
         if self.chance(0.5):
             self.block([b"UUID: 0"], None, None)
+        early = lot.choice(("before", "after")) if self.chance(0.01) else None
+        if early == "before":
+            self.record(b"change", ())
         self.block([b"Revision-number: 0"], None, None)
+        if early == "after":
+            self.record(b"change", ())
+
+    def draw_format(self):
+        """Draws the format of the dump, and the shares of its records that have property sections and deltas."""
+        lot = self.lot
+        self.format = lot.choice((2, 3))
+        self.sections = (0.45 if self.format == 2 else 0.6, 0.05)
+        self.prop_deltas = lot.choice((0.2, 0.4, 0.7, 1))
+        self.text_deltas = lot.choice((0, 0.3))
+        # Those that are none, since their values are not `true`.
+        self.no_deltas = lot.choice((0, 0, 0.2, 0.7))
+        if self.format == 2 and self.chance(0.97):
+            self.prop_deltas = self.text_deltas = 0
+        self.odd_sections = 0
+        if self.chance(0.04):
+            self.odd_sections = 0.3
+            self.sections = (0.6, 0.6)
 
     def chance(self, share):
         return self.lot.random() < share
@@ -110,8 +152,10 @@ class Draft:
             lines.append(b"Content-length: %d" % len(body))
         elif body and self.chance(0.8):
             lines.append(b"Content-length: %d" % len(body))
-        if self.chance(0.1):
-            lines += lot.choice([[each] for each in NO_DELTA] + [[each] * lot.randint(1, 2) for each in UNREAD_HEADERS])
+        if self.chance(0.06):
+            lines += [lot.choice(UNREAD_HEADERS)] * lot.randint(1, 2)
+        if self.chance(0.04) and not has_line(lines, b"Node-path"):
+            lines.append(lot.choice((PROP_DELTA, TEXT_DELTA)))
         if self.chance(0.1):
             lot.shuffle(lines)
         if self.chance(0.1):
@@ -124,25 +168,47 @@ class Draft:
         self.named.append((path, len(self.trees) - 1))
         if source is not None:
             self.copies.append((path, source[0]))
-            lines += [b"Node-copyfrom-path: " + self.spelled(source[0]), b"Node-copyfrom-rev: %d" % source[1]]
+            rev = len(self.trees) - self.lot.randrange(2) if self.chance(0.002) else source[1]
+            lines += [b"Node-copyfrom-path: " + self.spelled(source[0]), b"Node-copyfrom-rev: %d" % rev]
         if kind is not None:
             lines.insert(1, b"Node-kind: " + kind)
-        section = self.section(path) if self.chance(0.05 if action == b"delete" else 0.45) else None
-        self.block(lines, section, self.lot.choice(BODIES) if kind == b"file" and self.chance(0.3) else None)
+        changes = self.chance(self.prop_deltas)
+        section = self.section(path, changes) if self.chance(self.sections[action == b"delete"]) else None
+        text = self.lot.choice(BODIES) if kind == b"file" and self.chance(0.3) else None
+        if changes or self.chance(self.no_deltas):
+            lines.append(PROP_DELTA if changes else self.lot.choice(NO_PROP_DELTA))
+        if self.chance(self.text_deltas) or self.chance(self.no_deltas):
+            lines.append(TEXT_DELTA if self.chance(self.text_deltas) else self.lot.choice(NO_TEXT_DELTA))
+        self.block(lines, section, text)
 
     def spelled(self, path):
         lot = self.lot
         slash = b"//" if self.chance(0.03) else b"/"
         return lot.choice((b"", b"", slash)) + slash.join(path) + (slash if self.chance(0.05) else b"")
 
-    def section(self, path):
-        """A property section for a path, mostly with mergeinfo."""
+    def section(self, path, changes):
+        """A property section for a path, mostly with mergeinfo; one with changes may delete properties. Or no bytes."""
+        if self.chance(0.02):
+            return b""
         lot = self.lot
-        properties = [(MERGEINFO, self.mergeinfo(path)) for _ in range(lot.choice((0, 1, 1, 1, 1, 1, 1, 1, 1, 2)))]
-        while self.chance(0.2):
-            properties.insert(lot.randrange(len(properties) + 1), (lot.choice(OTHER_NAMES), lot.choice(OTHER_VALUES)))
-        return b"".join(b"K %d\n%s\nV %d\n%s\n" % (len(name), name, len(value), value)
-                        for name, value in properties) + b"PROPS-END\n"
+        deleted = 0.35 if changes else 0
+        count = lot.choice((0, 0, 0, 0, 1, 1, 1, 2, 2, 3) if changes else (0, 0, 0, 1, 1, 1, 1, 1, 1, 2))
+        entries = [self.entry(MERGEINFO, None if self.chance(deleted) else self.mergeinfo(path)) for _ in range(count)]
+        while self.chance(0.4 if changes else 0.2):
+            value = None if self.chance(deleted) else lot.choice(OTHER_VALUES)
+            entries.insert(lot.randrange(len(entries) + 1), self.entry(lot.choice(OTHER_NAMES), value))
+        if self.chance(self.odd_sections):
+            entries.insert(lot.randrange(len(entries) + 1), lot.choice(ODD_ENTRIES))
+        return b"".join(entries) + b"PROPS-END\n"
+
+    def entry(self, name, value):
+        """A property that is set, or one that is deleted if the value is None."""
+        if value is None:
+            return self.piece(b"D", name)
+        return self.piece(b"K", name) + self.piece(b"V", value)
+
+    def piece(self, letter, text):
+        return b"%s %s%d\n%s\n" % (letter, b"0" if self.chance(0.02) else b"", len(text), text)
 
     # Mergeinfo
 
@@ -343,7 +409,7 @@ class Draft:
         lines, body = self.blocks[at]
         step = lot.choice(["set"] * 10 + ["move"] * 3 + ["repeat", "drop", "line", "body", "end"])
         if step == "set":
-            present = [name for name in ODD_HEADERS if any(line.startswith(name + b":") for line in lines)]
+            present = [name for name in ODD_HEADERS if has_line(lines, name)]
             name = lot.choice(lot.choice((present, list(ODD_HEADERS))) or list(ODD_HEADERS))
             lines[:] = [line for line in lines if not line.startswith(name + b":")]
             lines.append(name + b": " + lot.choice(ODD_HEADERS[name]))
@@ -362,7 +428,8 @@ class Draft:
 
     def dump(self):
         lot = self.lot
-        text = b"SVN-fs-dump-format-version: 2\n" + b"\n" * lot.randrange(2)
+        form = lot.choice(ODD_FORMATS) if self.chance(0.005) else b"%d" % self.format
+        text = b"SVN-fs-dump-format-version: %s\n" % form + b"\n" * lot.randrange(2)
         for lines, body in self.blocks:
             text += b"".join(line + b"\n" for line in lines) + b"\n" + body + b"\n" * lot.choice((0, 1, 1, 2))
         return text
@@ -389,7 +456,11 @@ def peg(draft):
     lot = draft.lot
     youngest = len(draft.trees) - 1
     rev = lot.choice((youngest, youngest, max(lot.randint(0, youngest), lot.randint(0, youngest))))
-    return peg_of(draft, draft.some_path(draft.trees[rev]), rev)
+    path = draft.some_path(draft.trees[rev])
+    if draft.named and draft.chance(0.4):
+        path, rev = lot.choice(draft.named)
+        rev = lot.choice([rev] + draft.revisions_with(path, rev)[:3])
+    return peg_of(draft, path, rev)
 
 
 def revision(draft):

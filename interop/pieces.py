@@ -10,7 +10,7 @@ import threading
 PAGE = 4096
 # How many bytes one read of the program gives at most.
 READ = 65536
-FIRST_LINE = b"SVN-fs-dump-format-version: 2\n"
+FIRST_LINES = (b"SVN-fs-dump-format-version: 2\n", b"SVN-fs-dump-format-version: 3\n")
 BODY_HEADER = b"UUID: 0\nContent-length: %06d\n\n"
 BODY_LINES = b"\nNode-path: a\n\n"
 LONG_HEADER = b"UUID: 0\nX: "
@@ -36,11 +36,12 @@ def moved(lot, dump):
 
     So a read of the program ends at a drawn place of the blocks. A dump without the right first line stays as it is.
     """
-    if not dump.startswith(FIRST_LINE):
+    if not dump.startswith(FIRST_LINES):
         return dump, 0
-    size = READ * lot.choice((1, 1, 2, 3)) - lot.randint(len(FIRST_LINE), len(dump))
+    start = dump.index(b"\n") + 1
+    size = READ * lot.choice((1, 1, 2, 3)) - lot.randint(start, len(dump))
     more = lot.choice((empty_lines, long_body, long_header))(size)
-    return FIRST_LINE + more + dump[len(FIRST_LINE):], size
+    return dump[:start] + more + dump[start:], size
 
 
 def cut(lot, text):
