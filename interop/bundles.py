@@ -124,7 +124,7 @@ class Draft:
         self.format = lot.choice((2, 3))
         self.sections = (0.45 if self.format == 2 else 0.6, 0.05)
         self.prop_deltas = lot.choice((0.2, 0.4, 0.7, 1))
-        self.text_deltas = lot.choice((0, 0.3))
+        self.text_deltas = lot.choice((0, 0.25))
         # Those that are none, since their values are not `true`.
         self.no_deltas = lot.choice((0, 0, 0.2, 0.7))
         if self.format == 2 and self.chance(0.97):
@@ -175,11 +175,17 @@ class Draft:
         changes = self.chance(self.prop_deltas)
         section = self.section(path, changes) if self.chance(self.sections[action == b"delete"]) else None
         text = self.lot.choice(BODIES) if kind == b"file" and self.chance(0.3) else None
+        self.block(lines + self.deltas(changes, text), section, text)
+
+    def deltas(self, changes, text):
+        """The header lines of a record that say whether its section and its text, which may be None, are deltas."""
+        lines = []
         if changes or self.chance(self.no_deltas):
             lines.append(PROP_DELTA if changes else self.lot.choice(NO_PROP_DELTA))
-        if self.chance(self.text_deltas) or self.chance(self.no_deltas):
-            lines.append(TEXT_DELTA if self.chance(self.text_deltas) else self.lot.choice(NO_TEXT_DELTA))
-        self.block(lines, section, text)
+        is_delta = self.chance(self.text_deltas if text is None else 3 * self.text_deltas)
+        if is_delta or self.chance(self.no_deltas):
+            lines.append(TEXT_DELTA if is_delta else self.lot.choice(NO_TEXT_DELTA))
+        return lines
 
     def spelled(self, path):
         lot = self.lot
