@@ -126,7 +126,7 @@ class Draft:
         self.prop_deltas = lot.choice((0.2, 0.4, 0.7, 1))
         self.text_deltas = lot.choice((0, 0.25))
         # Those that are none, since their values are not `true`.
-        self.no_deltas = lot.choice((0, 0, 0.2, 0.7))
+        self.no_deltas = lot.choice((0, 0, 0.3, 1))
         if self.format == 2 and self.chance(0.97):
             self.prop_deltas = self.text_deltas = 0
         self.odd_sections = 0
@@ -198,7 +198,8 @@ class Draft:
             return b""
         lot = self.lot
         deleted = 0.35 if changes else 0
-        count = lot.choice((0, 0, 0, 0, 1, 1, 1, 2, 2, 3) if changes else (0, 0, 0, 1, 1, 1, 1, 1, 1, 2))
+        few = changes or self.no_deltas
+        count = lot.choice((0, 0, 0, 0, 0, 1, 1, 1, 2, 3) if few else (0, 1, 1, 1, 1, 1, 1, 1, 1, 2))
         entries = [self.entry(MERGEINFO, None if self.chance(deleted) else self.mergeinfo(path)) for _ in range(count)]
         while self.chance(0.4 if changes else 0.2):
             value = None if self.chance(deleted) else lot.choice(OTHER_VALUES)
