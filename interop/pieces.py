@@ -6,6 +6,8 @@ import signal
 import subprocess
 import threading
 
+# The command of Linux that sets the size of a pipe, which Python before 3.10 has no name for.
+SET_PIPE_SIZE = getattr(fcntl, "F_SETPIPE_SZ", 1031)
 # The size of the smallest pipe. One of this size can be written to only when it is empty.
 PAGE = 4096
 # How many bytes one read of the program gives at most.
@@ -59,7 +61,7 @@ def cut(lot, text):
 def feed(pipe, pieces):
     """Writes the pieces one by one, small ones only when those before them are taken, until nobody takes them."""
     if all(len(piece) <= PAGE for piece in pieces):
-        fcntl.fcntl(pipe, fcntl.F_SETPIPE_SZ, PAGE)
+        fcntl.fcntl(pipe, SET_PIPE_SIZE, PAGE)
     free = select.poll()
     free.register(pipe, select.POLLOUT)
     try:
