@@ -1,4 +1,4 @@
-"""How the program bears inputs that somebody makes to hurt: long and deep ones, and keys that collide in its tables.
+"""What inputs cost that somebody makes to do harm: long and deep ones, and keys that collide.
 
 Each shape is made in a size and in twice that size, and both are measured in turns. Twice the input may take 2.4 times
 the time and 2.1 times the memory. The input is the dump and the queries together. For each of its bytes the memory may
@@ -10,9 +10,9 @@ A run is ended after two minutes, or where it would take 12 GB. It counts as not
 shape is a function that makes a dump in large pieces, one that makes queries, or both. Their names are the title of a
 row. Queries alone are about the example.
 
-Keys that collide are names and texts of mergeinfo of 16 bytes. The tables' hasher combines each half of such a key with
-a number and multiplies the two. A second half that becomes 0 makes all products 0. One that becomes 1 leaves the first
-half as it is, and a table adds the two halves of that without carry, so two equal ones cancel. As many keys that do not
+Keys that collide are names and texts of mergeinfo of 16 bytes. The hasher combines each half of such a key with a number
+and multiplies the two. A second half that becomes 0 makes all products 0. One that becomes 1 leaves the first half as it
+is. A table that adds the two halves of that without carry has two equal ones in one place. As many keys that do not
 collide stand beside them.
 """
 import math

@@ -36,7 +36,7 @@ MOST_OF_FORMAT_2 = 1.1
 # What the memory may be of what it was, less the size of the dump.
 MOST_OF_REST = 1.1
 # Functions that hash, and those into which hashing is compiled. All that such a function does counts as hashing.
-HASHING = re.compile(r"hash|Mergeinfo::|Names::find", re.IGNORECASE)
+HASHING = re.compile(r"hash|TextTable::|Mergeinfo::|Names::", re.IGNORECASE)
 LEAST_SHOWN = 0.05
 
 
@@ -200,29 +200,32 @@ def measured_memory(program, before, folder, is_quick):
 
 # ---- tables
 
-def print_tables(given, pairs, formats, memories, tool, shares, peak):
-    print("## Reading in pieces\n\nThe best of %d measurements.\n" % given.times)
-    print("| what is read | MB | seconds | beside it | seconds | relative |\n|---|---|---|---|---|---|")
-    for pair in pairs:
-        pair.print_row()
-    print("\n| what is read | format 2, MB | processor s | format 3, MB | processor s | relative, for a byte |\n"
-          "|---|---|---|---|---|---|")
-    for each in formats:
-        each.print_row()
-    if memories:
-        print("\n| history | dump, MB | peak MB, before | peak MB |\n|---|---|---|---|")
-    for memory in memories:
-        memory.print_row()
-    if tool:
-        print_shares(tool, shares)
+def print_rows(heads, rows):
+    """A table, where it has rows."""
+    if rows:
+        print("\n| %s |\n|%s" % (" | ".join(heads), "---|" * len(heads)))
+        for row in rows:
+            row.print_row()
+
+
+def print_criteria(measured, tool, shares, peak):
     print("\n| criterion | at most | measured | |\n|---|---|---|---|")
-    for each in pairs + formats:
+    for each in measured:
         each.print_criterion()
     if tool:
         print_criterion("mergeinfo, share of functions that hash", MOST_OF_HASHING, share_of_hashing(shares))
     print_criterion("large texts from a pipe, peak MB", MOST_FOR_TEXTS, peak / 1e6)
-    for memory in memories:
-        memory.print_criterion()
+
+
+def print_tables(given, pairs, formats, memories, tool, shares, peak):
+    print("## Reading in pieces\n\nThe best of %d measurements." % given.times)
+    print_rows(["what is read", "MB", "seconds", "beside it", "seconds", "relative"], pairs)
+    print_rows(["what is read", "format 2, MB", "processor s", "format 3, MB", "processor s",
+                "relative, for a byte"], formats)
+    print_rows(["history", "dump, MB", "peak MB, before", "peak MB"], memories)
+    if tool:
+        print_shares(tool, shares)
+    print_criteria(pairs + formats + memories, tool, shares, peak)
     print(flush=True)
 
 

@@ -26,7 +26,7 @@ MALFORMED = [b"/a", b"/a:0", b"/a:2147483648", b"/a:5-3", b"/a:3-3", b"/a/../b:1
 BODIES = [b"x", b"\n", b"text\n", b"\n\nNode-path: a\nNode-action: delete\n\n", b"Revision-number: 1\n\n", b"\xff\x00"]
 PROP_DELTA = b"Prop-delta: true"
 TEXT_DELTA = b"Text-delta: true"
-# With these, as with all but the four bytes `true`, a property section is a complete list.
+# With these, as with all but the four bytes `true`, a property section is a whole list.
 NO_PROP_DELTA = [b"Prop-delta: false", b"Prop-delta: True", b"Prop-delta: true ", b"Prop-delta:  true",
                  b"Prop-delta: true\r", b"Prop-delta: tru", b"Prop-delta: 1", b"Prop-delta:"]
 NO_TEXT_DELTA = [b"Text-delta: TRUE", b"Text-delta:  true", b"Text-delta: false"]
