@@ -1,6 +1,7 @@
 -- Threads may share a repository, whose map owns its blocks together with other maps.
 use denote.Param.Send.{IsSend, IsSync, sendable}
 use Rattle.std.proofs.Crossing.{crosses}
+use Rattle.std.proofs.MapsCrossing.{crosses as maps_cross}
 use Rattle.block_map.proofs.ghost_records.GhostRecords.TheLaws.TheKnot as knot
 use Rattle.block_map.specs.contracts.map.Map as Map
 use Rattle.block_map.specs.contracts.trees.Trees as Trees
@@ -18,7 +19,7 @@ map_sync : IsSync Map.the_row
 map_sync = search (sendable, crosses, trees_send, trees_sync) depth 40 fits 100000
 
 index_sync : IsSync Index.the_row
-index_sync = search (sendable, crosses, sync-GhostRecords) depth 40 fits 100000
+index_sync = search (sendable, crosses, maps_cross, sync-GhostRecords) depth 40 fits 100000
 
 pub repo_sync : IsSync Repo.the_row
-repo_sync = search (sendable, crosses, map_sync, index_sync) depth 40 fits 100000
+repo_sync = search (sendable, crosses, maps_cross, map_sync, index_sync) depth 40 fits 100000
