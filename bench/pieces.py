@@ -36,7 +36,7 @@ MOST_OF_FORMAT_2 = 1.1
 # What the memory may be of what it was, less the size of the dump.
 MOST_OF_REST = 1.1
 # Functions that hash, and those into which hashing is compiled. All that such a function does counts as hashing.
-HASHING = re.compile(r"hash|TextTable::|Mergeinfo::|Names::", re.IGNORECASE)
+HASHING = re.compile(r"hash_of|TextTable::(add|find)\b")
 LEAST_SHOWN = 0.05
 
 
