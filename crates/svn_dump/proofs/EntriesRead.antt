@@ -43,8 +43,8 @@ no_deletion : (bytes name more : List ℕ) → IsPieceRead 75 bytes name more �
 no_deletion bytes name more read = ap deleted_entry_of read.whole
 
 -- and the other way round
-no_value : (bytes name more : List ℕ) → IsPieceRead 68 bytes name more → valued_entry_of bytes ≡ None
-no_value bytes name more read = ap valued_entry_of read.whole
+deleted_has_no_value : (bytes name more : List ℕ) → IsPieceRead 68 bytes name more → valued_entry_of bytes ≡ None
+deleted_has_no_value bytes name more read = ap valued_entry_of read.whole
 
 -- each is read
 entry_of-read : (is_delta : Bool) (bytes name : List ℕ) (value : Option (List ℕ)) (rest : List ℕ) → IsEntryRead is_delta bytes name value rest → entry_of is_delta bytes ≡ Some (record { name = name; value = value }, rest)
@@ -53,7 +53,7 @@ entry_of-read is_delta bytes name (Some value) rest (more, named, valued) =
     ap (λ o. option_or o (if is_delta then deleted_entry_of bytes else None))
     (ap (option_and_then _) (piece_of-read 75 bytes name more (omega arith) named) ∙ ap (option_map _) (piece_of-read 86 more value rest (omega arith) valued))
 entry_of-read is_delta bytes name None rest (is, read) =
-    ap (λ o. option_or o (if is_delta then deleted_entry_of bytes else None)) (no_value bytes name rest read)
+    ap (λ o. option_or o (if is_delta then deleted_entry_of bytes else None)) (deleted_has_no_value bytes name rest read)
     ∙ ap (λ b. if b then deleted_entry_of bytes else None) is ∙ ap (option_map _) (piece_of-read 68 bytes name rest (omega arith) read)
 
 -- and what is read is one

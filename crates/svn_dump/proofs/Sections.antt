@@ -1,5 +1,5 @@
--- The form of a property section and its reading: bytes are a section of these entries exactly where they are read as one,
--- and a section has one list of entries.
+-- The form of a property section and its reading: bytes are a section of these entries exactly where they are read as
+-- one, and a section has one list of entries.
 use Rattle.std.proofs.Common.{◌≡◌, ℕ, zero, suc, ◌<◌, Bool, false, inl, inr, List, [], ◌∷◌, ◌++◌, length, sym, ap, subst, ◌∙◌, arith, length-append, refl}
 use Rattle.std.specs.Prelude.{Option, Some, None, bytes_eq, ◌↔◌}
 use Rattle.std.proofs.lemmas.Bool.{cases_Bool}

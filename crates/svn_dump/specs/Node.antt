@@ -41,8 +41,8 @@ is_change (node_add replace kind) = false
 is_change (node_copy replace from_rev from) = false
 
 -- a node block: the value of `Node-path`, what it does, if its headers say one thing, whether it is said to hold a
--- difference to an earlier text or section that its format doesn't have, and what its property section says of mergeinfo,
--- if it is one
+-- difference to an earlier text or section that its format doesn't have, and what its property section says of
+-- mergeinfo, if it is one
 pub record Node : Type 0 where
   pub path : List ℕ
   pub action : Option NodeAction

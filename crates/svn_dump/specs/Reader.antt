@@ -22,7 +22,8 @@ use Rattle.svn_dump.specs.declared.reader.Part.{Part}
 use Rattle.svn_dump.specs.declared.reader.Part.TheVariants as part
 use Rattle.svn_dump.specs.declared.reader.Reader.{Reader}
 
--- the bytes are the first line of a format and whole blocks, with empty lines beside them, which tell the history of this dump
+-- the bytes are the first line of a format and whole blocks, with empty lines beside them, which tell the history of
+-- this dump
 pub record IsReadAs (format : Format) (bytes : List ℕ) (draft : DumpValue) : Type 0 where
   pub rest : List ℕ
   pub blocks : List Block

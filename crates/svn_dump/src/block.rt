@@ -14,11 +14,11 @@ use crate::refusal::Refusal;
 /// What is read of a block.
 #[derive(Drop)]
 pub(crate) struct BlockFront<'a> {
-    /// The format of its dump.
-    pub(crate) format: Format,
     pub(crate) headers: Headers<'a>,
     /// The property section at the front of the body, empty where there is none or it isn't read.
     pub(crate) properties: &'a [u8],
+    /// The format of its dump.
+    pub(crate) format: Format,
 }
 
 /// The bytes without the empty lines at their front, if there is more than these.
@@ -81,9 +81,9 @@ pub(crate) fn first_block(
     let (properties, _) = body.split_at(section as usize);
     Ok(Some((
         BlockFront {
-            format,
             headers,
             properties,
+            format,
         },
         rest,
     )))
