@@ -3,6 +3,7 @@ use Rattle.std.proofs.Common.{◌≡◌, ◌≢◌, ◌⊎◌, ℕ, zero, suc, �
 use Rattle.std.specs.Prelude.{slice_get}
 use Rattle.std.proofs.lemmas.Bool.{cases_eq, eq-eqb, ne_eqb}
 use Rattle.std.proofs.lemmas.Option.{same_Some, slice_get_within}
+use Rattle.svn_text.proofs.TextTables.{slice_get-push}
 use Rattle.block_map.specs.Parts.{Extends, AreOrdered, HaveNodesBelow, IsOrderedAfter, HasOne, HasSides, HasTwo, SetsChild, child_in, found_within, leaf_of, part_at, sides_of, with_name}
 use Rattle.block_map.specs.declared.part.NodeId.{NodeId}
 use Rattle.block_map.specs.declared.part.Part.{Part}
@@ -109,16 +110,7 @@ sides_of-branch bits even odd find name =
 
 -- ---- parts that were added
 
--- an element of a list with one more is that or one of the others
-slice_get-push : {X : Type 0} (xs : List X) (last : X) (index : ℕ) (x : X) → slice_get (xs ++ last ∷ []) index ≡ Some x
-    → ((index ≡ length xs) × (x ≡ last)) ⊎ (slice_get xs index ≡ Some x)
-slice_get-push [] last zero x at = inl (refl, same_Some x last (sym at))
-slice_get-push [] last (suc index) x at = let never : None ≡ Some x = at in cc
-slice_get-push (y ∷ xs) last zero x at = inr at
-slice_get-push (y ∷ xs) last (suc index) x at =
-    elim (slice_get-push xs last index x at) [ inl (is, same) ↦ inl (ap suc is, same) | inr before ↦ inr before ]
-
--- and that one has the index after them
+-- the last of a list has the index after the others
 pub slice_get-last : {X : Type 0} (xs : List X) (last : X) → slice_get (xs ++ last ∷ []) (length xs) ≡ Some last
 slice_get-last [] last = refl
 slice_get-last (x ∷ xs) last = slice_get-last xs last

@@ -66,9 +66,9 @@ number-of texts text has =
     ]
 
 -- a text that the table lacks is none of its texts
-apart : (texts : List (Vec ℕ)) (text : List ℕ) (kept : Vec ℕ) (number : ℕ) → has_text (items_of texts) text ≡ false
+bytes_eq-lacking : (texts : List (Vec ℕ)) (text : List ℕ) (kept : Vec ℕ) (number : ℕ) → has_text (items_of texts) text ≡ false
     → slice_get texts number ≡ Some kept → bytes_eq text kept.items ≡ false
-apart texts text kept number lacks at =
+bytes_eq-lacking texts text kept number lacks at =
     false_from_ne_true _ (λ same. both_ways _ lacks
     (subst (λ each. has_text (items_of texts) each ≡ true) (sym ((bytes_eq-Decides text kept.items).0 same))
     (has_text-at (items_of texts) kept.items number (slice_get-items_of texts kept number at))))
@@ -100,13 +100,14 @@ pub AreFound-other : (texts : List (Vec ℕ)) (old : TextNumbers) (others : BTre
 AreFound-other texts old others key number found absent updates = record {
   found = λ at text is. elim (found.found at text is) [
     | inl first ↦ inl first
-    | inr other ↦ inr (updates.0 text ∙ cond-false _ _ _ (is_eq-slice_cmp key.items text.items ∙ apart texts key.items text at absent is) ∙ other)
+    | inr other ↦ inr (updates.0 text ∙ cond-false _ _ _ (is_eq-slice_cmp key.items text.items ∙ bytes_eq-lacking texts key.items text at absent is) ∙ other)
   ];
 }
 
 -- ---- a text is put at the end of the table
 
-slice_get-push : {X : Type 0} (xs : List X) (last : X) (index : ℕ) (x : X) → slice_get (xs ++ last ∷ []) index ≡ Some x
+-- an element of a list with one more is that or one of the others
+pub slice_get-push : {X : Type 0} (xs : List X) (last : X) (index : ℕ) (x : X) → slice_get (xs ++ last ∷ []) index ≡ Some x
     → ((index ≡ length xs) × (x ≡ last)) ⊎ (slice_get xs index ≡ Some x)
 slice_get-push [] last zero x at = inl (refl, same_Some x last (sym at))
 slice_get-push [] last (suc index) x at = let never : None ≡ Some x = at in cc

@@ -1,4 +1,4 @@
-//! Bytes cut at a byte, tables of texts, decimal numbers, and the greatest revision.
+//! Bytes cut at a byte, tables of texts, memories of recent numbers, decimal numbers, and the greatest revision.
 #![tactic(auto)]
 
 mod cut;
@@ -9,4 +9,5 @@ mod text_table;
 
 pub use cut::{split_at_byte, split_at_last};
 pub use number::{GREATEST_REVISION, number_up_to, push_number};
+pub use recent_numbers::RecentNumbers;
 pub use text_table::{TextTable, TextTableError};

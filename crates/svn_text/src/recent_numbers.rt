@@ -5,24 +5,25 @@ use std::alloc::{AllocError, Global};
 // How many places there are at least, a power of two.
 const FEWEST: usize = 64;
 
-/// For some hashes the number that was put last. Most look-ups of a table end here, in a fraction of the time that its
-/// maps take. Whoever asks checks the number, so nothing depends on what stands here but time.
+/// A memory before a map, which finds most numbers in a fraction of the time that the map takes: for some hashes the
+/// number that was put last. Nothing is promised of what it answers, so whoever asks checks the number, and only time
+/// depends on it.
 #[derive(Drop)]
-pub(crate) struct RecentNumbers {
+pub struct RecentNumbers {
     // None, or a power of two.
     places: Vec<u32>,
 }
 
 impl RecentNumbers {
     /// No places. It takes no memory.
-    pub(crate) fn new(alloc: Global) -> Self {
+    pub fn new(alloc: Global) -> Self {
         RecentNumbers {
             places: Vec::new(alloc),
         }
     }
 
     /// Doubles the places, and forgets all numbers, where there are less than two places for each of `count` numbers.
-    pub(crate) fn reserve(&mut self, count: usize) -> Result<(), AllocError> {
+    pub fn reserve(&mut self, count: usize) -> Result<(), AllocError> {
         let len = self.places.len();
         if len / 2 > count {
             return Ok(());
@@ -34,7 +35,7 @@ impl RecentNumbers {
     }
 
     /// Puts a number in the place of a hash, if there are places.
-    pub(crate) fn put(&mut self, hash: u64, number: u32) {
+    pub fn put(&mut self, hash: u64, number: u32) {
         let place = self.place(hash);
         if let Some(kept) = self.places.get_mut(place) {
             *kept = number;
@@ -42,7 +43,7 @@ impl RecentNumbers {
     }
 
     /// The number in the place of a hash, which may be that of another one.
-    pub(crate) fn get(&self, hash: u64) -> Option<u32> {
+    pub fn get(&self, hash: u64) -> Option<u32> {
         self.places.get(self.place(hash)).copied()
     }
 

@@ -48,8 +48,8 @@ impl<'t> Seen<'t> {
     }
 
     /// What the text of a number says. The worker takes the reading that another one published, if that is one of this
-    /// text. Else it reads the text, and publishes the reading where none is yet, or keeps it for itself. Later calls with
-    /// the number read nothing.
+    /// text. Else it reads the text, and publishes the reading where none is yet, or keeps it for itself. Later calls
+    /// with the number read nothing.
     pub fn value<'a>(
         &'a mut self,
         memo: &'a Memo<'t>,
