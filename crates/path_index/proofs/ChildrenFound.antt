@@ -8,9 +8,10 @@ use Rattle.std.proofs.lemmas.Grind.{common_steps}
 use Rattle.std.proofs.lemmas.List.{length_push, get_or_push, get_or_append_left}
 use Rattle.std.proofs.lemmas.List.Folds.{position_or_len_push}
 use Rattle.std.proofs.lemmas.Option.{get_or_from_slice_get, slice_get-get_or, slice_get_within}
-use Rattle.path_index.specs.Nodes.{same_child, child_of, child_cmp, AreNumbersOf, HaveParentsBefore}
+use Rattle.svn_text.proofs.TextTables.{slice_get-push}
+use Rattle.path_index.specs.Nodes.{same_child, child_of, child_cmp, AreDistinct, AreNumbersOf, HaveParentsBefore}
 use Rattle.path_index.specs.declared.nodes.Child.{Child}
-use Rattle.path_index.proofs.NodesOfPaths.{same_child-is}
+use Rattle.path_index.proofs.NodesOfPaths.{child_of-grown, same_child-is}
 
 -- ---- the first that passes, where one is added
 
@@ -71,7 +72,17 @@ module _ (children : List Child) (child : Child) (absent : child_of children chi
   child_of-push_other other apart =
       ap (option_map suc) (position-push_fails (same_child other) children child apart)
 
-  -- so the map takes that node under the child
+  -- so each stands once
+  pub AreDistinct-push : AreDistinct children → AreDistinct (children ++ child ∷ [])
+  AreDistinct-push distinct index each at = elim (slice_get-push children child index each at) [
+    | inl (end, same) ↦
+        subst (λ (each : Child). child_of (children ++ child ∷ []) each.parent each.name ≡ Some (index + 1)) (sym same)
+        (child_of_push ∙ ap (λ n. Some (n + 1)) (sym end))
+    | inr before ↦
+        child_of-grown children (child ∷ []) each.parent each.name (index + 1) (distinct index each before)
+  ]
+
+  -- and the map takes that node under the child
   pub AreNumbersOf-push : (old new : BTreeMap Child ℕ) → AreNumbersOf children old
       → Updates child_cmp old new child (Some (length children + 1)) → AreNumbersOf (children ++ child ∷ []) new
   AreNumbersOf-push old new numbers updates other =

@@ -46,7 +46,7 @@ child_at children parent name index d at =
     let child : Child = record { parent = parent; name = name } in
     same_child-is child (get_or children index d) (position-Some (same_child child) children index d at).1
 
-child_of-grown : (children more : List Child) (parent : ℕ) (name : NameId) (node : ℕ) → child_of children parent name ≡ Some node → child_of (children ++ more) parent name ≡ Some node
+pub child_of-grown : (children more : List Child) (parent : ℕ) (name : NameId) (node : ℕ) → child_of children parent name ≡ Some node → child_of (children ++ more) parent name ≡ Some node
 child_of-grown children more parent name node found =
     let (index, at, is) = index_from_child (position (same_child (record { parent = parent; name = name })) children) node found in
     ap (option_map suc) (position-grown (same_child (record { parent = parent; name = name })) children more index at) ∙ ap Some is

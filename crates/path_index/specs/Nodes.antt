@@ -34,6 +34,12 @@ abbrev pub AreNumbersOf : List Child → BTreeMap Child ℕ → Type 0
 AreNumbersOf children numbers =
     (child : Child) → get child_cmp numbers child ≡ child_of children child.parent child.name
 
+-- each child stands once, so its node is the number after its index
+abbrev pub AreDistinct : List Child → Type 0
+AreDistinct children =
+    (index : ℕ) (child : Child) → slice_get children index ≡ Some child
+    → child_of children child.parent child.name ≡ Some (index + 1)
+
 -- children were added, and none removed
 pub record Extends (old new : List Child) : Type 0 where
   pub more : List Child

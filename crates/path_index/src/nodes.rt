@@ -1,11 +1,12 @@
 //! The paths of records, each once, as a tree of components.
-ghost use Rattle.std.specs.Prelude.{◌≡◌, ◌≤◌, List, [], None, Some, length, IfOk, OnOk};
+ghost use Rattle.std.specs.Prelude.{◌≡◌, ◌≤◌, List, [], None, Some, length, IfOk, IfSome, OnOk};
 ghost use Rattle.path_index.specs.Nodes.{child_of, node_of, AreNodesOf, Extends};
 
 use std::alloc::{AllocError, Global};
 use std::collections::BTreeMap;
 use std::marker::Model;
 use svn_path::{NameId, Path};
+use svn_text::RecentNumbers;
 
 /// A node, by the node above it and its last component.
 #[derive(Clone, Copy, PartialEq, Eq, PartialOrd, Ord)]
@@ -17,16 +18,18 @@ struct Child {
 /// The nodes of some paths and of all paths above them. The root is node 0, and the others are numbered from 1.
 ///
 /// Children are found in a tree, which takes a logarithmic time at worst. A table of hashes would not, since no hasher
-/// here is random: a dump could choose children that all meet in one place.
+/// here is random: a dump could choose children that all meet in one place. As nodes are added, most are found in a
+/// memory of recent ones before it.
 #[derive(Drop)]
 pub(crate) struct Nodes {
     children: Vec<Child>,
     numbers: BTreeMap<Child, u32>,
+    recent: RecentNumbers,
 }
 
 impl Model for Nodes {
     ghost use Rattle.std.specs.Prelude.{List, length, ◌<◌, ◌^◌};
-    ghost use Rattle.path_index.specs.Nodes.{AreNumbersOf, HaveParentsBefore};
+    ghost use Rattle.path_index.specs.Nodes.{AreDistinct, AreNumbersOf, HaveParentsBefore};
     ghost use Rattle.path_index.specs.declared.nodes.Child.{Child};
 
     ghost Value = { List Child };
@@ -34,7 +37,7 @@ impl Model for Nodes {
     ghost view = { λ n. n.children.items };
 
     ghost invariant = { λ n. (length n.children.items < 2 ^ 32) × HaveParentsBefore n.children.items
-        × AreNumbersOf n.children.items n.numbers };
+        × AreDistinct n.children.items × AreNumbersOf n.children.items n.numbers };
 }
 
 impl Nodes {
@@ -45,6 +48,7 @@ impl Nodes {
         Nodes {
             children: Vec::new(alloc),
             numbers: BTreeMap::new(alloc),
+            recent: RecentNumbers::new(alloc),
         }
     }
 
@@ -55,6 +59,7 @@ impl Nodes {
         Ok(Nodes {
             children: self.children.clone()?,
             numbers: self.numbers.clone()?,
+            recent: RecentNumbers::new(*self.children.allocator()),
         })
     }
 
@@ -62,6 +67,7 @@ impl Nodes {
     pub(crate) fn shrink_to_fit(&mut self)
         ensures { self.new ≡ self.old }
     {
+        self.recent = RecentNumbers::new(*self.children.allocator());
         self.children.shrink_to_fit();
     }
 
@@ -72,10 +78,29 @@ impl Nodes {
         ensures node { IfOk result (λ node. child_of self.new parent name ≡ Some node) }
         ensures grown { OnOk result (Extends self.old self.new) }
     {
-        if let Some(node) = self.child(parent, name) {
+        let child = Child { parent, name };
+        let hash = hash_of(child);
+        if let Some(node) = self.recent_node(hash, child) {
             return Ok(node);
         }
-        self.push(Child { parent, name })
+        let node = match self.child(parent, name) {
+            Some(node) => node,
+            None => self.push(child)?,
+        };
+        self.recent.put(hash, node);
+        Ok(node)
+    }
+
+    /// The node of a child with this hash, if it is the recent one.
+    fn recent_node(&self, hash: u64, child: Child) -> Option<u32>
+        ensures { IfSome result (λ node. child_of self.now child.parent child.name ≡ Some node) }
+    {
+        let node = self.recent.get(hash)?;
+        let index = node.checked_sub(1)?;
+        match self.children.get(index as usize) {
+            Some(known) if *known == child => Some(node),
+            _ => None,
+        }
     }
 
     /// Adds a new node.
@@ -90,6 +115,7 @@ impl Nodes {
             return Err(AllocError);
         }
         let node = before as u32 + 1;
+        self.recent.reserve(before)?;
         self.children.push(child)?;
         if let Err(refused) = self.numbers.insert(child, node) {
             self.children.pop();
@@ -133,4 +159,11 @@ impl Nodes {
         }
         Some(node)
     }
+}
+
+/// A hash of a child, for the memory of recent nodes alone. The multiplier is 2^64 by the golden ratio, as in Fibonacci
+/// hashing; the upper half of the product is the mixed one.
+fn hash_of(child: Child) -> u64 {
+    let both = u64::from(child.parent) << 32 | u64::from(child.name.0);
+    both.wrapping_mul(0x9e37_79b9_7f4a_7c15) >> 32
 }

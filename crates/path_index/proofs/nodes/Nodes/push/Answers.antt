@@ -1,8 +1,8 @@
 use Rattle.std.proofs.Common.{◌≡◌, ◌+◌, ◌≤◌, ◌++◌, ◌∷◌, [], None, Some, length, sym, ap, subst, ◌∙◌, arith}
 use Rattle.std.proofs.lemmas.List.{length_push}
 use Rattle.std.specs.BTreeMap.{Updates}
-use Rattle.path_index.specs.Nodes.{child_of, child_cmp, AreNumbersOf, HaveParentsBefore}
-use Rattle.path_index.proofs.ChildrenFound.{HaveParentsBefore-push, AreNumbersOf-push, child_of_push}
+use Rattle.path_index.specs.Nodes.{child_of, child_cmp, AreDistinct, AreNumbersOf, HaveParentsBefore}
+use Rattle.path_index.proofs.ChildrenFound.{AreDistinct-push, AreNumbersOf-push, HaveParentsBefore-push, child_of_push}
 use Rattle.path_index.proofs.nodes.Nodes.push.Goals as goal
 
 pub invariant_of-self-in_default : goal.invariant_of-self-in_default
@@ -19,8 +19,9 @@ invariant_of-self-in_default c =
     count c.in_default.ensures.updates in (
       omega (arith, ap length new, length_push old child, count, c.if-before.false, c.self.invariant.0),
       subst HaveParentsBefore (sym new) (HaveParentsBefore-push old child c.self.invariant.1 low),
+      subst AreDistinct (sym new) (AreDistinct-push old child absent c.self.invariant.2),
       subst (λ children. AreNumbersOf children c.insert.new.self) (sym new)
-          (AreNumbersOf-push old child absent c.self.inside.numbers c.insert.new.self c.self.invariant.2 updates),
+          (AreNumbersOf-push old child absent c.self.inside.numbers c.insert.new.self c.self.invariant.3 updates),
     )
 
 pub returns-clause-node : goal.returns-clause-node
