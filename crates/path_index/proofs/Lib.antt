@@ -13,6 +13,7 @@ mod NodesOfPaths
 mod NumbersOfNodes
 mod Operative
 mod Prefixes
+mod RangesOfNumbers
 mod RecordEffects
 mod Rising
 mod Segments

@@ -1,5 +1,5 @@
 -- The operative revisions of a path's segments, by the records that name the path.
-use Rattle.std.proofs.Common.{◌≡◌, ℕ, zero, suc, pred, ◌+◌, ◌-◌, ◌<◌, ◌≤◌, nat_lt, Bool, true, false, not, ◌&&◌, ◌||◌, if◌then◌else◌, List, [], ◌∷◌, ◌++◌, Option, None, Some, map, filter, refl, sym, ap, ◌∙◌, arith}
+use Rattle.std.proofs.Common.{◌≡◌, ℕ, zero, suc, pred, ◌+◌, ◌-◌, ◌<◌, ◌≤◌, nat_lt, Bool, true, false, not, ◌&&◌, ◌||◌, List, [], ◌∷◌, ◌++◌, Option, None, Some, map, filter, refl, sym, ap, ◌∙◌, arith}
 use Rattle.std.proofs.lemmas.Bool.{false_from_ne_true, lt-ltb, or_right}
 use Rattle.std.proofs.Math.Bool.{or-false}
 use Rattle.std.proofs.lemmas.List.Elements.{filter-append}
@@ -22,7 +22,7 @@ use Rattle.path_index.proofs.HistoryTo.{records_in-history_to}
 use Rattle.path_index.proofs.CameFromItself.{came-from_location, location-from_came}
 use Rattle.path_index.proofs.Segments.{AreSegments-segments_of}
 use Rattle.path_index.proofs.DownFrom.{filter_down-same}
-use Rattle.path_index.specs.NamedRevisions.{is_named, named_revisions}
+use Rattle.path_index.specs.NamedRevisions.{first_of, is_named, named_revisions}
 
 -- one number more, at the end
 down_from_more : (n top : ℕ) → down_from (suc n) top ≡ down_from n top ++ (top - n) ∷ []
@@ -36,10 +36,6 @@ there_by_origin later there named came a b c = (λ i. a i && b i && (named || no
 
 there_by_record : (later there named came : Bool) → later ≡ true → there ≡ true → came ≡ true → (later && there && (named || not came)) ≡ named
 there_by_record later there named came a b c = (λ i. a i && b i && (named || not (c i))) ∙ or-false named
-
--- the first revision of a segment, unless it is revision 0
-abbrev pub first_of : ℕ → List ℕ
-first_of lo = if nat_lt 0 lo then lo ∷ [] else []
 
 module _ {C M : Type 0} (same : C → C → Bool) (is : IsSame same) (history : History C M) (trees : List (Tree C M))
     (fall : OriginsFall same trees) (origins : OriginsAreThere same trees)

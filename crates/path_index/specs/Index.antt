@@ -1,5 +1,5 @@
 -- What an index holds, and what its answers say of it.
-use Rattle.std.specs.Prelude.{◌≡◌, ℕ, ◌+◌, ◌-◌, nat_lt, if◌then◌else◌, List, [], ◌∷◌, Option, None, IsTrue, map}
+use Rattle.std.specs.Prelude.{◌≡◌, ℕ, ◌+◌, ◌-◌, nat_lt, if◌then◌else◌, List, [], ◌∷◌, Option, None, IsTrue, filter, map}
 use Rattle.svn_path.specs.Path.{same_name}
 use Rattle.svn_path.specs.declared.names.NameId.{NameId}
 use Rattle.svn_dump.specs.Location.{location}
@@ -7,6 +7,7 @@ use Rattle.svn_dump.specs.Tree.{is_there, tree_of}
 use Rattle.svn_dump.specs.declared.record.NodeRecord.{NodeRecord}
 use Rattle.path_index.specs.History.{AreRising, history_to, trees_to}
 use Rattle.path_index.specs.Operative.{operative_of}
+use Rattle.path_index.specs.Range.{is_in_range}
 use Rattle.path_index.specs.Segment.{AreSegments, Segment, segments_of}
 use Rattle.path_index.specs.declared.hit.Hit.{Hit}
 use Rattle.path_index.specs.declared.segment.Segment.{Segment as KeptSegment}
@@ -55,3 +56,11 @@ AreHitsOf index segments hits =
     (path : List NameId) (rev : ℕ) → IsThere index.records path rev → AreSegmentsOf index path rev segments
     → hits
     ≡ operative_of same_name (history_to index.records rev) (trees_to index.records rev) (map segment_view segments)
+
+-- these are those of them that are in the range
+abbrev pub AreHitsInRange : IndexValue → List KeptSegment → Option (ℕ × ℕ) → List Hit → Type 0
+AreHitsInRange index segments range hits =
+    (path : List NameId) (rev : ℕ) → IsThere index.records path rev → AreSegmentsOf index path rev segments
+    → hits
+    ≡ filter (λ hit. is_in_range range hit.rev)
+    (operative_of same_name (history_to index.records rev) (trees_to index.records rev) (map segment_view segments))

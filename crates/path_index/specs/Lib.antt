@@ -6,6 +6,7 @@ pub mod NamedRevisions
 pub mod Nodes
 pub mod Numbers
 pub mod Operative
+pub mod Range
 pub mod RecordEffect
 pub mod Records
 pub mod RecordsByPath

@@ -1,8 +1,10 @@
 //! An index of the records of a history.
 ghost use Rattle.std.specs.Prelude.{◌≡◌, ◌+◌, ◌^◌, ◌<◌, ◌++◌, None, IfOk, OnOk, length};
 ghost use Rattle.path_index.specs.History.{AreRising};
-ghost use Rattle.path_index.specs.Index.{AreHitsOf, AreMaximal, AreSegmentsOf, IsThere, IsWhole, gap_between, location_in};
+ghost use Rattle.path_index.specs.Index.{AreHitsInRange, AreHitsOf, AreMaximal, AreSegmentsOf, IsThere, IsWhole, gap_between, location_in};
 ghost use Rattle.path_index.specs.Joining.{records_up_to_end};
+ghost use Rattle.path_index.specs.NamedRevisions.{AddsOperative};
+ghost use Rattle.path_index.specs.Range.{is_in_range};
 ghost use Rattle.path_index.specs.Span.{IsSpan};
 
 use crate::hit::Hit;
@@ -134,20 +136,61 @@ impl Index {
         requires { IsWhole self.now }
         ensures { IfOk result (λ hits. AreHitsOf self.now segments.now hits.items) }
     {
+        self.operative_in(segments, None)
+    }
+
+    /// Those of the operative revisions that are in a range of revisions, with both ends; without a range, all of them.
+    /// It takes time for what is in the range, and for each segment.
+    pub fn operative_in(
+        &self,
+        segments: &[Segment],
+        range: Option<(u32, u32)>,
+    ) -> Result<Vec<Hit>, AllocError>
+        requires { IsWhole self.now }
+        ensures { IfOk result (λ hits. AreHitsInRange self.now segments.now range hits.items) }
+    {
         let mut hits = Vec::with_capacity(self.records.allocator(), USUAL_HITS)?;
         for (index, segment) in segments.iter().enumerate() {
             if let Some(path) = &segment.path {
-                self.by_path
-                    .push_named(&mut hits, index, path, segment.lo, segment.hi)?;
-                if segment.lo > 0 {
-                    hits.push(Hit {
-                        rev: segment.lo,
-                        segment: index,
-                    })?;
-                }
+                self.push_operative(&mut hits, index, segment, path, range)?;
             }
         }
         Ok(hits)
+    }
+
+    /// Appends the operative revisions of the path of a segment that are in a range, the newest first.
+    fn push_operative(
+        &self,
+        hits: &mut Vec<Hit>,
+        index: usize,
+        segment: &Segment,
+        path: &Path,
+        range: Option<(u32, u32)>,
+    ) -> Result<(), AllocError>
+        ensures { OnOk result (AddsOperative hits.old.items hits.new.items index segment.now path.now range
+            self.now.records) }
+    {
+        let (first, last) = range.unwrap_or((0, segment.hi));
+        let lo = segment.lo.max(first.saturating_sub(1));
+        let hi = segment.hi.min(last);
+        self.by_path.push_named(hits, index, path, lo, hi)?;
+        if segment.lo > 0 && is_in_range(range, segment.lo) {
+            hits.push(Hit {
+                rev: segment.lo,
+                segment: index,
+            })?;
+        }
+        Ok(())
+    }
+}
+
+/// Whether a revision is in a range, which has both its ends; without a range each one is.
+fn is_in_range(range: Option<(u32, u32)>, rev: u32) -> bool
+    ensures { result ≡ is_in_range range rev }
+{
+    match range {
+        Some((first, last)) => first <= rev && rev <= last,
+        None => true,
     }
 }
 

@@ -1,7 +1,0 @@
-use Rattle.std.proofs.Common.{map}
-use Rattle.path_index.proofs.HitsOfSegments.{AreHitsTo}
-use Rattle.path_index.specs.Index.{segment_view}
-use Rattle.path_index.proofs.index.Index.operative.Given as goal
-
-abbrev pub invariant-loop-index : goal.invariant-loop-index
-invariant-loop-index l = AreHitsTo l.self.records (map segment_view l.segments) l.index l.hits.items
