@@ -1,14 +1,15 @@
 -- The answer to a query, by what was found of its peg and of the peg's path.
-use Rattle.std.proofs.Common.{◌≡◌, ℕ, ◌<◌, ◌≤◌, Bool, true, false, List, [], ◌∷◌, Option, Some, None, option_map, length, map, bytes_eq, refl, sym, ap, ap₂, subst, ◌∙◌}
+use Rattle.std.proofs.Common.{◌≡◌, ℕ, ◌<◌, ◌≤◌, Bool, true, false, List, [], ◌∷◌, Option, Some, None, filter, option_map, length, map, bytes_eq, refl, sym, ap, ap₂, subst, ◌∙◌}
 use Rattle.std.specs.Prelude.{◌++◌, if◌then◌else◌, nat_le, All, Err, Vec, codes, decimal, filter_map, flat_map, option_and_then, reverse, slice_get, zero, suc}
 use Rattle.std.specs.declared.alloc.Global.{Global}
 use Rattle.std.proofs.lemmas.List.{reverse-reverse}
-use Rattle.std.proofs.lemmas.List.Elements.{All-cons, All-head, All-nil, All-tail}
+use Rattle.std.proofs.lemmas.List.Elements.{All-cons, All-filter, All-head, All-nil, All-tail, All-weaker}
 use Rattle.std.proofs.lemmas.Bool.{le-leb, lt-leb}
 use Rattle.std.specs.Borrow.{Bor}
 use Rattle.path_index.specs.History.{history_to, trees_to}
 use Rattle.path_index.specs.Index.{AreMaximal, IndexValue, IsThere, IsWhole, segment_view}
 use Rattle.path_index.specs.Operative.{operative_of}
+use Rattle.path_index.specs.Range.{is_in_range}
 use Rattle.path_index.specs.Segment.{rename_segment, segments_of}
 use Rattle.path_index.specs.declared.hit.Hit.{Hit}
 use Rattle.path_index.specs.declared.segment.Segment.{Segment as KeptSegment}
@@ -27,18 +28,20 @@ use Rattle.query_answer.specs.Answer.{Answer, IsAnswer, IsLocationOf, HasPathOf,
 use Rattle.query_answer.specs.Peg.{Peg, PegValue, peg_view}
 use Rattle.query_answer.specs.Query.{bad, eligible, locate, log, merged, mergeinfo, segments}
 use Rattle.query_answer.specs.Held.{held_value}
-use Rattle.query_answer.specs.Repo.{IsPair, IsPathFound, IsPegFound, IsRepo, with_peg_in, with_pair_in, effective_in, eligible_answer, eligible_in, index_of, locate_answer, log_answer, merged_answer, merged_in, mergeinfo_answer, pair_answer, peg_found, segments_answer, trees_in_bytes}
+use Rattle.query_answer.specs.Repo.{IsPair, IsPathFound, IsPegFound, IsRepo, with_peg_in, with_pair_in, effective_in, eligible_answer, eligible_in, index_of, locate_answer, log_answer, merged_answer, merged_in, mergeinfo_answer, pair_answer, peg_found, segments_answer, trees_in_bytes, verb_answer}
 use Rattle.query_answer.specs.declared.answers.Answer.TheVariants as kept
 use Rattle.query_answer.specs.declared.merged_revision.MergedRevision.{MergedRevision}
 use Rattle.query_answer.specs.declared.held_mergeinfo.HeldMergeinfo.{HeldMergeinfo}
 use Rattle.query_answer.specs.declared.verbs.pair.Pair.{Pair}
+use Rattle.query_answer.specs.declared.verbs.pair.PairVerb.{PairVerb}
+use Rattle.query_answer.specs.declared.verbs.pair.PairVerb.TheVariants as verb
 use Rattle.query_answer.specs.declared.verbs.pair.Wanted.{Wanted}
-use Rattle.query_answer.specs.declared.verbs.pair.Wanted.TheVariants as wanted
 use Rattle.block_map.specs.Map.{MapValue}
 use Rattle.query_answer.specs.declared.status.Status.{Status}
 use Rattle.query_answer.specs.declared.status.Status.TheVariants as status
-use Rattle.query_answer.proofs.OperativeLocations.{found-map, found_of_hit}
-use Rattle.query_answer.proofs.SourceRevisions.{found-found_by}
+use Rattle.query_answer.proofs.OperativeLocations.{HasLocation, operative_of-located}
+use Rattle.query_answer.proofs.RangeFilters.{filter-reverse, map-filter_map}
+use Rattle.query_answer.proofs.SourceRevisions.{KeepsRevision, found-in_range, found_by, found_by_name}
 use Rattle.query_answer.proofs.InBytes.{IsWhole-index_of, location-in_bytes, location-of_names, segments-in_bytes, segments-of_names}
 
 -- ---- by what was found of the peg
@@ -79,23 +82,27 @@ module _ (history : HistoryOfBytes) (trees : TreesOfBytes) where
   unfolding answer_of
   answer_of-segments peg = refl
 
-  pub answer_of-log : (peg : Peg) → answer_of history trees (log peg) ≡ if_peg_exists trees peg (ok_answer (log_lines history trees peg))
+  pub answer_of-log : (peg : Peg) (range : Option (ℕ × ℕ))
+      → answer_of history trees (log peg range)
+      ≡ if_peg_exists trees peg (ok_answer (log_lines history trees peg range))
   unfolding answer_of
-  answer_of-log peg = refl
+  answer_of-log peg range = refl
 
   pub answer_of-mergeinfo : (peg : Peg) → answer_of history trees (mergeinfo peg) ≡ if_peg_exists trees peg (with_effective_mergeinfo trees peg (λ value. ok_answer (mergeinfo_lines value)))
   unfolding answer_of
   answer_of-mergeinfo peg = refl
 
-  pub answer_of-merged : (source target : Peg) → answer_of history trees (merged source target)
-      ≡ if_both_exist trees source target (λ value. ok_answer (merged_lines history trees source value))
+  pub answer_of-merged : (source target : Peg) (range : Option (ℕ × ℕ))
+      → answer_of history trees (merged source target range)
+      ≡ if_both_exist trees source target (λ value. ok_answer (merged_lines history trees source range value))
   unfolding answer_of
-  answer_of-merged source target = refl
+  answer_of-merged source target range = refl
 
-  pub answer_of-eligible : (source target : Peg) → answer_of history trees (eligible source target)
-      ≡ if_both_exist trees source target (λ value. ok_answer (eligible_lines history trees source target value))
+  pub answer_of-eligible : (source target : Peg) (range : Option (ℕ × ℕ))
+      → answer_of history trees (eligible source target range)
+      ≡ if_both_exist trees source target (λ value. ok_answer (eligible_lines history trees source target range value))
   unfolding answer_of
-  answer_of-eligible source target = refl
+  answer_of-eligible source target range = refl
 
 -- an answer without result lines
 pub IsAnswer-Refused : (names : List (List ℕ)) (answer : Answer) (status : Status) → answer ≡ refused_answer status → IsAnswer names answer (kept.Refused status)
@@ -121,13 +128,26 @@ path_at-in_bytes names [] n = refl
 path_at-in_bytes names (segment ∷ kept) zero = refl
 path_at-in_bytes names (segment ∷ kept) (suc n) = path_at-in_bytes names kept n
 
--- the line of an operative revision is that of its location
+-- what `log` finds in an operative revision, and its line
+abbrev found_here : List (List ℕ) → ℕ → Option (List (List ℕ) × ℕ)
+found_here here rev = Some (here, rev)
+
+abbrev found_line : List (List ℕ) × ℕ → List ℕ
+found_line each = log_line each.0 each.1
+
+found_here-keeps : KeepsRevision found_here (λ each. each.1)
+found_here-keeps here rev each some = cc
+
+-- the line is that of the revision's location
 hit_line-found : (names : List (List ℕ)) (kept : List KeptSegment) (hit : Hit) (path : List NameId)
     → option_and_then (λ segment. segment.path) (slice_get (map segment_view kept) hit.segment) ≡ Some path
-    → Some (log_line (components_of names path) hit.rev) ≡ Some (hit_line (segments_in_bytes names kept) hit)
+    → option_map found_line (found_by_name names kept found_here hit)
+    ≡ Some (hit_line (segments_in_bytes names kept) hit)
 hit_line-found names kept hit path at =
-    ap (λ located. Some (codes "r" ++ decimal hit.rev ++ codes " " ++ location_line located))
-    (sym (path_at-in_bytes names kept hit.segment ∙ ap (option_map (components_of names)) (sym (path_at-view kept hit.segment) ∙ at)))
+    let same = sym (path_at-view kept hit.segment) ∙ at in
+    rw at
+    (ap (λ located. Some (codes "r" ++ decimal hit.rev ++ codes " " ++ location_line located))
+    (sym (path_at-in_bytes names kept hit.segment ∙ ap (option_map (components_of names)) same)))
   where
     path_at-view : (some : List KeptSegment) (n : ℕ)
         → option_and_then (λ segment. segment.path) (slice_get (map segment_view some) n) ≡ option_and_then (λ segment. segment.path) (slice_get some n)
@@ -160,32 +180,52 @@ module _ (dump : DumpValue) (peg : PegValue) (path : List NameId) (found : IsPat
       same = ap (λ all. ok_answer (map segment_line all)) kept_in_bytes ∙ sym (found.answered (λ each. ok_answer (segments_lines (trees_in_bytes dump) each)));
     }
 
-    -- a line for each operative revision
-    pub IsAnswer-Log : (maximal : AreMaximal (index_of dump) path peg.rev kept_segments.items) (hits : Vec Hit Global)
-        → hits.items ≡ operative_of same_name (history_to dump.records peg.rev) (trees_to dump.records peg.rev) (map segment_view kept_segments.items)
-        → IsAnswer dump.names (log_answer dump peg) (kept.Log kept_segments hits)
-    IsAnswer-Log maximal hits hits_are = record {
-      names_of = kept_names;
-      same = ap ok_answer lines ∙ sym (found.answered (λ each. ok_answer (log_lines (history_in_bytes dump) (trees_in_bytes dump) each)));
-    }
-      where
-        find : List (List ℕ) → ℕ → Option (List ℕ)
-        find here rev = Some (log_line here rev)
+    -- a line for each operative revision in the range
+    module _ (maximal : AreMaximal (index_of dump) path peg.rev kept_segments.items)
+        (range : Option (ℕ × ℕ)) (hits : Vec Hit Global)
+        (hits_are : hits.items ≡ filter (λ hit. is_in_range range hit.rev)
+        (operative_of same_name (history_to dump.records peg.rev) (trees_to dump.records peg.rev)
+        (map segment_view kept_segments.items))) where
+      -- the segments of these have paths
+      hits_located : All (HasLocation (map segment_view kept_segments.items)) hits.items
+      hits_located =
+          let segments = map segment_view kept_segments.items in
+          let history = history_to dump.records peg.rev in
+          let trees = trees_to dump.records peg.rev in
+          rw hits_are
+          (All-filter (λ hit. is_in_range range hit.rev) (HasLocation segments)
+          (operative_of same_name history trees segments) (operative_of-located segments same_name history trees))
 
-        each_line : map (hit_line (segments_in_bytes dump.names kept_segments.items)) hits.items
-            ≡ filter_map (found_of_hit (λ located. find (components_of dump.names located)) (map segment_view kept_segments.items)) hits.items
-        each_line =
-            rw hits_are
-            (sym (found-map same_name (history_to dump.records peg.rev) (trees_to dump.records peg.rev) (map segment_view kept_segments.items)
-            (hit_line (segments_in_bytes dump.names kept_segments.items)) (λ located. find (components_of dump.names located))
-            (hit_line-found dump.names kept_segments.items)))
+      -- the lines are those of what is found
+      hit_lines-found : map (hit_line (segments_in_bytes dump.names kept_segments.items)) hits.items
+          ≡ map found_line (filter_map (found_by_name dump.names kept_segments.items found_here) hits.items)
+      hit_lines-found =
+          let find = found_by_name dump.names kept_segments.items found_here in
+          let line = hit_line (segments_in_bytes dump.names kept_segments.items) in
+          sym (map-filter_map find found_line line hits.items
+          (All-weaker (HasLocation (map segment_view kept_segments.items))
+          (λ hit. option_map found_line (find hit) ≡ Some (line hit))
+          (λ hit at. hit_line-found dump.names kept_segments.items hit at.0 at.1) hits.items hits_located))
 
-        lines : map (hit_line (segments_in_bytes dump.names kept_segments.items)) hits.items
-            ≡ log_lines (history_in_bytes dump) (trees_in_bytes dump) (peg_found dump peg path)
-        lines =
-            each_line
-            ∙ sym (reverse-reverse (filter_map (found_of_hit (λ located. find (components_of dump.names located)) (map segment_view kept_segments.items)) hits.items))
-            ∙ ap reverse (found-found_by dump found.kept path peg.rev found.within kept_segments.items hits.items is maximal hits_are find)
+      hit_lines-log : map (hit_line (segments_in_bytes dump.names kept_segments.items)) hits.items
+          ≡ log_lines (history_in_bytes dump) (trees_in_bytes dump) (peg_found dump peg path) range
+      hit_lines-log =
+          hit_lines-found
+          ∙ ap (map found_line)
+          (sym (reverse-reverse (filter_map (found_by_name dump.names kept_segments.items found_here) hits.items))
+          ∙ ap reverse
+          (found-in_range dump found.kept path peg.rev found.within kept_segments.items is maximal found_here
+          (λ each. each.1) found_here-keeps range hits.items hits_are)
+          ∙ sym (filter-reverse (λ each. is_in_range range each.1) (found_by dump path peg.rev found_here)))
+
+      pub IsAnswer-Log : IsAnswer dump.names (log_answer dump peg range) (kept.Log kept_segments hits)
+      IsAnswer-Log = record {
+        names_of = kept_names;
+        same =
+            let history = history_in_bytes dump in
+            let trees = trees_in_bytes dump in
+            ap ok_answer hit_lines-log ∙ sym (found.answered (λ each. ok_answer (log_lines history trees each range)));
+      }
 
 -- the mergeinfo that holds for the path
 module _ (dump : DumpValue) (peg : PegValue) (path : List NameId) (found : IsPathFound dump peg path) (value : Option MergeInfoValue) (is : value ≡ effective_in dump path peg.rev) where
@@ -225,10 +265,16 @@ module _ (dump : DumpValue) (source target : PegValue) (answer : Peg → Peg →
 pub IsAnswer-Pair_refused : (dump : DumpValue) (wanted : Wanted) (source target : PegValue) (status : Status)
     → ((answer : Peg → Peg → MergeInfoValue → Answer) → with_pair_in dump source target answer ≡ refused_answer status)
     → IsAnswer dump.names (pair_answer dump wanted source target) (kept.Refused status)
-IsAnswer-Pair_refused dump wanted.Merged source target status refused =
-    IsAnswer-Refused dump.names _ status (refused (λ from to value. ok_answer (merged_lines (history_in_bytes dump) (trees_in_bytes dump) from value)))
-IsAnswer-Pair_refused dump wanted.Eligible source target status refused =
-    IsAnswer-Refused dump.names _ status (refused (λ from to value. ok_answer (eligible_lines (history_in_bytes dump) (trees_in_bytes dump) from to value)))
+IsAnswer-Pair_refused dump wanted source target status refused = by wanted.verb
+  where
+    by : (each : PairVerb)
+        → IsAnswer dump.names (verb_answer dump each source target wanted.range) (kept.Refused status)
+    by verb.Merged =
+        let lines = merged_lines (history_in_bytes dump) (trees_in_bytes dump) in
+        IsAnswer-Refused dump.names _ status (refused (λ from to value. ok_answer (lines from wanted.range value)))
+    by verb.Eligible =
+        let lines = eligible_lines (history_in_bytes dump) (trees_in_bytes dump) in
+        IsAnswer-Refused dump.names _ status (refused (λ from to value. ok_answer (lines from to wanted.range value)))
 
 -- the revisions of a pair
 module _ (dump : DumpValue) (source target : PegValue) (pair : Pair) (found : IsPair dump source target pair) where
@@ -243,17 +289,28 @@ module _ (dump : DumpValue) (source target : PegValue) (pair : Pair) (found : Is
     with_pair_in-held answer =
         found.answered answer ∙ ap (λ each. with_value each (answer (peg_found dump source pair.source) (peg_found dump target pair.target.path))) is
 
-    pub IsAnswer-Merged : (revisions : Vec MergedRevision Global) → revisions.items ≡ merged_in dump source pair held → IsAnswer dump.names (merged_answer dump source target) (kept.Merged revisions)
-    IsAnswer-Merged revisions are = record {
-      names_of = tt;
-      same = ap (λ all. ok_answer (map merged_line all)) are ∙ sym (with_pair_in-held (λ from to value. ok_answer (merged_lines (history_in_bytes dump) (trees_in_bytes dump) from value)));
-    }
+    module _ (range : Option (ℕ × ℕ)) where
+      pub IsAnswer-Merged : (revisions : Vec MergedRevision Global)
+          → revisions.items ≡ merged_in dump source pair range held
+          → IsAnswer dump.names (merged_answer dump source target range) (kept.Merged revisions)
+      IsAnswer-Merged revisions are = record {
+        names_of = tt;
+        same =
+            let lines = merged_lines (history_in_bytes dump) (trees_in_bytes dump) in
+            ap (λ all. ok_answer (map merged_line all)) are
+            ∙ sym (with_pair_in-held (λ from to value. ok_answer (lines from range value)));
+      }
 
-    pub IsAnswer-Eligible : (revisions : Vec ℕ Global) → revisions.items ≡ eligible_in dump source target pair held → IsAnswer dump.names (eligible_answer dump source target) (kept.Eligible revisions)
-    IsAnswer-Eligible revisions are = record {
-      names_of = tt;
-      same = ap (λ all. ok_answer (map eligible_line all)) are ∙ sym (with_pair_in-held (λ from to value. ok_answer (eligible_lines (history_in_bytes dump) (trees_in_bytes dump) from to value)));
-    }
+      pub IsAnswer-Eligible : (revisions : Vec ℕ Global)
+          → revisions.items ≡ eligible_in dump source target pair range held
+          → IsAnswer dump.names (eligible_answer dump source target range) (kept.Eligible revisions)
+      IsAnswer-Eligible revisions are = record {
+        names_of = tt;
+        same =
+            let lines = eligible_lines (history_in_bytes dump) (trees_in_bytes dump) in
+            ap (λ all. ok_answer (map eligible_line all)) are
+            ∙ sym (with_pair_in-held (λ from to value. ok_answer (lines from to range value)));
+      }
 
 -- ---- what is written
 

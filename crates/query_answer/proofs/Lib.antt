@@ -7,6 +7,7 @@ mod OperativeLocations
 mod PathSegments
 mod PegsFound
 pub mod Queries
+mod RangeFilters
 pub mod RevisionTicks
 mod SourceRevisions
 mod TreeEntries

@@ -1,9 +1,9 @@
 -- The locations of a path in its operative revisions, by its segments and their operative revisions.
-use Rattle.std.proofs.Common.{◌≡◌, ℕ, zero, suc, pred, ◌+◌, ◌-◌, ◌<◌, ◌≤◌, Bool, true, false, if◌then◌else◌, List, [], ◌∷◌, ◌++◌, Option, Some, None, drop, filter, get_or, length, map, reverse, option_map, slice_get, take, refl, sym, ap, ap₂, ◌∙◌, append-nil, arith}
+use Rattle.std.proofs.Common.{◌≡◌, ℕ, zero, suc, pred, ◌+◌, ◌-◌, ◌<◌, ◌≤◌, Bool, true, false, if◌then◌else◌, List, [], ◌∷◌, ◌++◌, Option, Some, None, All, drop, filter, get_or, length, map, reverse, option_map, slice_get, take, refl, sym, ap, ap₂, ◌∙◌, append-nil, arith}
 use Rattle.std.specs.Prelude.{filter_map, option_and_then}
 use Rattle.std.specs.List.{cons_option, range_with_len}
-use Rattle.std.proofs.lemmas.List.{map-append, map-id, reverse-append, take_more}
-use Rattle.std.proofs.lemmas.List.Elements.{filter_map-append}
+use Rattle.std.proofs.lemmas.List.{map-id, reverse-append, take_more}
+use Rattle.std.proofs.lemmas.List.Elements.{All-append, All-cons, All-nil, filter_map-append}
 use Rattle.std.proofs.lemmas.List.FromFn.{map-range_with_len_more}
 use Rattle.svn_dump.specs.History.{History, rename_history}
 use Rattle.svn_dump.specs.Location.{location}
@@ -146,41 +146,44 @@ module _ {C M X : Type 0} (same : C → C → Bool) (history : History C M) (tre
       ∙ ap (λ n. filter_map found_at (reverse (down_from n top))) e ∙ ap (filter_map found_at) (reverse-down_from top)
       ∙ ap (λ n. filter_map found_at (range_with_len 0 n)) (sym e)
 
--- ---- one line for each operative revision
+-- ---- the location in each operative revision
 
-module _ {C M X : Type 0} (same : C → C → Bool) (history : History C M) (trees : List (Tree C M)) (all : List (Segment C)) (line : Hit → X) (find : List C → ℕ → Option X)
-    (finds : (hit : Hit) (path : List C) → option_and_then (λ segment. segment.path) (slice_get all hit.segment) ≡ Some path → find path hit.rev ≡ Some (line hit)) where
-  -- in a segment with a path
-  each_in : (number : ℕ) (path : List C) → option_and_then (λ segment. segment.path) (slice_get all number) ≡ Some path → (revs : List ℕ)
-      → filter_map (found_of_hit find all) (map (hit_at number) revs) ≡ map line (map (hit_at number) revs)
-  each_in number path at [] = refl
-  each_in number path at (rev ∷ revs) =
-      let here : found_of_hit find all (hit_at number rev) ≡ Some (line (hit_at number rev)) =
-      ap (option_and_then (λ each. find each rev)) at ∙ finds (hit_at number rev) path at in
-      rw (here, each_in number path at revs) refl
+module _ {C : Type 0} (all : List (Segment C)) where
+  -- the segment of the revision has a path
+  abbrev pub HasLocation : Hit → Type 0
+  HasLocation hit =
+      (path : List C) × (option_and_then (λ segment. segment.path) (slice_get all hit.segment) ≡ Some path)
 
-  each_of : (number : ℕ) (segment : Segment C) → slice_get all number ≡ Some segment → (path : Option (List C)) → segment.path ≡ path
-      → filter_map (found_of_hit find all) (map (hit_at number) (operative_in same history trees segment path)) ≡ map line (map (hit_at number) (operative_in same history trees segment path))
-  each_of number segment is None at = refl
-  each_of number segment is (Some path) at =
-      each_in number path (ap (option_and_then (λ each. each.path)) is ∙ at) (filter (is_operative same history trees path) (down_from (segment.hi + 1 - segment.lo) segment.hi))
+  module _ {M : Type 0} (same : C → C → Bool) (history : History C M) (trees : List (Tree C M)) where
+    each_in : (number : ℕ) (path : List C)
+        → option_and_then (λ segment. segment.path) (slice_get all number) ≡ Some path
+        → (revs : List ℕ) → All HasLocation (map (hit_at number) revs)
+    each_in number path at [] = All-nil HasLocation
+    each_in number path at (rev ∷ revs) =
+        All-cons HasLocation (hit_at number rev) (map (hit_at number) revs) (path, at) (each_in number path at revs)
 
-  each_from : (number : ℕ) (segments : List (Segment C)) → drop number all ≡ segments
-      → filter_map (found_of_hit find all) (operative_from same history trees number segments) ≡ map line (operative_from same history trees number segments)
-  unfolding operative_from
-  each_from number [] so = refl
-  each_from number (segment ∷ segments) so =
-      let more : number + 1 ≡ suc number = omega arith in
-      let here = map (hit_at number) (operative_in same history trees segment segment.path) in
-      let rest = operative_from same history trees (number + 1) segments in
-      filter_map-append (found_of_hit find all) here rest
-      ∙ ap₂ (λ front back. front ++ back) (each_of number segment (slice_get_drop all number segment segments so) segment.path refl)
-      (each_from (number + 1) segments (ap (λ n. drop n all) more ∙ drop_rest all number segment segments so))
-      ∙ sym (map-append line here rest)
+    each_of : (number : ℕ) (segment : Segment C) → slice_get all number ≡ Some segment
+        → (path : Option (List C)) → segment.path ≡ path
+        → All HasLocation (map (hit_at number) (operative_in same history trees segment path))
+    each_of number segment is None at = All-nil HasLocation
+    each_of number segment is (Some path) at =
+        each_in number path (ap (option_and_then (λ each. each.path)) is ∙ at)
+        (filter (is_operative same history trees path) (down_from (segment.hi + 1 - segment.lo) segment.hi))
 
-  -- the operative revisions of segments are all found, where a line is found for each segment with a path
-  pub found-map : filter_map (found_of_hit find all) (operative_of same history trees all) ≡ map line (operative_of same history trees all)
-  found-map = each_from 0 all refl
+    each_from : (number : ℕ) (segments : List (Segment C)) → drop number all ≡ segments
+        → All HasLocation (operative_from same history trees number segments)
+    unfolding operative_from
+    each_from number [] so = All-nil HasLocation
+    each_from number (segment ∷ segments) so =
+        let more : number + 1 ≡ suc number = omega arith in
+        All-append HasLocation (map (hit_at number) (operative_in same history trees segment segment.path))
+        (operative_from same history trees (number + 1) segments)
+        (each_of number segment (slice_get_drop all number segment segments so) segment.path refl)
+        (each_from (number + 1) segments (ap (λ n. drop n all) more ∙ drop_rest all number segment segments so))
+
+    -- that of each operative revision of the segments has one
+    pub operative_of-located : All HasLocation (operative_of same history trees all)
+    operative_of-located = each_from 0 all refl
 
 -- ---- renaming
 

@@ -1,13 +1,14 @@
 -- The segments of a path of a repository, and their operative revisions.
-use Rattle.std.proofs.Common.{◌≡◌, ℕ, zero, suc, ◌+◌, ◌<◌, ◌≤◌, List, [], ◌∷◌, Option, None, get_or, length, ltb, map, sym, ap, subst, ◌∙◌, arith}
+use Rattle.std.proofs.Common.{◌≡◌, ℕ, zero, suc, ◌+◌, ◌<◌, ◌≤◌, List, [], ◌∷◌, Option, None, filter, get_or, length, ltb, map, sym, ap, subst, ◌∙◌, arith}
 use Rattle.std.specs.Prelude.{All, IfOk, Ok, Err, Result, Vec}
 use Rattle.std.specs.List.Sorted.{IsPartitionedBy}
 use Rattle.std.proofs.lemmas.Bool.{lt-ltb, ltb-true}
 use Rattle.std.specs.declared.alloc.AllocError.{AllocError}
 use Rattle.std.specs.declared.alloc.Global.{Global}
 use Rattle.path_index.specs.History.{history_to, trees_to}
-use Rattle.path_index.specs.Index.{AreHitsOf, AreMaximal, AreSegmentsOf, IndexValue, location_in, segment_view}
+use Rattle.path_index.specs.Index.{AreHitsInRange, AreMaximal, AreSegmentsOf, IndexValue, location_in, segment_view}
 use Rattle.path_index.specs.Operative.{operative_of}
+use Rattle.path_index.specs.Range.{is_in_range}
 use Rattle.path_index.specs.Segment.{AreSegments}
 use Rattle.path_index.specs.declared.hit.Hit.{Hit}
 use Rattle.path_index.specs.declared.segment.Segment.{Segment}
@@ -39,11 +40,17 @@ module _ (dump : DumpValue) (index : IndexValue) (kept : MapValue) (ends : List 
   AreSegmentsIn-result (Ok segments) exact maximal = AreSegmentsIn-kept segments.items exact maximal
   AreSegmentsIn-result (Err e) exact maximal = tt
 
-pub AreHitsIn-kept : (dump : DumpValue) (index : IndexValue) (kept : MapValue) (ends : List ℕ) → IsRepo dump index kept ends → (segments : List Segment) (hits : List Hit) → AreHitsOf index segments hits → AreHitsIn dump segments hits
-AreHitsIn-kept dump index kept ends repo segments hits are = λ path rev there so.
-    let same : AreSegmentsOf index path rev segments = subst (λ each. AreSegmentsOf each path rev segments) (sym repo.index_is) so.exact in
-    subst (λ each. hits ≡ operative_of same_name (history_to each.records rev) (trees_to each.records rev) (map segment_view segments)) repo.index_is
-    (are path rev (IsThere-IsRepo dump index kept ends repo path rev there) same)
+pub AreHitsIn-kept : (dump : DumpValue) (index : IndexValue) (kept : MapValue) (ends : List ℕ)
+    → IsRepo dump index kept ends → (segments : List Segment) (range : Option (ℕ × ℕ)) (hits : List Hit)
+    → AreHitsInRange index segments range hits → AreHitsIn dump segments range hits
+AreHitsIn-kept dump index kept ends repo segments range hits are = λ path rev there so.
+    let same : AreSegmentsOf index path rev segments =
+    subst (λ each. AreSegmentsOf each path rev segments) (sym repo.index_is) so.exact in
+    let passes = λ (hit : Hit). is_in_range range hit.rev in
+    subst (λ each. hits
+    ≡ filter passes
+    (operative_of same_name (history_to each.records rev) (trees_to each.records rev) (map segment_view segments)))
+    repo.index_is (are path rev (IsThere-IsRepo dump index kept ends repo path rev there) same)
 
 -- the segments tell where the path was in each revision
 pub TellsLocations-AreSegmentsIn : (dump : DumpValue) (path : List NameId) (rev : ℕ) (segments : List Segment) → AreSegmentsIn dump path rev segments → TellsLocations (location_in dump.records path rev) segments

@@ -1,14 +1,16 @@
 -- What a line asks, by the cuts of the line.
-use Rattle.std.proofs.Common.{◌≡◌, ℕ, ◌==◌, Bool, List, [], ◌∷◌, Option, None, option_map, slice_index_or, refl, sym, ap, ◌∙◌, inl, inr}
+use Rattle.std.proofs.Common.{◌≡◌, ℕ, Bool, List, [], ◌∷◌, Option, None, option_map, refl, sym, ap, ◌∙◌, inl, inr}
 use Rattle.std.proofs.lemmas.Bool.{cases_Bool, false_from_ne_true}
 use Rattle.std.specs.List.{slice_split}
 use Rattle.svn_path.specs.Components.{HasDot}
 use Rattle.svn_text.specs.Number.{number_up_to, greatest_revision}
 use Rattle.svn_text.proofs.Lines.{list_any-Lacks}
-use Rattle.svn_text.specs.Cut.{IsCutAtLast, Lacks}
+use Rattle.svn_text.specs.Cut.{IsCutAt, IsCutAtLast, Lacks}
 use Rattle.query_answer.specs.Peg.{PegValue, peg_value_of}
-use Rattle.query_answer.specs.Query.{bad, peg_field, query_of, query_of_fields, query_of_pair, query_of_peg, third_field}
-use Rattle.svn_text.proofs.Cuts.{CutsFirst, slice_split-cut, slice_split-uncut, list_any-cut, before_last-cut, after_last-cut}
+use Rattle.query_answer.specs.Query.{bad, is_tab, query_of, query_of_fields}
+use Rattle.query_answer.specs.Range.{range_of}
+use Rattle.svn_text.proofs.Cuts.{CutsFirst-IsCutAt, slice_split-cut, slice_split-uncut}
+use Rattle.svn_text.proofs.Cuts.{list_any-cut, before_last-cut, after_last-cut}
 
 -- the parts of bytes are never none
 pub slice_split-some : (p : ℕ → Bool) (bytes : List ℕ) → (first : List ℕ) × (more : List (List ℕ)) × (slice_split p bytes ≡ first ∷ more)
@@ -33,40 +35,38 @@ peg_value_of-dot field path rev cut dot = sym (rw (list_any-cut 64 field path re
 pub peg_value_of-uncut : (field : List ℕ) → Lacks 64 field → None ≡ peg_value_of field
 peg_value_of-uncut field none = sym (rw (list_any-Lacks 64 field none) refl)
 
+-- a field without a colon is no range
+pub range_of-uncut : (field : List ℕ) → Lacks 58 field → None ≡ range_of field
+range_of-uncut field none = sym (rw (list_any-Lacks 58 field none) refl)
+
 -- ---- fields
 
-two_fields : (line first rest : List ℕ) → CutsFirst 9 line first rest → Lacks 9 rest → slice_split (λ each. each == 9) line ≡ first ∷ rest ∷ []
-two_fields line first rest cut none = rw (slice_split-cut 9 line first rest cut, slice_split-uncut 9 rest none) refl
+split-cut : {line field rest : List ℕ} → IsCutAt 9 line field rest
+    → slice_split is_tab line ≡ field ∷ slice_split is_tab rest
+split-cut {line} {field} {rest} cut = slice_split-cut 9 line field rest (CutsFirst-IsCutAt 9 line field rest cut)
 
--- a line without a tab
-pub query_of-uncut : (line : List ℕ) → Lacks 9 line → query_of line ≡ bad
-query_of-uncut line none = ap query_of_fields (slice_split-uncut 9 line none)
+-- those of a line without a tab, and of one with one tab, with two and with three
+pub one_field : {line : List ℕ} → Lacks 9 line → slice_split is_tab line ≡ line ∷ []
+one_field {line} none = slice_split-uncut 9 line none
 
--- a line with one
-pub query_of-two : (line verb peg : List ℕ) → CutsFirst 9 line verb peg → Lacks 9 peg → query_of line ≡ query_of_peg verb peg
-query_of-two line verb peg cut none = ap query_of_fields (two_fields line verb peg cut none)
+pub two_fields : {line verb rest : List ℕ} → IsCutAt 9 line verb rest → Lacks 9 rest
+    → slice_split is_tab line ≡ verb ∷ rest ∷ []
+two_fields {verb = verb} cut none = split-cut cut ∙ ap (λ fields. verb ∷ fields) (one_field none)
 
--- a line with two
-pub query_of-three : (line verb rest peg rev : List ℕ) → CutsFirst 9 line verb rest → CutsFirst 9 rest peg rev → Lacks 9 rev → query_of line ≡ query_of_pair verb peg rev
-query_of-three line verb rest peg rev cut again none =
-    ap query_of_fields (slice_split-cut 9 line verb rest cut ∙ ap (λ more. verb ∷ more) (two_fields rest peg rev again none))
+pub three_fields : {line verb rest peg more : List ℕ} → IsCutAt 9 line verb rest → IsCutAt 9 rest peg more
+    → Lacks 9 more → slice_split is_tab line ≡ verb ∷ peg ∷ more ∷ []
+three_fields {verb = verb} cut again none = split-cut cut ∙ ap (λ fields. verb ∷ fields) (two_fields again none)
 
--- the second field of a line with one tab and with two
-pub peg_field-two : (line verb peg : List ℕ) → CutsFirst 9 line verb peg → Lacks 9 peg → peg_field line ≡ peg
-peg_field-two line verb peg cut none = ap (λ fields. slice_index_or fields 1 []) (two_fields line verb peg cut none)
+pub four_fields : {line verb rest peg more field last : List ℕ} → IsCutAt 9 line verb rest → IsCutAt 9 rest peg more
+    → IsCutAt 9 more field last → Lacks 9 last → slice_split is_tab line ≡ verb ∷ peg ∷ field ∷ last ∷ []
+four_fields {verb = verb} cut again third none =
+    split-cut cut ∙ ap (λ fields. verb ∷ fields) (three_fields again third none)
 
-pub peg_field-three : (line verb rest peg rev : List ℕ) → CutsFirst 9 line verb rest → CutsFirst 9 rest peg rev → Lacks 9 rev → peg_field line ≡ peg
-peg_field-three line verb rest peg rev cut again none =
-    ap (λ fields. slice_index_or fields 1 []) (slice_split-cut 9 line verb rest cut ∙ ap (λ more. verb ∷ more) (two_fields rest peg rev again none))
-
--- the third field of a line with two tabs
-pub third_field-three : (line verb rest peg field : List ℕ) → CutsFirst 9 line verb rest → CutsFirst 9 rest peg field → Lacks 9 field → third_field line ≡ field
-third_field-three line verb rest peg field cut again none =
-    ap (λ fields. slice_index_or fields 2 []) (slice_split-cut 9 line verb rest cut ∙ ap (λ more. verb ∷ more) (two_fields rest peg field again none))
-
--- a line with more
-pub query_of-four : (line verb rest peg more rev last : List ℕ) → CutsFirst 9 line verb rest → CutsFirst 9 rest peg more → CutsFirst 9 more rev last → query_of line ≡ bad
-query_of-four line verb rest peg more rev last cut again third =
-    let (next, others, same) = slice_split-some (λ each. each == 9) last in
-    ap query_of_fields (slice_split-cut 9 line verb rest cut ∙ ap (λ fields. verb ∷ fields) (slice_split-cut 9 rest peg more again
-    ∙ ap (λ fields. peg ∷ fields) (slice_split-cut 9 more rev last third ∙ ap (λ fields. rev ∷ fields) same)))
+-- a line with more tabs
+pub query_of-more : {line verb rest peg more field last range others : List ℕ} → IsCutAt 9 line verb rest
+    → IsCutAt 9 rest peg more → IsCutAt 9 more field last → IsCutAt 9 last range others → query_of line ≡ bad
+query_of-more {verb = verb} {peg = peg} {field = field} {range = range} {others = others} cut again third fourth =
+    let (next, fields, same) = slice_split-some is_tab others in
+    ap query_of_fields
+    (split-cut cut ∙ ap (λ all. verb ∷ all) (split-cut again ∙ ap (λ all. peg ∷ all) (split-cut third
+    ∙ ap (λ all. field ∷ all) (split-cut fourth ∙ ap (λ all. range ∷ all) same))))

@@ -1,11 +1,12 @@
 -- What is found at the operative revisions of a source, by its kept segments.
-use Rattle.std.proofs.Common.{◌≡◌, ℕ, zero, suc, ◌+◌, ◌<◌, Bool, true, false, not, ◌&&◌, if◌then◌else◌, List, [], ◌∷◌, Option, Some, None, IfSome, All, option_map, is_none, length, map, reverse, slice_get, bytes_eq, refl, sym, ap, subst, ◌∙◌}
+use Rattle.std.proofs.Common.{◌≡◌, ℕ, zero, suc, ◌+◌, ◌<◌, Bool, true, false, not, ◌&&◌, if◌then◌else◌, List, [], ◌∷◌, Option, Some, None, IfSome, All, filter, option_map, is_none, length, map, reverse, slice_get, bytes_eq, refl, sym, ap, subst, ◌∙◌}
 use Rattle.std.proofs.lemmas.List.Elements.{All-head, All-tail}
 use Rattle.std.specs.List.{range_with_len}
 use Rattle.std.specs.Prelude.{filter_map, option_and_then}
 use Rattle.path_index.specs.History.{history_to, trees_to}
 use Rattle.path_index.specs.Index.{location_in, segment_view}
 use Rattle.path_index.specs.Operative.{operative_of}
+use Rattle.path_index.specs.Range.{is_in_range}
 use Rattle.path_index.specs.Segment.{AreSegments, same_location, segments_of}
 use Rattle.path_index.specs.declared.hit.Hit.{Hit}
 use Rattle.path_index.specs.declared.segment.Segment.{Segment as KeptSegment}
@@ -19,7 +20,8 @@ use Rattle.merge_info.specs.Inherited.{inherited_revision}
 use Rattle.merge_info.specs.Value.{MergeInfoValue}
 use Rattle.query_answer.specs.Answer.{HasPathOf}
 use Rattle.query_answer.specs.Held.{IsHeldIn, held_ranges_at, held_ranges_in, held_value, is_inherited}
-use Rattle.query_answer.specs.Merged.{eligible_at, found_in, merged_at, merged_revision, operative_location, value_has}
+use Rattle.query_answer.specs.Merged.{RevisionsByPath, eligible_at, found_in, is_eligible, merged_at, merged_revision}
+use Rattle.query_answer.specs.Merged.{operative_location, value_has}
 use Rattle.query_answer.specs.SourceHits.{eligible_hit, eligible_of_hits, has_in, has_revision, is_eligible_from, lent_ranges, merged_hit, merged_of_hits, segment_path}
 use Rattle.query_answer.specs.declared.held_mergeinfo.HeldMergeinfo.{HeldMergeinfo}
 use Rattle.query_answer.specs.declared.verbs.source.SourceRanges.{SourceRanges}
@@ -27,6 +29,7 @@ use Rattle.query_answer.specs.Repo.{eligible_by, merged_by, location_by, trees_i
 use Rattle.query_answer.proofs.HeldRevisions.{held-has, some_have}
 use Rattle.query_answer.proofs.InBytes.{alike, hits-index, location-in_bytes, location-index, name, segments-index, text, trees-renamed, trees_by_number}
 use Rattle.query_answer.proofs.OperativeLocations.{found-operative_of, found_in-rename, found_of_hit}
+use Rattle.query_answer.proofs.RangeFilters.{filter-filter_map, filter-reverse}
 
 -- what is found at the locations of a path of the dump in its operative revisions
 abbrev pub found_by : {X : Type 0} → DumpValue → List NameId → ℕ → (List (List ℕ) → ℕ → Option X) → List X
@@ -102,37 +105,104 @@ module _ (names : List (List ℕ)) (table : IsTable names) (held : HeldMergeinfo
       → All (HasPathOf names) all → (hit : Hit) → has_in ranges hit ≡ option_and_then (λ located. value_has (held_value names held) (components_of names located) hit.rev) (segment_path all hit.segment)
   has_in-held ranges all are inherited each hit = (λ i. has_revision (inherited i) (are i) hit) ∙ has-held all each hit
 
+-- ---- by the kept segments and their operative revisions
+
+-- what is found at an operative revision, by the names of the dump
+abbrev pub found_by_name : {X : Type 0} → List (List ℕ) → List KeptSegment → (List (List ℕ) → ℕ → Option X) → Hit
+    → Option X
+found_by_name names segments find =
+    found_of_hit (λ located. find (components_of names located)) (map segment_view segments)
+
+-- what is found in a revision has that revision
+abbrev pub KeepsRevision : {X : Type 0} → (List (List ℕ) → ℕ → Option X) → (X → ℕ) → Type 0
+KeepsRevision {X} find revision_of =
+    (here : List (List ℕ)) (rev : ℕ) (x : X) → find here rev ≡ Some x → revision_of x ≡ rev
+
+merged_at-keeps : (has : RevisionsByPath (List ℕ)) → KeepsRevision (merged_at has) (λ revision. revision.rev)
+merged_at-keeps has here rev revision = by (has here rev)
+  where
+    by : (inheritable : Option Bool) → option_map (merged_revision rev) inheritable ≡ Some revision → revision.rev ≡ rev
+    by None none = cc
+    by (Some inheritable) some = cc
+
+eligible_at-keeps : (has : RevisionsByPath (List ℕ)) (target : ℕ → Option (List (List ℕ)))
+    → KeepsRevision (eligible_at bytes_eq has target) (λ rev. rev)
+eligible_at-keeps has target here rev found = by (is_eligible bytes_eq has target here rev)
+  where
+    by : (b : Bool) → (if b then Some rev else None) ≡ Some found → found ≡ rev
+    by true some = cc
+    by false none = cc
+
 module _ (dump : DumpValue) (kept : IsDump dump) (path : List NameId) (rev : ℕ) (within : rev < length dump.counts) where
-  module _ (segments : List KeptSegment) (hits : List Hit)
+  module _ (segments : List KeptSegment)
       (exact : map segment_view segments ≡ segments_of same_name (trees_to dump.records rev) path rev)
-      (maximal : AreSegments (location_in dump.records path rev) (rev + 1) (map segment_view segments))
-      (hits_are : hits ≡ operative_of same_name (history_to dump.records rev) (trees_to dump.records rev) (map segment_view segments)) where
+      (maximal : AreSegments (location_in dump.records path rev) (rev + 1) (map segment_view segments)) where
     all_maximal : AreSegments (location same_name (trees_by_number dump kept) path rev) (rev + 1) (map segment_view segments)
     all_maximal = subst (λ located. AreSegments located (rev + 1) (map segment_view segments)) (λ i k. location-index dump kept rev within path k i) maximal
 
-    all_hits : hits ≡ operative_of same_name (history_view dump) (trees_by_number dump kept) (map segment_view segments)
+    -- the operative revisions of the segments
+    abbrev all_hits : List Hit
     all_hits =
-        hits_are ∙ ap (operative_of same_name (history_to dump.records rev) (trees_to dump.records rev)) exact
+        operative_of same_name (history_to dump.records rev) (trees_to dump.records rev) (map segment_view segments)
+
+    all_hits-dump : all_hits
+        ≡ operative_of same_name (history_view dump) (trees_by_number dump kept) (map segment_view segments)
+    all_hits-dump =
+        ap (operative_of same_name (history_to dump.records rev) (trees_to dump.records rev)) exact
         ∙ hits-index dump kept rev within path
         ∙ ap (operative_of same_name (history_view dump) (trees_by_number dump kept)) (sym (exact ∙ segments-index dump kept rev within path))
 
-    -- what is found at the hits, by the names of the dump
-    pub found-found_by : {X : Type 0} (find : List (List ℕ) → ℕ → Option X)
-        → reverse (filter_map (found_of_hit (λ located. find (components_of dump.names located)) (map segment_view segments)) hits) ≡ found_by dump path rev find
-    found-found_by find =
-        ap (λ all. reverse (filter_map (found_of_hit (λ located. find (components_of dump.names located)) (map segment_view segments)) all)) all_hits
-        ∙ found-operative_of same_name (history_view dump) (trees_by_number dump kept) (location same_name (trees_by_number dump kept) path rev) (λ located. find (components_of dump.names located)) rev (map segment_view segments) all_maximal
-        ∙ sym (found_in-rename (name dump kept) (text dump kept) same_name bytes_eq (alike dump kept) (history_view dump) (trees_by_number dump kept) path rev find)
-        ∙ ap (λ trees. found_in bytes_eq (history_in_bytes dump) trees (components_of dump.names path) rev find) (sym (trees-renamed dump kept))
+    module _ {X : Type 0} (find : List (List ℕ) → ℕ → Option X) where
+      -- what is found at all of them
+      found-found_by : reverse (filter_map (found_by_name dump.names segments find) all_hits)
+          ≡ found_by dump path rev find
+      found-found_by =
+          let history = history_view dump in
+          let trees = trees_by_number dump kept in
+          ap (λ all. reverse (filter_map (found_by_name dump.names segments find) all)) all_hits-dump
+          ∙ found-operative_of same_name history trees (location same_name trees path rev)
+          (λ located. find (components_of dump.names located)) rev (map segment_view segments) all_maximal
+          ∙ sym (found_in-rename (name dump kept) (text dump kept) same_name bytes_eq (alike dump kept)
+          history trees path rev find)
+          ∙ ap (λ all. found_in bytes_eq (history_in_bytes dump) all (components_of dump.names path) rev find)
+          (sym (trees-renamed dump kept))
 
-    module _ (value : MergeInfoValue) (has : Hit → Option Bool)
+      -- what is found at those in a range is what is found in the range
+      module _ (revision_of : X → ℕ) (keeps : KeepsRevision find revision_of)
+          (range : Option (ℕ × ℕ)) (hits : List Hit)
+          (hits_are : hits ≡ filter (λ hit. is_in_range range hit.rev) all_hits) where
+        agree : (hit : Hit) (x : X) → found_by_name dump.names segments find hit ≡ Some x
+            → is_in_range range (revision_of x) ≡ is_in_range range hit.rev
+        agree hit x = by (option_and_then (λ segment. segment.path) (slice_get (map segment_view segments) hit.segment))
+          where
+            by : (located : Option (List NameId))
+                → option_and_then (λ one. find (components_of dump.names one) hit.rev) located ≡ Some x
+                → is_in_range range (revision_of x) ≡ is_in_range range hit.rev
+            by None none = cc
+            by (Some one) some = ap (is_in_range range) (keeps (components_of dump.names one) hit.rev x some)
+
+        pub found-in_range : reverse (filter_map (found_by_name dump.names segments find) hits)
+            ≡ filter (λ x. is_in_range range (revision_of x)) (found_by dump path rev find)
+        found-in_range =
+            let found = found_by_name dump.names segments find in
+            let passes = λ (x : X). is_in_range range (revision_of x) in
+            ap (λ some. reverse (filter_map found some)) hits_are
+            ∙ ap reverse (sym (filter-filter_map found (λ hit. is_in_range range hit.rev) passes agree all_hits))
+            ∙ sym (filter-reverse passes (filter_map found all_hits)) ∙ ap (filter passes) found-found_by
+
+    module _ (range : Option (ℕ × ℕ)) (hits : List Hit)
+        (hits_are : hits ≡ filter (λ hit. is_in_range range hit.rev) all_hits)
+        (value : MergeInfoValue) (has : Hit → Option Bool)
         (has_is : (hit : Hit) → has hit ≡ option_and_then (λ located. value_has value (components_of dump.names located) hit.rev) (segment_path segments hit.segment)) where
-      -- the merged revisions
-      pub merged-merged_by : merged_of_hits has hits ≡ merged_by dump path rev value
+      -- the merged revisions in the range
+      pub merged-merged_by : merged_of_hits has hits
+          ≡ filter (λ revision. is_in_range range revision.rev) (merged_by dump path rev value)
       merged-merged_by =
-          (λ i. reverse (filter_map (λ hit. merged_in dump.names value segments has has_is hit i) hits)) ∙ found-found_by (merged_at (value_has value))
+          (λ i. reverse (filter_map (λ hit. merged_in dump.names value segments has has_is hit i) hits))
+          ∙ found-in_range (merged_at (value_has value)) (λ revision. revision.rev) (merged_at-keeps (value_has value))
+          range hits hits_are
 
-      -- the eligible revisions
+      -- the eligible revisions in the range
       module _ (target : List NameId) (target_rev : ℕ) (target_within : target_rev < length dump.counts) where
         location_alike : (located : List NameId) (number : ℕ) → same_location bytes_eq (location_by dump target target_rev number) (Some (components_of dump.names located))
             ≡ same_location same_name (location_in dump.records target target_rev number) (Some located)
@@ -140,10 +210,13 @@ module _ (dump : DumpValue) (kept : IsDump dump) (path : List NameId) (rev : ℕ
             ap (λ found. same_location bytes_eq found (Some (components_of dump.names located))) (location-in_bytes dump kept target_rev target_within target number)
             ∙ same_location-rename (name dump kept) same_name bytes_eq (alike dump kept) (location_in dump.records target target_rev number) (Some located)
 
-        pub eligible-eligible_by : eligible_of_hits has segments (location_in dump.records target target_rev) hits ≡ eligible_by dump path rev target target_rev value
+        pub eligible-eligible_by : eligible_of_hits has segments (location_in dump.records target target_rev) hits
+            ≡ filter (is_in_range range) (eligible_by dump path rev target target_rev value)
         eligible-eligible_by =
+            let located = location_by dump target target_rev in
             (λ i. reverse (filter_map (λ hit. eligible_in dump.names value segments has has_is (location_in dump.records target target_rev) (location_by dump target target_rev) location_alike hit i) hits))
-            ∙ found-found_by (eligible_at bytes_eq (value_has value) (location_by dump target target_rev))
+            ∙ found-in_range (eligible_at bytes_eq (value_has value) located) (λ each. each)
+            (eligible_at-keeps (value_has value) located) range hits hits_are
 
 -- ---- a value without paths
 

@@ -1,7 +1,8 @@
 -- The answer to a query on a history in bytes: a status, and for `ok` the result lines.
-use Rattle.std.specs.Prelude.{◌≡◌, ℕ, ◌+◌, nat_le, Bool, true, false, List, [], ◌∷◌, ◌++◌, Option, Some, None, All, IfSome, codes, decimal, flat_map, length, map, option_and_then, option_map, reverse, slice_get, bytes_eq, if◌then◌else◌}
+use Rattle.std.specs.Prelude.{◌≡◌, ℕ, ◌+◌, nat_le, Bool, true, false, List, [], ◌∷◌, ◌++◌, Option, Some, None, All, IfSome, codes, decimal, flat_map, length, map, filter, option_and_then, option_map, reverse, slice_get, bytes_eq, if◌then◌else◌}
 use Rattle.std.specs.Borrow.{Bor}
 use Rattle.path_index.specs.Index.{segment_view}
+use Rattle.path_index.specs.Range.{is_in_range}
 use Rattle.path_index.specs.Segment.{Segment, rename_segment, segments_of}
 use Rattle.path_index.specs.declared.hit.Hit.{Hit}
 use Rattle.path_index.specs.declared.segment.Segment.{Segment as KeptSegment}
@@ -87,9 +88,16 @@ locate_lines trees rev peg = location_line (location bytes_eq trees peg.path peg
 abbrev pub segments_lines : TreesOfBytes → Peg → List (List ℕ)
 segments_lines trees peg = map segment_line (segments_of bytes_eq trees peg.path peg.rev)
 
--- the operative revisions, the newest first
-abbrev pub log_lines : HistoryOfBytes → TreesOfBytes → Peg → List (List ℕ)
-log_lines history trees peg = reverse (found_in bytes_eq history trees peg.path peg.rev (λ here rev. Some (log_line here rev)))
+-- the operative revisions, each with the location of the path in it, the newest first
+abbrev pub operative_locations : HistoryOfBytes → TreesOfBytes → Peg → List (List (List ℕ) × ℕ)
+operative_locations history trees peg =
+    reverse (found_in bytes_eq history trees peg.path peg.rev (λ here rev. Some (here, rev)))
+
+-- those in the range
+abbrev pub log_lines : HistoryOfBytes → TreesOfBytes → Peg → Option (ℕ × ℕ) → List (List ℕ)
+log_lines history trees peg range =
+    map (λ found. log_line found.0 found.1)
+    (filter (λ found. is_in_range range found.1) (operative_locations history trees peg))
 
 -- the answer by the effective mergeinfo, unless its text is malformed
 abbrev pub with_value : Option MergeInfoValue → (MergeInfoValue → Answer) → Answer
@@ -109,16 +117,21 @@ merged_line revision = codes "r" ++ decimal revision.rev ++ (if revision.inherit
 abbrev pub eligible_line : ℕ → List ℕ
 eligible_line rev = codes "r" ++ decimal rev
 
--- the operative revisions of the source that the mergeinfo of the target has for the path that the source had then
-abbrev pub merged_lines : HistoryOfBytes → TreesOfBytes → Peg → MergeInfoValue → List (List ℕ)
-merged_lines history trees source value =
-    map merged_line (merged_revisions bytes_eq history trees source.path source.rev (value_has value))
+-- the operative revisions of the source in the range that the mergeinfo of the target has for the path that the source
+-- had then
+abbrev pub merged_lines : HistoryOfBytes → TreesOfBytes → Peg → Option (ℕ × ℕ) → MergeInfoValue → List (List ℕ)
+merged_lines history trees source range value =
+    map merged_line
+    (filter (λ revision. is_in_range range revision.rev)
+    (merged_revisions bytes_eq history trees source.path source.rev (value_has value)))
 
 -- those that it lacks, where the target had another path then, or none
-abbrev pub eligible_lines : HistoryOfBytes → TreesOfBytes → Peg → Peg → MergeInfoValue → List (List ℕ)
-eligible_lines history trees source target value =
+abbrev pub eligible_lines : HistoryOfBytes → TreesOfBytes → Peg → Peg → Option (ℕ × ℕ) → MergeInfoValue → List (List ℕ)
+eligible_lines history trees source target range value =
     map eligible_line
-    (eligible_revisions bytes_eq history trees source.path source.rev (value_has value) (location bytes_eq trees target.path target.rev))
+    (filter (is_in_range range)
+    (eligible_revisions bytes_eq history trees source.path source.rev (value_has value)
+    (location bytes_eq trees target.path target.rev)))
 
 -- ---- the answer
 
@@ -132,13 +145,13 @@ unfoldable pub answer_of : HistoryOfBytes → TreesOfBytes → Query → Answer
 answer_of history trees query.bad = refused_answer status.BadQuery
 answer_of history trees (query.locate peg rev) = if_peg_exists trees peg (ok_answer (locate_lines trees rev peg))
 answer_of history trees (query.segments peg) = if_peg_exists trees peg (ok_answer (segments_lines trees peg))
-answer_of history trees (query.log peg) = if_peg_exists trees peg (ok_answer (log_lines history trees peg))
+answer_of history trees (query.log peg range) = if_peg_exists trees peg (ok_answer (log_lines history trees peg range))
 answer_of history trees (query.mergeinfo peg) =
     if_peg_exists trees peg (with_effective_mergeinfo trees peg (λ value. ok_answer (mergeinfo_lines value)))
-answer_of history trees (query.merged source target) =
-    if_both_exist trees source target (λ value. ok_answer (merged_lines history trees source value))
-answer_of history trees (query.eligible source target) =
-    if_both_exist trees source target (λ value. ok_answer (eligible_lines history trees source target value))
+answer_of history trees (query.merged source target range) =
+    if_both_exist trees source target (λ value. ok_answer (merged_lines history trees source range value))
+answer_of history trees (query.eligible source target range) =
+    if_both_exist trees source target (λ value. ok_answer (eligible_lines history trees source target range value))
 
 -- `#`, the number of the query, and the status
 abbrev pub answer_head : ℕ → Status → List ℕ
@@ -239,7 +252,7 @@ kept_status (kept.Mergeinfo value) = status.Ok
 kept_status (kept.Merged revisions) = status.Ok
 kept_status (kept.Eligible revisions) = status.Ok
 
--- where a query asks about mergeinfo, an answer of this status takes a look at it
+-- where a query asks about mergeinfo, an answer of this status looks at it
 abbrev pub needs_mergeinfo : Status → Bool
 needs_mergeinfo status.Ok = true
 needs_mergeinfo status.BadQuery = false

@@ -6,6 +6,7 @@ pub mod Merged
 pub mod Peg
 pub mod PrintedMergeinfo
 pub mod Query
+pub mod Range
 pub mod Repo
 pub mod SourceHits
 pub mod Worker

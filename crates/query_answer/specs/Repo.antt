@@ -1,8 +1,9 @@
 -- A repository: a dump of a lawful history, and the answers to queries about it.
-use Rattle.std.specs.Prelude.{◌≡◌, ℕ, ◌<◌, ◌≤◌, List, Option, Some, None, IfSome, IsFalse, Result, Ok, Err, All, bytes_eq, length, map, option_map}
+use Rattle.std.specs.Prelude.{◌≡◌, ℕ, ◌<◌, ◌≤◌, List, Option, Some, None, IfSome, IsFalse, Result, Ok, Err, All, bytes_eq, filter, length, map, option_map}
 use Rattle.path_index.specs.History.{history_to, trees_to}
 use Rattle.path_index.specs.Index.{AreMaximal, AreSegmentsOf, IndexValue, IsThere, segment_view}
 use Rattle.path_index.specs.Operative.{operative_of}
+use Rattle.path_index.specs.Range.{is_in_range}
 use Rattle.path_index.specs.declared.hit.Hit.{Hit}
 use Rattle.path_index.specs.declared.segment.Segment.{Segment as KeptSegment}
 use Rattle.svn_path.specs.Components.{parts_of}
@@ -30,8 +31,9 @@ use Rattle.query_answer.specs.Held.{held_value}
 use Rattle.query_answer.specs.declared.held_mergeinfo.HeldMergeinfo.{HeldMergeinfo}
 use Rattle.query_answer.specs.declared.target.Target.{Target}
 use Rattle.query_answer.specs.declared.verbs.pair.Pair.{Pair}
+use Rattle.query_answer.specs.declared.verbs.pair.PairVerb.{PairVerb}
+use Rattle.query_answer.specs.declared.verbs.pair.PairVerb.TheVariants as verb
 use Rattle.query_answer.specs.declared.verbs.pair.Wanted.{Wanted}
-use Rattle.query_answer.specs.declared.verbs.pair.Wanted.TheVariants as wanted
 use Rattle.query_answer.specs.declared.status.Status.{Status}
 
 -- the index of a dump's records
@@ -65,9 +67,9 @@ locate_answer dump peg rev = with_peg_in dump peg (λ found. ok_answer (locate_l
 abbrev pub segments_answer : DumpValue → PegValue → Answer
 segments_answer dump peg = with_peg_in dump peg (λ found. ok_answer (segments_lines (trees_in_bytes dump) found))
 
-abbrev pub log_answer : DumpValue → PegValue → Answer
-log_answer dump peg =
-    with_peg_in dump peg (λ found. ok_answer (log_lines (history_in_bytes dump) (trees_in_bytes dump) found))
+abbrev pub log_answer : DumpValue → PegValue → Option (ℕ × ℕ) → Answer
+log_answer dump peg range =
+    with_peg_in dump peg (λ found. ok_answer (log_lines (history_in_bytes dump) (trees_in_bytes dump) found range))
 
 abbrev pub mergeinfo_answer : DumpValue → PegValue → Answer
 mergeinfo_answer dump peg =
@@ -78,13 +80,15 @@ abbrev pub with_pair_in : DumpValue → PegValue → PegValue → (Peg → Peg �
 with_pair_in dump source target answer =
     if_both_exist (trees_in_bytes dump) (peg_view source) (peg_view target) (answer (peg_view source) (peg_view target))
 
-abbrev pub merged_answer : DumpValue → PegValue → PegValue → Answer
-merged_answer dump source target =
-    with_pair_in dump source target (λ from to value. ok_answer (merged_lines (history_in_bytes dump) (trees_in_bytes dump) from value))
+abbrev pub merged_answer : DumpValue → PegValue → PegValue → Option (ℕ × ℕ) → Answer
+merged_answer dump source target range =
+    with_pair_in dump source target
+    (λ from to value. ok_answer (merged_lines (history_in_bytes dump) (trees_in_bytes dump) from range value))
 
-abbrev pub eligible_answer : DumpValue → PegValue → PegValue → Answer
-eligible_answer dump source target =
-    with_pair_in dump source target (λ from to value. ok_answer (eligible_lines (history_in_bytes dump) (trees_in_bytes dump) from to value))
+abbrev pub eligible_answer : DumpValue → PegValue → PegValue → Option (ℕ × ℕ) → Answer
+eligible_answer dump source target range =
+    with_pair_in dump source target
+    (λ from to value. ok_answer (eligible_lines (history_in_bytes dump) (trees_in_bytes dump) from to range value))
 
 -- ---- its paths
 
@@ -144,11 +148,13 @@ pub record AreSegmentsIn (dump : DumpValue) (path : List NameId) (rev : ℕ) (se
   pub exact : AreSegmentsOf (index_of dump) path rev segments
   pub maximal : AreMaximal (index_of dump) path rev segments
 
--- these are the operative revisions of the segments, if the segments are those of a path of the dump
-abbrev pub AreHitsIn : DumpValue → List KeptSegment → List Hit → Type 0
-AreHitsIn dump segments hits =
+-- these are the operative revisions of the segments in the range, if the segments are those of a path of the dump
+abbrev pub AreHitsIn : DumpValue → List KeptSegment → Option (ℕ × ℕ) → List Hit → Type 0
+AreHitsIn dump segments range hits =
     (path : List NameId) (rev : ℕ) → IsThere dump.records path rev → AreSegmentsIn dump path rev segments
-    → hits ≡ operative_of same_name (history_to dump.records rev) (trees_to dump.records rev) (map segment_view segments)
+    → hits
+    ≡ filter (λ hit. is_in_range range hit.rev)
+    (operative_of same_name (history_to dump.records rev) (trees_to dump.records rev) (map segment_view segments))
 
 -- ---- effective mergeinfo
 
@@ -175,10 +181,10 @@ abbrev pub text_read_for : DumpValue → Query → Option (List ℕ)
 text_read_for dump query.bad = None
 text_read_for dump (query.locate peg rev) = None
 text_read_for dump (query.segments peg) = None
-text_read_for dump (query.log peg) = None
+text_read_for dump (query.log peg range) = None
 text_read_for dump (query.mergeinfo peg) = nearest_text_at dump peg
-text_read_for dump (query.merged source target) = nearest_text_at dump target
-text_read_for dump (query.eligible source target) = nearest_text_at dump target
+text_read_for dump (query.merged source target range) = nearest_text_at dump target
+text_read_for dump (query.eligible source target range) = nearest_text_at dump target
 
 -- ---- a source and a target
 
@@ -197,10 +203,13 @@ IsPairFound dump source target (Err status) =
     → if_both_exist (trees_in_bytes dump) (peg_view source) (peg_view target) answer ≡ refused_answer status)
     × IsFalse (needs_mergeinfo status)
 
--- which revisions are asked for
+-- the revisions that a verb asks for
+abbrev pub verb_answer : DumpValue → PairVerb → PegValue → PegValue → Option (ℕ × ℕ) → Answer
+verb_answer dump verb.Merged source target range = merged_answer dump source target range
+verb_answer dump verb.Eligible source target range = eligible_answer dump source target range
+
 abbrev pub pair_answer : DumpValue → Wanted → PegValue → PegValue → Answer
-pair_answer dump wanted.Merged source target = merged_answer dump source target
-pair_answer dump wanted.Eligible source target = eligible_answer dump source target
+pair_answer dump wanted source target = verb_answer dump wanted.verb source target wanted.range
 
 abbrev pub merged_by : DumpValue → List NameId → ℕ → MergeInfoValue → List MergedRevision
 merged_by dump path rev value =
@@ -214,10 +223,13 @@ abbrev pub eligible_by : DumpValue → List NameId → ℕ → List NameId → �
 eligible_by dump path rev target target_rev value =
     eligible_revisions bytes_eq (history_in_bytes dump) (trees_in_bytes dump) (components_of dump.names path) rev (value_has value) (location_by dump target target_rev)
 
--- the merged revisions of a pair, and those that are eligible
-abbrev pub merged_in : DumpValue → PegValue → Pair → HeldMergeinfo → List MergedRevision
-merged_in dump source pair held = merged_by dump pair.source source.rev (held_value dump.names held)
+-- the merged revisions of a pair in the range, and those that are eligible
+abbrev pub merged_in : DumpValue → PegValue → Pair → Option (ℕ × ℕ) → HeldMergeinfo → List MergedRevision
+merged_in dump source pair range held =
+    filter (λ revision. is_in_range range revision.rev)
+    (merged_by dump pair.source source.rev (held_value dump.names held))
 
-abbrev pub eligible_in : DumpValue → PegValue → PegValue → Pair → HeldMergeinfo → List ℕ
-eligible_in dump source target pair held =
-    eligible_by dump pair.source source.rev pair.target.path target.rev (held_value dump.names held)
+abbrev pub eligible_in : DumpValue → PegValue → PegValue → Pair → Option (ℕ × ℕ) → HeldMergeinfo → List ℕ
+eligible_in dump source target pair range held =
+    filter (is_in_range range)
+    (eligible_by dump pair.source source.rev pair.target.path target.rev (held_value dump.names held))

@@ -27,7 +27,7 @@ Learns texts read old new = (new ≡ old) ⊎ HasLearnt texts read old new
 abbrev pub Knows : Option (List ℕ) → SeenValue → Type 0
 Knows read seen = IfSome read (λ text. (id : ℕ) × (text_at seen id ≡ Some text))
 
--- where the answer takes a look at mergeinfo, the worker knows the text
+-- where the answer looks at mergeinfo, the worker knows the text
 abbrev pub KnowsWhatWasRead : Result KeptAnswer AllocError → Option (List ℕ) → SeenValue → Type 0
 KnowsWhatWasRead (Ok answer) read seen = IsTrue (needs_mergeinfo (kept_status answer)) → Knows read seen
 KnowsWhatWasRead (Err e) read seen = Unit {0}

@@ -10,6 +10,7 @@ mod merged_revision;
 mod peg;
 mod printed_mergeinfo;
 mod query;
+mod range;
 mod repo;
 mod result_lines;
 mod status;

@@ -172,10 +172,14 @@ impl Repo {
         self.index.segments(path, peg.rev())
     }
 
-    /// The operative revisions of the segments of a path, each in its segment.
-    pub(crate) fn operative(&self, segments: &[Segment]) -> Result<Vec<Hit>, AllocError>
-        ensures { IfOk result (λ hits. AreHitsIn self.now segments.now hits.items) }
+    /// The operative revisions of the segments of a path in a range, each in its segment; without a range, all of them.
+    pub(crate) fn operative(
+        &self,
+        segments: &[Segment],
+        range: Option<(u32, u32)>,
+    ) -> Result<Vec<Hit>, AllocError>
+        ensures { IfOk result (λ hits. AreHitsIn self.now segments.now range hits.items) }
     {
-        self.index.operative(segments)
+        self.index.operative_in(segments, range)
     }
 }

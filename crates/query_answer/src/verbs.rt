@@ -18,7 +18,7 @@ use crate::answers::Answer;
 use crate::query::Query;
 use crate::repo::Repo;
 use crate::status::Status;
-use pair::{Wanted, answer_pair};
+use pair::{PairVerb, Wanted, answer_pair};
 use std::alloc::{AllocError, Global};
 use value_memo::{Memo, Seen};
 
@@ -46,13 +46,21 @@ pub fn answer<'r>(
         Query::Bad => Ok(Answer::Refused(Status::BadQuery)),
         Query::Locate { of, rev } => locate::answer_locate(alloc, repo, of, *rev),
         Query::Segments { of } => segments::answer_segments(alloc, repo, of),
-        Query::Log { of } => log::answer_log(alloc, repo, of),
+        Query::Log { of, range } => log::answer_log(alloc, repo, of, *range),
         Query::Mergeinfo { of } => mergeinfo::answer_mergeinfo(alloc, repo, of, memo, seen),
-        Query::Merged { of, target } => {
-            answer_pair(alloc, repo, Wanted::Merged, of, target, memo, seen)
+        Query::Merged { of, target, range } => {
+            let wanted = Wanted {
+                verb: PairVerb::Merged,
+                range: *range,
+            };
+            answer_pair(alloc, repo, wanted, of, target, memo, seen)
         }
-        Query::Eligible { of, target } => {
-            answer_pair(alloc, repo, Wanted::Eligible, of, target, memo, seen)
+        Query::Eligible { of, target, range } => {
+            let wanted = Wanted {
+                verb: PairVerb::Eligible,
+                range: *range,
+            };
+            answer_pair(alloc, repo, wanted, of, target, memo, seen)
         }
     }
 }

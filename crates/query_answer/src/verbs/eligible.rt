@@ -13,22 +13,24 @@ use crate::repo::Repo;
 use path_index::{Hit, Segment};
 use std::alloc::{AllocError, Global};
 
-/// The eligible revisions of a pair, given the mergeinfo that the target holds, in rising order.
+/// The eligible revisions of a pair, given the mergeinfo that the target holds, in rising order, and in this range if
+/// there is one.
 pub(crate) fn eligible_of(
     alloc: Global,
     repo: &Repo,
     source: &Peg<'_>,
     target: &Peg<'_>,
     pair: &Pair,
+    range: Option<(u32, u32)>,
     held: &HeldMergeinfo<'_, '_>,
 ) -> Result<Vec<u32>, AllocError>
     requires source { IsPathFound repo.now source.now pair.now.source }
     requires target { IsPathFound repo.now target.now pair.now.target.path }
     requires held { IsHeldIn repo.now.names held.now }
-    ensures { IfOk result (λ found. found.items ≡ eligible_in repo.now source.now target.now pair.now held.now) }
+    ensures { IfOk result (λ found. found.items ≡ eligible_in repo.now source.now target.now pair.now range held.now) }
 {
     let segments = repo.segments(source, &pair.source)?;
-    let hits = repo.operative(segments.as_slice())?;
+    let hits = repo.operative(segments.as_slice(), range)?;
     let own = repo.segments(target, &pair.target.path)?;
     let ranges = SourceRanges::of(alloc, repo.names(), held, segments.as_slice())?;
     eligible_hits(

@@ -8,15 +8,20 @@ use crate::peg::Peg;
 use crate::repo::Repo;
 use std::alloc::{AllocError, Global};
 
-/// The operative revisions of a peg.
-pub(crate) fn answer_log(alloc: Global, repo: &Repo, peg: &Peg<'_>) -> Result<Answer, AllocError>
-    ensures { IfOk result (IsAnswer repo.now.names (log_answer repo.now peg.now)) }
+/// The operative revisions of a peg, in this range if there is one.
+pub(crate) fn answer_log(
+    alloc: Global,
+    repo: &Repo,
+    peg: &Peg<'_>,
+    range: Option<(u32, u32)>,
+) -> Result<Answer, AllocError>
+    ensures { IfOk result (IsAnswer repo.now.names (log_answer repo.now peg.now range)) }
 {
     match repo.find(alloc, peg)? {
         Err(status) => Ok(Answer::Refused(status)),
         Ok(path) => {
             let segments = repo.segments(peg, &path)?;
-            let hits = repo.operative(segments.as_slice())?;
+            let hits = repo.operative(segments.as_slice(), range)?;
             Ok(Answer::Log { segments, hits })
         }
     }

@@ -13,23 +13,25 @@ use crate::repo::Repo;
 use path_index::Hit;
 use std::alloc::{AllocError, Global};
 
-/// The merged revisions of a pair, given the mergeinfo that the target holds, in rising order.
+/// The merged revisions of a pair, given the mergeinfo that the target holds, in rising order, and in this range if
+/// there is one.
 pub(crate) fn merged_of(
     alloc: Global,
     repo: &Repo,
     source: &Peg<'_>,
     pair: &Pair,
+    range: Option<(u32, u32)>,
     held: &HeldMergeinfo<'_, '_>,
 ) -> Result<Vec<MergedRevision>, AllocError>
     requires source { IsPathFound repo.now source.now pair.now.source }
     requires held { IsHeldIn repo.now.names held.now }
-    ensures { IfOk result (λ found. found.items ≡ merged_in repo.now source.now pair.now held.now) }
+    ensures { IfOk result (λ found. found.items ≡ merged_in repo.now source.now pair.now range held.now) }
 {
     if held.value.is_empty() {
         return Ok(Vec::new(alloc));
     }
     let segments = repo.segments(source, &pair.source)?;
-    let hits = repo.operative(segments.as_slice())?;
+    let hits = repo.operative(segments.as_slice(), range)?;
     let ranges = SourceRanges::of(alloc, repo.names(), held, segments.as_slice())?;
     merged_hits(alloc, &ranges, hits.as_slice())
 }

@@ -29,11 +29,18 @@ pub(crate) struct Pair {
     pub(crate) target: Target,
 }
 
-/// Which revisions of a source are asked for.
+/// A verb that asks about a source and a target.
 #[derive(Clone, Copy, Debug, PartialEq, Eq)]
-pub(crate) enum Wanted {
+pub(crate) enum PairVerb {
     Merged,
     Eligible,
+}
+
+/// Which revisions of a source are asked for: those of the verb, in the range if there is one.
+#[derive(Clone, Copy, Debug, PartialEq, Eq)]
+pub(crate) struct Wanted {
+    pub(crate) verb: PairVerb,
+    pub(crate) range: Option<(u32, u32)>,
 }
 
 impl Pair {
@@ -114,10 +121,11 @@ fn revisions(
         return Ok(Answer::Refused(Status::MalformedMergeinfo));
     };
     let held = HeldMergeinfo::new(value, pair.target.rest());
-    match wanted {
-        Wanted::Merged => Ok(Answer::Merged(merged_of(alloc, repo, source, pair, &held)?)),
-        Wanted::Eligible => {
-            Ok(Answer::Eligible(eligible_of(alloc, repo, source, target, pair, &held)?))
-        }
+    let Wanted { verb, range } = wanted;
+    match verb {
+        PairVerb::Merged => Ok(Answer::Merged(merged_of(alloc, repo, source, pair, range, &held)?)),
+        PairVerb::Eligible => Ok(Answer::Eligible(eligible_of(
+            alloc, repo, source, target, pair, range, &held,
+        )?)),
     }
 }

@@ -40,8 +40,10 @@ returns-in-Segments c =
 
 pub returns-in-Log : goal.returns-in-Log
 returns-in-Log c =
+    let history = history_in_bytes c.args.repo.now in
+    let trees = trees_in_bytes c.args.repo.now in
     record {
-      answer = rw (c.in-Log.is, answer_of-log (history_in_bytes c.args.repo.now) (trees_in_bytes c.args.repo.now) (peg_view c.in-Log.of)) c.answer_log.ensures;
+      answer = rw (c.in-Log.is, answer_of-log history trees (peg_view c.in-Log.of) c.in-Log.range) c.answer_log.ensures;
       seen = c.requires.seen;
       learns = inl refl;
       knows = rw c.in-Log.is (KnowsWhatWasRead-from c.answer_log.result None c.args.seen.now tt);
@@ -54,8 +56,16 @@ returns-in-Mergeinfo c =
 
 pub returns-in-Merged : goal.returns-in-Merged
 returns-in-Merged c =
-    rw (c.in-Merged.is, answer_of-merged (history_in_bytes c.args.repo.now) (trees_in_bytes c.args.repo.now) (peg_view c.in-Merged.of) (peg_view c.in-Merged.target)) c.answer_pair.ensures
+    let history = history_in_bytes c.args.repo.now in
+    let trees = trees_in_bytes c.args.repo.now in
+    let of = c.in-Merged.of in
+    let asked = answer_of-merged history trees (peg_view of) (peg_view c.in-Merged.target) c.in-Merged.range in
+    rw (c.in-Merged.is, asked) c.answer_pair.ensures
 
 pub returns-in-Eligible : goal.returns-in-Eligible
 returns-in-Eligible c =
-    rw (c.in-Eligible.is, answer_of-eligible (history_in_bytes c.args.repo.now) (trees_in_bytes c.args.repo.now) (peg_view c.in-Eligible.of) (peg_view c.in-Eligible.target)) c.answer_pair-in-Eligible.ensures
+    let history = history_in_bytes c.args.repo.now in
+    let trees = trees_in_bytes c.args.repo.now in
+    let of = c.in-Eligible.of in
+    let asked = answer_of-eligible history trees (peg_view of) (peg_view c.in-Eligible.target) c.in-Eligible.range in
+    rw (c.in-Eligible.is, asked) c.answer_pair-in-Eligible.ensures

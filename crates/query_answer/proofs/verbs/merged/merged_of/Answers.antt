@@ -1,5 +1,6 @@
-use Rattle.std.proofs.Common.{◌≡◌, map, ap, sym, ◌∙◌}
+use Rattle.std.proofs.Common.{◌≡◌, filter, map, ap, sym, ◌∙◌}
 use Rattle.std.proofs.lemmas.Result.{IfOk-weaker}
+use Rattle.path_index.specs.Range.{is_in_range}
 use Rattle.svn_path.specs.Path.{components_of}
 use Rattle.query_answer.specs.Held.{held_ranges_in, held_value}
 use Rattle.query_answer.specs.HeldValue.{own_or_below}
@@ -16,7 +17,8 @@ returns-then-is_empty c =
     let rev = c.args.source.now.rev in
     let rest = components_of dump.names c.args.held.now.rest.now in
     let empty = ap (own_or_below rest) (c.is_empty.ensures.empty.0 c.if-is_empty.true) ∙ own_or_below-empty rest in
-    c.new.ensures.items ∙ sym (ap (merged_by dump source rev) empty ∙ merged_by-empty dump source rev)
+    let none = ap (merged_by dump source rev) empty ∙ merged_by-empty dump source rev in
+    c.new.ensures.items ∙ sym (ap (filter (λ revision. is_in_range c.args.range revision.rev)) none)
 
 pub returns : goal.returns
 returns c =
@@ -25,15 +27,18 @@ returns c =
     let source = c.args.pair.now.source in
     let rev = c.args.source.now.rev in
     let segments = c.in_ok-segments.segments.items in
+    let range = c.args.range in
     let hits = c.in_ok-hits.hits.items in
     let so = c.in_ok-segments.ensures in
     let has = has_in c.in_ok-ranges.ranges in
-    let hits_in : AreHitsIn dump segments hits = rw c.as_slice.ensures.value at c.in_ok-hits.ensures in
+    let hits_in : AreHitsIn dump segments range hits = rw c.as_slice.ensures.value at c.in_ok-hits.ensures in
     let ranges : map lent_ranges c.in_ok-ranges.ranges.by_segment.items ≡ map (held_ranges_in dump.names held) segments =
     rw (← c.as_slice-2.ensures.value, ← c.names.ensures.value) c.in_ok-ranges.ensures.ranges in
     let has_is = has_in-held dump.names c.requires.source.kept.names held c.requires.held c.in_ok-ranges.ranges segments ranges c.in_ok-ranges.ensures.inherited so.of_names in
-    let are : merged_of_hits has c.as_slice-3.result.now ≡ merged_in dump c.args.source.now c.args.pair.now held =
+    let are : merged_of_hits has c.as_slice-3.result.now ≡ merged_in dump c.args.source.now c.args.pair.now range held =
     rw c.as_slice-3.ensures.value
-    (merged-merged_by dump c.requires.source.kept source rev c.requires.source.within segments hits so.exact so.maximal (hits_in source rev c.requires.source.there so) (held_value dump.names held) has has_is) in
+    (merged-merged_by dump c.requires.source.kept source rev c.requires.source.within segments so.exact so.maximal range
+    hits (hits_in source rev c.requires.source.there so) (held_value dump.names held) has has_is) in
     IfOk-weaker c.merged_hits.result (λ found. found.items ≡ merged_of_hits has c.as_slice-3.result.now)
-    (λ found. found.items ≡ merged_in dump c.args.source.now c.args.pair.now held) (λ found is. is ∙ are) c.merged_hits.ensures
+    (λ found. found.items ≡ merged_in dump c.args.source.now c.args.pair.now range held) (λ found is. is ∙ are)
+    c.merged_hits.ensures

@@ -25,7 +25,9 @@ returns-in_ok-merged_of-in-Merged-clause-answer c =
     let is : effective_in dump c.args.pair.now.target.path c.args.target.now.rev ≡ Some (held_value dump.names c.new-held.result) =
     c.requires.value ∙ ap (λ read. option_map (own_or_below (components_of dump.names (rest_of c.args.pair.now.target))) (parsed_view read)) c.in-Good.is
     ∙ ap (λ rest. Some (own_or_below (components_of dump.names rest) c.in-Good.value.now)) (sym c.rest.ensures) ∙ ap Some (sym (c.new-held.ensures.value dump.names)) in
-    rw c.in-Merged.is (IsAnswer-Merged dump c.args.source.now c.args.target.now c.args.pair.now c.requires.pair c.new-held.result is c.in_ok-merged_of-in-Merged.field-0 c.in_ok-merged_of-in-Merged.ensures)
+    rw c.in-Merged.is
+    (IsAnswer-Merged dump c.args.source.now c.args.target.now c.args.pair.now c.requires.pair c.new-held.result is
+    c.args.wanted.range c.in_ok-merged_of-in-Merged.field-0 c.in_ok-merged_of-in-Merged.ensures)
 
 pub returns-in_ok-eligible_of-in-Eligible-clause-answer : goal.returns-in_ok-eligible_of-in-Eligible-clause-answer
 returns-in_ok-eligible_of-in-Eligible-clause-answer c =
@@ -33,7 +35,9 @@ returns-in_ok-eligible_of-in-Eligible-clause-answer c =
     let is : effective_in dump c.args.pair.now.target.path c.args.target.now.rev ≡ Some (held_value dump.names c.new-held.result) =
     c.requires.value ∙ ap (λ read. option_map (own_or_below (components_of dump.names (rest_of c.args.pair.now.target))) (parsed_view read)) c.in-Good.is
     ∙ ap (λ rest. Some (own_or_below (components_of dump.names rest) c.in-Good.value.now)) (sym c.rest.ensures) ∙ ap Some (sym (c.new-held.ensures.value dump.names)) in
-    rw c.in-Eligible.is (IsAnswer-Eligible dump c.args.source.now c.args.target.now c.args.pair.now c.requires.pair c.new-held.result is c.in_ok-eligible_of-in-Eligible.field-0 c.in_ok-eligible_of-in-Eligible.ensures)
+    rw c.in-Eligible.is
+    (IsAnswer-Eligible dump c.args.source.now c.args.target.now c.args.pair.now c.requires.pair c.new-held.result is
+    c.args.wanted.range c.in_ok-eligible_of-in-Eligible.field-0 c.in_ok-eligible_of-in-Eligible.ensures)
 
 pub returns-in_default-clause-answer : goal.returns-in_default-clause-answer
 returns-in_default-clause-answer c =
