@@ -205,8 +205,13 @@ fn segments_of(index: &Index, alloc: Global, peg: u32) -> Result<Vec<Shape>, All
     found
 }
 
-// The operative revisions of `b` of a revision.
-pub(crate) fn operative_in(index: &Index, alloc: Global, peg: u32) -> Result<Vec<Hit>, AllocError>
+// The operative revisions of `b` of a revision, in a range if there is one.
+pub(crate) fn operative_of(
+    index: &Index,
+    alloc: Global,
+    peg: u32,
+    range: Option<(u32, u32)>,
+) -> Result<Vec<Hit>, AllocError>
     requires whole { IsWhole index.now }
     requires there { IsThere index.now.records (record { 0 = 1 } ∷ []) peg }
 {
@@ -214,7 +219,10 @@ pub(crate) fn operative_in(index: &Index, alloc: Global, peg: u32) -> Result<Vec
     let segments = index.segments(&b, peg);
     drop(b);
     let segments = segments?;
-    let hits = index.operative(segments.as_slice());
+    let hits = match range {
+        Some(_) => index.operative_in(segments.as_slice(), range),
+        None => index.operative(segments.as_slice()),
+    };
     drop(segments);
     hits
 }
@@ -244,7 +252,7 @@ fn segments_end_at_a_copy(rt: HostRuntime) -> Result<(), Fail> {
 #[test]
 fn operative_revisions_of_both_segments_are_found(rt: HostRuntime) -> Result<(), Fail> {
     let index = index_of_copy(rt.alloc())?;
-    let found = operative_in(&index, rt.alloc(), 2);
+    let found = operative_of(&index, rt.alloc(), 2, None);
     drop(index);
     let wanted = [Hit { rev: 2, segment: 0 }, Hit { rev: 1, segment: 1 }];
     assert_eq!(rt; found?.as_slice(), wanted.as_slice());
@@ -285,10 +293,46 @@ fn a_replacement_begins_a_segment(rt: HostRuntime) -> Result<(), Fail> {
 #[test]
 fn a_log_covers_all_segments(rt: HostRuntime) -> Result<(), Fail> {
     let index = index_of_replacements(rt.alloc(), false)?;
-    let found = operative_in(&index, rt.alloc(), 5);
+    let found = operative_of(&index, rt.alloc(), 5, None);
     drop(index);
     let wanted = [(5, 0), (4, 0), (3, 0), (1, 2)].map(|(rev, segment)| Hit { rev, segment });
     assert_eq!(rt; found?.as_slice(), wanted.as_slice());
+    Ok(())
+}
+
+// Whether the operative revisions of `b` of revision 5 in this range are so many of them, after so many that are left
+// out.
+fn has_in_range(
+    index: &Index,
+    alloc: Global,
+    range: (u32, u32),
+    skipped: usize,
+    count: usize,
+) -> Result<bool, AllocError>
+    requires whole { IsWhole index.now }
+    requires there { IsThere index.now.records (record { 0 = 1 } ∷ []) 5 }
+{
+    let hits = operative_of(index, alloc, 5, Some(range))?;
+    let all = [(5, 0), (4, 0), (3, 0), (1, 2)].map(|(rev, segment)| Hit { rev, segment });
+    Ok(all.iter().skip(skipped).take(count).eq(hits.iter()))
+}
+
+#[test]
+fn a_range_limits_a_log(rt: HostRuntime) -> Result<(), Fail> {
+    let index = index_of_replacements(rt.alloc(), false)?;
+    let mut all_are = true;
+    for (range, skipped, count) in [
+        ((3, 4), 1, 2),
+        ((1, 3), 2, 2),
+        ((2, 2), 0, 0),
+        ((0, 0), 0, 0),
+        ((5, u32::MAX), 0, 1),
+        ((0, u32::MAX), 0, 4),
+    ] {
+        all_are &= has_in_range(&index, rt.alloc(), range, skipped, count).is_ok_and(|are| are);
+    }
+    drop(index);
+    assert!(rt; all_are);
     Ok(())
 }
 

@@ -2,7 +2,7 @@
 ghost use Rattle.std.specs.Prelude.{◌≡◌, ◌+◌, ◌^◌, ◌<◌, ◌≤◌};
 ghost use Rattle.par_scan.specs.Parts.{most_parts};
 
-use crate::indexes::{index_of_replacements, operative_in};
+use crate::indexes::{index_of_replacements, operative_of};
 use growth_marks::{begin, end};
 use par_scan::{Acts, Make, Sum, make_all, scan};
 use path_index::{Hit, Index};
@@ -17,7 +17,7 @@ use svn_dump::{NodeRecord, read};
 fn refused_growths_build_and_join_no_other_index(rt: HostRuntime) -> Result<(), Fail> {
     for in_halves in [false, true] {
         if let Ok(index) = index_of_replacements(rt.alloc(), in_halves) {
-            let hits = operative_in(&index, rt.alloc(), 5);
+            let hits = operative_of(&index, rt.alloc(), 5, None);
             drop(index);
             let wanted = [(5, 0), (4, 0), (3, 0), (1, 2)].map(|(rev, segment)| Hit {
                 rev,
