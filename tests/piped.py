@@ -3,7 +3,9 @@ import os
 import shutil
 import subprocess
 
-HERE = os.path.dirname(os.path.abspath(__file__))
+from tree import ROOT
+
+EXAMPLES = os.path.join(ROOT, "examples")
 HEAD = b"SVN-fs-dump-format-version: 2\n\n"
 REVISION = b"Revision-number: %d\n\n"
 FILE = b"Node-path: file-%d\nNode-kind: file\nNode-action: add\nText-content-length: 30\n\n%030d\n\n"
@@ -51,7 +53,7 @@ def many_files():
 
 
 def content(name):
-    with open(os.path.join(HERE, name), "rb") as file:
+    with open(os.path.join(EXAMPLES, name), "rb") as file:
         return file.read()
 
 
