@@ -3,8 +3,13 @@
 `bundle_of` gives the same bytes for the same seed. Half of the dumps are of format 3. Most histories are lawful. Some
 have one faulty record; a few have property sections or deltas that do not fit; in some a block or a few bytes of the
 dump are changed afterwards, and in a few the first line of the bundle.
+
+Queries with a range of revisions are drawn apart (`ranges.py`), so all else of a bundle is as it was before there were
+any.
 """
 import random
+
+import ranges
 
 # Of these, each history has the names of two families. The order of their bytes is often not that of their paths.
 FAMILIES = [
@@ -518,6 +523,7 @@ def bundle_of(seed):
     for rev in range(1, youngest + 1):
         draft.revision(rev == faulty)
     queries = [query(draft) for _ in range(lot.randint(20, 40))]
+    queries = ranges.with_ranges(random.Random("ranges of %d" % seed), youngest, queries)
     if draft.chance(0.12):
         draft.spoil()
     dump = draft.dump()
