@@ -3,6 +3,7 @@
 Each function gets a `Workshop`: a working copy of an empty repository, and the commands for it. The comments have the
 number of the revision that a step makes.
 """
+from typing import Sequence, TypeVar
 
 
 def branches(shop):
@@ -427,21 +428,24 @@ def malformed(shop):
     shop.mergeinfo({"branches/one": b"/trunk: 4"})                           # 13
 
 
+Item = TypeVar("Item")
+
+
 class Lot:
     """Pseudorandom numbers that are the same in each run, by a linear congruence."""
 
-    def __init__(self, seed):
+    def __init__(self, seed: int) -> None:
         self.state = seed
 
-    def below(self, bound):
+    def below(self, bound: int) -> int:
         self.state = (self.state * 6364136223846793005 + 1442695040888963407) % 2 ** 64
         return (self.state >> 33) * bound >> 31
 
-    def one_of(self, items):
+    def one_of(self, items: Sequence[Item]) -> Item:
         return items[self.below(len(items))]
 
 
-def is_below(path, above):
+def is_below(path: str, above: str) -> bool:
     return path == above or above == "" or path.startswith(above + "/")
 
 
