@@ -8,6 +8,7 @@ import os
 import random
 import shutil
 import subprocess
+from typing import List, Tuple
 
 from measure import Failed, generate, run
 from questions import GENERATED, QUICK_REVISIONS, REVISIONS, ask, best_of, load, records_of
@@ -47,13 +48,13 @@ def merging_pairs(program, dump, folder, pegs, lot):
     return [pair for pair, (status, _) in zip(pairs, found) if status == "ok"]
 
 
-def answers(program, dump, folder, lines):
+def answers(program: str, dump: str, folder: str, lines: List[str]) -> List[Tuple[str, List[str]]]:
     """The status and the result lines of each query."""
     path = os.path.join(folder, "queries")
     with open(path, "w") as file:
         file.writelines(lines)
     report = run([program, dump, path, "0", "1"], file=os.devnull).output.decode()
-    found = []
+    found: List[Tuple[str, List[str]]] = []
     for line in report.split("\n")[:-1]:
         if line.startswith("#"):
             found.append((line.split(" ")[1], []))

@@ -67,7 +67,7 @@ def best_of(times, runs):
     return min((runs() for _ in range(times)), key=lambda taken: taken.wall)
 
 
-def load(dump, repository):
+def load(dump: str, repository: str) -> None:
     subprocess.run(["svnadmin", "create", repository], check=True)
     taken = run(["svnadmin", "load", "-q", "--no-flush-to-disk", repository], file=dump)
     if taken.status != 0:

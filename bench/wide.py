@@ -34,7 +34,7 @@ def trunk_paths():
     return ["trunk", "tags"] + above + below, files
 
 
-def added(path, kind):
+def added(path: str, kind: bytes) -> bytes:
     return b"Node-path: %s\nNode-kind: %s\nNode-action: add\n\n" % (path.encode(), kind)
 
 
@@ -58,7 +58,7 @@ def changed(kind, number, tag, rev):
     return b"Node-path: tags/t%d/src\nNode-action: change\nProp-content-length: %d\n\n%s" % (tag, len(section), section)
 
 
-def revision(number):
+def revision(number: int) -> bytes:
     return b"\nRevision-number: %d\n\n" % number
 
 
