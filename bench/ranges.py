@@ -6,7 +6,8 @@ the last 100. A time is that of a run with one query many times over less that o
 and in turns.
 
 Subversion answers the same from a repository loaded from the same dump, by `svn log -q` and `svn mergeinfo --show-revs`
-with `-r`, whose time includes their start. The repository is made in memory where that is a folder.
+with `-r`, whose time includes their start. Without a range each is run once, as it may take a minute. The repository is
+made in memory where that is a folder.
 """
 import argparse
 import os
@@ -141,8 +142,10 @@ def print_verb(program: str, dump: str, folder: str, times: int, verb: str, last
     run_in_turns([base] + [query.run for query in queries.values()], times)
     seconds = {name: (query.run.wall - base.wall) / query.asked for name, query in queries.items()}
     for name, bounds in ranges_of(last).items():
-        other = seconds_of_subversion(of_subversion(url, verb, last, bounds), times,
-                                      queries[name].revisions()) if url else None
+        other = None
+        if url:
+            words = of_subversion(url, verb, last, bounds)
+            other = seconds_of_subversion(words, times if bounds else 1, queries[name].revisions())
         print_row(verb, name, queries[name], seconds[name], seconds["none"], other)
 
 

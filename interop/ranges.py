@@ -34,7 +34,7 @@ def bounds(lot: random.Random, youngest: int) -> Tuple[int, int]:
         low = lot.choice((low, low, low, 0, youngest, GREATEST_REVISION))
         return low, low
     if drawn < 0.3:
-        return low, lot.choice(above)
+        return low, max(low, lot.choice(above))
     if drawn < 0.37:
         low, high = sorted(lot.choice((0, 1) + above) for _ in range(2))
     return low, high
