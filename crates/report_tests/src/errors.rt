@@ -90,17 +90,31 @@ fn each_fault_has_its_line(rt: HostRuntime) -> Result<(), Fail> {
     Ok(())
 }
 
+// The numbers of refusals at byte 51, and their lines.
+const REFUSALS: [(u8, &[u8]); 16] = [
+    (1, b"svnhist: dump refused: 1 Magic at byte 51\n"),
+    (2, b"svnhist: dump refused: 2 Version at byte 51\n"),
+    (3, b"svnhist: dump refused: 3 Header at byte 51\n"),
+    (4, b"svnhist: dump refused: 4 Length at byte 51\n"),
+    (5, b"svnhist: dump refused: 5 Truncated at byte 51\n"),
+    (6, b"svnhist: dump refused: 6 Props at byte 51\n"),
+    (7, b"svnhist: dump refused: 7 BadRecord at byte 51\n"),
+    (8, b"svnhist: dump refused: 8 Revision at byte 51\n"),
+    (9, b"svnhist: dump refused: 9 BadPath at byte 51\n"),
+    (10, b"svnhist: dump refused: 10 Delta at byte 51\n"),
+    (11, b"svnhist: dump refused: 11 CopyRevision at byte 51\n"),
+    (12, b"svnhist: dump refused: 12 RootAction at byte 51\n"),
+    (13, b"svnhist: dump refused: 13 RevisionZero at byte 51\n"),
+    (14, b"svnhist: dump refused: 14 TooLarge at byte 51\n"),
+    (15, b"svnhist: dump refused: 15 Unknown at byte 51\n"),
+    (0, b"svnhist: dump refused: 0 Unknown at byte 51\n"),
+];
+
 #[test]
 fn each_refusal_has_its_line(rt: HostRuntime) -> Result<(), Fail> {
-    for (number, line) in [
-        (1, b"svnhist: dump refused: 1 Magic at byte 51\n".as_slice()),
-        (8, b"svnhist: dump refused: 8 Revision at byte 51\n"),
-        (14, b"svnhist: dump refused: 14 TooLarge at byte 51\n"),
-        (15, b"svnhist: dump refused: 15 Unknown at byte 51\n"),
-        (0, b"svnhist: dump refused: 0 Unknown at byte 51\n"),
-    ] {
+    for (number, line) in REFUSALS {
         let error = RunError::Dump(DumpError::Refused { number, at: 51 });
-        assert!(rt; is_printed(rt.alloc(), &error, 1, line)?);
+        assert!(rt; is_printed(rt.alloc(), &error, 1, line)?, "{number}");
     }
     Ok(())
 }

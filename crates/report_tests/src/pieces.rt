@@ -6,7 +6,7 @@ use crate::reports::report_of;
 use crate::workers::QUERIES;
 use devices::{Device, Failed, Pull, Source};
 use query_pool::NoGate;
-use sample_dumps::{DUMPED, MERGED};
+use sample_dumps::{DELETE_AND_COPY, DUMPED, MERGED, joined};
 use std::alloc::Global;
 use std::io::{self, Read};
 use std::sync::Wait;
@@ -17,14 +17,14 @@ use svn_report::{RunError, load, report_from};
 
 // A reader that gives its bytes in pieces. One of its calls fails.
 #[derive(Drop)]
-pub(crate) struct Pieces {
-    bytes: &'static [u8],
+pub(crate) struct Pieces<'a> {
+    bytes: &'a [u8],
     most: usize,
     good_calls: usize,
     error: io::ErrorKind,
 }
 
-impl Read for Pieces {
+impl Read for Pieces<'_> {
     fn read(&mut self, slice: &mut [u8]) -> io::Result<usize> {
         if self.good_calls == 0 {
             self.good_calls = usize::MAX;
@@ -41,7 +41,11 @@ impl Read for Pieces {
 }
 
 /// A device over such a reader of the merged history.
-pub(crate) fn device(most: usize, good_calls: usize, error: io::ErrorKind) -> Device<Pieces> {
+pub(crate) fn device(
+    most: usize,
+    good_calls: usize,
+    error: io::ErrorKind,
+) -> Device<Pieces<'static>> {
     Device::new(Pieces {
         bytes: MERGED,
         most,
@@ -51,7 +55,7 @@ pub(crate) fn device(most: usize, good_calls: usize, error: io::ErrorKind) -> De
 }
 
 // A device that gives all these bytes at its first call, and then fails.
-fn cut_off(bytes: &'static [u8]) -> Device<Pieces> {
+fn cut_off(bytes: &[u8]) -> Device<Pieces<'_>> {
     Device::new(Pieces {
         bytes,
         most: usize::MAX,
@@ -117,7 +121,7 @@ fn a_dump_in_pieces_has_the_same_report(rt: HostRuntime) -> Result<(), Fail> {
 fn error_from<R: Threads + Wait + Sync>(
     rt: &R,
     alloc: Global,
-    input: &mut Device<Pieces>,
+    input: &mut Device<Pieces<'_>>,
     queries: &[u8],
 ) -> Option<RunError> {
     report_from(rt, alloc, input, queries, &[], 1, &NoGate).err()
@@ -150,28 +154,51 @@ fn a_failure_before_a_refusal_is_reported(rt: HostRuntime) {
 const LOG: &[u8] = b"log\tb@3\nlocate\tb@3\t1\n";
 
 // A device that gives a dump in pieces of 16 bytes, so many of them.
-fn good_for(reads: usize) -> Device<Pieces> {
+fn good_for(dump: &[u8], reads: usize) -> Device<Pieces<'_>> {
     Device::new(Pieces {
-        bytes: DUMPED,
+        bytes: dump,
         most: 16,
         good_calls: reads,
         error: io::ErrorKind::Other,
     })
 }
 
-// The last read is the one that meets the end.
+// The first number of good reads after which a failed one is not reported.
+fn first_unreported<R: Threads + Wait + Sync>(
+    rt: &R,
+    alloc: Global,
+    dump: &[u8],
+    reads: usize,
+) -> Option<usize> {
+    for good in 0..reads {
+        let error = error_from(rt, alloc, &mut good_for(dump, good), LOG);
+        if !matches!(error, Some(RunError::Read(Source::Dump))) {
+            return Some(good);
+        }
+    }
+    None
+}
+
+// The report on what comes in so many pieces.
+fn report_after<R: Threads + Wait + Sync>(
+    rt: &R,
+    alloc: Global,
+    dump: &[u8],
+    reads: usize,
+) -> Result<Vec<u8>, RunError> {
+    report_from(rt, alloc, &mut good_for(dump, reads), LOG, &[], 1, &NoGate)
+}
+
+// The dump has 1,169 bytes, and the last read meets the end.
 #[test]
 fn each_failed_read_is_reported(rt: HostRuntime) -> Result<(), Fail> {
-    let reads = DUMPED.len().div_ceil(16) + 1;
-    for good in 0..reads {
-        let error = error_from(&rt, rt.alloc(), &mut good_for(good), LOG);
-        assert!(rt;
-            matches!(error, Some(RunError::Read(Source::Dump))),
-            "{good}"
-        );
-    }
-    let report = report_from(&rt, rt.alloc(), &mut good_for(reads), LOG, &[], 1, &NoGate)?;
-    assert!(rt; report.as_slice() == b"#1 ok\nr2 /b\nr1 /trunk\n#2 ok\n/trunk\n".as_slice());
+    let dump = joined(rt.alloc(), DUMPED, DELETE_AND_COPY)?;
+    assert_eq!(rt;
+        first_unreported(&rt, rt.alloc(), dump.as_slice(), 75),
+        None
+    );
+    let report = report_after(&rt, rt.alloc(), dump.as_slice(), 75)?;
+    assert!(rt; report.as_slice() == b"#1 ok\nr3 /b\nr1 /trunk\n#2 ok\n/trunk\n".as_slice());
     Ok(())
 }
 

@@ -180,6 +180,25 @@ const MERGES: [Row; 7] = [
     },
 ];
 
+const RANGES: [Row; 3] = [
+    Row {
+        dump: MERGED,
+        queries: b"log\t/branches/b@8\t2:4\neligible\t/trunk@8\t/branches/b@8\t4:7\nlog\t/trunk@8\t4:2\n",
+        report: b"#1 ok\nr4 /branches/b\nr2 /trunk\n#2 ok\nr6\nr7\n#3 bad-query\n",
+    },
+    Row {
+        dump: MERGED,
+        queries: b"merged\t/trunk@9\t/branches@9\t3:3\nlog\t/trunk@8\t0:99\neligible\t/trunk@8\t/branches/b@8\t9:9\n",
+        report: b"#1 ok\nr3*\n#2 ok\nr8 /trunk\nr7 /trunk\nr6 /trunk\nr3 /trunk\nr2 /trunk\nr1 /trunk\n#3 ok\n",
+    },
+    // A range of another form is refused before the path.
+    Row {
+        dump: MERGED,
+        queries: b"segments\t/trunk@8\t1:2\nlog\t/nope@8\t4:2\nlog\t/trunk@8\t3-3\nlog\t/trunk@8\t1:2147483648\nlog\t/trunk@8\t1:2\t1:2\nlog\t/nope@8\t2:4\n",
+        report: b"#1 bad-query\n#2 bad-query\n#3 bad-query\n#4 bad-query\n#5 bad-query\n#6 no-such-path\n",
+    },
+];
+
 const REFUSED: [Row; 4] = [
     Row {
         dump: FIRST,
@@ -274,6 +293,12 @@ fn operative_revisions_are_listed_from_the_newest(rt: HostRuntime) -> Result<(),
 #[test]
 fn merges_are_answered_by_the_mergeinfo(rt: HostRuntime) -> Result<(), Fail> {
     assert_eq!(rt; first_wrong(&rt, rt.alloc(), MERGES.as_slice())?, None);
+    Ok(())
+}
+
+#[test]
+fn ranges_limit_the_lines_of_results(rt: HostRuntime) -> Result<(), Fail> {
+    assert_eq!(rt; first_wrong(&rt, rt.alloc(), RANGES.as_slice())?, None);
     Ok(())
 }
 
