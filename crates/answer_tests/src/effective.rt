@@ -4,11 +4,10 @@ ghost use Rattle.svn_path.specs.Path.{IsPathOf};
 
 use crate::answered::worker_of;
 use crate::repository::repo_of;
-use crate::samples::INHERITED;
 use merge_info::MergeInfo;
 use query_answer::inheritance::effective;
 use query_answer::{Effective, Repo};
-use sample_dumps::MERGED;
+use sample_dumps::{MERGED, MERGEINFO_TEXTS};
 use std::alloc::Global;
 use std::test::Fail;
 use std::thread::Threads;
@@ -86,6 +85,6 @@ fn has_on<R: Threads + Sync>(
 fn effective_mergeinfo_is_looked_up(rt: HostRuntime) -> Result<(), Fail> {
     let inherited = Some("/trunk/b:6\n");
     assert!(rt; has_on(&rt, rt.alloc(), MERGED, "/branches/b", 9, inherited)?);
-    assert!(rt; has_on(&rt, rt.alloc(), INHERITED, "/c", 1, None)?);
+    assert!(rt; has_on(&rt, rt.alloc(), MERGEINFO_TEXTS, "/c", 1, None)?);
     Ok(())
 }

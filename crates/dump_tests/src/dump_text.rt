@@ -6,7 +6,7 @@ use crate::samples::dump_of;
 use std::alloc::Global;
 use std::test::Fail;
 use svn_dump::{Act, Dump, Kind, Mi, NodeRecord, ValueId, read};
-use svn_path::{Names, Path};
+use svn_path::{NameId, Names, Path};
 
 fn put(out: &mut Vec<u8>, text: &str) -> Result<(), Fail> {
     Ok(out.extend_from_slice(text.as_bytes())?)
@@ -131,10 +131,28 @@ fn put_texts(dump: &Dump, out: &mut Vec<u8>) -> Result<(), Fail> {
     Ok(())
 }
 
+// A line for each name, in the order of their numbers.
+fn put_names(names: &Names, out: &mut Vec<u8>) -> Result<(), Fail> {
+    for number in 0..u32::MAX {
+        if number as usize >= names.len() {
+            return Ok(());
+        }
+        put(out, "\nname ")?;
+        out.extend_from_slice(names.text(NameId(number)))?;
+    }
+    Ok(())
+}
+
 fn put_dump(alloc: Global, dump: &Dump, is_of_copies: bool, out: &mut Vec<u8>) -> Result<(), Fail> {
     put_counts(alloc, dump.counts(), out)?;
     put_records(alloc, dump, is_of_copies, out)?;
     put_texts(dump, out)
+}
+
+// The same lines and one for each name.
+fn put_all(alloc: Global, dump: &Dump, out: &mut Vec<u8>) -> Result<(), Fail> {
+    put_dump(alloc, dump, false, out)?;
+    put_names(dump.names(), out)
 }
 
 /// Fails unless the counts of a dump, its records or their copies, and its mergeinfo texts are these, a line each.
@@ -153,27 +171,49 @@ pub(crate) fn check_lines(
     }
 }
 
-fn check_both(alloc: Global, dump: &Dump, wanted: &str) -> Result<(), Fail> {
-    check_lines(alloc, dump, false, wanted)?;
-    check_lines(alloc, dump, true, wanted)
+// Fails unless these are all lines of a dump.
+fn check_all(alloc: Global, dump: &Dump, wanted: &[u8]) -> Result<(), Fail> {
+    let mut text = Vec::new(alloc);
+    put_all(alloc, dump, &mut text)?;
+    if text.as_slice() == wanted {
+        Ok(())
+    } else {
+        Err(Fail::new(format_args!("{text:?}, not {wanted:?}")))
+    }
 }
 
-fn check_pieces(alloc: Global, bytes: &[u8], size: usize, wanted: &str) -> Result<(), Fail>
+fn check_size(alloc: Global, bytes: &[u8], size: usize, wanted: &[u8]) -> Result<(), Fail>
     requires { 0 < size }
 {
     let dump = read_in_pieces(alloc, bytes, size)?;
-    check_lines(alloc, &dump, false, wanted)
+    check_all(alloc, &dump, wanted)
+}
+
+fn check_sizes(alloc: Global, bytes: &[u8], wanted: &[u8]) -> Result<(), Fail> {
+    check_size(alloc, bytes, 1, wanted)?;
+    check_size(alloc, bytes, 2, wanted)?;
+    check_size(alloc, bytes, 3, wanted)?;
+    check_size(alloc, bytes, 7, wanted)?;
+    check_size(alloc, bytes, 64, wanted)
+}
+
+// Fails unless the bytes in pieces are read as this dump, with the same names.
+fn check_pieces(alloc: Global, bytes: &[u8], dump: &Dump) -> Result<(), Fail> {
+    let mut wanted = Vec::new(alloc);
+    put_all(alloc, dump, &mut wanted)?;
+    check_sizes(alloc, bytes, wanted.as_slice())
+}
+
+fn check_both(alloc: Global, dump: &Dump, wanted: &str) -> Result<(), Fail> {
+    check_lines(alloc, dump, false, wanted)?;
+    check_lines(alloc, dump, true, wanted)
 }
 
 /// Fails unless the bytes are read as that text, also in pieces, and `dup` gives records of the same text.
 pub(crate) fn check_text(alloc: Global, bytes: &[u8], wanted: &str) -> Result<(), Fail> {
     let dump = read(alloc, bytes)?;
     check_both(alloc, &dump, wanted.trim())?;
-    check_pieces(alloc, bytes, 1, wanted.trim())?;
-    check_pieces(alloc, bytes, 2, wanted.trim())?;
-    check_pieces(alloc, bytes, 3, wanted.trim())?;
-    check_pieces(alloc, bytes, 7, wanted.trim())?;
-    check_pieces(alloc, bytes, 64, wanted.trim())
+    check_pieces(alloc, bytes, &dump)
 }
 
 /// Fails unless the front with these blocks after it is read as that text.

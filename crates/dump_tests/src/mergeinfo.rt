@@ -127,6 +127,15 @@ fn sections_without_mergeinfo_remove_it(rt: HostRuntime) -> Result<(), Fail> {
     check_blocks(rt.alloc(), ONE, NO_TEXTS, "")
 }
 
+const EMPTY_TEXT: &str = "
+revisions of 0 1|r1 / change text 0|[] = Node-path: |Node-action: change|Prop-content-length: 34|Content-length: 34||K 13|svn:mergeinfo|V 0||PROPS-END|
+";
+
+#[test]
+fn a_text_may_be_empty(rt: HostRuntime) -> Result<(), Fail> {
+    check_blocks(rt.alloc(), ONE, EMPTY_TEXT, "")
+}
+
 const DELETED: &str = "Node-path: a
 Node-action: delete
 Prop-content-length: 38

@@ -45,23 +45,44 @@ fn fed(feed: &mut Feed, bytes: &[u8]) -> Option<(u8, u64)>
     refusal_in(feed.feed(bytes))
 }
 
-// Whether the bytes decide this refusal, and those before the last one decide none. It is answered from then on.
-fn is_decided_at_last(alloc: Global, bytes: &[u8], number: u8, at: u64) -> bool {
+// The number of the byte with which the first error comes, counted from 1, where the bytes come one by one.
+fn deciding_byte(feed: &mut Feed, bytes: &[u8]) -> Option<usize>
+    requires { feed.old.count + length bytes.now < 2 ^ 64 }
+    ensures { feed.new.count ≤ feed.old.count + length bytes.now }
+{
+    let mut rest = bytes;
+    while !rest.is_empty() {
+        let (byte, more) = rest.split_at(1);
+        if feed.feed(byte).is_err() {
+            return Some(bytes.len() - more.len());
+        }
+        rest = more;
+    }
+    None
+}
+
+// Whether that byte has this number and decides this refusal, which is answered from then on.
+fn is_decided(alloc: Global, bytes: &[u8], byte: usize, number: u8, at: u64) -> bool {
     let wanted = Some((number, at));
-    let (front, last) = bytes.split_at(bytes.len().saturating_sub(1));
     let mut feed = Feed::new(alloc);
-    fed(&mut feed, front).is_none()
-        && fed(&mut feed, last) == wanted
+    deciding_byte(&mut feed, bytes) == Some(byte)
         && fed(&mut feed, b"".as_slice()) == wanted
         && refusal_in(feed.finish()) == wanted
 }
 
-fn check_decided(alloc: Global, front: &str, last: &str, number: u8, at: u64) -> Result<(), Fail> {
-    let bytes = [front, last].concat(alloc)?;
-    if is_decided_at_last(alloc, bytes.as_bytes(), number, at) {
+fn check_decided(
+    alloc: Global,
+    front: &str,
+    block: &str,
+    byte: usize,
+    number: u8,
+    at: u64,
+) -> Result<(), Fail> {
+    let bytes = [front, block].concat(alloc)?;
+    if is_decided(alloc, bytes.as_bytes(), byte, number, at) {
         Ok(())
     } else {
-        Err(Fail::new(format_args!("{number} at {at}: {bytes:?}")))
+        Err(Fail::new(format_args!("{number} at {at} with byte {byte}: {bytes:?}")))
     }
 }
 
@@ -97,20 +118,20 @@ Node-action: add
 
 #[test]
 fn a_refusal_comes_with_the_byte_that_decides_it(rt: HostRuntime) -> Result<(), Fail> {
-    for (front, last, number, at) in [
-        ("", "x", 1, 0),
-        ("SVN-fs-dump-format-version:", "2", 1, 0),
-        ("SVN-fs-dump-format-version: ", "\n", 2, 0),
-        ("SVN-fs-dump-format-version: 4", "\n", 2, 0),
-        ("SVN-fs-dump-format-version: 33", "\n", 2, 0),
-        (START, "Revision-number: 1\n\n", 8, 31),
-        (ONE, "Node-path a\n", 3, 71),
-        (ONE, LENGTH, 4, 71),
-        (ONE, SECTION, 6, 71),
-        (ONE, ACTION, 7, 71),
-        (ONE_3, DELETED, 6, 71),
+    for (front, block, byte, number, at) in [
+        ("", "x", 1, 1, 0),
+        ("", "SVN-fs-dump-format-version:2\n", 28, 1, 0),
+        ("", "SVN-fs-dump-format-version: \n", 29, 2, 0),
+        ("", "SVN-fs-dump-format-version: 4\n\n", 30, 2, 0),
+        ("", "SVN-fs-dump-format-version: 33\n", 31, 2, 0),
+        (START, "Revision-number: 1\n\n", 51, 8, 31),
+        (ONE, "Node-path a\n\n", 83, 3, 71),
+        (ONE, LENGTH, 159, 4, 71),
+        (ONE, SECTION, 160, 6, 71),
+        (ONE, ACTION, 102, 7, 71),
+        (ONE_3, DELETED, 143, 6, 71),
     ] {
-        check_decided(rt.alloc(), front, last, number, at)?;
+        check_decided(rt.alloc(), front, block, byte, number, at)?;
     }
     Ok(())
 }

@@ -160,6 +160,7 @@ const LENGTHS: &str = "
 5 Node-path: a|Node-kind: file|Node-action: add|Text-content-length: 5|Content-length: 5||hell
 5 Node-path: a|Node-action: delete|Content-length: *||
 5 Node-path: |Node-action: change|Prop-content-length: 34||K 13|svn:mergeinfo|V 0||PROPS-END
+5 Node-path: |Node-action: change|Prop-content-length: 34|Content-length: 34||K 13|svn:mergeinfo|V 0||PROPS-END
 5 Node-path: a|Prop-content-length: 10|Content-length: 11||PROPS-EN.|
 5 Node-path: ..|Node-action: delete|Content-length: 9||
 5 Revision-number: 9|Text-content-length: 1||
