@@ -63,9 +63,30 @@ fn is_told_of_both(alloc: Global, memo: &Memo<'_>) -> Result<bool, AllocError>
     Ok(is_good && is_malformed && counts(&seen, 2, 2))
 }
 
+// Whether a new worker is told what is wanted, at the latest when it asks again, and then once more, and has read so
+// many texts.
+fn is_told<'t>(
+    alloc: Global,
+    memo: &Memo<'t>,
+    text: &'t str,
+    wanted: &str,
+    parses: u64,
+) -> Result<bool, AllocError>
+    requires { 0 < length memo.now }
+{
+    let mut seen = Seen::new(alloc, memo)?;
+    let is_told = asks_again(alloc, &mut seen, memo, 0, text, wanted)?;
+    let is_told_anew = asks(alloc, &mut seen, memo, 0, text, wanted)?;
+    Ok(is_told && is_told_anew && counts(&seen, parses, 1))
+}
+
+// The first worker sets the cell of number 0. The second one asks for that number with another text, and the third one
+// with the cell's.
 #[test]
 fn refused_growths_leave_a_worker_as_it_was(rt: HostRuntime) -> Result<(), Fail> {
     let memo = Memo::new(rt.alloc(), 2)?;
     assert!(rt; is_told_of_both(rt.alloc(), &memo)?);
+    assert!(rt; is_told(rt.alloc(), &memo, "/b:2", "/b:2\n", 1)?);
+    assert!(rt; is_told(rt.alloc(), &memo, "/a:1", "/a:1\n", 0)?);
     Ok(())
 }

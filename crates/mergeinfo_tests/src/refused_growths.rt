@@ -24,8 +24,26 @@ fn refused_growths_make_no_text_malformed(rt: HostRuntime) -> Result<(), Fail> {
     for (text, wanted) in [
         ("/a:3-4,7", "/a:3-4,7\n"),
         ("/b:5,2*\n/a:1*", "/a:1*\n/b:2*,5\n"),
+        ("a: 3-4,07\n", "/a:3-4,7\n"),
+        ("/a//b:2\na/b:3", "/a/b:2-3\n"),
     ] {
         assert!(rt; is_parsed(rt.alloc(), text, wanted)?, "{text}");
+    }
+    Ok(())
+}
+
+// Whether a text is not read, since it is malformed or memory ran out.
+fn is_refused(alloc: Global, text: &str) -> bool {
+    begin(alloc);
+    let value = MergeInfo::parse(alloc, text.as_bytes());
+    end(alloc);
+    value.is_err()
+}
+
+#[test]
+fn refused_growths_make_no_value_of_a_malformed_text(rt: HostRuntime) -> Result<(), Fail> {
+    for text in ["/a:3-5,4*", "/a/..:1", "/a:1\n/b:2,"] {
+        assert!(rt; is_refused(rt.alloc(), text), "{text}");
     }
     Ok(())
 }
@@ -42,19 +60,21 @@ fn is_inherited(alloc: Global, value: &MergeInfo, rest: &str, wanted: &str) -> R
     }
 }
 
-const BOTH: &str = "/a:1\n/a-b:2";
+// Two paths whose order is another one below them.
+const BOTH: &str = "/a:1\n/a-b:2\n";
 
-fn both_are_inherited(alloc: Global) -> Result<bool, Fail> {
-    let value = MergeInfo::parse(alloc, BOTH.as_bytes())?;
-    Ok(
-        is_inherited(alloc, &value, "/x", "/a-b/x:2\n/a/x:1\n")?
-            && is_written_as(alloc, &value, "/a:1\n/a-b:2\n")?,
-    )
+// Whether a path inherits what it should of a value, which is written as before.
+fn is_inherited_from(alloc: Global, lines: &str, rest: &str, wanted: &str) -> Result<bool, Fail>
+    requires { IsPrintedPath rest.now }
+{
+    let value = MergeInfo::parse(alloc, lines.as_bytes())?;
+    Ok(is_inherited(alloc, &value, rest, wanted)? && is_written_as(alloc, &value, lines)?)
 }
 
 #[test]
 fn refused_growths_change_nothing_that_is_inherited(rt: HostRuntime) -> Result<(), Fail> {
-    assert!(rt; both_are_inherited(rt.alloc())?);
+    assert!(rt; is_inherited_from(rt.alloc(), BOTH, "/x", "/a-b/x:2\n/a/x:1\n")?);
+    assert!(rt; is_inherited_from(rt.alloc(), "/:2,3*\n", "/b", "/b:2\n")?);
     Ok(())
 }
 

@@ -180,14 +180,20 @@ fn is_copied_as(alloc: Global, text: &str, wanted: &str) -> Result<bool, Fail> {
     is_written_as(alloc, &copy, wanted)
 }
 
-fn is_empty_in_a_copy(alloc: Global) -> Result<bool, Fail> {
-    let empty = MergeInfo::empty(alloc).dup()?;
-    Ok(empty.is_empty() && is_written_as(alloc, &empty, "")?)
+fn writes_nothing(alloc: Global, value: &MergeInfo) -> Result<bool, Fail> {
+    Ok(value.is_empty() && is_written_as(alloc, value, "")?)
+}
+
+// Whether the value without a path and a copy of it write nothing.
+fn empty_writes_nothing(alloc: Global) -> Result<bool, Fail> {
+    let empty = MergeInfo::empty(alloc);
+    let copy = empty.dup()?;
+    Ok(writes_nothing(alloc, &empty)? && writes_nothing(alloc, &copy)?)
 }
 
 #[test]
 fn a_copy_has_the_same_text(rt: HostRuntime) -> Result<(), Fail> {
     assert!(rt; is_copied_as(rt.alloc(), "/b:1\n/a:2*", "/a:2*\n/b:1\n")?);
-    assert!(rt; is_empty_in_a_copy(rt.alloc())?);
+    assert!(rt; empty_writes_nothing(rt.alloc())?);
     Ok(())
 }
