@@ -52,7 +52,7 @@ fn index_of_copy(alloc: Global) -> Result<Index, AllocError>
 }
 
 // Two indexes as one, joined between the marks.
-fn joined(alloc: Global, earlier: &Index, later: &Index) -> Result<Index, AllocError>
+pub(crate) fn joined(alloc: Global, earlier: &Index, later: &Index) -> Result<Index, AllocError>
     requires next { later.now.first ≡ length earlier.now.records }
     requires first { earlier.now.first ≡ 0 }
     ensures records { IfOk result (λ both. both.records ≡ earlier.now.records ++ later.now.records) }

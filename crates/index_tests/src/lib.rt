@@ -7,4 +7,8 @@
 #[cfg(test)]
 mod indexes;
 #[cfg(test)]
+mod merged;
+#[cfg(test)]
+mod parts;
+#[cfg(test)]
 mod refused_growths;

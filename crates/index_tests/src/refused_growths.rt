@@ -1,8 +1,10 @@
 //! What indexes say after a growth was refused, and scans of which growths are refused.
 ghost use Rattle.std.specs.Prelude.{◌≡◌, ◌+◌, ◌^◌, ◌<◌, ◌≤◌};
 ghost use Rattle.par_scan.specs.Parts.{most_parts};
+ghost use Rattle.index_tests.specs.Merged.{first_records, last_records, IsIndexOf};
 
-use crate::indexes::{index_of_replacements, operative_of};
+use crate::indexes::{index_of_replacements, joined, operative_of};
+use crate::merged::{parts_of, says_all, says_all_of_first};
 use growth_marks::{begin, end};
 use par_scan::{Acts, Make, Sum, make_all, scan};
 use path_index::{Hit, Index};
@@ -29,58 +31,64 @@ fn refused_growths_build_and_join_no_other_index(rt: HostRuntime) -> Result<(), 
     Ok(())
 }
 
-// Whether so many records precede those that follow an index.
-fn ends_at(alloc: Global, index: &Index, count: u32) -> Result<bool, AllocError> {
-    let next = Index::build(alloc, &[], count)?;
-    let fits = index.fits(&next);
-    drop(next);
-    Ok(fits)
-}
-
-// Whether both indexes together end there, or memory ran out.
-fn are_joined(alloc: Global, earlier: &Index, later: &Index, count: u32) -> Result<bool, Fail> {
-    if !earlier.fits(later) {
-        return Err("the indexes do not meet")?;
-    }
-    begin(alloc);
-    let joined = earlier.join(later);
-    end(alloc);
-    let Ok(joined) = joined else {
+// Whether two indexes joined between the marks say together what they should, or memory ran out.
+fn are_joined(alloc: Global, earlier: &Index, later: &Index) -> Result<bool, AllocError>
+    requires earlier { IsIndexOf first_records 0 earlier.now }
+    requires later { IsIndexOf last_records 6 later.now }
+{
+    let Ok(both) = joined(alloc, earlier, later) else {
         return Ok(true);
     };
-    let is_right = ends_at(alloc, &joined, count);
-    drop(joined);
-    Ok(is_right?)
+    let says = says_all(&both, alloc);
+    drop(both);
+    says
 }
 
-// The same of an index and that of these records, which follow.
-fn is_joined_to(alloc: Global, earlier: &Index, records: &[NodeRecord]) -> Result<bool, Fail> {
-    if records.len() > 1000 {
-        return Err("too many records")?;
-    }
-    let later = Index::build(alloc, records, 5)?;
-    let are_joined = are_joined(alloc, earlier, &later, 11);
-    let is_later = ends_at(alloc, &later, 11);
+fn are_joined_again(alloc: Global, earlier: &Index, later: &Index) -> Result<bool, AllocError>
+    requires earlier { IsIndexOf first_records 0 earlier.now }
+    requires later { IsIndexOf last_records 6 later.now }
+{
+    let both = earlier.join(later)?;
+    let says = says_all(&both, alloc);
+    drop(both);
+    says
+}
+
+// Whether they do so, and so do afterwards the earlier one alone and both, joined again.
+fn stand_after_join(alloc: Global, earlier: &Index, later: &Index) -> Result<bool, AllocError>
+    requires earlier { IsIndexOf first_records 0 earlier.now }
+    requires later { IsIndexOf last_records 6 later.now }
+{
+    let are_joined = are_joined(alloc, earlier, later)?;
+    let stands = says_all_of_first(earlier, alloc)?;
+    Ok(are_joined && stands && are_joined_again(alloc, earlier, later)?)
+}
+
+// The same of the index of the first part and that of these records.
+fn last_is_joined(alloc: Global, earlier: &Index, last: &[NodeRecord]) -> Result<bool, AllocError>
+    requires earlier { IsIndexOf first_records 0 earlier.now }
+    requires last { last.now ≡ last_records }
+{
+    let later = Index::build(alloc, last, 6)?;
+    let stand = stand_after_join(alloc, earlier, &later);
     drop(later);
-    Ok(are_joined? && is_later?)
+    stand
 }
 
 fn parts_are_joined(alloc: Global, records: &[NodeRecord]) -> Result<bool, Fail> {
-    let (front, back) = records.split_at(records.len().min(5));
-    let earlier = Index::build(alloc, front, 0)?;
-    let are_joined = is_joined_to(alloc, &earlier, back);
-    let is_earlier = ends_at(alloc, &earlier, 5);
+    let (first, last) = parts_of(records)?;
+    let earlier = Index::build(alloc, first, 0)?;
+    let stand = last_is_joined(alloc, &earlier, last);
     drop(earlier);
-    Ok(are_joined? && is_earlier?)
+    Ok(stand?)
 }
 
-// The first 5 records of a history, and the 6 others.
 #[test]
 fn refused_growths_leave_joined_indexes_as_they_were(rt: HostRuntime) -> Result<(), Fail> {
     let dump = read(rt.alloc(), MERGED)?;
-    let are_joined = parts_are_joined(rt.alloc(), dump.records());
+    let stand = parts_are_joined(rt.alloc(), dump.records());
     drop(dump);
-    assert!(rt; are_joined?);
+    assert!(rt; stand?);
     Ok(())
 }
 

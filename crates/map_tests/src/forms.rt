@@ -1,5 +1,5 @@
-//! What maps say, told apart by its form, and what the map of the first five records of `NESTED` says that is joined with
-//! the map of the last two.
+//! What maps say, told apart by its form, and what the map of the first five records of `NESTED` says that is joined
+//! with the map of the last two.
 
 use crate::joins::{copy_after_unit, joined};
 use crate::maps::{BEFORE_COPIES, COPIES, Part, look, map_of, path_of};

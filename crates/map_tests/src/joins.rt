@@ -1,8 +1,10 @@
 //! Maps of neighbouring parts of a history, joined.
-ghost use Rattle.std.specs.Prelude.{◌≡◌};
+ghost use Rattle.std.specs.Prelude.{◌≡◌, ◌++◌, IfOk};
+ghost use Rattle.std.specs.List.{slice_range};
 ghost use Rattle.block_map.specs.Ends.{ends_of};
+ghost use Rattle.block_map.specs.Map.{IsMapOf, records_at_ticks};
 
-use crate::maps::{COPIES, Part, finds, look, map_of, map_of_part};
+use crate::maps::{COPIES, Part, finds_sources, is_lawful_in, look, map_of, map_of_part};
 use crate::totals::total_of;
 use block_map::{Ends, Entry, Found, Map};
 use par_scan::Acts;
@@ -14,7 +16,10 @@ use svn_dump::{Dump, Kind, read};
 use svn_text::push_number;
 
 // Two maps as one, if they meet.
-pub(crate) fn joined(earlier: &Map, later: &Map) -> Result<Map, Fail> {
+pub(crate) fn joined(earlier: &Map, later: &Map) -> Result<Map, Fail>
+    ensures lo { IfOk result (λ both. both.lo ≡ earlier.now.lo) }
+    ensures records { IfOk result (λ both. both.records ≡ earlier.now.records ++ later.now.records) }
+{
     if !earlier.fits(later) {
         return Err("the maps do not meet")?;
     }
@@ -30,6 +35,9 @@ fn with_part(
     part: Part,
 ) -> Result<Map, Fail>
     requires { ends.now ≡ ends_of dump.now.counts }
+    ensures lo { IfOk result (λ both. both.lo ≡ earlier.now.lo) }
+    ensures records { IfOk result (λ both. both.records
+        ≡ earlier.now.records ++ records_at_ticks ends.now (slice_range dump.now.records part.start part.end)) }
 {
     let later = map_of_part(alloc, dump, ends, part)?;
     let both = joined(earlier, &later);
@@ -263,21 +271,14 @@ pub(crate) fn copy_after_unit(map: &Map) -> Result<(Map, (u32, u32, u64)), Fail>
     Ok((both?, extent))
 }
 
-// Whether the map of the last two records of `NESTED` finds `p/q/s` before them at `n/q/s`.
-fn finds_source(alloc: Global, dump: &Dump, map: &Map) -> Result<bool, Fail> {
-    let found = look(alloc, dump, map, 7, b"/n/q/s")?;
-    let is_found = finds(&found, alloc, dump, b"/p/q/s", 5, None);
-    drop(found);
-    is_found
-}
-
-// Whether its copy after its unit does so, and the ticks and nodes of the unit.
-fn copy_finds_source(alloc: Global, dump: &Dump) -> Result<(bool, (u32, u32, u64)), Fail> {
+// Whether the copy of the map of the last two records of `NESTED` after its unit says of each path what the map should,
+// and the ticks and nodes of the unit.
+fn copy_finds_sources(alloc: Global, dump: &Dump) -> Result<(bool, (u32, u32, u64)), Fail> {
     let map = map_of(alloc, dump, COPIES)?;
     let copied = copy_after_unit(&map);
     drop(map);
     let (both, extent) = copied?;
-    let found = finds_source(alloc, dump, &both);
+    let found = finds_sources(alloc, dump, &both);
     drop(both);
     Ok((found?, extent))
 }
@@ -285,7 +286,7 @@ fn copy_finds_source(alloc: Global, dump: &Dump) -> Result<(bool, (u32, u32, u64
 #[test]
 fn a_unit_has_no_nodes_and_changes_nothing(rt: HostRuntime) -> Result<(), Fail> {
     let dump = read(rt.alloc(), NESTED)?;
-    let found = copy_finds_source(rt.alloc(), &dump);
+    let found = copy_finds_sources(rt.alloc(), &dump);
     drop(dump);
     assert_eq!(rt; found?, (true, (5, 5, 0)));
     Ok(())
@@ -319,5 +320,55 @@ fn copies_of_an_earlier_map_are_those_of_their_own_record(rt: HostRuntime) -> Re
     drop(dump);
     let [file, dir] = [Kind::File, Kind::Dir].map(|kind| Some(Entry { kind, mi: None }));
     assert!(rt; found? == [file, dir, None]);
+    Ok(())
+}
+
+// The map of all records, joined of that of the first ones and that of the others.
+fn map_of_both(alloc: Global, dump: &Dump, ends: &Ends, count: usize) -> Result<Map, Fail>
+    requires { ends.now ≡ ends_of dump.now.counts }
+    ensures { IfOk result (λ map. IsMapOf dump.now map) }
+{
+    let front = Part {
+        start: 0,
+        end: count,
+    };
+    let back = Part {
+        start: count,
+        end: dump.records().len(),
+    };
+    let earlier = map_of_part(alloc, dump, ends, front)?;
+    let both = with_part(alloc, dump, ends, &earlier, back);
+    drop(earlier);
+    both
+}
+
+// Whether the map that is joined of those of both parts of `NESTED` finds no faulty record, and no fault of record 6.
+fn both_are_lawful<R: Threads + Sync>(
+    rt: &R,
+    alloc: Global,
+    dump: &Dump,
+    ends: &Ends,
+) -> Result<bool, Fail>
+    requires { ends.now ≡ ends_of dump.now.counts }
+{
+    let map = map_of_both(alloc, dump, ends, COPIES.start)?;
+    let is_lawful = is_lawful_in(rt, dump, ends, &map, 6);
+    drop(map);
+    is_lawful
+}
+
+fn joined_is_lawful<R: Threads + Sync>(rt: &R, alloc: Global, dump: &Dump) -> Result<bool, Fail> {
+    let ends = revision_ends(alloc, dump)?;
+    let is_lawful = both_are_lawful(rt, alloc, dump, &ends);
+    drop(ends);
+    is_lawful
+}
+
+#[test]
+fn a_joined_map_of_a_lawful_history_finds_no_faulty_record(rt: HostRuntime) -> Result<(), Fail> {
+    let dump = read(rt.alloc(), NESTED)?;
+    let is_lawful = joined_is_lawful(&rt, rt.alloc(), &dump);
+    drop(dump);
+    assert!(rt; is_lawful?);
     Ok(())
 }

@@ -1,7 +1,8 @@
 //! Maps of the records of small histories, and of parts of them.
 ghost use Rattle.std.specs.Prelude.{◌≡◌, ◌≤◌, IfOk, length};
+ghost use Rattle.std.specs.List.{slice_range};
 ghost use Rattle.block_map.specs.Ends.{ends_of};
-ghost use Rattle.block_map.specs.Map.{IsMapOf};
+ghost use Rattle.block_map.specs.Map.{IsMapOf, records_at_ticks};
 
 use block_map::{Ends, Entry, Found, Map, Nearest, check, fault_at};
 use sample_dumps::{DEEPER, MERGED, NESTED, TWO_TEXTS, copies_of_the_root, revision_ends};
@@ -29,6 +30,9 @@ const COPIES_OF_COPIES: Part = Part { start: 5, end: 9 };
 // The map of these records.
 pub(crate) fn map_of_part(alloc: Global, dump: &Dump, ends: &Ends, part: Part) -> Result<Map, Fail>
     requires { ends.now ≡ ends_of dump.now.counts }
+    ensures lo { IfOk result (λ map. map.lo ≡ part.start) }
+    ensures records { IfOk result (λ map.
+        map.records ≡ records_at_ticks ends.now (slice_range dump.now.records part.start part.end)) }
 {
     if part.end < part.start || dump.records().len() < part.end {
         return Err("there are not so many records")?;
@@ -41,6 +45,9 @@ pub(crate) fn build(alloc: Global, dump: &Dump, ends: &Ends, part: Part) -> Resu
     requires ends { ends.now ≡ ends_of dump.now.counts }
     requires order { part.start ≤ part.end }
     requires within { part.end ≤ length dump.now.records }
+    ensures lo { IfOk result (λ map. map.lo ≡ part.start) }
+    ensures records { IfOk result (λ map.
+        map.records ≡ records_at_ticks ends.now (slice_range dump.now.records part.start part.end)) }
 {
     let records = dump.records();
     let records = &records[part.start..part.end];
@@ -112,7 +119,7 @@ fn is_at(found: &Found, wanted: &Path, at: u32, mergeinfo: Option<ValueId>) -> b
 }
 
 // Whether a map says of a path that it has what stood at another one after so many records.
-pub(crate) fn finds(
+fn finds(
     found: &Found,
     alloc: Global,
     dump: &Dump,
@@ -146,7 +153,7 @@ fn end_of(alloc: Global, dump: &Dump, rev: u32) -> Result<Option<u32>, AllocErro
 }
 
 // Whether a map finds no faulty record, and no fault of the record of this number.
-fn is_lawful_in<R: Threads + Sync>(
+pub(crate) fn is_lawful_in<R: Threads + Sync>(
     rt: &R,
     dump: &Dump,
     ends: &Ends,
@@ -258,32 +265,41 @@ fn a_part_keeps_a_node_for_each_component_and_one_more(rt: HostRuntime) -> Resul
     Ok(())
 }
 
-// Whether the records 6 and 7 of `NESTED` leave at a path what stood at another one after so many records.
-fn copies_find(
+// Whether a map says that after all records of `NESTED` a path has what stood at another one after so many.
+fn finds_source(
     alloc: Global,
     dump: &Dump,
+    map: &Map,
     path: &[u8],
     from: &[u8],
     at: u32,
 ) -> Result<bool, Fail> {
-    let found = look_in_part(alloc, dump, COPIES, 7, path)?;
+    let found = look(alloc, dump, map, 7, path)?;
     let is_found = finds(&found, alloc, dump, from, at, None);
     drop(found);
     is_found
 }
 
-// Whether they do so at each path.
-fn copies_find_their_sources(alloc: Global, dump: &Dump) -> Result<bool, Fail> {
+// Whether it says of each path what the map of the records 6 and 7 should.
+pub(crate) fn finds_sources(alloc: Global, dump: &Dump, map: &Map) -> Result<bool, Fail> {
     for (path, from, at) in [
         (b"/n/q/s".as_slice(), b"/p/q/s".as_slice(), 5),
         (b"/m/q/s", b"/p/q/s", 4),
         (b"/z", b"/z", 5),
     ] {
-        if !copies_find(alloc, dump, path, from, at)? {
+        if !finds_source(alloc, dump, map, path, from, at)? {
             return Ok(false);
         }
     }
     Ok(true)
+}
+
+// Whether that map does so.
+fn copies_find_their_sources(alloc: Global, dump: &Dump) -> Result<bool, Fail> {
+    let map = map_of(alloc, dump, COPIES)?;
+    let found = finds_sources(alloc, dump, &map);
+    drop(map);
+    found
 }
 
 #[test]
