@@ -178,7 +178,7 @@ def build(folder):
     program = os.path.join(crate, "out", "svnhist")
     if os.path.exists(copy):
         return program
-    shutil.copytree(REPOSITORY, copy, ignore=shutil.ignore_patterns(".git", "interop", "examples", "docs"))
+    shutil.copytree(REPOSITORY, copy, ignore=shutil.ignore_patterns(".git", "interop", "model", "examples", "docs"))
     path = os.path.join(crate, "src", "main.rt")
     write_main(path)
     write_text(STEPS, crate, "src", "steps.rt")
