@@ -1,5 +1,0 @@
-use Rattle.std.proofs.Common.{length}
-use Rattle.map_tests.proofs.totals.+all_fit.Given as goal
-
-abbrev pub decreases-all_fit : goal.decreases-all_fit
-decreases-all_fit g l = length l.items.now

@@ -1,6 +1,0 @@
-use Rattle.std.proofs.Common.{arith}
-use Rattle.par_scan.specs.Weightless.{no_weight}
-use Rattle.map_tests.proofs.totals.ends_after_all.Goals as goal
-
-pub total_of-requires-clause-light : goal.total_of-requires-clause-light
-total_of-requires-clause-light g c κs within = omega (arith, no_weight c.in_ok-single_indexes.field-0.items)
