@@ -3,7 +3,7 @@ ghost use Rattle.std.specs.Prelude.{◌≡◌, ◌+◌, ◌<◌, ◌≤◌, ◌�
 ghost use Rattle.std.specs.Io.KnownBytes.{Keeps, ReadConsumes, WriteAppends};
 ghost use Rattle.devices.specs.Device.{PullState, PushState, end_count, failure_count, device_calls, device_ends, device_failures, device_has_failed, device_inner, device_is_flushed, pull_state, push_state};
 
-use crate::calls::Calls;
+use crate::ghost_count::GhostCount;
 use std::io::{Read, Write};
 
 /// A device failed. It says nothing of the cause, and a device that has failed fails from then on.
@@ -57,9 +57,9 @@ pub struct Device<D> {
     inner: D,
     failed: bool,
     flushed: bool,
-    calls: Calls,
-    ends: Calls,
-    failures: Calls,
+    calls: GhostCount,
+    ends: GhostCount,
+    failures: GhostCount,
 }
 
 impl<D> Device<D> {
@@ -76,9 +76,9 @@ impl<D> Device<D> {
             inner,
             failed: false,
             flushed: false,
-            calls: Calls::new(),
-            ends: Calls::new(),
-            failures: Calls::new(),
+            calls: GhostCount::new(),
+            ends: GhostCount::new(),
+            failures: GhostCount::new(),
         }
     }
 }

@@ -59,9 +59,9 @@ impl Outcome<u32, Tally> for Stealing {
 }
 
 /// Splitting off the pass of a thief, and taking it in again.
-struct Hand;
+struct Sharing;
 
-impl Split<Tally> for Hand {
+impl Split<Tally> for Sharing {
     ghost use Rattle.query_pool.specs.Stealing.{after_split, split_off};
 
     ghost left = { after_split };
@@ -69,7 +69,7 @@ impl Split<Tally> for Hand {
     ghost right = { split_off };
 }
 
-impl Join<Tally> for Hand {
+impl Join<Tally> for Sharing {
     ghost use Rattle.query_pool.specs.Stealing.{joined, spent};
 
     ghost both = { joined };
@@ -87,7 +87,7 @@ pub(crate) type Thief = Stealer<u32, Global, Tally, EachOnce>;
 pub(crate) type ThiefPass = Pass<u32, Tally>;
 
 /// A deque in which all places are left, in order.
-pub(crate) fn filled(alloc: Global, n: u32) -> Result<Owner, AllocError>
+pub(crate) fn deque_of_places(alloc: Global, n: u32) -> Result<Owner, AllocError>
     requires few_places { n ≤ most_places }
     ensures fifo { IfOk result (λ owner. worker_flavor owner ≡ 0) }
     ensures view { IfOk result (λ owner. worker_view owner ≡ tally most_workers n []) }
@@ -152,7 +152,7 @@ pub(crate) fn split(owner: &mut Owner) -> ThiefPass
     ensures left { worker_view owner.new ≡ after_split (worker_view owner.old) }
     ensures right { view result ≡ split_off (worker_view owner.old) }
 {
-    owner.another::<Hand>()
+    owner.another::<Sharing>()
 }
 
 /// Takes in the pass of a thief that has ended.
@@ -162,5 +162,5 @@ pub(crate) fn absorb(owner: &mut Owner, pass: ThiefPass)
     ensures same { SameWorker owner.old owner.new }
     ensures joined { worker_view owner.new ≡ joined (worker_view owner.old) (view pass) }
 {
-    owner.absorb::<Hand>(pass)
+    owner.absorb::<Sharing>(pass)
 }

@@ -23,12 +23,12 @@ pub fn gather<Out: Drop>(
     ensures error { IfErr result (IsGatherError n (results_of parts.items)) }
     ensures whole { HasEachOnce n (results_of parts.items) → IfErr result (λ e. e ≡ Memory) }
 {
-    let slots = filled_slots(alloc, parts, n)?;
+    let slots = slots_of(alloc, parts, n)?;
     unwrap_all(alloc, slots)
 }
 
 /// Slots for all places, with the results of all parts.
-fn filled_slots<Out: Drop>(
+fn slots_of<Out: Drop>(
     alloc: Global,
     parts: Vec<Part<Out>>,
     n: u32,

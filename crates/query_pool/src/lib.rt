@@ -1,4 +1,9 @@
 //! Numbered jobs, done by several workers at once, and their results put in order.
+//!
+//! ```
+//! let parts = serve(rt, alloc, job, n, workers, gate)?;
+//! let found = gather(alloc, parts, n)?;
+//! ```
 #![tactic(auto)]
 
 mod caller;
@@ -16,7 +21,7 @@ pub use gate::{Gate, NoGate};
 pub use gathering::gather;
 pub use job::Job;
 pub use part::Part;
-pub use serving::serve;
+pub use serving::{MOST_PLACES, MOST_WORKERS, serve};
 
 #[cfg(test)]
 mod tests;

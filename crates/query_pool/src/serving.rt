@@ -7,7 +7,7 @@ ghost use Rattle.query_pool.specs.Serving.{HasEachOnce, results_of, most_places,
 ghost use Rattle.query_pool.specs.Stealing.{LooksEmpty, Serves};
 
 use crate::caller::Caller;
-use crate::deque::{Thief, ThiefPass, absorb, filled, split, steal, take};
+use crate::deque::{Thief, ThiefPass, absorb, deque_of_places, split, steal, take};
 use crate::gate::Gate;
 use crate::job::Job;
 use crate::part::Part;
@@ -15,6 +15,12 @@ use crate::progress::{begin, serve_place};
 use std::alloc::{AllocError, Global};
 use std::sync::Wait;
 use std::thread::{self, Threads};
+
+/// How many places a job has at most.
+pub const MOST_PLACES: u32 = 1_000_000;
+
+/// How many workers there are at most.
+pub const MOST_WORKERS: usize = 64;
 
 /// Runs the job at the places 0 to `n - 1`, each once, with at most so many workers at a time, and answers what each
 /// worker did.
@@ -38,7 +44,7 @@ pub fn serve<R: Threads + Wait + Sync, J: Job, G: Gate>(
     ensures gives { IfOk result (λ parts. All (λ each. J.gives job.now each.0 each.1) (results_of parts.items)) }
 {
     let thieves = (workers as u32).min(n).max(1) - 1;
-    let owner = filled(alloc, n)?;
+    let owner = deque_of_places(alloc, n)?;
     let thief = owner.stealer()?;
     let caller = Caller {
         owner,

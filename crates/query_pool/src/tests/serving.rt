@@ -3,7 +3,7 @@ ghost use Rattle.std.specs.Prelude.{◌<◌, ◌≤◌};
 ghost use Rattle.query_pool.specs.Serving.{most_workers};
 
 use crate::tests::meetings::{Meeting, Others};
-use crate::{Gate, Job, NoGate, Part, gather, serve};
+use crate::{Gate, Job, MOST_PLACES, MOST_WORKERS, NoGate, Part, gather, serve};
 use std::alloc::{AllocError, Global};
 use std::sync::Wait;
 use std::sync::atomic::{AtomicUsize, Ordering};
@@ -60,7 +60,7 @@ fn serves_in_order<R: Threads + Wait + Sync, G: Gate>(
     workers: usize,
     gate: &G,
 ) -> Result<bool, Fail> {
-    if n > 1000000 || workers == 0 || workers > 64 {
+    if n > MOST_PLACES || workers == 0 || workers > MOST_WORKERS {
         return Ok(false);
     }
     let parts = serve(rt, alloc, job, n, workers, gate)?;

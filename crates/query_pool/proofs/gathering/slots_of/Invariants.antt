@@ -1,7 +1,7 @@
 use Rattle.std.proofs.Common.{◌≡◌, ◌++◌, length}
 use Rattle.query_pool.specs.Serving.{results_of}
 use Rattle.query_pool.specs.Slots.{Holds}
-use Rattle.query_pool.proofs.gathering.filled_slots.Given as goal
+use Rattle.query_pool.proofs.gathering.slots_of.Given as goal
 
 abbrev pub invariant-loop-part : goal.invariant-loop-part
 invariant-loop-part g l = record {

@@ -5,7 +5,7 @@ use Rattle.query_pool.specs.Gathering.{IsGatherError}
 use Rattle.query_pool.specs.Serving.{results_of}
 use Rattle.query_pool.specs.Slots.{Holds}
 use Rattle.query_pool.proofs.Adding.{Holds-none, results_of_cut}
-use Rattle.query_pool.proofs.gathering.filled_slots.Goals as goal
+use Rattle.query_pool.proofs.gathering.slots_of.Goals as goal
 
 pub loop-part-init : goal.loop-part-init
 loop-part-init g c = record {

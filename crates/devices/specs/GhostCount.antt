@@ -1,4 +1,4 @@
--- The number of a count of calls.
+-- The number that a count shows.
 use Rattle.std.specs.Prelude.{ℕ, ◌+◌, Option, Some, None}
 use Rattle.std.specs.declared.snapshot.Snapshot.{Snapshot}
 
