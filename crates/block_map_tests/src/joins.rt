@@ -8,7 +8,8 @@ use crate::maps::{COPIES, Part, finds_sources, is_lawful_in, look, map_of, map_o
 use crate::totals::total_of;
 use block_map::{Ends, Entry, Found, Map};
 use par_scan::Acts;
-use sample_dumps::{NESTED, copies_of_the_root, revision_ends};
+use revision_ends::revision_ends;
+use sample_dumps::{NESTED, copies_of_the_root};
 use std::alloc::Global;
 use std::test::Fail;
 use std::thread::Threads;

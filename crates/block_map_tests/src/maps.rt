@@ -5,7 +5,8 @@ ghost use Rattle.block_map.specs.Ends.{ends_of};
 ghost use Rattle.block_map.specs.Map.{IsMapOf, records_at_ticks};
 
 use block_map::{Ends, Entry, Found, Map, Nearest, check, fault_at};
-use sample_dumps::{DEEPER, MERGED, NESTED, TWO_TEXTS, copies_of_the_root, revision_ends};
+use revision_ends::revision_ends;
+use sample_dumps::{DEEPER, MERGED, NESTED, TWO_TEXTS, copies_of_the_root};
 use std::alloc::{AllocError, Global};
 use std::test::Fail;
 use std::thread::Threads;

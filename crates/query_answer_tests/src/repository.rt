@@ -9,7 +9,7 @@ ghost use Rattle.block_map.specs.Map.{IsMapOf};
 use block_map::{Ends, Map, check};
 use path_index::Index;
 use query_answer::Repo;
-use sample_dumps::revision_ends;
+use revision_ends::revision_ends;
 use std::alloc::Global;
 use std::test::Fail;
 use std::thread::Threads;

@@ -2,14 +2,12 @@
 #![tactic(auto)]
 
 mod copies;
-mod ends;
 mod faulty;
 mod first;
 mod mergeinfo;
 mod svnadmin;
 
 pub use copies::{DEEPER, GONE, MOVES, NESTED, REPLACED, SPARSE, copies_of_the_root};
-pub use ends::revision_ends;
 pub use faulty::{
     EXISTS, MISSING, NO_PARENT, NO_PARENT_OF_COPY, NO_SOURCE, REPLACED_BY_NOTHING, REPLACES_NOTHING,
 };

@@ -1,4 +1,6 @@
-//! Where the revisions of a dump end.
+//! Where the revisions of a dump end, for tests: added up, where the program scans.
+#![tactic(auto)]
+
 ghost use Rattle.std.specs.Prelude.{◌≡◌, IfOk};
 ghost use Rattle.block_map.specs.Ends.{ends_of};
 

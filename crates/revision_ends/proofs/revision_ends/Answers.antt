@@ -2,8 +2,8 @@ use Rattle.std.proofs.Common.{◌≡◌, ◌+◌, ◌<◌, ◌≤◌, ◌^◌, �
 use Rattle.par_scan.specs.declared.sum.Sum.{Sum}
 use Rattle.block_map.specs.Ends.{ends_of, ends_view}
 use Rattle.block_map.proofs.RevisionEnds.{length-ends_of}
-use Rattle.sample_dumps.proofs.RevisionSums.{AreFirstEnds, AreFirstEnds-next, end-below, end-next, ends-below}
-use Rattle.sample_dumps.proofs.ends.revision_ends.Goals as goal
+use Rattle.revision_ends.proofs.RevisionSums.{AreFirstEnds, AreFirstEnds-next, end-below, end-next, ends-below}
+use Rattle.revision_ends.proofs.revision_ends.Goals as goal
 
 pub overflow_add-end : goal.overflow_add-end
 overflow_add-end c =

@@ -1,5 +1,5 @@
-use Rattle.sample_dumps.proofs.RevisionSums.{AreFirstEnds}
-use Rattle.sample_dumps.proofs.ends.revision_ends.Given as goal
+use Rattle.revision_ends.proofs.RevisionSums.{AreFirstEnds}
+use Rattle.revision_ends.proofs.revision_ends.Given as goal
 
 abbrev pub invariant-loop-count : goal.invariant-loop-count
 invariant-loop-count l = AreFirstEnds l.dump.counts l.count-index l.end l.sums.items
