@@ -97,7 +97,7 @@ Node-copyfrom-path: trunk
 
 ";
 
-/// The same as one record, which replaces `b`.
+/// The records of [`DELETE_AND_COPY`] as one, which replaces `b`.
 pub const REPLACE: &[u8] = b"Node-path: b
 Node-kind: dir
 Node-action: replace

@@ -80,7 +80,7 @@ fn answer_batches<'r, R: Threads + Wait + Sync, G: Gate>(
         size = size.max((2 * size).min(lines.len().div_ceil(PARTS_OF_ALL)));
     }
     let PartialReport { report, texts } = partial;
-    extended(report, texts.as_slice())
+    with_texts(report, texts.as_slice())
 }
 
 /// A report so far: what of it is joined, and the answers that follow.
@@ -91,7 +91,7 @@ pub(crate) struct PartialReport {
 }
 
 impl PartialReport {
-    /// The same with the answers to a batch. The answers before it are joined meanwhile, if there are several workers.
+    /// This report with the answers to a further batch. With several workers, the answers before it are joined meanwhile.
     fn with_answers<R: Threads + Wait + Sync, G: Gate>(
         self,
         rt: &R,
@@ -106,7 +106,7 @@ impl PartialReport {
     {
         let PartialReport { report, texts } = self;
         if workers == 1 || texts.is_empty() {
-            let report = extended(report, texts.as_slice())?;
+            let report = with_texts(report, texts.as_slice())?;
             drop(texts);
             let texts = batch.answers(rt, workers, gate)?;
             return Ok(PartialReport { report, texts });
@@ -115,7 +115,7 @@ impl PartialReport {
         let joining = move || -> Result<Vec<u8>, AllocError>
             ensures { IfOk result (λ after.
                 after.items ≡ report.items ++ flat_map (λ text. text.items) joined.entry.now) }
-        { extended(report, joined) };
+        { with_texts(report, joined) };
         let answering = move || -> Result<Vec<Vec<u8>>, AllocError>
             requires { (0 < workers) × (workers ≤ most_workers) }
             ensures { IfOk result (λ texts. flat_map (λ text. text.items) texts.items
@@ -140,7 +140,7 @@ fn length_of(texts: &[Vec<u8>]) -> usize {
 }
 
 /// A report with these texts at its end, one after another.
-fn extended(report: Vec<u8>, texts: &[Vec<u8>]) -> Result<Vec<u8>, AllocError>
+fn with_texts(report: Vec<u8>, texts: &[Vec<u8>]) -> Result<Vec<u8>, AllocError>
     ensures { IfOk result (λ after. after.items ≡ report.items ++ flat_map (λ text. text.items) texts.now) }
 {
     let mut report = report;

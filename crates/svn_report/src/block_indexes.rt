@@ -1,20 +1,24 @@
-//! Blocks of records.
+//! The index of a dump, joined of the indexes of blocks.
+ghost use Rattle.std.specs.Prelude.{◌≡◌, ◌<◌, ◌≤◌, IfOk, length};
+ghost use Rattle.svn_report.specs.Blocks.{AreBorders};
+ghost use Rattle.query_pool.specs.Serving.{most_workers};
 
-use par_scan::Make;
+use par_scan::{Make, make_all, total};
 use path_index::Index;
 use std::alloc::{AllocError, Global};
-use svn_dump::NodeRecord;
+use std::thread::Threads;
+use svn_dump::{Dump, NodeRecord};
 
 /// Blocks of records, each between two borders, which are numbers of records. What is made of a block is the index of
 /// its records.
 #[derive(Clone, Copy)]
-pub(crate) struct Blocks<'a> {
-    pub(crate) alloc: Global,
-    pub(crate) records: &'a [NodeRecord],
-    pub(crate) borders: &'a [usize],
+pub(crate) struct BlockIndexes<'a> {
+    alloc: Global,
+    records: &'a [NodeRecord],
+    borders: &'a [usize],
 }
 
-impl Make for Blocks<'_> {
+impl Make for BlockIndexes<'_> {
     ghost use Rattle.svn_report.specs.Blocks.{HasBlock, IsIndexOfBlock};
 
     type Item = Index;
@@ -27,5 +31,31 @@ impl Make for Blocks<'_> {
         let start = self.borders[i];
         let end = self.borders[i + 1];
         Index::build(self.alloc, &self.records[start..end], start as u32)
+    }
+}
+
+/// The index of all records of a dump. The blocks between these borders are indexed in parallel and joined.
+pub(crate) fn index_of<R: Threads + Sync>(
+    rt: &R,
+    alloc: Global,
+    dump: &Dump,
+    borders: &[usize],
+    workers: usize,
+) -> Result<Index, AllocError>
+    requires borders { AreBorders 0 (length dump.now.records) borders.now }
+    requires some_worker { 0 < workers }
+    requires few_workers { workers ≤ most_workers }
+    ensures records { IfOk result (λ index. index.records ≡ dump.now.records) }
+    ensures first { IfOk result (λ index. index.first ≡ 0) }
+{
+    let blocks = BlockIndexes {
+        alloc,
+        records: dump.records(),
+        borders,
+    };
+    let indexes = make_all(rt, alloc, &blocks, borders.len() - 1, workers)?;
+    match total(rt, alloc, indexes, workers)? {
+        Some(index) => Ok(index),
+        None => Index::build(alloc, &[], 0),
     }
 }

@@ -51,7 +51,7 @@ pub fn share_out(alloc: Global, borders: &[usize], most: usize) -> Result<Vec<us
     group_borders(alloc, borders, most)
 }
 
-/// The same where there are more blocks than groups.
+/// The borders of exactly `most` groups, where there are more blocks than that.
 fn group_borders(alloc: Global, borders: &[usize], most: usize) -> Result<Vec<usize>, AllocError>
     requires shareable { IsShareable most borders.now }
     requires some_group { 0 < most }

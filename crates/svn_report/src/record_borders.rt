@@ -1,43 +1,15 @@
-//! The index of a dump, joined of the indexes of blocks.
+//! How many records a dump has up to each of its revisions, and up to each of its blocks.
 ghost use Rattle.std.specs.Prelude.{◌≡◌, ◌<◌, ◌≤◌, All, IfOk, length, map};
 ghost use Rattle.svn_dump.specs.Dump.{IsDump};
 ghost use Rattle.svn_report.specs.Blocks.{AreBorders};
 ghost use Rattle.svn_report.specs.RecordEnds.{AreRecordBorders, AreRecordEnds, sum_at, sum_of};
 ghost use Rattle.query_pool.specs.Serving.{most_workers};
 
-use crate::blocks::Blocks;
 use crate::cutting::{block_ends, share_out};
-use par_scan::{Sum, make_all, scan, total};
-use path_index::Index;
+use par_scan::{Sum, scan};
 use std::alloc::{AllocError, Global};
 use std::thread::Threads;
 use svn_dump::Dump;
-
-/// The index of all records of a dump. The blocks between these borders are indexed in parallel and joined.
-pub(crate) fn index_of<R: Threads + Sync>(
-    rt: &R,
-    alloc: Global,
-    dump: &Dump,
-    borders: &[usize],
-    workers: usize,
-) -> Result<Index, AllocError>
-    requires borders { AreBorders 0 (length dump.now.records) borders.now }
-    requires some_worker { 0 < workers }
-    requires few_workers { workers ≤ most_workers }
-    ensures records { IfOk result (λ index. index.records ≡ dump.now.records) }
-    ensures first { IfOk result (λ index. index.first ≡ 0) }
-{
-    let blocks = Blocks {
-        alloc,
-        records: dump.records(),
-        borders,
-    };
-    let indexes = make_all(rt, alloc, &blocks, borders.len() - 1, workers)?;
-    match total(rt, alloc, indexes, workers)? {
-        Some(index) => Ok(index),
-        None => Index::build(alloc, &[], 0),
-    }
-}
 
 /// How many records precede each block that `cuts` make of the revisions of a dump, and how many there are. Each join
 /// of indexes goes through the later one, so where there are more blocks than workers, neighbouring ones are taken

@@ -11,14 +11,14 @@ use crate::query_lines::count_lines;
 use crate::repository::load_repo;
 use crate::run_error::RunError;
 use query_answer::Repo;
-use query_pool::Gate;
+use query_pool::{Gate, MOST_PLACES};
 use std::alloc::Global;
 use std::sync::Wait;
 use std::thread::Threads;
 use svn_dump::{Dump, read};
 
 /// How many queries one run answers at most.
-pub(crate) const MOST_QUERIES: usize = 1_000_000;
+pub const MOST_QUERIES: usize = MOST_PLACES as usize;
 
 /// The answers to the query lines, in their order.
 ///

@@ -10,8 +10,9 @@ ghost use Rattle.svn_report.specs.Blocks.{AreBorders, IsIndexOf};
 ghost use Rattle.svn_report.specs.LoadRepo.{IsLoadError};
 ghost use Rattle.query_pool.specs.Serving.{most_workers};
 
-use crate::block_index::{index_of, record_borders, record_ends};
+use crate::block_indexes::index_of;
 use crate::block_maps::map_of;
+use crate::record_borders::{record_borders, record_ends};
 use block_map::{Ends, Fault, Map, check};
 use path_index::Index;
 use query_answer::Repo;
@@ -23,7 +24,10 @@ use thiserror::Error;
 /// Why a dump has no repository.
 #[derive(Debug, Drop, Error)]
 pub enum LoadError {
-    #[error("dump refused: {0:?}")]
+    #[error(
+        "dump refused: {number} {name} at record {record}",
+        number = .0.kind.number(), name = .0.kind.name(), record = .0.number
+    )]
     Fault(Fault),
     #[error("out of memory")]
     Memory,
@@ -125,12 +129,17 @@ fn lawful_map<R: Threads + Sync>(
     ensures faulty { IfErr result (IsLoadError dump.now) }
 {
     let map = map_of(rt, alloc, dump, ends, borders, workers)?;
-    judge(rt, &map, dump, ends)?;
+    refuse_fault(rt, &map, dump, ends)?;
     Ok(map)
 }
 
 /// The first faulty record of a dump, if there is one, as an error.
-fn judge<R: Threads + Sync>(rt: &R, map: &Map, dump: &Dump, ends: &Ends) -> Result<(), LoadError>
+fn refuse_fault<R: Threads + Sync>(
+    rt: &R,
+    map: &Map,
+    dump: &Dump,
+    ends: &Ends,
+) -> Result<(), LoadError>
     requires dump { IsDump dump.now }
     requires map { IsMapOf dump.now map.now }
     requires ends { ends.now ≡ ends_of dump.now.counts }

@@ -10,16 +10,19 @@ use svn_dump::{DumpError, refusal_name};
 use svn_text::push_number;
 use thiserror::Error;
 
-/// Why a run gave no report.
+/// Why a run gave no report. Each is displayed as its line, without `svnhist: ` and the newline.
 #[derive(Debug, Drop, Error)]
 pub enum RunError {
     #[error("more than 1000000 queries")]
     TooMany,
-    #[error("dump refused: {0}")]
+    #[error("{0}")]
     Dump(DumpError),
-    #[error("dump refused: {0:?}")]
+    #[error(
+        "dump refused: {number} {name} at record {record}",
+        number = .0.kind.number(), name = .0.kind.name(), record = .0.number
+    )]
     Fault(Fault),
-    #[error("cannot read: {0:?}")]
+    #[error("cannot read {name}", name = source_name(*.0))]
     Read(Source),
     #[error("out of memory")]
     Memory,
@@ -155,18 +158,18 @@ fn unread_line(alloc: Global, source: Source) -> Result<Vec<u8>, AllocError>
     ensures { IfOk result (λ line. line.items ≡ unread_text source) }
 {
     let mut line = Vec::from_slice(alloc, b"svnhist: cannot read ".as_slice())?;
-    line.extend_from_slice(source_name(source))?;
+    line.extend_from_slice(source_name(source).as_bytes())?;
     line.push(b'\n')?;
     Ok(line)
 }
 
 /// What a source is called.
-fn source_name(source: Source) -> &'static [u8]
+fn source_name(source: Source) -> &'static str
     ensures { result.now ≡ source_name_of source }
 {
     match source {
-        Source::Dump => b"the dump",
-        Source::Queries => b"the queries",
-        Source::Input => b"standard input",
+        Source::Dump => "the dump",
+        Source::Queries => "the queries",
+        Source::Input => "standard input",
     }
 }

@@ -18,6 +18,12 @@ fn line_after_abc(alloc: Global, error: &RunError) -> Result<Vec<u8>, AllocError
     Ok(line)
 }
 
+// Whether an error is displayed as this line, without what the program puts around it.
+fn is_displayed(alloc: Global, error: &RunError, line: &[u8]) -> Result<bool, AllocError> {
+    let text = format!(in alloc; "svnhist: {error}\n")?;
+    Ok(text.as_bytes() == line)
+}
+
 // Whether an error has this status and this line.
 fn is_printed(
     alloc: Global,
@@ -26,7 +32,9 @@ fn is_printed(
     line: &[u8],
 ) -> Result<bool, AllocError> {
     let found = line_after_abc(alloc, error)?;
-    Ok(error.status() == status && found.strip_prefix(b"abc") == Some(line))
+    let is_printed = error.status() == status && found.strip_prefix(b"abc") == Some(line);
+    drop(found);
+    Ok(is_printed && is_displayed(alloc, error, line)?)
 }
 
 #[test]

@@ -12,6 +12,8 @@ mod faults;
 #[cfg(test)]
 mod gates;
 #[cfg(test)]
+mod hosts;
+#[cfg(test)]
 mod meetings;
 #[cfg(test)]
 mod pieces;

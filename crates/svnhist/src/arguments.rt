@@ -2,6 +2,7 @@
 ghost use Rattle.std.specs.Prelude.{map, string_bytes, IfNone, IfSome};
 ghost use Rattle.svnhist.specs.Arguments.{ArgumentsValue, IsArguments, arguments_view};
 
+use query_pool::MOST_WORKERS;
 use svn_text::{GREATEST_REVISION, number_up_to};
 
 /// The path of the dump.
@@ -32,7 +33,7 @@ pub(crate) fn read_arguments(texts: &[String]) -> Option<Arguments<'_>>
         return None;
     };
     let block = number_up_to(GREATEST_REVISION, block.as_bytes())?;
-    let workers = number_up_to(64, workers.as_bytes())?;
+    let workers = number_up_to(MOST_WORKERS as u64, workers.as_bytes())?;
     if workers == 0 {
         return None;
     }

@@ -4,6 +4,8 @@ ghost use Rattle.svn_text.specs.Number.{greatest_length};
 ghost use Rattle.svnhist.specs.Bundle.{AreLines, BundleValue, HasNoNumberBefore, IsBundle, IsNumberBefore, bundle_view, first_digit};
 
 use crate::bundle::Bundle;
+use query_pool::MOST_WORKERS;
+use svn_report::MOST_QUERIES;
 use svn_text::{GREATEST_REVISION, number_up_to, split_at_byte};
 
 /// The number before the first such byte, and what follows that byte.
@@ -37,11 +39,11 @@ pub fn bundle(bytes: &[u8]) -> Option<Bundle<'_>>
     ensures none { IfNone result ((value : BundleValue) → IsBundle bytes.now value → ⊥) }
 {
     let (block, rest) = number_before(bytes, b' ', GREATEST_REVISION)?;
-    let (workers, rest) = number_before(rest, b' ', 64)?;
+    let (workers, rest) = number_before(rest, b' ', MOST_WORKERS as u64)?;
     if workers == 0 {
         return None;
     }
-    let (count, rest) = number_before(rest, b'\n', 1_000_000)?;
+    let (count, rest) = number_before(rest, b'\n', MOST_QUERIES as u64)?;
     let (queries, dump) = split_lines(rest, count)?;
     Some(Bundle {
         block: block as u32,

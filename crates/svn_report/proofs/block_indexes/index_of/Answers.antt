@@ -1,8 +1,8 @@
 use Rattle.std.proofs.Common.{◌≡◌, ◌+◌, length, ◌∙◌, arith}
 use Rattle.svn_report.specs.Blocks.{AreBorders}
 use Rattle.svn_report.proofs.BlockIndexes.{IsChain-blocks, joined-first, joined-records}
-use Rattle.svn_report.proofs.block_index.index_of.Goals as goal
-use Rattle.svn_report.proofs.block_index.index_of.Goals.{In_ok-indexes}
+use Rattle.svn_report.proofs.block_indexes.index_of.Goals as goal
+use Rattle.svn_report.proofs.block_indexes.index_of.Goals.{In_ok-indexes}
 
 -- the borders of the blocks that were made
 borders_of : (g : _) (c : In_ok-indexes g) → AreBorders 0 (length c.records.result.now) c.args.borders.now

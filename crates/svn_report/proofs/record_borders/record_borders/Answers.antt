@@ -4,8 +4,8 @@ use Rattle.svn_report.specs.Blocks.{AreBorders}
 use Rattle.svn_report.specs.Cutting.{AreBlockEnds, AreBordersLeft}
 use Rattle.svn_report.specs.RecordEnds.{sum_at}
 use Rattle.svn_report.proofs.RecordEnds.{AreBorders-read, ends-below, last_border-read, map-sum_at}
-use Rattle.svn_report.proofs.block_index.record_borders.Goals as goal
-use Rattle.svn_report.proofs.block_index.record_borders.Goals.{In_ok-borders, In_ok-ends}
+use Rattle.svn_report.proofs.record_borders.record_borders.Goals as goal
+use Rattle.svn_report.proofs.record_borders.record_borders.Goals.{In_ok-borders, In_ok-ends}
 
 -- the revisions at which the sums are read
 ends_of : (c : In_ok-ends) → AreBorders 0 (length c.args.sums.now - 1) c.in_ok-ends.ends.items

@@ -3,7 +3,7 @@ use Rattle.par_scan.specs.Chain.{IsChain}
 use Rattle.par_scan.specs.Sum.{no_border, sum_weight}
 use Rattle.svn_report.specs.RecordEnds.{sum_of}
 use Rattle.svn_report.proofs.RecordEnds.{AreRecordEnds-scan, IsChain-counts}
-use Rattle.svn_report.proofs.block_index.record_ends.Goals as goal
+use Rattle.svn_report.proofs.record_borders.record_ends.Goals as goal
 
 pub scan-requires-clause-chain : goal.scan-requires-clause-chain
 scan-requires-clause-chain g c κs within =

@@ -1,7 +1,7 @@
 use Rattle.std.proofs.Common.{option_map, sym, ap, ◌∙◌}
 use Rattle.block_map.specs.FaultKind.{fault_view}
 use Rattle.svn_report.proofs.LoadErrors.{IsLoadError-fault}
-use Rattle.svn_report.proofs.repository.judge.Goals as goal
+use Rattle.svn_report.proofs.repository.refuse_fault.Goals as goal
 
 pub returns-in-Some-clause-faulty : goal.returns-in-Some-clause-faulty
 returns-in-Some-clause-faulty g c =
