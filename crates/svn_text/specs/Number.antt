@@ -13,7 +13,7 @@ value_of_digits digits = fold (λ value digit. value * 10 + (digit - 48)) 0 digi
 abbrev pub number_of : List ℕ → Option ℕ
 number_of bytes = if is_not_empty bytes && list_all is_digit bytes then Some (value_of_digits bytes) else None
 
--- the same, where it is at most this
+-- the value of one or more digits, where it is at most this
 abbrev pub number_up_to : ℕ → List ℕ → Option ℕ
 number_up_to most bytes = option_and_then (λ value. if nat_le value most then Some value else None) (number_of bytes)
 

@@ -1,4 +1,12 @@
 //! Bytes cut at a byte, tables of texts, memories of recent numbers, decimal numbers, and the greatest revision.
+//!
+//! ```
+//! let bytes = b"a: b: c".as_slice();
+//! assert_eq!(rt;
+//!     split_at_byte(b':', bytes),
+//!     Some((b"a".as_slice(), b" b: c".as_slice()))
+//! );
+//! ```
 #![tactic(auto)]
 
 mod cut;

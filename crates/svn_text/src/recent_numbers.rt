@@ -1,13 +1,10 @@
-//! Numbers that were met lately.
-
 use std::alloc::{AllocError, Global};
 
-// How many places there are at least, a power of two.
+// How many places there are at least, once there are any: a power of two.
 const FEWEST: usize = 64;
 
-/// A memory before a map, which finds most numbers in a fraction of the time that the map takes: for some hashes the
-/// number that was put last. Nothing is promised of what it answers, so whoever asks checks the number, and only time
-/// depends on it.
+/// For some hashes the number that was put last. Asked before a map, it finds most numbers in a fraction of the time that
+/// the map takes. Nothing is promised of what it answers, so whoever asks checks the number, and only time depends on it.
 #[derive(Drop)]
 pub struct RecentNumbers {
     // None, or a power of two.
@@ -22,7 +19,7 @@ impl RecentNumbers {
         }
     }
 
-    /// Doubles the places, and forgets all numbers, where there are less than two places for each of `count` numbers.
+    /// Doubles the places, and forgets all numbers, where there are at most two places for each of `count` numbers.
     pub fn reserve(&mut self, count: usize) -> Result<(), AllocError> {
         let len = self.places.len();
         if len / 2 > count {

@@ -1,4 +1,3 @@
-//! The numbers of texts, in maps.
 ghost use Rattle.std.specs.Prelude.{◌≡◌, OnOk};
 ghost use Rattle.svn_text.specs.TextTable.{hash_of, first_of, other_of, IsFoundAt, KeepsFound};
 

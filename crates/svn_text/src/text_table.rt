@@ -1,4 +1,4 @@
-//! Distinct texts, numbered in the order in which they came.
+//! A table of texts.
 ghost use Rattle.std.specs.Prelude.{◌≡◌, ℕ, ◌<◌, ◌≤◌, ◌↔◌, ◌++◌, List, [], ◌∷◌, Some, length, slice_get, bytes_eq, IsTrue, IsFalse, IsOk, IsSome, IfOk, IfSome, OnOk, OnErr, IsErrOf};
 ghost use Rattle.std.specs.List.{IsDistinct};
 ghost use Rattle.svn_text.specs.TextTable.{hash_of, has_text, with_text, most_texts, HasNoRoomFor};
@@ -19,7 +19,7 @@ pub enum TextTableError {
     Memory,
 }
 
-/// Distinct texts, seen as the list of their bytes. A look-up takes steps that grow at most as the logarithm of their
+/// Distinct texts, numbered from 0 in the order in which they came, and seen as the list of their bytes. A look-up takes steps that grow at most as the logarithm of their
 /// number, also where texts are chosen to have one hash: the hash has no seed, so whoever writes a dump can choose them.
 #[derive(Drop)]
 pub struct TextTable {
@@ -145,7 +145,7 @@ impl TextTable {
         }
     }
 
-    /// The same, by the maps alone.
+    /// The number of a text with this hash, by the maps alone.
     fn find_in_maps(&self, text: &[u8], hash: u64) -> Option<u32>
         requires { hash ≡ hash_of text.now }
         ensures number { IfSome result (λ number. slice_get self.now number ≡ Some text.now) }
