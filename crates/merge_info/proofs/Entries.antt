@@ -14,7 +14,7 @@ use Rattle.range_list.specs.Rangelist.{HasSameNumbers, IsCanonical}
 use Rattle.range_list.specs.declared.run.Run.{Run}
 use Rattle.range_list.proofs.Same.{HasSameNumbers-append, HasSameNumbers-refl}
 use Rattle.merge_info.specs.Line.{IsLine, Line}
-use Rattle.merge_info.specs.United.{RunsOfPaths, UnitesLines, lines_in}
+use Rattle.merge_info.specs.RunsByPath.{RunsByPath, AreRunsByPath, lines_in}
 use Rattle.merge_info.specs.Value.{AreRising, HasSameRevisions, IsEntry, IsMergeInfo, entry_view, ranges_of, runs_at, some_runs}
 use Rattle.merge_info.specs.declared.entry.Entry.{Entry}
 use Rattle.merge_info.proofs.RunsAt.{runs_at-append, runs_at-cons, runs_of}
@@ -100,15 +100,15 @@ pub record IsSoFar (lines entries rest : List Line) : Type 0 where
   pub same : HasSameRevisions (entries ++ rest) lines
 
 -- at the start
-pub IsSoFar-none : (lines : List Line) (united : RunsOfPaths) → UnitesLines lines united
-    → IsSoFar lines [] (lines_in united)
-IsSoFar-none lines united unites = record {
+pub IsSoFar-none : (lines : List Line) (by_path : RunsByPath) → AreRunsByPath lines by_path
+    → IsSoFar lines [] (lines_in by_path)
+IsSoFar-none lines by_path unites = record {
   are_entries = All-nil IsEntry;
   are_lines = unites.kept;
   rising = unites.rising;
   same =
-      λ path. subst (HasSameNumbers (runs_at (lines_in united) path)) (unites.same path)
-      (HasSameNumbers-refl (runs_at (lines_in united) path));
+      λ path. subst (HasSameNumbers (runs_at (lines_in by_path) path)) (unites.same path)
+      (HasSameNumbers-refl (runs_at (lines_in by_path) path));
 }
 
 -- at the end

@@ -18,5 +18,5 @@ pub mod PrintedPaths
 mod ReadsBack
 mod RunTexts
 mod RunsAt
+mod RunsByPath
 mod SourcePaths
-mod Unites

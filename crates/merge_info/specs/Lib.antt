@@ -3,6 +3,6 @@ pub mod Clash
 pub mod Element
 pub mod Inherited
 pub mod Line
+pub mod RunsByPath
 pub mod Text
-pub mod United
 pub mod Value

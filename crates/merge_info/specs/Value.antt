@@ -27,7 +27,7 @@ abbrev pub lines_between : List ℕ → List (List ℕ)
 lines_between [] = []
 lines_between (byte ∷ bytes) = slice_split is_newline (byte ∷ bytes)
 
--- the same, where one newline at the end begins no line
+-- the lines of a text, where one newline at the end begins no line
 abbrev pub text_lines : List ℕ → List (List ℕ)
 text_lines text = lines_between (strip_last 10 text)
 
@@ -39,7 +39,7 @@ lines_of text = all_of (map line_of (text_lines text))
 abbrev pub runs_at : List Line → List ℕ → List Run
 runs_at lines path = flat_map (λ line. line.runs) (filter (λ line. bytes_eq line.path path) lines)
 
--- the same, if there are any
+-- runs, if there are any
 abbrev pub some_runs : List Run → Option (List Run)
 some_runs [] = None
 some_runs (run ∷ runs) = Some (run ∷ runs)

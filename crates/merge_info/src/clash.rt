@@ -28,7 +28,7 @@ fn is_in_order(runs: &[Run]) -> bool
     runs.is_sorted_by_key(|run| run.lo)
 }
 
-/// The same of runs in the order of their first numbers.
+/// Whether some number of runs in the order of their first numbers is given both with and without `*`.
 fn has_clash_in_order(runs: &[Run]) -> bool
     requires runs { All IsRun runs.now }
     requires rising { IsRisingByFirst runs.now }

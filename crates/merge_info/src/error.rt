@@ -1,5 +1,3 @@
-//! Why a text was not read as mergeinfo.
-
 use std::alloc::{AllocError, AllocFailed};
 use thiserror::Error;
 

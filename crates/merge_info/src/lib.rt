@@ -1,4 +1,9 @@
 //! The values of Subversion's mergeinfo: which revisions were merged from which paths.
+//!
+//! ```
+//! let value = MergeInfo::parse(alloc, text.as_bytes())?;
+//! Ok(value.inherited(rest.as_bytes())?)
+//! ```
 #![tactic(auto)]
 
 mod clash;
@@ -9,9 +14,9 @@ mod line;
 mod lines;
 mod merge_info;
 mod rangelist;
+mod runs_by_path;
 mod source_path;
 mod text;
-mod united;
 
 pub use error::MergeError;
 pub use merge_info::MergeInfo;

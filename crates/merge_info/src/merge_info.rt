@@ -11,9 +11,9 @@ use crate::entry::Entry;
 use crate::error::MergeError;
 use crate::line::Line;
 use crate::lines::read_lines;
+use crate::runs_by_path::runs_by_path;
 use crate::source_path::is_before_below;
 use crate::text::{append_entries, append_inherited};
-use crate::united::united;
 use range_list::Ranges;
 use std::alloc::{AllocError, Global};
 use std::marker::Model;
@@ -143,7 +143,7 @@ impl MergeInfo {
         ensures exact { IfOk result (λ value. value ≡ canonical_value (map line_view lines.items)) }
     {
         let mut entries = Vec::new(alloc);
-        for (path, runs) in united(alloc, lines)? {
+        for (path, runs) in runs_by_path(alloc, lines)? {
             let ranges = Ranges::of_runs(runs)?;
             if ranges.is_empty() {
                 continue;

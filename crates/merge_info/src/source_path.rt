@@ -59,7 +59,7 @@ pub(crate) fn is_before_below(path: &[u8], next: &[u8]) -> bool
     path != b"/".as_slice() && stays_before(path, next)
 }
 
-/// The same for paths that are not the root.
+/// Whether it is certain that a path that is not the root is before the next one whatever follows both.
 fn stays_before(path: &[u8], next: &[u8]) -> bool
     ensures { result ≡ stays_before path.now next.now }
 {

@@ -41,7 +41,7 @@ inheritability_of-first run runs n out to = elim (cases_lt n run.lo) [
       ∙ ap (λ b. cond b (Some run.inheritable) None) (sym (le-leb run.lo n from))
 ]
 
--- the runs before the place end below the number, and the run at the place does not
+-- the runs before the index end below the number, and the run at the index does not
 inheritability_of-at : (runs : List Run) (i n : ℕ) (run : Run) → IsCanonical runs → i < length runs → run ≡ get_or runs i run →
     ((k : ℕ) (d : Run) → k < i → (get_or runs k d).hi < n) → n ≤ run.hi →
     inheritability_of runs n ≡ cond (leb run.lo n) (Some run.inheritable) None

@@ -1,4 +1,3 @@
-//! A set of revision numbers, each inheritable or not.
 ghost use Rattle.std.specs.Bool.{OnTrue};
 ghost use Rattle.std.specs.List.{list_any};
 ghost use Rattle.std.specs.Prelude.{◌≡◌, ◌≤◌, ◌<◌, ◌↔◌, List, [], ◌++◌, All, IfOk, OnOk, OnErr, IsTrue};
@@ -51,7 +50,7 @@ impl Ranges {
         if is_canonical(&runs) {
             Ok(Ranges { runs })
         } else {
-            swept(runs)
+            union_of(runs)
         }
     }
 
@@ -102,8 +101,8 @@ impl Ranges {
     pub fn has(&self, rev: u32) -> Option<bool>
         ensures { result ≡ inheritability_of self.now rev }
     {
-        let place = self.runs.partition_point(|run| run.hi < rev);
-        match self.runs.get(place) {
+        let index = self.runs.partition_point(|run| run.hi < rev);
+        match self.runs.get(index) {
             Some(run) if run.lo <= rev => Some(run.inheritable),
             _ => None,
         }
@@ -177,7 +176,7 @@ fn is_canonical(runs: &[Run]) -> bool
 }
 
 /// The union of the runs, which may come in any order and overlap.
-fn swept(mut runs: Vec<Run>) -> Result<Ranges, AllocError>
+fn union_of(mut runs: Vec<Run>) -> Result<Ranges, AllocError>
     requires { All IsRun runs.items }
     ensures same { IfOk result (λ ranges. HasSameNumbers ranges runs.items) }
     ensures exact { IfOk result (λ ranges. ranges ≡ canonical_runs runs.items) }

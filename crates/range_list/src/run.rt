@@ -1,4 +1,3 @@
-//! A run of revision numbers.
 ghost use Rattle.std.specs.Prelude.{◌≡◌, ◌+◌, ◌<◌, ◌↔◌, IsTrue};
 ghost use Rattle.range_list.specs.Rangelist.{is_apart};
 
@@ -11,7 +10,7 @@ pub struct Run {
 }
 
 impl Run {
-    /// Whether a later run is of the same sort and begins right after the end of this one.
+    /// Whether a later run begins right after the end of this one, and both or neither are inheritable.
     pub(crate) fn continues_with(self, next: Run) -> bool
         requires { self.hi < next.lo }
         ensures { IsTrue result ↔ ((self.hi + 1 ≡ next.lo) × (self.inheritable ≡ next.inheritable)) }

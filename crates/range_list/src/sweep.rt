@@ -16,9 +16,9 @@ pub(crate) struct Sweep {
     /// The joined runs of the numbers below the cursor.
     pub done: Vec<Run>,
     pub cursor: u32,
-    /// The inheritable numbers taken so far go up to this one, where that is the cursor or above it.
+    /// The numbers given as inheritable go up to this one, where that is the cursor or above it.
     pub inheritable_to: u32,
-    /// The same of the numbers that were given as not inheritable.
+    /// The numbers given as not inheritable go up to this one, where that is the cursor or above it.
     pub non_inheritable_to: u32,
 }
 
@@ -45,7 +45,7 @@ impl Sweep {
         ensures cursor { OnOk result (self.new.cursor ≡ run.lo) }
         ensures same { OnOk result (HasSameNumbers (runs_of self.new) (runs_of self.old ++ run ∷ [])) }
     {
-        self.settle(run.lo)?;
+        self.advance_to(run.lo)?;
         if run.inheritable {
             self.inheritable_to = self.inheritable_to.max(run.hi);
         } else {
@@ -55,7 +55,7 @@ impl Sweep {
     }
 
     /// Moves the cursor up to this number, and finishes the runs of the numbers below it.
-    pub(crate) fn settle(&mut self, cursor: u32) -> Result<(), AllocError>
+    pub(crate) fn advance_to(&mut self, cursor: u32) -> Result<(), AllocError>
         requires sweep { IsSweep self.old }
         requires rising { self.old.cursor ≤ cursor }
         ensures sweep { OnOk result (IsSweep self.new) }
@@ -91,7 +91,7 @@ impl Sweep {
         ensures canonical { IfOk result (λ runs. IsCanonical runs.items) }
         ensures same { IfOk result (λ runs. HasSameNumbers runs.items (runs_of self)) }
     {
-        self.settle(GREATEST_REVISION + 1)?;
+        self.advance_to(GREATEST_REVISION + 1)?;
         Ok(self.done)
     }
 }

@@ -28,7 +28,7 @@ pub record IsComponent (part : List ℕ) : Type 0 where
 abbrev pub parts_text : List (List ℕ) → List ℕ
 parts_text parts = flat_map (λ each. 47 ∷ each) parts
 
--- the same, and a slash for the root
+-- a slash before each component, and one for the root
 abbrev pub path_text : List (List ℕ) → List ℕ
 path_text [] = codes "/"
 path_text (part ∷ parts) = parts_text (part ∷ parts)

@@ -1,4 +1,9 @@
 //! Paths of a Subversion repository, as lists of numbered names.
+//!
+//! ```
+//! let mut names = Names::new(alloc);
+//! let path = Path::read(alloc, &mut names, text.as_bytes())?;
+//! ```
 #![tactic(auto)]
 
 mod names;

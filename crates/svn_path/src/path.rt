@@ -1,4 +1,4 @@
-//! A path as the list of the numbers of its components.
+//! Paths, read, looked up, compared and printed.
 ghost use Rattle.std.specs.Prelude.{◌≡◌, ℕ, ◌≤◌, ◌↔◌, List, [], ◌++◌, Some, drop, take, length, IsTrue, IfOk, OnOk, OnErr, IsErrOf, refl};
 ghost use Rattle.std.specs.Cmp.{partial_equiv_from_equiv, partial_order_from_agreeing_total};
 ghost use Rattle.std.specs.Cmp.Lexicographic.{pointwise, slice_cmp};
@@ -174,7 +174,7 @@ impl Path {
         Ok(Path::look_up(alloc, names, bytes)?)
     }
 
-    /// The same where `.` and `..` are components like any other. No table has them, so such a path is unknown.
+    /// Looks a path up where `.` and `..` are components like any other. No table has them, so such a path is unknown.
     pub fn look_up(alloc: Global, names: &Names, bytes: &[u8]) -> Result<Lookup, AllocError>
         ensures { IfOk result (IsLookup names.now (parts_of bytes.now)) }
     {
@@ -254,7 +254,7 @@ impl Path {
         Ok(Path { parts })
     }
 
-    /// The same path with `to` in place of `from` at its front.
+    /// This path with `to` in place of `from` at its front.
     pub fn rebase(&self, from: &Path, to: &Path) -> Result<Self, AllocError>
         requires { IsTrue (is_below same_name from.now self.now) }
         ensures { IfOk result (λ path. path ≡ to.now ++ drop (length from.now) self.now) }

@@ -9,7 +9,7 @@ use Rattle.merge_info.specs.Value.{entry_view}
 use Rattle.merge_info.specs.declared.entry.Entry.{Entry}
 use Rattle.merge_info.proofs.CanonicalValues.{canonical_value-only}
 use Rattle.merge_info.proofs.Entries.{IsSoFar, IsSoFar-all, IsSoFar-push, IsSoFar-skip}
-use Rattle.merge_info.proofs.Unites.{MapEntry, line_in}
+use Rattle.merge_info.proofs.RunsByPath.{MapEntry, line_in}
 use Rattle.merge_info.proofs.merge_info.MergeInfo.of_lines.Goals as goal
 
 -- what the map has at the next path are runs

@@ -20,7 +20,7 @@ use Rattle.range_list.specs.Rangelist.{IsRun}
 use Rattle.range_list.specs.declared.run.Run.{Run}
 use Rattle.merge_info.specs.Line.{IsLine, IsPrintedPath, Line, line_view}
 use Rattle.merge_info.specs.declared.line.Line.{Line as KeptLine}
-use Rattle.merge_info.specs.United.{AddsLine, RunsOfPaths}
+use Rattle.merge_info.specs.RunsByPath.{AddsLine, RunsByPath}
 use Rattle.merge_info.specs.Value.{AreRising, runs_at}
 use Rattle.merge_info.proofs.RunsAt.{runs_at-cons, runs_at-push, runs_of}
 
@@ -240,15 +240,15 @@ runs_at-set_value (entry ∷ entries) path old new runs each sorted found more =
 -- ---- a line put into the map
 
 -- what a search for a path finds in the map
-abbrev pub runs_found : RunsOfPaths → List ℕ → Option (Vec Run)
-runs_found united path = get_by (λ (key : Vec ℕ). slice_cmp nat_cmp path key.items) united
+abbrev pub runs_found : RunsByPath → List ℕ → Option (Vec Run)
+runs_found by_path path = get_by (λ (key : Vec ℕ). slice_cmp nat_cmp path key.items) by_path
 
 -- under a path that the map has not
-pub UnitesLines-insert : (old new : RunsOfPaths) (path : Vec ℕ) (runs : Vec Run) → IsLine (line_in (path, runs))
+pub AreRunsByPath-insert : (old new : RunsByPath) (path : Vec ℕ) (runs : Vec Run) → IsLine (line_in (path, runs))
     → runs_found old path.items ≡ None
     → new.entries ≡ insert_entry path_cmp old.entries path runs → IsOrdered path_cmp new
     → AddsLine (line_in (path, runs)) old new
-UnitesLines-insert old new path runs is_line absent entries ordered lines unites =
+AreRunsByPath-insert old new path runs is_line absent entries ordered lines unites =
     let paths = All-keys-insert_entry path_cmp path runs (λ key. IsPrintedPath key.items) old.entries
     (ArePrinted-entries old.entries unites.kept) is_line.path in
     let values = All-values-insert_entry path_cmp path runs (λ each. All IsRun each.items) old.entries
@@ -263,12 +263,12 @@ UnitesLines-insert old new path runs is_line absent entries ordered lines unites
     }
 
 -- under a path that the map has, whose runs the new ones follow
-pub UnitesLines-write : (old new : RunsOfPaths) (path : List ℕ) (all more : Vec Run) (runs : List Run)
+pub AreRunsByPath-write : (old new : RunsByPath) (path : List ℕ) (all more : Vec Run) (runs : List Run)
     → All IsRun runs → runs_found old path ≡ Some all
     → more.items ≡ all.items ++ runs → IsOrdered path_cmp old
     → WritesThrough path_cmp (λ (key : Vec ℕ). slice_cmp nat_cmp path key.items) old more new
     → AddsLine (record { path = path; runs = runs }) old new
-UnitesLines-write old new path all more runs are_runs found longer ordered writes lines unites =
+AreRunsByPath-write old new path all more runs are_runs found longer ordered writes lines unites =
     let line : Line = record { path = path; runs = runs } in
     let values = AreRuns-entries old.entries unites.kept in
     let all_runs = subst (λ o. IfSome o (λ (each : Vec Run). All IsRun each.items)) found

@@ -7,7 +7,7 @@ use Rattle.range_list.specs.Sweep.{runs_of}
 use Rattle.range_list.specs.declared.run.Run.{Run}
 use Rattle.range_list.proofs.Maximal.{canonical_runs-only}
 use Rattle.range_list.proofs.Same.{HasSameNumbers-append, HasSameNumbers-permutation, HasSameNumbers-refl, HasSameNumbers-sym, HasSameNumbers-trans}
-use Rattle.range_list.proofs.ranges.swept.Goals as goal
+use Rattle.range_list.proofs.ranges.union_of.Goals as goal
 
 abbrev first_of : Run → ℕ
 first_of run = run.lo

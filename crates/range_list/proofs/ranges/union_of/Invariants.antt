@@ -2,7 +2,7 @@ use Rattle.std.proofs.Common.{ℕ, ◌<◌, ◌≤◌, length, get_or, take}
 use Rattle.range_list.specs.Rangelist.{HasSameNumbers}
 use Rattle.range_list.specs.Sweep.{IsSweep, runs_of}
 use Rattle.range_list.specs.declared.run.Run.{Run}
-use Rattle.range_list.proofs.ranges.swept.Given as goal
+use Rattle.range_list.proofs.ranges.union_of.Given as goal
 
 abbrev pub invariant-loop-run : goal.invariant-loop-run
 invariant-loop-run l = record {

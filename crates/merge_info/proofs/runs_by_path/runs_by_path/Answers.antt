@@ -3,9 +3,9 @@ use Rattle.std.proofs.lemmas.Iterator.Adapters.{YieldsList-from_vec}
 use Rattle.std.proofs.lemmas.Iterator.Consumers.{YieldsList-turn}
 use Rattle.std.proofs.lemmas.List.{map_push}
 use Rattle.merge_info.specs.Line.{line_view}
-use Rattle.merge_info.specs.United.{UnitesLines}
-use Rattle.merge_info.proofs.Unites.{IsLine-at}
-use Rattle.merge_info.proofs.united.united.Goals as goal
+use Rattle.merge_info.specs.RunsByPath.{AreRunsByPath}
+use Rattle.merge_info.proofs.RunsByPath.{IsLine-at}
+use Rattle.merge_info.proofs.runs_by_path.runs_by_path.Goals as goal
 
 -- each line is one
 pub add_line-requires : goal.add_line-requires
@@ -19,6 +19,6 @@ add_line-requires c =
 -- the line stands after those before it
 pub loop-line-preserved : goal.loop-line-preserved
 loop-line-preserved c =
-    subst (λ lines. UnitesLines lines c.add_line.new.united)
+    subst (λ lines. AreRunsByPath lines c.add_line.new.by_path)
     (sym (map_push line_view c.loop-line.yielded c.in-Some.line))
     (c.in_ok-add_line.ensures (map line_view c.loop-line.yielded) c.loop-line.invariant)
