@@ -9,15 +9,15 @@ use Rattle.std.proofs.lemmas.List.Elements.{All-push}
 use Rattle.std.proofs.lemmas.List.Folds.{list_any-append}
 use Rattle.std.proofs.lemmas.List.Sums.{sum_by-append}
 use Rattle.svn_text.specs.Bytes.{is_colon, is_not_empty}
-use Rattle.svn_dump.specs.Block.{IsHeader, body_length, header_name, is_named, length_or_zero, listed_names, properties_length}
+use Rattle.svn_dump.specs.Block.{IsHeader, body_length, header_name, is_header_named, length_or_zero, listed_names, properties_length}
 use Rattle.svn_text.specs.Line.{is_newline, line_text}
 use Rattle.svn_dump.specs.Field.{fields_of}
 use Rattle.svn_dump.specs.FirstRefusal.{after_lines, begins_with_newline, body_length_at, front_refusals, has_twice, header_lines, is_cut, is_no_header}
 use Rattle.svn_dump.specs.FrontBlock.{BeginsWithLines, BeginsWithBlock, IsUnfinished}
 use Rattle.svn_dump.specs.Headers.{AreHeaders, AreOnce}
 use Rattle.svn_dump.specs.Refusal.{first_holding}
-use Rattle.svn_dump.specs.HeaderValues.{body_length_from_headers, value_of}
-use Rattle.svn_dump.specs.declared.field.Field.TheVariants.{PropertiesLength}
+use Rattle.svn_dump.specs.HeaderValues.{body_length_from_headers, field_value}
+use Rattle.svn_dump.specs.declared.grammar.field.Field.TheVariants.{PropertiesLength}
 use Rattle.svn_dump.specs.declared.refusal.Refusal.TheVariants.{Header, Length, Truncated}
 use Rattle.svn_dump.proofs.Fronts.{after_lines-lines, has_twice-once, header_lines-empty, header_lines-line, header_lines-lines, header_lines-unfinished, list_any-no_header, once-has_twice}
 
@@ -52,14 +52,14 @@ some_lines : (from rest : List ℕ) (lines : List (List ℕ)) → from ≡ flat_
 some_lines from rest [] whole other none = both_ways _ other (ap begins_with_newline whole)
 some_lines from rest (line ∷ lines) whole other none = absurd (omega arith)
 
-properties_length-from_headers : (lines : List (List ℕ)) → properties_length lines ≡ length_or_zero (value_of (fields_of lines) PropertiesLength)
+properties_length-from_headers : (lines : List (List ℕ)) → properties_length lines ≡ length_or_zero (field_value (fields_of lines) PropertiesLength)
 properties_length-from_headers lines = refl
 
 -- a block, by its lines and the lengths of its body and of its property section
 pub with_body :
     (bytes : List ℕ) (values : List (Option (List ℕ))) (rest : List ℕ) (section whole : ℕ) →
     IsFalse (begins_with_newline bytes) → BeginsWithLines bytes values (10 ∷ rest) →
-    body_length_from_headers values ≡ Some whole → length_or_zero (value_of values PropertiesLength) ≡ Some section → section ≤ whole → whole ≤ length rest →
+    body_length_from_headers values ≡ Some whole → length_or_zero (field_value values PropertiesLength) ≡ Some section → section ≤ whole → whole ≤ length rest →
     BeginsWithBlock bytes values (take section (take whole rest)) (drop whole rest)
 with_body bytes values rest section n other found said in_front inside within = record {
   block = record { lines = found.lines; body = take n rest };
@@ -71,7 +71,7 @@ with_body bytes values rest section n other found said in_front inside within = 
   };
   fields = found.fields.fields;
   section =
-      properties_length-from_headers found.lines ∙ ap (λ all. length_or_zero (value_of all PropertiesLength)) (sym found.fields.fields) ∙ in_front ∙ ap Some (sym long);
+      properties_length-from_headers found.lines ∙ ap (λ all. length_or_zero (field_value all PropertiesLength)) (sym found.fields.fields) ∙ in_front ∙ ap Some (sym long);
   front = ap (λ k. take k (take n rest)) (sym long);
   whole =
       let lines = flat_map line_text found.lines in
@@ -117,9 +117,9 @@ module _ (bytes : List ℕ) (values : List (Option (List ℕ))) (rest : List ℕ
         any = ap (list_any is_no_header) lines_are ∙ list_any-append is_no_header found.lines (line ∷ header_lines more)
             ∙ ap₂ (λ a b. a || (b || list_any is_no_header (header_lines more))) (list_any-no_header found.lines found.all) (no_header line one_line not_header)
 
-    counted : (name : List ℕ) → count_by (is_named name) (header_lines bytes) ≡ count_by (is_named name) (found.lines ++ line ∷ []) + count_by (is_named name) (header_lines more)
+    counted : (name : List ℕ) → count_by (is_header_named name) (header_lines bytes) ≡ count_by (is_header_named name) (found.lines ++ line ∷ []) + count_by (is_header_named name) (header_lines more)
     counted name =
-        ap (count_by (is_named name)) (lines_are ∙ sym (append_assoc found.lines (line ∷ []) (header_lines more)))
+        ap (count_by (is_header_named name)) (lines_are ∙ sym (append_assoc found.lines (line ∷ []) (header_lines more)))
         ∙ sum_by-append _ (found.lines ++ line ∷ []) (header_lines more)
 
     -- and so is a listed name that stands again

@@ -14,8 +14,8 @@ use Rattle.svn_dump.specs.Dump.{DumpValue, IsDump, IsRecordOf, history_in_bytes}
 use Rattle.svn_dump.specs.DumpText.{IsSmall, all_records, names_of, values_of, most_numbered, parts_of_record, texts_of_action}
 use Rattle.svn_dump.specs.Node.{Node, node_block, revision_block}
 use Rattle.svn_text.specs.Number.{number_of, number_up_to}
-use Rattle.svn_dump.specs.Record.{HistoryOfBytes, RecordOfBytes, record_of, with_numbered, with_record, with_sort}
-use Rattle.svn_dump.specs.Refusal.{first_holding, grows_large, is_large, node_refusals, refusals_by, sort_refusals}
+use Rattle.svn_dump.specs.Record.{HistoryOfBytes, RecordOfBytes, record_of, with_numbered, with_record, with_content}
+use Rattle.svn_dump.specs.Refusal.{first_holding, grows_large, is_large, node_refusals, refusals_by, content_refusals}
 use Rattle.svn_dump.specs.NumberedRecord.{IsFirstReason, IsNumberedRecord, is_record_large}
 use Rattle.svn_dump.specs.declared.read_error.ReadError.{ReadError}
 use Rattle.svn_dump.specs.declared.record.NodeRecord.{NodeRecord}
@@ -24,7 +24,7 @@ use Rattle.svn_dump.proofs.FirstRefusals.{small_nothing}
 use Rattle.svn_dump.proofs.Growing.{Extends-same, Extends-by, IsRecordOf-grows, All-IsRecordOf-grows}
 use Rattle.svn_dump.proofs.Grouped.{with_more, length-with_more, get_or-le-total, revisions_from-with_more, revisions_from-with_group}
 use Rattle.svn_dump.proofs.Histories.{total-revisions, all_records-with_record, length-all_records, names_of-with_record, names_of-with_revision, values_of-with_record, values_of-with_revision, history_in_bytes-with_record, history_in_bytes-with_revision, length-history_in_bytes}
-use Rattle.svn_dump.proofs.Refusals.{IsFirstReason-node, grows_large-record, is_large-IsSmall, sort_refusals-large}
+use Rattle.svn_dump.proofs.Refusals.{IsFirstReason-node, grows_large-record, is_large-IsSmall, content_refusals-large}
 
 large_by_length : (history : HistoryOfBytes) → most_numbered < length history → is_large history ≡ true
 large_by_length history many =
@@ -84,13 +84,13 @@ module _ (names : List (List ℕ)) (records : List NodeRecord) (counts : List �
           other (ap (option_and_then (λ one. if nat_le one (length counts) then Some one else None)) said ∙ ap (λ one. if nat_le one (length counts) then Some one else None) is
           ∙ cond-true _ _ _ (le-leb (length counts) (length counts) (omega arith)))))
 
-  pub refused-number : (number : List ℕ) → (number_up_to (length counts) number ≡ Some (length counts) → ⊥) → first_holding (sort_refusals (history_in_bytes (dump_of names records counts texts)) (revision_block number)) ≡ Some Revision
-  unfolding first_holding with_sort refusals_by
+  pub refused-number : (number : List ℕ) → (number_up_to (length counts) number ≡ Some (length counts) → ⊥) → first_holding (content_refusals (history_in_bytes (dump_of names records counts texts)) (revision_block number)) ≡ Some Revision
+  unfolding first_holding with_content refusals_by
   refused-number number other = cond-true _ _ _ (ap is_none (with_numbered-other number other))
 
   -- one revision too many
-  pub refused-revision : (number : List ℕ) → number_up_to (length counts) number ≡ Some (length counts) → most_numbered ≤ length counts → first_holding (sort_refusals (history_in_bytes (dump_of names records counts texts)) (revision_block number)) ≡ Some TooLarge
-  unfolding first_holding with_sort refusals_by
+  pub refused-revision : (number : List ℕ) → number_up_to (length counts) number ≡ Some (length counts) → most_numbered ≤ length counts → first_holding (content_refusals (history_in_bytes (dump_of names records counts texts)) (revision_block number)) ≡ Some TooLarge
+  unfolding first_holding with_content refusals_by
   refused-revision number told full =
       let after = history_in_bytes (dump_of names records (counts ++ 0 ∷ []) texts) in
       let at = with_numbered-told number told in
@@ -124,7 +124,7 @@ module _ (names : List (List ℕ)) (records : List NodeRecord) (counts : List �
   -- why there is none
   pub refused-record :
       (node : Node) (e : ReadError) → IsFirstReason (node_refusals (length counts) node (is_record_large names texts (record_of (pred (length counts)) node))) e →
-      IsWholeHistory (dump_of names records counts texts) → IsFirstReason (sort_refusals (history_in_bytes (dump_of names records counts texts)) (node_block node)) e
+      IsWholeHistory (dump_of names records counts texts) → IsFirstReason (content_refusals (history_in_bytes (dump_of names records counts texts)) (node_block node)) e
   refused-record node e is whole =
       let history = history_in_bytes (dump_of names records counts texts) in
       let large : Bool = is_record_large names texts (record_of (pred (length counts)) node) in
@@ -198,9 +198,9 @@ module _ (names : List (List ℕ)) (records : List NodeRecord) (counts : List �
         }
 
     -- it is one too many, or its names or texts are
-    pub refused-full : (node : Node) → told ≡ record_of (pred (length (history_in_bytes (dump_of names records counts texts)))) node → is_full (dump_of new records counts new_texts) ≡ true → IsWholeHistory (dump_of names records counts texts) → first_holding (sort_refusals (history_in_bytes (dump_of names records counts texts)) (node_block node)) ≡ Some TooLarge
+    pub refused-full : (node : Node) → told ≡ record_of (pred (length (history_in_bytes (dump_of names records counts texts)))) node → is_full (dump_of new records counts new_texts) ≡ true → IsWholeHistory (dump_of names records counts texts) → first_holding (content_refusals (history_in_bytes (dump_of names records counts texts)) (node_block node)) ≡ Some TooLarge
     refused-full node said full whole =
-        sort_refusals-large (history_in_bytes (dump_of names records counts texts)) node (record_in_bytes new new_texts each) (sym said ∙ is_told.same)
+        content_refusals-large (history_in_bytes (dump_of names records counts texts)) node (record_in_bytes new new_texts each) (sym said ∙ is_told.same)
         (elim (cases_Bool (is_large (with_record (history_in_bytes (dump_of names records counts texts)) (record_in_bytes new new_texts each)))) [
           | inl large ↦ large
           | inr small ↦ absurd (both_ways _ (not_full (is_large-IsSmall _ small)) full)

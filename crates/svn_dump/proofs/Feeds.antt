@@ -23,18 +23,18 @@ first_line-memory bytes (dump.Refused number at) decided same = absurd (cc)
 first_line-memory bytes dump.Memory decided same = ap (λ all. first_holding (line_refusals all)) decided.begins ∙ first_line_taken decided.format decided.rest
 
 -- an error that was answered
-module _ (feed : FeedValue) (error : DumpError) (refused : feed.refusal ≡ Some error) (bytes : List ℕ) (has : HasRead feed bytes) where
+module _ (feed : FeedValue) (error : DumpError) (refused : feed.error ≡ Some error) (bytes : List ℕ) (has : HasRead feed bytes) where
   pub decided-refused : IsDecidedError bytes error
   decided-refused = subst (λ refusal. HasReadOrRefused feed.reader refusal bytes) refused has.read
 
-  pub HasRead-more : (next : FeedValue) (more : List ℕ) → next.count ≡ feed.count + length more → next.refusal ≡ Some error → HasRead next (bytes ++ more)
+  pub HasRead-more : (next : FeedValue) (more : List ℕ) → next.count ≡ feed.count + length more → next.error ≡ Some error → HasRead next (bytes ++ more)
   HasRead-more next more counted same = record {
     counted = omega (arith, counted, has.counted, length-append bytes more);
     read = subst (λ refusal. HasReadOrRefused next.reader refusal (bytes ++ more)) (sym same) (IsDecidedError-more bytes more error decided-refused);
   }
 
 -- no error was answered
-pub HasReadAll-not_refused : (feed : FeedValue) → feed.refusal ≡ None → (bytes : List ℕ) → HasRead feed bytes → HasReadAll feed.reader bytes
+pub HasReadAll-not_refused : (feed : FeedValue) → feed.error ≡ None → (bytes : List ℕ) → HasRead feed bytes → HasReadAll feed.reader bytes
 HasReadAll-not_refused feed none bytes has = subst (λ refusal. HasReadOrRefused feed.reader refusal bytes) none has.read
 
 pub counted-more : (feed : FeedValue) (bytes more : List ℕ) → HasRead feed bytes → feed.count + length more ≡ length (bytes ++ more)

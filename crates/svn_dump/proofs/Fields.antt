@@ -9,16 +9,16 @@ use Rattle.std.proofs.lemmas.Bool.{cases_Bool, cond-true, cond-false, both_ways}
 use Rattle.std.proofs.lemmas.List.Elements.{All-head, All-tail, All-from_recursion}
 use Rattle.std.proofs.lemmas.List.Sums.{sum_by-cons, sum_by_push}
 use Rattle.std.proofs.lemmas.Slice.Eq.{bytes_eq-Decides}
-use Rattle.svn_dump.specs.Block.{field, is_named, header_name, header_value, listed_names}
-use Rattle.svn_dump.specs.Field.{index_of, fields_of}
+use Rattle.svn_dump.specs.Block.{field, is_header_named, header_name, header_value, listed_names}
+use Rattle.svn_dump.specs.Field.{field_index, fields_of}
 use Rattle.svn_dump.specs.Headers.{AreHeaders, AreOnce}
-use Rattle.svn_dump.specs.contracts.field.Field.{the_type}
-use Rattle.svn_dump.specs.declared.field.Field.{Field}
-use Rattle.svn_dump.specs.declared.field.Field.TheVariants.{Uuid, RevisionNumber, NodePath, NodeKind, NodeAction, CopyfromRevision, CopyfromPath, PropertiesLength, TextLength, ContentLength, PropertiesDelta, TextDelta}
+use Rattle.svn_dump.specs.contracts.grammar.field.Field.{the_type}
+use Rattle.svn_dump.specs.declared.grammar.field.Field.{Field}
+use Rattle.svn_dump.specs.declared.grammar.field.Field.TheVariants.{Uuid, RevisionNumber, NodePath, NodeKind, NodeAction, CopyfromRevision, CopyfromPath, PropertiesLength, TextLength, ContentLength, PropertiesDelta, TextDelta}
 use denote.Enum.Declared.{tag_of}
 
 -- the number of a variant is its index
-pub tag_of-field : (field : Field) → tag_of the_type field ≡ index_of field
+pub tag_of-field : (field : Field) → tag_of the_type field ≡ field_index field
 tag_of-field Uuid = refl
 tag_of-field RevisionNumber = refl
 tag_of-field NodePath = refl
@@ -47,37 +47,37 @@ with_line-Some : (named : Bool) (value line : List ℕ) → with_line named (Som
 with_line-Some true value line = refl
 with_line-Some false value line = refl
 
-field-first : (name each : List ℕ) (lines : List (List ℕ)) → is_named name each ≡ true → field name (each ∷ lines) ≡ Some (header_value each)
+field-first : (name each : List ℕ) (lines : List (List ℕ)) → is_header_named name each ≡ true → field name (each ∷ lines) ≡ Some (header_value each)
 field-first name each lines named = cond-true _ _ _ named
 
-field-later : (name each : List ℕ) (lines : List (List ℕ)) → is_named name each ≡ false → field name (each ∷ lines) ≡ field name lines
+field-later : (name each : List ℕ) (lines : List (List ℕ)) → is_header_named name each ≡ false → field name (each ∷ lines) ≡ field name lines
 field-later name each lines other = cond-false _ _ _ other
 
-field-push : (name : List ℕ) (lines : List (List ℕ)) (line : List ℕ) → field name (lines ++ line ∷ []) ≡ with_line (is_named name line) (field name lines) line
+field-push : (name : List ℕ) (lines : List (List ℕ)) (line : List ℕ) → field name (lines ++ line ∷ []) ≡ with_line (is_header_named name line) (field name lines) line
 field-push name [] line = refl
 field-push name (each ∷ lines) line =
-    elim (cases_Bool (is_named name each)) [
+    elim (cases_Bool (is_header_named name each)) [
       | inl named ↦
-          field-first name each (lines ++ line ∷ []) named ∙ sym (with_line-Some (is_named name line) (header_value each) line)
-          ∙ ap (λ before. with_line (is_named name line) before line) (sym (field-first name each lines named))
+          field-first name each (lines ++ line ∷ []) named ∙ sym (with_line-Some (is_header_named name line) (header_value each) line)
+          ∙ ap (λ before. with_line (is_header_named name line) before line) (sym (field-first name each lines named))
       | inr other ↦
           field-later name each (lines ++ line ∷ []) other ∙ field-push name lines line
-          ∙ ap (λ before. with_line (is_named name line) before line) (sym (field-later name each lines other))
+          ∙ ap (λ before. with_line (is_header_named name line) before line) (sym (field-later name each lines other))
     ]
 
 -- ---- how often a name stands
 
-count_by-push : (name : List ℕ) (lines : List (List ℕ)) (line : List ℕ) → count_by (is_named name) (lines ++ line ∷ []) ≡ count_by (is_named name) lines + cond (is_named name line) 1 0
-count_by-push name lines line = sum_by_push (λ each. cond (is_named name each) 1 0) lines line
+count_by-push : (name : List ℕ) (lines : List (List ℕ)) (line : List ℕ) → count_by (is_header_named name) (lines ++ line ∷ []) ≡ count_by (is_header_named name) lines + cond (is_header_named name line) 1 0
+count_by-push name lines line = sum_by_push (λ each. cond (is_header_named name each) 1 0) lines line
 
-count_by-cons : (name each : List ℕ) (lines : List (List ℕ)) → count_by (is_named name) (each ∷ lines) ≡ cond (is_named name each) 1 0 + count_by (is_named name) lines
-count_by-cons name each lines = sum_by-cons (λ line. cond (is_named name line) 1 0) each lines
+count_by-cons : (name each : List ℕ) (lines : List (List ℕ)) → count_by (is_header_named name) (each ∷ lines) ≡ cond (is_header_named name each) 1 0 + count_by (is_header_named name) lines
+count_by-cons name each lines = sum_by-cons (λ line. cond (is_header_named name line) 1 0) each lines
 
 -- a name without a value stands in no line
-count_by-None : (name : List ℕ) (lines : List (List ℕ)) → field name lines ≡ None → count_by (is_named name) lines ≡ 0
+count_by-None : (name : List ℕ) (lines : List (List ℕ)) → field name lines ≡ None → count_by (is_header_named name) lines ≡ 0
 count_by-None name [] none = refl
 count_by-None name (each ∷ lines) none =
-    elim (cases_Bool (is_named name each)) [
+    elim (cases_Bool (is_header_named name each)) [
       | inl named ↦ let some = field-first name each lines named in absurd (cc)
       | inr other ↦
           let rest = count_by-None name lines (sym (field-later name each lines other) ∙ none) in
@@ -85,10 +85,10 @@ count_by-None name (each ∷ lines) none =
     ]
 
 -- one with a value stands in some
-count_by-Some : (name value : List ℕ) (lines : List (List ℕ)) → field name lines ≡ Some value → 1 ≤ count_by (is_named name) lines
+count_by-Some : (name value : List ℕ) (lines : List (List ℕ)) → field name lines ≡ Some value → 1 ≤ count_by (is_header_named name) lines
 count_by-Some name value [] some = absurd (cc)
 count_by-Some name value (each ∷ lines) some =
-    elim (cases_Bool (is_named name each)) [
+    elim (cases_Bool (is_header_named name each)) [
       | inl named ↦ omega (arith, count_by-cons name each lines, cond-true {A = ℕ} _ 1 0 named)
       | inr other ↦
           omega (arith, count_by-cons name each lines, count_by-Some name value lines (sym (field-later name each lines other) ∙ some))
@@ -136,15 +136,15 @@ fields_of-at lines index name listed =
     (slice_get-map (λ each. field each lines) listed_names index ∙ ap (option_map (λ each. field each lines)) listed)
 
 -- a name that stood at most once still does, if it isn't the line's or stood nowhere
-count_by-push-le : (name : List ℕ) (lines : List (List ℕ)) (line : List ℕ) → count_by (is_named name) lines ≤ 1 → (is_named name line ≡ true → field name lines ≡ None) → count_by (is_named name) (lines ++ line ∷ []) ≤ 1
+count_by-push-le : (name : List ℕ) (lines : List (List ℕ)) (line : List ℕ) → count_by (is_header_named name) lines ≤ 1 → (is_header_named name line ≡ true → field name lines ≡ None) → count_by (is_header_named name) (lines ++ line ∷ []) ≤ 1
 count_by-push-le name lines line once none =
-    elim (cases_Bool (is_named name line)) [
+    elim (cases_Bool (is_header_named name line)) [
       | inl named ↦ omega (arith, count_by-push name lines line, cond-true {A = ℕ} _ 1 0 named, count_by-None name lines (none named))
       | inr other ↦ omega (arith, count_by-push name lines line, cond-false {A = ℕ} _ 1 0 other)
     ]
 
 module _ (lines : List (List ℕ)) (line name : List ℕ) (named : header_name line ≡ name) where
-  line_name : (each : List ℕ) → is_named each line ≡ bytes_eq name each
+  line_name : (each : List ℕ) → is_header_named each line ≡ bytes_eq name each
   line_name each = ap (λ one. bytes_eq one each) named
 
   fields_of-named : fields_of (lines ++ line ∷ []) ≡ map (λ each. with_line (bytes_eq name each) (field each lines) line) listed_names
@@ -175,10 +175,10 @@ module _ (lines : List (List ℕ)) (line name : List ℕ) (named : header_name l
   pub AreHeaders-twice : (values : List (Option (List ℕ))) (index : ℕ) (value : List ℕ) → slice_get listed_names index ≡ Some name → get_or values index None ≡ Some value → AreHeaders values lines → AreOnce (lines ++ line ∷ []) → ⊥
   AreHeaders-twice values index value listed some before once =
       let valued : field name lines ≡ Some value = sym (fields_of-at lines index name listed) ∙ ap (λ all. get_or all index None) (sym before.fields) ∙ some in
-      let here : is_named name line ≡ true = line_name name ∙ (bytes_eq-Decides name name).1 refl in
+      let here : is_header_named name line ≡ true = line_name name ∙ (bytes_eq-Decides name name).1 refl in
       let most = once index name (slice_get_within listed_names index name listed) in
       let at : get_or listed_names index name ≡ name = get_or_from_slice_get listed_names index name name listed in
-      let most' : count_by (is_named name) (lines ++ line ∷ []) ≤ 1 = subst (λ each. count_by (is_named each) (lines ++ line ∷ []) ≤ 1) at most in
+      let most' : count_by (is_header_named name) (lines ++ line ∷ []) ≤ 1 = subst (λ each. count_by (is_header_named each) (lines ++ line ∷ []) ≤ 1) at most in
       omega (arith, count_by-push name lines line, cond-true {A = ℕ} _ 1 0 here, count_by-Some name value lines valued)
 
 -- what a reference in an option is to

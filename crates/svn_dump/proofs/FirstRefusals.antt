@@ -16,10 +16,10 @@ use Rattle.svn_text.specs.Line.{is_newline, line_text}
 use Rattle.svn_dump.specs.DumpText.{IsDumpText, IsSmall, first_line}
 use Rattle.svn_dump.specs.FirstRefusal.{RefusalAt, after_block, begins_with_newline, block_at, block_refusal, end_refusal, first_refusal, format_of, front_refusals, line_refusals, magic, refusal_from, refusal_or, without_empty_lines}
 use Rattle.svn_dump.specs.Format.{format_of_version, version}
-use Rattle.svn_dump.specs.Record.{HistoryOfBytes, history_of, sort_of, with_block}
-use Rattle.svn_dump.specs.Refusal.{first_holding, sort_refusals}
-use Rattle.svn_dump.specs.declared.format.Format.{Format}
-use Rattle.svn_dump.specs.declared.format.Format.TheVariants.{Two, Three}
+use Rattle.svn_dump.specs.Record.{HistoryOfBytes, history_of, content_of, with_block}
+use Rattle.svn_dump.specs.Refusal.{first_holding, content_refusals}
+use Rattle.svn_dump.specs.declared.grammar.format.Format.{Format}
+use Rattle.svn_dump.specs.declared.grammar.format.Format.TheVariants.{Two, Three}
 use Rattle.svn_dump.specs.declared.refusal.Refusal.{Refusal}
 use Rattle.svn_dump.specs.declared.refusal.Refusal.TheVariants.{Magic, Truncated, Version}
 use Rattle.svn_dump.proofs.Fronts.{block-front, front-block, three_none, without_empty_lines-front, without_empty_lines-other, without_empty_lines-skip}
@@ -60,7 +60,7 @@ module _ (format : Format) where
   IsSmall-before_blocks history [] last tells small = subst IsSmall (sym (same_Some history last tells)) small
   IsSmall-before_blocks history (block ∷ blocks) last tells small =
       let (after, told, later) = after_first_block (with_block format history block) blocks last tells in
-      IsSmall-before history after (sort_of format block) told (IsSmall-before_blocks after blocks last later small)
+      IsSmall-before history after (content_of format block) told (IsSmall-before_blocks after blocks last later small)
 
 -- ---- the front of blocks
 
@@ -140,8 +140,8 @@ module _ (format : Format) where
     unfolding block_refusal
     block_refusal-none small =
         let found = front-block bytes rest block is whole in
-        first_holding-append (front_refusals bytes) (sort_refusals history (sort_of format (block_at bytes)))
-        ∙ ap₂ option_or found.0 (ap (λ each. first_holding (sort_refusals history (sort_of format each))) found.1 ∙ no_refusal history after (sort_of format block) told small)
+        first_holding-append (front_refusals bytes) (content_refusals history (content_of format (block_at bytes)))
+        ∙ ap₂ option_or found.0 (ap (λ each. first_holding (content_refusals history (content_of format each))) found.1 ∙ no_refusal history after (content_of format block) told small)
 
     later_refusal-after : (most total : ℕ) → later_refusal most total history bytes ≡ refusal_from format most total after rest
     later_refusal-after most total =
@@ -212,9 +212,9 @@ module _ (format : Format) where
 
   -- a block against which nothing is told
   module _ (history : HistoryOfBytes) (small : IsSmall history) (rest bytes : List ℕ) (at : without_empty_lines rest ≡ bytes) where
-    block_parts : block_refusal format history bytes ≡ None → (first_holding (front_refusals bytes) ≡ None) × (first_holding (sort_refusals history (sort_of format (block_at bytes))) ≡ None)
+    block_parts : block_refusal format history bytes ≡ None → (first_holding (front_refusals bytes) ≡ None) × (first_holding (content_refusals history (content_of format (block_at bytes))) ≡ None)
     unfolding block_refusal
-    block_parts none = neither_holds _ _ (sym (first_holding-append (front_refusals bytes) (sort_refusals history (sort_of format (block_at bytes)))) ∙ none)
+    block_parts none = neither_holds _ _ (sym (first_holding-append (front_refusals bytes) (content_refusals history (content_of format (block_at bytes)))) ∙ none)
 
     skipped : (empty : ℕ) × (rest ≡ replicate empty 10 ++ bytes)
     skipped =
@@ -228,7 +228,7 @@ module _ (format : Format) where
     with_first_block most total some none later onward =
         let parts = block_parts none in
         let (is, whole) = block-front bytes some (sym (ap begins_with_newline at) ∙ without_empty_lines-other rest) parts.0 in
-        let (after, told, few) = refusal_none history (sort_of format (block_at bytes)) small parts.1 in
+        let (after, told, few) = refusal_none history (content_of format (block_at bytes)) small parts.1 in
         let front = replicate skipped.0 10 in
         let from : rest ≡ front ++ block_text (block_at bytes) ++ after_block bytes =
         skipped.1 ∙ ap (λ all. front ++ all) whole ∙ sym (append_assoc front (block_text (block_at bytes)) (after_block bytes)) in

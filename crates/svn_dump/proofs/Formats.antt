@@ -7,10 +7,10 @@ use Rattle.std.proofs.lemmas.Option.{same_Some}
 use Rattle.svn_text.specs.Line.{is_newline}
 use Rattle.svn_dump.specs.Block.{Block, field, properties_length}
 use Rattle.svn_dump.specs.DumpText.{FormatsAgree, first_line}
-use Rattle.svn_dump.specs.Node.{Node, sort_by_fields}
+use Rattle.svn_dump.specs.Node.{Node, content_by_fields}
 use Rattle.svn_dump.specs.Property.{setting_of}
-use Rattle.svn_dump.specs.Record.{HistoryOfBytes, history_of, is_delta, node_action_of, node_of_block, record_of, says_true, sort_of, with_block, with_record, with_sort}
-use Rattle.svn_dump.specs.declared.format.Format.TheVariants.{Two, Three}
+use Rattle.svn_dump.specs.Record.{HistoryOfBytes, history_of, is_delta, node_action_of, node_of_block, record_of, says_true, content_of, with_block, with_record, with_content}
+use Rattle.svn_dump.specs.declared.grammar.format.Format.TheVariants.{Two, Three}
 use Rattle.svn_dump.proofs.FirstRefusals.{after_first_line, after_first_block, format_of-line, told_by}
 use Rattle.svn_dump.specs.FirstRefusal.{format_of}
 use Rattle.svn_dump.proofs.Refusals.{map_parts, no_delta}
@@ -25,9 +25,9 @@ same_node block path none =
 
 -- so one that adds something adds the same
 same_by : (block : Block) (history after : HistoryOfBytes) (number path uuid : Option (List ℕ)) →
-    with_sort history (sort_by_fields number (option_map (node_of_block Two block) path) uuid) ≡ Some after →
-    with_sort history (sort_by_fields number (option_map (node_of_block Three block) path) uuid) ≡ Some after
-unfolding with_sort
+    with_content history (content_by_fields number (option_map (node_of_block Two block) path) uuid) ≡ Some after →
+    with_content history (content_by_fields number (option_map (node_of_block Three block) path) uuid) ≡ Some after
+unfolding with_content
 same_by block history after (Some number) path uuid told = told
 same_by block history after None None uuid told = told
 same_by block history after None (Some path) uuid told =
@@ -35,7 +35,7 @@ same_by block history after None (Some path) uuid told =
     ap (λ node. option_map (with_record history) (record_of (pred (length history)) node)) (same_node block path (no_delta (pred (length history)) (node_of_block Two block path) each at)) ∙ told
 
 same_block : (block : Block) (history after : HistoryOfBytes) → with_block Two history block ≡ Some after → with_block Three history block ≡ Some after
-unfolding sort_of
+unfolding content_of
 same_block block history after told =
     same_by block history after (field (codes "Revision-number") block.lines) (field (codes "Node-path") block.lines) (field (codes "UUID") block.lines) told
 

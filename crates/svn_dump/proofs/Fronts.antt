@@ -10,7 +10,7 @@ use Rattle.std.proofs.lemmas.List.Folds.{list_any_at, list_any_none}
 use Rattle.std.proofs.lemmas.List.Splits.{join_with_byte-slice_split, length-slice_split, slice_split_at, slice_split_none}
 use Rattle.std.proofs.lemmas.Option.{none-some}
 use Rattle.svn_text.specs.Bytes.{is_not_empty}
-use Rattle.svn_dump.specs.Block.{Block, IsBlock, IsHeader, block_text, body_length, is_named, listed_names}
+use Rattle.svn_dump.specs.Block.{Block, IsBlock, IsHeader, block_text, body_length, is_header_named, listed_names}
 use Rattle.svn_text.specs.Line.{is_newline, line_text}
 use Rattle.svn_dump.specs.FirstRefusal.{after_block, after_lines, begins_with_newline, block_at, body_length_at, front_refusals, has_twice, header_lines, is_cut, is_no_header, lines_before_empty, without_empty_lines}
 use Rattle.svn_dump.specs.Refusal.{first_holding, reason}
@@ -111,11 +111,11 @@ is_no_header-IsHeader line header = or_from _ _ (not_from_true _ header.colon) (
 pub list_any-no_header : (lines : List (List ℕ)) → All IsHeader lines → list_any is_no_header lines ≡ false
 list_any-no_header lines all = list_any_none is_no_header lines (λ k d h. is_no_header-IsHeader _ (all k d h))
 
-pub has_twice-once : (lines : List (List ℕ)) → All (λ name. count_by (is_named name) lines ≤ 1) listed_names → has_twice lines ≡ false
-has_twice-once lines once = few_none (λ name. count_by (is_named name) lines) listed_names once
+pub has_twice-once : (lines : List (List ℕ)) → All (λ name. count_by (is_header_named name) lines ≤ 1) listed_names → has_twice lines ≡ false
+has_twice-once lines once = few_none (λ name. count_by (is_header_named name) lines) listed_names once
 
-pub once-has_twice : (lines : List (List ℕ)) → has_twice lines ≡ false → All (λ name. count_by (is_named name) lines ≤ 1) listed_names
-once-has_twice lines none = none_few (λ name. count_by (is_named name) lines) listed_names none
+pub once-has_twice : (lines : List (List ℕ)) → has_twice lines ≡ false → All (λ name. count_by (is_header_named name) lines ≤ 1) listed_names
+once-has_twice lines none = none_few (λ name. count_by (is_header_named name) lines) listed_names none
 
 -- each part between newlines is on one line
 abbrev IsOneLine : List ℕ → Type 0

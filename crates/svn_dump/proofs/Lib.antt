@@ -6,16 +6,16 @@ mod Fields
 mod FirstLines
 mod FirstRefusals
 mod Fronts
-mod Mergeinfos
+mod MiTexts
 mod Nodes
 mod PartialBodies
 mod PartialHeaders
 mod PartialLines
-mod Pieces
+mod SectionPieces
 mod Readers
 mod Readings
 mod Refusals
-mod Sorts
+mod Contents
 mod Undecided
 mod WholeBlocks
 pub mod Belows

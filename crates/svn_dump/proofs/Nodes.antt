@@ -17,7 +17,7 @@ use Rattle.svn_dump.specs.Dump.{IsChange}
 use Rattle.svn_dump.specs.DumpText.{most_numbered, parts_of_action, parts_of_record, texts_of_action}
 use Rattle.svn_dump.specs.History.{Setting, delete, change, add, copy}
 use Rattle.svn_dump.specs.Node.{Node, NodeAction, node_add, node_change, node_copy, node_delete, is_change}
-use Rattle.svn_dump.specs.Record.{ActionOfBytes, RecordOfBytes, action_of, has_dot, is_late, is_long, is_root, is_root_action, most_components, paths_read, record_by, record_of}
+use Rattle.svn_dump.specs.Record.{ActionOfBytes, RecordOfBytes, action_of, has_dot, has_late_source, is_long, is_root, is_root_action, most_components, paths_read, record_by, record_of}
 use Rattle.svn_dump.specs.Refusal.{Reason, action_refusals, first_holding, reason, later_refusals, node_refusals, size_refusals}
 use Rattle.svn_dump.specs.ReadError.{read_error_of}
 use Rattle.svn_dump.specs.NumberedRecord.{IsNumberedAct, IsFirstReason, IsNumberedPath, IsNumberedRecord, IsAcceptedNode, IsTooLarge, is_full_with, is_path_large, is_record_large}
@@ -60,10 +60,10 @@ module _ (rev : ℕ) (node : Node) (action : NodeAction) where
   abbrev dot : Bool
   dot = list_any has_dot (paths_read node.path action)
 
-  against : (a b c d e : Bool) → dot ≡ a → node.is_delta ≡ b → is_late rev action ≡ c → is_root_action node.path action ≡ d → not (nat_lt 0 rev) ≡ e → first_holding (action_judged a b c d e) ≡ first_holding (action_refusals rev node action)
+  against : (a b c d e : Bool) → dot ≡ a → node.is_delta ≡ b → has_late_source rev action ≡ c → is_root_action node.path action ≡ d → not (nat_lt 0 rev) ≡ e → first_holding (action_judged a b c d e) ≡ first_holding (action_refusals rev node action)
   against a b c d e h i j k l =
       ap₂ (λ x y. first_holding (action_judged x y c d e)) (sym h) (sym i) ∙ ap₂ (λ x y. first_holding (action_judged dot node.is_delta x y e)) (sym j) (sym k)
-      ∙ ap (λ x. first_holding (action_judged dot node.is_delta (is_late rev action) (is_root_action node.path action) x)) (sym l)
+      ∙ ap (λ x. first_holding (action_judged dot node.is_delta (has_late_source rev action) (is_root_action node.path action) x)) (sym l)
 
   pub against_dot : dot ≡ true → Some BadPath ≡ first_holding (action_refusals rev node action)
   unfolding first_holding
@@ -73,19 +73,19 @@ module _ (rev : ℕ) (node : Node) (action : NodeAction) where
   unfolding first_holding
   against_delta h i = against false true _ _ _ h i refl refl refl
 
-  pub against_late : dot ≡ false → node.is_delta ≡ false → is_late rev action ≡ true → Some CopyRevision ≡ first_holding (action_refusals rev node action)
+  pub against_late : dot ≡ false → node.is_delta ≡ false → has_late_source rev action ≡ true → Some CopyRevision ≡ first_holding (action_refusals rev node action)
   unfolding first_holding
   against_late h i j = against false false true _ _ h i j refl refl
 
-  pub against_root : dot ≡ false → node.is_delta ≡ false → is_late rev action ≡ false → is_root_action node.path action ≡ true → Some RootAction ≡ first_holding (action_refusals rev node action)
+  pub against_root : dot ≡ false → node.is_delta ≡ false → has_late_source rev action ≡ false → is_root_action node.path action ≡ true → Some RootAction ≡ first_holding (action_refusals rev node action)
   unfolding first_holding
   against_root h i j k = against false false false true _ h i j k refl
 
-  pub against_zero : dot ≡ false → node.is_delta ≡ false → is_late rev action ≡ false → is_root_action node.path action ≡ false → rev ≡ 0 → Some RevisionZero ≡ first_holding (action_refusals rev node action)
+  pub against_zero : dot ≡ false → node.is_delta ≡ false → has_late_source rev action ≡ false → is_root_action node.path action ≡ false → rev ≡ 0 → Some RevisionZero ≡ first_holding (action_refusals rev node action)
   unfolding first_holding
   against_zero h i j k l = against false false false false true h i j k (ap (λ n. not (nat_lt 0 n)) l)
 
-  pub against_nothing : dot ≡ false → node.is_delta ≡ false → is_late rev action ≡ false → is_root_action node.path action ≡ false → 0 < rev → None ≡ first_holding (action_refusals rev node action)
+  pub against_nothing : dot ≡ false → node.is_delta ≡ false → has_late_source rev action ≡ false → is_root_action node.path action ≡ false → 0 < rev → None ≡ first_holding (action_refusals rev node action)
   unfolding first_holding
   against_nothing h i j k l = against false false false false false h i j k (ap not (lt-ltb 0 rev l))
 
@@ -127,13 +127,13 @@ has_dot-from action replace from_rev from same none = (or_parts (has_dot from) f
 -- ---- what stands against a node block
 
 module _ (rev : ℕ) (node : Node) (action : NodeAction) (none : first_holding (action_refusals rev node action) ≡ None) where
-  no_dot : (list_any has_dot (paths_read node.path action) ≡ false) × (first_holding (reason Delta node.is_delta ∷ reason CopyRevision (is_late rev action) ∷ reason RootAction (is_root_action node.path action) ∷ reason RevisionZero (not (nat_lt 0 rev)) ∷ []) ≡ None)
+  no_dot : (list_any has_dot (paths_read node.path action) ≡ false) × (first_holding (reason Delta node.is_delta ∷ reason CopyRevision (has_late_source rev action) ∷ reason RootAction (is_root_action node.path action) ∷ reason RevisionZero (not (nat_lt 0 rev)) ∷ []) ≡ None)
   no_dot = none_holds-parts BadPath _ _ none
 
-  no_delta : (node.is_delta ≡ false) × (first_holding (reason CopyRevision (is_late rev action) ∷ reason RootAction (is_root_action node.path action) ∷ reason RevisionZero (not (nat_lt 0 rev)) ∷ []) ≡ None)
+  no_delta : (node.is_delta ≡ false) × (first_holding (reason CopyRevision (has_late_source rev action) ∷ reason RootAction (is_root_action node.path action) ∷ reason RevisionZero (not (nat_lt 0 rev)) ∷ []) ≡ None)
   no_delta = none_holds-parts Delta _ _ no_dot.1
 
-  no_late : (is_late rev action ≡ false) × (first_holding (reason RootAction (is_root_action node.path action) ∷ reason RevisionZero (not (nat_lt 0 rev)) ∷ []) ≡ None)
+  no_late : (has_late_source rev action ≡ false) × (first_holding (reason RootAction (is_root_action node.path action) ∷ reason RevisionZero (not (nat_lt 0 rev)) ∷ []) ≡ None)
   no_late = none_holds-parts CopyRevision _ _ no_delta.1
 
   no_root : (is_root_action node.path action ≡ false) × (first_holding (reason RevisionZero (not (nat_lt 0 rev)) ∷ []) ≡ None)
@@ -142,7 +142,7 @@ module _ (rev : ℕ) (node : Node) (action : NodeAction) (none : first_holding (
   pub dotless : (has_dot node.path ≡ false) × (list_any has_dot (paths_read [] action) ≡ false)
   dotless = has_dot-parts node.path action no_dot.0
 
-  pub not_late : is_late rev action ≡ false
+  pub not_late : has_late_source rev action ≡ false
   not_late = no_late.0
 
   pub above_zero : 0 < rev
@@ -305,7 +305,7 @@ module _ (revisions : ℕ) (node : Node) (rev : ℕ) (action : NodeAction) (sett
   -- its record
   pub IsRecordTold-taken :
       (old mid new old_texts new_texts : List (List ℕ)) (path : List NameId) (each : Act) →
-      IsNumberedPath node.path old mid path → is_long node.path ≡ false → (is_late (pred revisions) action ≡ false → IsNumberedAct (action_of setting action) (pred revisions) mid new new_texts each) → list_any is_long (paths_read [] action) ≡ false →
+      IsNumberedPath node.path old mid path → is_long node.path ≡ false → (has_late_source (pred revisions) action ≡ false → IsNumberedAct (action_of setting action) (pred revisions) mid new new_texts each) → list_any is_long (paths_read [] action) ≡ false →
       new_texts ≡ with_names old_texts (texts_of_action (action_of setting action)) → Extends mid new →
       IsNumberedRecord (record_of (pred revisions) node) (pred revisions) old new old_texts new_texts (record { rev = rev; path = path; act = each })
   IsRecordTold-taken old mid new old_texts new_texts path each told short acts short_from texts grows =

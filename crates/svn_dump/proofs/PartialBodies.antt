@@ -6,7 +6,7 @@ use Rattle.std.specs.Borrow.{Bor}
 use Rattle.std.proofs.lemmas.Bool.{cases_lt, eq-eqb, ne_eqb}
 use Rattle.std.proofs.lemmas.List.{take_all}
 use Rattle.svn_dump.specs.PartialBody.{EndsBody, ExtendsBody, IsPartialBody}
-use Rattle.svn_dump.specs.declared.partial_body.PartialBody.{PartialBody}
+use Rattle.svn_dump.specs.declared.pieces.partial_body.PartialBody.{PartialBody}
 
 -- the front of a list and of what follows it
 pub take-both : (n : ℕ) (front back : List ℕ) → take n (front ++ back) ≡ take n front ++ take (n - length front) back

@@ -11,7 +11,7 @@ use Rattle.std.proofs.lemmas.List.Folds.{list_any-append}
 use Rattle.std.proofs.lemmas.List.Sums.{fails_before_first, position_or_len_is, sum_by-cons}
 use Rattle.svn_text.specs.Bytes.{is_colon, is_not_empty}
 use Rattle.svn_text.specs.Line.{is_newline, line_text}
-use Rattle.svn_dump.specs.Block.{IsHeader, header_name, header_value, is_named, listed_names, without_space}
+use Rattle.svn_dump.specs.Block.{IsHeader, header_name, header_value, is_header_named, listed_names, without_space}
 use Rattle.svn_dump.specs.Field.{fields_of}
 use Rattle.svn_dump.specs.FirstRefusal.{after_lines, front_refusals, header_lines}
 use Rattle.svn_dump.specs.FrontBlock.{BeginsWithHeaders, BeginsWithLines, IsUnfinished}
@@ -47,12 +47,12 @@ no_value line =
     ap (λ n. without_space (drop (n + 1) (without_value line))) (name_first line)
     ∙ ap without_space (drop-append-add (header_name line) (58 ∷ []) 1)
 
-count_by-names : (name : List ℕ) (lines : List (List ℕ)) → count_by (is_named name) (map without_value lines) ≡ count_by (is_named name) lines
+count_by-names : (name : List ℕ) (lines : List (List ℕ)) → count_by (is_header_named name) (map without_value lines) ≡ count_by (is_header_named name) lines
 count_by-names name [] = refl
 count_by-names name (line ∷ lines) =
-    sum_by-cons (λ each. cond (is_named name each) 1 0) (without_value line) (map without_value lines)
+    sum_by-cons (λ each. cond (is_header_named name each) 1 0) (without_value line) (map without_value lines)
     ∙ ap₂ (λ one all. cond (bytes_eq one name) 1 0 + all) (same_name line) (count_by-names name lines)
-    ∙ sym (sum_by-cons (λ each. cond (is_named name each) 1 0) line lines)
+    ∙ sym (sum_by-cons (λ each. cond (is_header_named name each) 1 0) line lines)
 
 AreOnce-lines : (lines : List (List ℕ)) → AreOnce (map without_value lines) → AreOnce lines
 AreOnce-lines lines once = λ k d below. omega (arith, once k d below, count_by-names (get_or listed_names k d) lines)

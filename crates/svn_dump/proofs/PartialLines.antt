@@ -11,9 +11,9 @@ use Rattle.svn_dump.specs.FirstRefusal.{line_refusals, magic}
 use Rattle.svn_dump.specs.Format.{format_of_version, version}
 use Rattle.svn_dump.specs.PartialLine.{HasOtherVersion, IsDecidedLine, IsFrontOfLine, IsPartialLine}
 use Rattle.svn_dump.specs.Refusal.{first_holding}
-use Rattle.svn_dump.specs.declared.format.Format.{Format}
-use Rattle.svn_dump.specs.declared.format.Format.TheVariants.{Two, Three}
-use Rattle.svn_dump.specs.declared.partial_line.PartialLine.{PartialLine}
+use Rattle.svn_dump.specs.declared.grammar.format.Format.{Format}
+use Rattle.svn_dump.specs.declared.grammar.format.Format.TheVariants.{Two, Three}
+use Rattle.svn_dump.specs.declared.pieces.partial_line.PartialLine.{PartialLine}
 use Rattle.svn_dump.specs.declared.refusal.Refusal.{Refusal}
 use Rattle.svn_dump.specs.declared.refusal.Refusal.TheVariants.{Magic, Truncated, Version}
 use Rattle.svn_dump.proofs.FirstLines.{refused_cut, refused_magic, refused_version}

@@ -17,13 +17,13 @@ use Rattle.svn_dump.specs.ReadError.{dump_error_at}
 use Rattle.svn_dump.specs.Reader.{BeginsBlock, HasReadAll, IsBodyTo, IsIn, IsInBody, IsInHeader, IsInLine, IsReadAs, IsReadTo, ReadsPart, RefusesBlock, RefusesHeader}
 use Rattle.svn_dump.specs.declared.error.DumpError.{DumpError}
 use Rattle.svn_dump.specs.declared.error.DumpError.TheVariants as dump
-use Rattle.svn_dump.specs.declared.format.Format.{Format}
-use Rattle.svn_dump.specs.declared.partial_body.PartialBody.{PartialBody}
-use Rattle.svn_dump.specs.declared.partial_line.PartialLine.{PartialLine}
+use Rattle.svn_dump.specs.declared.grammar.format.Format.{Format}
+use Rattle.svn_dump.specs.declared.pieces.partial_body.PartialBody.{PartialBody}
+use Rattle.svn_dump.specs.declared.pieces.partial_line.PartialLine.{PartialLine}
 use Rattle.svn_dump.specs.declared.read_error.ReadError.{ReadError}
 use Rattle.svn_dump.specs.declared.read_error.ReadError.TheVariants as read
-use Rattle.svn_dump.specs.declared.reader.Part.TheVariants as part
-use Rattle.svn_dump.specs.declared.reader.Reader.{Reader}
+use Rattle.svn_dump.specs.declared.pieces.reader.Progress.TheVariants as progress
+use Rattle.svn_dump.specs.declared.pieces.reader.Reader.{Reader}
 use Rattle.svn_dump.specs.Refusal.{first_holding}
 use Rattle.svn_dump.specs.declared.refusal.Refusal.{Refusal}
 use Rattle.svn_dump.specs.declared.refusal.Refusal.TheVariants.{Truncated}
@@ -265,7 +265,7 @@ IsInBody-same reader next header body bytes draft at format is = record {
 }
 
 pub IfErr-body :
-    {X : Type 0} (reader next : Reader) (header : List ℕ) (body : PartialBody) (piece : List ℕ) (at : ℕ) (result : Result X ReadError) → part.Body header body ≡ reader.part → next.draft ≡ reader.draft → next.at ≡ reader.at → next.format ≡ reader.format →
+    {X : Type 0} (reader next : Reader) (header : List ℕ) (body : PartialBody) (piece : List ℕ) (at : ℕ) (result : Result X ReadError) → progress.Body header body ≡ reader.progress → next.draft ≡ reader.draft → next.at ≡ reader.at → next.format ≡ reader.format →
     IfErr result (λ e. (bytes : List ℕ) → IsInBody next header body bytes → IsDecidedError (bytes ++ piece) (dump_error_at at e)) →
     IfErr result (λ e. (bytes : List ℕ) → HasReadAll reader bytes → IsDecidedError (bytes ++ piece) (dump_error_at at e))
 IfErr-body reader next header body piece at (Ok left) is draft same format refused = tt
@@ -330,7 +330,7 @@ IsReadAs-empty format bytes piece done rest draft whole read empty =
 
 -- ---- the end of the bytes
 
-module _ (reader : Reader) (between : reader.part ≡ part.Blocks) where
+module _ (reader : Reader) (between : reader.progress ≡ progress.Blocks) where
   read_of : (bytes : List ℕ) → HasReadAll reader bytes → IsReadAs reader.format bytes reader.draft
   read_of bytes has = subst (λ each. IsIn each reader bytes) between has
 

@@ -20,7 +20,7 @@ use Rattle.svn_dump.specs.Record.{HistoryOfBytes, history_of, with_block}
 use Rattle.svn_dump.specs.Refusal.{first_holding, number_of_refusal}
 use Rattle.svn_dump.specs.declared.error.DumpError.{DumpError}
 use Rattle.svn_dump.specs.declared.error.DumpError.TheVariants as dump
-use Rattle.svn_dump.specs.declared.format.Format.{Format}
+use Rattle.svn_dump.specs.declared.grammar.format.Format.{Format}
 use Rattle.svn_dump.specs.declared.read_error.ReadError.{ReadError}
 use Rattle.svn_dump.specs.declared.read_error.ReadError.TheVariants as read
 use Rattle.svn_dump.specs.declared.refusal.Refusal.{Refusal}

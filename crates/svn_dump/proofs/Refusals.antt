@@ -10,10 +10,10 @@ use Rattle.std.proofs.lemmas.Option.{none-some, same_Some}
 use Rattle.svn_path.specs.Names.{with_names}
 use Rattle.svn_dump.specs.DumpText.{IsSmall, all_records, most_numbered, names_of, parts_of_record, texts_of_action, values_of}
 use Rattle.svn_dump.specs.History.{Setting}
-use Rattle.svn_dump.specs.Node.{BlockSort, Node, NodeAction, node_block, other_block, revision_block, uuid_block}
+use Rattle.svn_dump.specs.Node.{BlockContent, Node, NodeAction, node_block, other_block, revision_block, uuid_block}
 use Rattle.svn_text.specs.Number.{number_of}
-use Rattle.svn_dump.specs.Record.{HistoryOfBytes, RecordOfBytes, has_dot, is_allowed, is_late, is_long, is_root_action, paths_read, record_by, record_of, with_numbered, with_record, with_sort}
-use Rattle.svn_dump.specs.Refusal.{Reason, action_refusals, first_holding, grows_large, is_large, reason, later_refusals, node_refusals, refusals_by, revision_refusals, size_refusals, sort_refusals}
+use Rattle.svn_dump.specs.Record.{HistoryOfBytes, RecordOfBytes, has_dot, is_allowed, has_late_source, is_long, is_root_action, paths_read, record_by, record_of, with_numbered, with_record, with_content}
+use Rattle.svn_dump.specs.Refusal.{Reason, action_refusals, first_holding, grows_large, is_large, reason, later_refusals, node_refusals, refusals_by, revision_refusals, size_refusals, content_refusals}
 use Rattle.svn_dump.specs.NumberedRecord.{IsFirstReason, is_record_large}
 use Rattle.svn_dump.specs.declared.read_error.ReadError.{ReadError}
 use Rattle.svn_dump.specs.declared.read_error.ReadError.TheVariants as read
@@ -125,7 +125,7 @@ is_allowed-parts : (rev : ℕ) (node : Node) (action : NodeAction) → is_allowe
 is_allowed-parts rev node action is =
     let (all_4, above) = and_parts _ (nat_lt 0 rev) is in
     let (all_3, spared) = and_parts _ (not (is_root_action node.path action)) all_4 in
-    let (all_2, early) = and_parts _ (not (is_late rev action)) all_3 in
+    let (all_2, early) = and_parts _ (not (has_late_source rev action)) all_3 in
     let (all_1, whole) = and_parts _ (not node.is_delta) all_2 in
     let (no_dot, short) = neither-parts has_dot is_long (paths_read node.path action) all_1 in
     record {
@@ -270,8 +270,8 @@ pub map_parts : {A B : Type 0} (f : A → B) (o : Option A) (y : B) → option_m
 map_parts f None y e = absurd (none-some y e)
 map_parts f (Some x) y e = (x, refl, same_Some (f x) y e)
 
-no_refusal_by : (history after : HistoryOfBytes) (sort : BlockSort) → with_sort history sort ≡ Some after → is_large after ≡ false → first_holding (refusals_by history (Some after) sort) ≡ None
-unfolding with_sort refusals_by
+no_refusal_by : (history after : HistoryOfBytes) (content : BlockContent) → with_content history content ≡ Some after → is_large after ≡ false → first_holding (refusals_by history (Some after) content) ≡ None
+unfolding with_content refusals_by
 no_refusal_by history after (revision_block number) told small = none_holds Revision _ _ refl (none_holds TooLarge _ _ small nothing_holds)
 no_refusal_by history after (node_block node) told small =
     let (each, at, same) = map_parts (with_record history) (record_of (pred (length history)) node) after told in
@@ -280,17 +280,17 @@ no_refusal_by history after uuid_block told small = nothing_holds
 no_refusal_by history after other_block told small = absurd (none-some after told)
 
 -- a block that leaves the history small has no reason against it
-pub no_refusal : (history after : HistoryOfBytes) (sort : BlockSort) → with_sort history sort ≡ Some after → IsSmall after → first_holding (sort_refusals history sort) ≡ None
-no_refusal history after sort told small =
-    ap (λ o. first_holding (refusals_by history o sort)) told ∙ no_refusal_by history after sort told (IsSmall-is_large after small)
+pub no_refusal : (history after : HistoryOfBytes) (content : BlockContent) → with_content history content ≡ Some after → IsSmall after → first_holding (content_refusals history content) ≡ None
+no_refusal history after content told small =
+    ap (λ o. first_holding (refusals_by history o content)) told ∙ no_refusal_by history after content told (IsSmall-is_large after small)
 
 -- and one without leaves it so
 revision_refusals-none : (o : Option HistoryOfBytes) → first_holding (revision_refusals o) ≡ None → (after : HistoryOfBytes) × (o ≡ Some after) × IsSmall after
 revision_refusals-none None none = absurd (true≢false (none_holds-parts Revision true _ none).0)
 revision_refusals-none (Some after) none = (after, refl, is_large-IsSmall after (none_holds-parts TooLarge _ _ (none_holds-parts Revision false _ none).1).0)
 
-pub refusal_none : (history : HistoryOfBytes) (sort : BlockSort) → IsSmall history → first_holding (sort_refusals history sort) ≡ None → (after : HistoryOfBytes) × (with_sort history sort ≡ Some after) × IsSmall after
-unfolding with_sort refusals_by
+pub refusal_none : (history : HistoryOfBytes) (content : BlockContent) → IsSmall history → first_holding (content_refusals history content) ≡ None → (after : HistoryOfBytes) × (with_content history content ≡ Some after) × IsSmall after
+unfolding with_content refusals_by
 refusal_none history (revision_block number) small none = revision_refusals-none (with_numbered history number) none
 refusal_none history (node_block node) small none =
     let is = node_refusals-taken (length history) node (grows_large (option_map (with_record history) (record_of (pred (length history)) node))) none in
@@ -349,8 +349,8 @@ some_revision zero node is = absurd (true≢false (sym (is_allowed-parts 0 node 
 some_revision (suc revisions) node is = omega arith
 
 -- a small history was small before a block
-pub IsSmall-before : (history after : HistoryOfBytes) (sort : BlockSort) → with_sort history sort ≡ Some after → IsSmall after → IsSmall history
-unfolding with_sort
+pub IsSmall-before : (history after : HistoryOfBytes) (content : BlockContent) → with_content history content ≡ Some after → IsSmall after → IsSmall history
+unfolding with_content
 IsSmall-before history after (revision_block number) told small =
     IsSmall-before_revision history (subst IsSmall (sym (with_numbered-revision history after number told)) small)
 IsSmall-before history after (node_block node) told small =
@@ -362,14 +362,14 @@ IsSmall-before history after other_block told small = absurd (none-some after to
 -- ---- what grows too large
 
 -- what is against a node block, given that few or many things are too large
-pub IsFirstReason-node : (history : HistoryOfBytes) (node : Node) (large : Bool) (e : ReadError) → (large ≡ true → grows_large (with_sort history (node_block node)) ≡ true) → IsFirstReason (node_refusals (length history) node large) e → IsFirstReason (sort_refusals history (node_block node)) e
+pub IsFirstReason-node : (history : HistoryOfBytes) (node : Node) (large : Bool) (e : ReadError) → (large ≡ true → grows_large (with_content history (node_block node)) ≡ true) → IsFirstReason (node_refusals (length history) node large) e → IsFirstReason (content_refusals history (node_block node)) e
 unfolding refusals_by
-IsFirstReason-node history node large (read.Refused refusal) more is = node_refusals-larger (length history) node large (grows_large (with_sort history (node_block node))) refusal more is
+IsFirstReason-node history node large (read.Refused refusal) more is = node_refusals-larger (length history) node large (grows_large (with_content history (node_block node))) refusal more is
 IsFirstReason-node history node large read.Memory more is = tt
 
 -- a record with too many names or texts makes the history too large
-pub grows_large-record : (history : HistoryOfBytes) (node : Node) → is_record_large (names_of history) (values_of history) (record_of (pred (length history)) node) ≡ true → grows_large (with_sort history (node_block node)) ≡ true
-unfolding with_sort
+pub grows_large-record : (history : HistoryOfBytes) (node : Node) → is_record_large (names_of history) (values_of history) (record_of (pred (length history)) node) ≡ true → grows_large (with_content history (node_block node)) ≡ true
+unfolding with_content
 grows_large-record history node large = by_record (record_of (pred (length history)) node) refl large
   where
     small_record : (each : RecordOfBytes) → 0 < length history → is_large (with_record history each) ≡ false → is_record_large (names_of history) (values_of history) (Some each) ≡ false
@@ -387,8 +387,8 @@ grows_large-record history node large = by_record (record_of (pred (length histo
         ]
 
 -- a node block whose record makes the history too large is told so
-pub sort_refusals-large : (history : HistoryOfBytes) (node : Node) (each : RecordOfBytes) → record_of (pred (length history)) node ≡ Some each → is_large (with_record history each) ≡ true → first_holding (sort_refusals history (node_block node)) ≡ Some TooLarge
-unfolding with_sort refusals_by
-sort_refusals-large history node each told large =
+pub content_refusals-large : (history : HistoryOfBytes) (node : Node) (each : RecordOfBytes) → record_of (pred (length history)) node ≡ Some each → is_large (with_record history each) ≡ true → first_holding (content_refusals history (node_block node)) ≡ Some TooLarge
+unfolding with_content refusals_by
+content_refusals-large history node each told large =
     ap (λ o. first_holding (node_refusals (length history) node (grows_large (option_map (with_record history) o)))) told
     ∙ ap (λ b. first_holding (node_refusals (length history) node b)) large ∙ node_refusals-large (length history) node each told

@@ -5,69 +5,69 @@ use Rattle.std.specs.Prelude.{Option, Some, None, bytes_eq, ◌↔◌}
 use Rattle.std.proofs.lemmas.Bool.{cases_Bool}
 use Rattle.std.proofs.lemmas.Option.{none-some, same_Some}
 use Rattle.std.proofs.lemmas.Slice.Eq.{bytes_eq-Decides}
-use Rattle.svn_dump.specs.Property.{Property, entry_of, section_end, section_up_to, section_of, IsSection}
-use Rattle.svn_dump.proofs.EntriesRead.{IsEntry-entry_of, IsEntry-goes_on, entry_of-IsEntry, length-IsEntry}
-use Rattle.svn_dump.proofs.Mergeinfos.{with_first, section_up_to-end, section_up_to-no_entry, section_up_to-more}
+use Rattle.svn_dump.specs.Property.{SectionEntry, entry_of, section_end, section_up_to, section_of, IsSection}
+use Rattle.svn_dump.proofs.EntriesRead.{IsSectionEntry-entry_of, IsSectionEntry-goes_on, entry_of-IsSectionEntry, length-IsSectionEntry}
+use Rattle.svn_dump.proofs.MiTexts.{with_first, section_up_to-end, section_up_to-no_entry, section_up_to-more}
 
 -- ---- from the form to the reading
 
-module _ (is_delta : Bool) where
+module _ (has_changes : Bool) where
   -- each entry takes bytes
-  length-IsSection : (bytes : List ℕ) (properties : List Property) → IsSection is_delta bytes properties → length properties < length bytes
+  length-IsSection : (bytes : List ℕ) (entries : List SectionEntry) → IsSection has_changes bytes entries → length entries < length bytes
   length-IsSection bytes [] is = omega (arith, ap length is)
-  length-IsSection bytes (property ∷ properties) is =
-      let (entry, rest, is_entry, whole, more) = is in
-      omega (arith, ap length whole, length-append entry rest, length-IsEntry is_delta property entry rest is_entry, length-IsSection rest properties more)
+  length-IsSection bytes (each ∷ entries) is =
+      let (front, rest, is_entry, whole, more) = is in
+      omega (arith, ap length whole, length-append front rest, length-IsSectionEntry has_changes each front rest is_entry, length-IsSection rest entries more)
 
   -- more steps than entries are enough
-  section_up_to-IsSection : (most : ℕ) (bytes : List ℕ) (properties : List Property) → IsSection is_delta bytes properties → length properties < most → section_up_to is_delta most bytes ≡ Some properties
-  section_up_to-IsSection zero bytes properties is enough = absurd (omega arith)
-  section_up_to-IsSection (suc most) bytes [] is enough = section_up_to-end is_delta most bytes ((bytes_eq-Decides bytes section_end).1 is)
-  section_up_to-IsSection (suc most) bytes (property ∷ properties) is enough =
-      let (entry, rest, is_entry, whole, more) = is in
-      ap (section_up_to is_delta (suc most)) whole
-      ∙ section_up_to-more is_delta most (entry ++ rest) property rest (IsEntry-goes_on is_delta property entry rest is_entry) (entry_of-IsEntry is_delta property entry rest is_entry)
-      ∙ ap (with_first property) (section_up_to-IsSection most rest properties more (omega arith))
+  section_up_to-IsSection : (most : ℕ) (bytes : List ℕ) (entries : List SectionEntry) → IsSection has_changes bytes entries → length entries < most → section_up_to has_changes most bytes ≡ Some entries
+  section_up_to-IsSection zero bytes entries is enough = absurd (omega arith)
+  section_up_to-IsSection (suc most) bytes [] is enough = section_up_to-end has_changes most bytes ((bytes_eq-Decides bytes section_end).1 is)
+  section_up_to-IsSection (suc most) bytes (each ∷ entries) is enough =
+      let (front, rest, is_entry, whole, more) = is in
+      ap (section_up_to has_changes (suc most)) whole
+      ∙ section_up_to-more has_changes most (front ++ rest) each rest (IsSectionEntry-goes_on has_changes each front rest is_entry) (entry_of-IsSectionEntry has_changes each front rest is_entry)
+      ∙ ap (with_first each) (section_up_to-IsSection most rest entries more (omega arith))
 
   -- bytes of the form are read as these entries
-  pub section_of-IsSection : (bytes : List ℕ) (properties : List Property) → IsSection is_delta bytes properties → section_of is_delta bytes ≡ Some properties
-  section_of-IsSection bytes properties is = section_up_to-IsSection (length bytes) bytes properties is (length-IsSection bytes properties is)
+  pub section_of-IsSection : (bytes : List ℕ) (entries : List SectionEntry) → IsSection has_changes bytes entries → section_of has_changes bytes ≡ Some entries
+  section_of-IsSection bytes entries is = section_up_to-IsSection (length bytes) bytes entries is (length-IsSection bytes entries is)
 
 -- ---- and back
 
-module _ (is_delta : Bool) (bytes : List ℕ) (most : ℕ) (onward : (rest : List ℕ) (properties : List Property) → section_up_to is_delta most rest ≡ Some properties → IsSection is_delta rest properties) where
-  by_rest : (each : Property) (rest : List ℕ) (properties : List Property) → entry_of is_delta bytes ≡ Some (each, rest) → (o : Option (List Property)) → section_up_to is_delta most rest ≡ o → with_first each o ≡ Some properties → IsSection is_delta bytes properties
-  by_rest each rest properties read None at e = absurd (none-some properties e)
-  by_rest each rest properties read (Some others) at e =
-      let (front, is, whole) = IsEntry-entry_of is_delta bytes each rest read in
-      subst (IsSection is_delta bytes) (same_Some _ properties e) (front, rest, is, whole, onward rest others at)
+module _ (has_changes : Bool) (bytes : List ℕ) (most : ℕ) (onward : (rest : List ℕ) (entries : List SectionEntry) → section_up_to has_changes most rest ≡ Some entries → IsSection has_changes rest entries) where
+  by_rest : (each : SectionEntry) (rest : List ℕ) (entries : List SectionEntry) → entry_of has_changes bytes ≡ Some (each, rest) → (o : Option (List SectionEntry)) → section_up_to has_changes most rest ≡ o → with_first each o ≡ Some entries → IsSection has_changes bytes entries
+  by_rest each rest entries read None at e = absurd (none-some entries e)
+  by_rest each rest entries read (Some others) at e =
+      let (front, is, whole) = IsSectionEntry-entry_of has_changes bytes each rest read in
+      subst (IsSection has_changes bytes) (same_Some _ entries e) (front, rest, is, whole, onward rest others at)
 
-  by_entry : (properties : List Property) → bytes_eq bytes section_end ≡ false → (o : Option (Property × List ℕ)) → entry_of is_delta bytes ≡ o → section_up_to is_delta (suc most) bytes ≡ Some properties → IsSection is_delta bytes properties
-  by_entry properties goes_on None at e = absurd (none-some properties (sym (section_up_to-no_entry is_delta (suc most) bytes goes_on at) ∙ e))
-  by_entry properties goes_on (Some read) at e =
-      by_rest read.0 read.1 properties at (section_up_to is_delta most read.1) refl (sym (section_up_to-more is_delta most bytes read.0 read.1 goes_on at) ∙ e)
+  by_entry : (entries : List SectionEntry) → bytes_eq bytes section_end ≡ false → (o : Option (SectionEntry × List ℕ)) → entry_of has_changes bytes ≡ o → section_up_to has_changes (suc most) bytes ≡ Some entries → IsSection has_changes bytes entries
+  by_entry entries goes_on None at e = absurd (none-some entries (sym (section_up_to-no_entry has_changes (suc most) bytes goes_on at) ∙ e))
+  by_entry entries goes_on (Some read) at e =
+      by_rest read.0 read.1 entries at (section_up_to has_changes most read.1) refl (sym (section_up_to-more has_changes most bytes read.0 read.1 goes_on at) ∙ e)
 
-  by_end : (properties : List Property) → section_up_to is_delta (suc most) bytes ≡ Some properties → IsSection is_delta bytes properties
-  by_end properties e =
+  by_end : (entries : List SectionEntry) → section_up_to has_changes (suc most) bytes ≡ Some entries → IsSection has_changes bytes entries
+  by_end entries e =
       elim (cases_Bool (bytes_eq bytes section_end)) [
         | inl ends ↦
-            subst (IsSection is_delta bytes) (same_Some _ properties (sym (section_up_to-end is_delta most bytes ends) ∙ e)) ((bytes_eq-Decides bytes section_end).0 ends)
-        | inr goes_on ↦ by_entry properties goes_on (entry_of is_delta bytes) refl e
+            subst (IsSection has_changes bytes) (same_Some _ entries (sym (section_up_to-end has_changes most bytes ends) ∙ e)) ((bytes_eq-Decides bytes section_end).0 ends)
+        | inr goes_on ↦ by_entry entries goes_on (entry_of has_changes bytes) refl e
       ]
 
-IsSection-section_up_to : (is_delta : Bool) (most : ℕ) (bytes : List ℕ) (properties : List Property) → section_up_to is_delta most bytes ≡ Some properties → IsSection is_delta bytes properties
+IsSection-section_up_to : (has_changes : Bool) (most : ℕ) (bytes : List ℕ) (entries : List SectionEntry) → section_up_to has_changes most bytes ≡ Some entries → IsSection has_changes bytes entries
 unfolding section_up_to
-IsSection-section_up_to is_delta zero bytes properties e = absurd (none-some properties e)
-IsSection-section_up_to is_delta (suc most) bytes properties e = by_end is_delta bytes most (λ rest others at. IsSection-section_up_to is_delta most rest others at) properties e
+IsSection-section_up_to has_changes zero bytes entries e = absurd (none-some entries e)
+IsSection-section_up_to has_changes (suc most) bytes entries e = by_end has_changes bytes most (λ rest others at. IsSection-section_up_to has_changes most rest others at) entries e
 
 -- bytes that are read as these entries are of the form
-pub IsSection-section_of : (is_delta : Bool) (bytes : List ℕ) (properties : List Property) → section_of is_delta bytes ≡ Some properties → IsSection is_delta bytes properties
-IsSection-section_of is_delta bytes properties e = IsSection-section_up_to is_delta (length bytes) bytes properties e
+pub IsSection-section_of : (has_changes : Bool) (bytes : List ℕ) (entries : List SectionEntry) → section_of has_changes bytes ≡ Some entries → IsSection has_changes bytes entries
+IsSection-section_of has_changes bytes entries e = IsSection-section_up_to has_changes (length bytes) bytes entries e
 
 -- a section has one list of entries
-pub IsSection-same : (is_delta : Bool) (bytes : List ℕ) (a b : List Property) → IsSection is_delta bytes a → IsSection is_delta bytes b → a ≡ b
-IsSection-same is_delta bytes a b is_a is_b = same_Some a b (sym (section_of-IsSection is_delta bytes a is_a) ∙ section_of-IsSection is_delta bytes b is_b)
+pub IsSection-same : (has_changes : Bool) (bytes : List ℕ) (a b : List SectionEntry) → IsSection has_changes bytes a → IsSection has_changes bytes b → a ≡ b
+IsSection-same has_changes bytes a b is_a is_b = same_Some a b (sym (section_of-IsSection has_changes bytes a is_a) ∙ section_of-IsSection has_changes bytes b is_b)
 
 -- a section is read as its form says
-pub section_of-both : (is_delta : Bool) (bytes : List ℕ) (properties : List Property) → (section_of is_delta bytes ≡ Some properties) ↔ IsSection is_delta bytes properties
-section_of-both is_delta bytes properties = (IsSection-section_of is_delta bytes properties, section_of-IsSection is_delta bytes properties)
+pub section_of-both : (has_changes : Bool) (bytes : List ℕ) (entries : List SectionEntry) → (section_of has_changes bytes ≡ Some entries) ↔ IsSection has_changes bytes entries
+section_of-both has_changes bytes entries = (IsSection-section_of has_changes bytes entries, section_of-IsSection has_changes bytes entries)

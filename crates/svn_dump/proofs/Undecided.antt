@@ -19,20 +19,20 @@ use Rattle.svn_dump.specs.FirstRefusal.{RefusalAt, after_block, block_at, block_
 use Rattle.svn_dump.specs.Field.{fields_of}
 use Rattle.svn_dump.specs.Format.{version}
 use Rattle.svn_dump.specs.HeaderValues.{body_length_from_headers}
-use Rattle.svn_dump.specs.Node.{BlockSort, Node, NodeAction, node_block, other_block, revision_block, uuid_block}
+use Rattle.svn_dump.specs.Node.{BlockContent, Node, NodeAction, node_block, other_block, revision_block, uuid_block}
 use Rattle.svn_dump.specs.PartialHeader.{AreHeaderLines, IsHeaderFront}
 use Rattle.svn_dump.specs.PartialLine.{IsPartialLine}
 use Rattle.svn_dump.specs.Reader.{BeginsBlock, HasReadAll, IsIn, IsInBody, IsInHeader, IsReadAs}
-use Rattle.svn_dump.specs.Record.{HistoryOfBytes, sort_of, with_block, with_sort}
-use Rattle.svn_dump.specs.Refusal.{Reason, first_holding, grows_large, later_refusals, node_refusals, number_of_refusal, refusals_by, sort_refusals}
-use Rattle.svn_dump.specs.declared.format.Format.{Format}
-use Rattle.svn_dump.specs.declared.format.Format.TheVariants.{Two, Three}
-use Rattle.svn_dump.specs.declared.partial_body.PartialBody.{PartialBody}
-use Rattle.svn_dump.specs.declared.partial_line.PartialLine.{PartialLine}
-use Rattle.svn_dump.specs.declared.partial_line.PartialLine.TheVariants as line
-use Rattle.svn_dump.specs.declared.reader.Part.{Part}
-use Rattle.svn_dump.specs.declared.reader.Part.TheVariants as part
-use Rattle.svn_dump.specs.declared.reader.Reader.{Reader}
+use Rattle.svn_dump.specs.Record.{HistoryOfBytes, content_of, with_block, with_content}
+use Rattle.svn_dump.specs.Refusal.{Reason, first_holding, grows_large, later_refusals, node_refusals, number_of_refusal, refusals_by, content_refusals}
+use Rattle.svn_dump.specs.declared.grammar.format.Format.{Format}
+use Rattle.svn_dump.specs.declared.grammar.format.Format.TheVariants.{Two, Three}
+use Rattle.svn_dump.specs.declared.pieces.partial_body.PartialBody.{PartialBody}
+use Rattle.svn_dump.specs.declared.pieces.partial_line.PartialLine.{PartialLine}
+use Rattle.svn_dump.specs.declared.pieces.partial_line.PartialLine.TheVariants as line
+use Rattle.svn_dump.specs.declared.pieces.reader.Progress.{Progress}
+use Rattle.svn_dump.specs.declared.pieces.reader.Progress.TheVariants as progress
+use Rattle.svn_dump.specs.declared.pieces.reader.Reader.{Reader}
 use Rattle.svn_dump.specs.declared.refusal.Refusal.{Refusal}
 use Rattle.svn_dump.specs.declared.refusal.Refusal.TheVariants.{Header, Length, Revision, Truncated}
 use Rattle.svn_dump.proofs.Blocks.{header_holds, BeginsWithLines-append}
@@ -186,12 +186,12 @@ later_all : (rev : ℕ) (node : Node) (large : Bool) (action : Option NodeAction
 later_all rev node large None = refl
 later_all rev node large (Some action) = refl
 
-sort_later : (history : HistoryOfBytes) (after : Option HistoryOfBytes) (sort : BlockSort) → list_all (λ each. nat_le 6 (number_of_refusal each.refusal)) (refusals_by history after sort) ≡ true
+content_later : (history : HistoryOfBytes) (after : Option HistoryOfBytes) (content : BlockContent) → list_all (λ each. nat_le 6 (number_of_refusal each.refusal)) (refusals_by history after content) ≡ true
 unfolding refusals_by node_refusals
-sort_later history after (revision_block number) = refl
-sort_later history after (node_block node) = later_all (pred (length history)) node (grows_large after) node.action
-sort_later history after uuid_block = refl
-sort_later history after other_block = refl
+content_later history after (revision_block number) = refl
+content_later history after (node_block node) = later_all (pred (length history)) node (grows_large after) node.action
+content_later history after uuid_block = refl
+content_later history after other_block = refl
 
 -- where nothing follows a block, what follows it is refused for want of a revision alone
 nothing_later : (format : Format) (most total : ℕ) (after : Option HistoryOfBytes) (found : RefusalAt) → option_and_then (λ told. refusal_from format most total told []) after ≡ Some found → number_of_refusal found.refusal ≡ 8
@@ -212,17 +212,17 @@ whole_number format front draft read header come lines long begins found told =
     let history = history_in_bytes draft in
     let (most, same) = first_refusal-from format front draft read bytes (BeginsBlock-append header (10 ∷ come) begins) in
     let (form, at, rest) = front-block bytes [] block (IsBlock-whole header come lines long begins) (whole_text header come lines long begins) in
-    let refused : block_refusal format history bytes ≡ first_holding (sort_refusals history (sort_of format (block_at bytes))) =
-    first_holding-append (front_refusals bytes) (sort_refusals history (sort_of format (block_at bytes))) ∙ ap (λ first. option_or first (first_holding (sort_refusals history (sort_of format (block_at bytes))))) form in
+    let refused : block_refusal format history bytes ≡ first_holding (content_refusals history (content_of format (block_at bytes))) =
+    first_holding-append (front_refusals bytes) (content_refusals history (content_of format (block_at bytes))) ∙ ap (λ first. option_or first (first_holding (content_refusals history (content_of format (block_at bytes))))) form in
     by_block most bytes (block_refusal format history bytes) (sym refused) rest (sym same ∙ told)
   where
     by_block :
-        (most : ℕ) (bytes : List ℕ) (refused : Option Refusal) → first_holding (sort_refusals (history_in_bytes draft) (sort_of format (block_at bytes))) ≡ refused → after_block bytes ≡ [] →
+        (most : ℕ) (bytes : List ℕ) (refused : Option Refusal) → first_holding (content_refusals (history_in_bytes draft) (content_of format (block_at bytes))) ≡ refused → after_block bytes ≡ [] →
         refusal_or refused (length front) (option_and_then (λ after. refusal_from format most (length (front ++ bytes)) after (after_block bytes)) (with_block format (history_in_bytes draft) (block_at bytes))) ≡ Some found →
         6 ≤ number_of_refusal found.refusal
     by_block most bytes (Some refusal) first rest is =
         subst (λ (each : RefusalAt). 6 ≤ number_of_refusal each.refusal) (same_Some _ _ is)
-        (first_holding-numbered (sort_refusals (history_in_bytes draft) (sort_of format (block_at bytes))) (sort_later (history_in_bytes draft) (with_sort (history_in_bytes draft) (sort_of format (block_at bytes))) (sort_of format (block_at bytes))) refusal first)
+        (first_holding-numbered (content_refusals (history_in_bytes draft) (content_of format (block_at bytes))) (content_later (history_in_bytes draft) (with_content (history_in_bytes draft) (content_of format (block_at bytes))) (content_of format (block_at bytes))) refusal first)
     by_block most bytes None first rest is =
         let last = nothing_later format most (length (front ++ bytes)) (with_block format (history_in_bytes draft) (block_at bytes)) found
         (sym (ap (λ after_all. option_and_then (λ after. refusal_from format most (length (front ++ bytes)) after after_all) (with_block format (history_in_bytes draft) (block_at bytes))) rest) ∙ is) in
@@ -245,11 +245,11 @@ undecided-body reader header body bytes is =
 
 -- ---- by the part in progress
 
-undecided-in : (each : Part) (reader : Reader) (bytes : List ℕ) → IsIn each reader bytes → IsUndecided bytes
-undecided-in (part.Line shown) reader bytes is = undecided-line shown bytes is.so_far
-undecided-in part.Blocks reader bytes is = undecided-between reader.format bytes reader.draft is
-undecided-in (part.Header header) reader bytes is = undecided-header reader header bytes is
-undecided-in (part.Body header body) reader bytes is = undecided-body reader header body bytes is
+undecided-in : (each : Progress) (reader : Reader) (bytes : List ℕ) → IsIn each reader bytes → IsUndecided bytes
+undecided-in (progress.Line shown) reader bytes is = undecided-line shown bytes is.so_far
+undecided-in progress.Blocks reader bytes is = undecided-between reader.format bytes reader.draft is
+undecided-in (progress.Header header) reader bytes is = undecided-header reader header bytes is
+undecided-in (progress.Body header body) reader bytes is = undecided-body reader header body bytes is
 
 pub IsUndecided-read : (reader : Reader) (bytes : List ℕ) → HasReadAll reader bytes → IsUndecided bytes
-IsUndecided-read reader bytes has = undecided-in reader.part reader bytes has
+IsUndecided-read reader bytes has = undecided-in reader.progress reader bytes has

@@ -10,22 +10,22 @@ use Rattle.svn_dump.specs.Block.{Block, IsBlock, block_text, body_length}
 use Rattle.svn_dump.specs.Field.{fields_of}
 use Rattle.svn_dump.specs.FirstRefusal.{block_at, block_refusal, front_refusals, header_lines}
 use Rattle.svn_dump.specs.FrontBlock.{AddsBlock, BeginsWithBlock, IsBlockRefusalFrom}
-use Rattle.svn_dump.specs.HeaderValues.{node_from_headers, sort_from_headers}
-use Rattle.svn_dump.specs.Node.{Node, sort_by_fields}
+use Rattle.svn_dump.specs.HeaderValues.{node_from_headers, content_from_headers}
+use Rattle.svn_dump.specs.Node.{Node, content_by_fields}
 use Rattle.svn_dump.specs.NumberedRecord.{IsFirstReason}
 use Rattle.svn_dump.specs.PartialHeader.{AreHeaderLines, IsDecidedFront, is_node}
 use Rattle.svn_dump.specs.Reader.{BeginsBlock, IsBodyTo}
-use Rattle.svn_dump.specs.Record.{HistoryOfBytes, node_of_block, sort_of, with_sort}
-use Rattle.svn_dump.specs.Refusal.{first_holding, sort_refusals}
-use Rattle.svn_dump.specs.declared.format.Format.{Format}
-use Rattle.svn_dump.specs.declared.partial_body.PartialBody.{PartialBody}
+use Rattle.svn_dump.specs.Record.{HistoryOfBytes, node_of_block, content_of, with_content}
+use Rattle.svn_dump.specs.Refusal.{first_holding, content_refusals}
+use Rattle.svn_dump.specs.declared.grammar.format.Format.{Format}
+use Rattle.svn_dump.specs.declared.pieces.partial_body.PartialBody.{PartialBody}
 use Rattle.svn_dump.specs.declared.read_error.ReadError.{ReadError}
 use Rattle.svn_dump.specs.declared.read_error.ReadError.TheVariants as read
 use Rattle.svn_dump.specs.declared.refusal.Refusal.{Refusal}
 use Rattle.svn_dump.proofs.Fronts.{front-block}
 use Rattle.svn_dump.proofs.PartialHeaders.{header_lines-all}
 use Rattle.svn_dump.proofs.Refusals.{first_holding-append, first_holding-front}
-use Rattle.svn_dump.proofs.Sorts.{sort_from_headers-block}
+use Rattle.svn_dump.proofs.Contents.{content_from_headers-block}
 
 -- a block whose body is all that comes after its header
 module _ (header come : List ℕ) (lines : AreHeaderLines header) (long : body_length (header_lines header) ≡ Some (length come)) (begins : BeginsBlock header) where
@@ -57,7 +57,7 @@ module _ (format : Format) where
   -- its form
   pub block_refusal-front : (history : HistoryOfBytes) (bytes : List ℕ) (refusal : Refusal) → first_holding (front_refusals bytes) ≡ Some refusal → block_refusal format history bytes ≡ Some refusal
   unfolding block_refusal
-  block_refusal-front history bytes refusal first = first_holding-front (front_refusals bytes) (sort_refusals history (sort_of format (block_at bytes))) refusal first
+  block_refusal-front history bytes refusal first = first_holding-front (front_refusals bytes) (content_refusals history (content_of format (block_at bytes))) refusal first
 
   pub IsBlockRefusalFrom-front : (history : HistoryOfBytes) (bytes : List ℕ) (refusal : Refusal) → IsDecidedFront bytes refusal → IsBlockRefusalFrom format history bytes (read.Refused refusal)
   IsBlockRefusalFrom-front history bytes refusal decided = λ more. block_refusal-front history (bytes ++ more) refusal (decided more)
@@ -65,18 +65,18 @@ module _ (format : Format) where
   -- or what it says
   pub block_refusal-block :
       (history : HistoryOfBytes) (bytes rest : List ℕ) (block : Block) (refusal : Refusal) → IsBlock block → bytes ≡ block_text block ++ rest →
-      first_holding (sort_refusals history (sort_of format block)) ≡ Some refusal → block_refusal format history bytes ≡ Some refusal
+      first_holding (content_refusals history (content_of format block)) ≡ Some refusal → block_refusal format history bytes ≡ Some refusal
   unfolding block_refusal
   block_refusal-block history bytes rest block refusal is whole told =
       let front = front-block bytes rest block is whole in
-      first_holding-append (front_refusals bytes) (sort_refusals history (sort_of format (block_at bytes)))
-      ∙ ap (λ first. option_or first (first_holding (sort_refusals history (sort_of format (block_at bytes))))) front.0
-      ∙ ap (λ each. first_holding (sort_refusals history (sort_of format each))) front.1 ∙ told
+      first_holding-append (front_refusals bytes) (content_refusals history (content_of format (block_at bytes)))
+      ∙ ap (λ first. option_or first (first_holding (content_refusals history (content_of format (block_at bytes))))) front.0
+      ∙ ap (λ each. first_holding (content_refusals history (content_of format each))) front.1 ∙ told
 
   -- the same of what is found of it, whatever follows
   pub IsBlockRefusalFrom-block :
       (history : HistoryOfBytes) (bytes rest : List ℕ) (block : Block) (e : ReadError) → IsBlock block → bytes ≡ block_text block ++ rest →
-      IsFirstReason (sort_refusals history (sort_of format block)) e → IsBlockRefusalFrom format history bytes e
+      IsFirstReason (content_refusals history (content_of format block)) e → IsBlockRefusalFrom format history bytes e
   IsBlockRefusalFrom-block history bytes rest block (read.Refused refusal) is whole told = λ more.
       block_refusal-block history (bytes ++ more) (rest ++ more) block refusal is (ap (λ all. all ++ more) whole ∙ append_assoc (block_text block) rest more) told
   IsBlockRefusalFrom-block history bytes rest block read.Memory is whole told = tt
@@ -84,31 +84,31 @@ module _ (format : Format) where
   -- ---- a block that is found at the front of the bytes
 
   module _ (bytes rest : List ℕ) (values : List (Option (List ℕ))) (properties : List ℕ) (found : BeginsWithBlock bytes values properties rest) where
-    pub AddsBlock-found : (old new : HistoryOfBytes) → with_sort old (sort_from_headers format values properties) ≡ Some new → AddsBlock format bytes rest old new
+    pub AddsBlock-found : (old new : HistoryOfBytes) → with_content old (content_from_headers format values properties) ≡ Some new → AddsBlock format bytes rest old new
     AddsBlock-found old new told = record {
       block = found.block;
       is_block = found.is_block;
       whole = found.whole;
-      adds = ap (with_sort old) (sym (sort_from_headers-block format bytes rest values properties found)) ∙ told;
+      adds = ap (with_content old) (sym (content_from_headers-block format bytes rest values properties found)) ∙ told;
     }
 
-    pub IsBlockRefusalFrom-found : (history : HistoryOfBytes) (e : ReadError) → IsFirstReason (sort_refusals history (sort_from_headers format values properties)) e → IsBlockRefusalFrom format history bytes e
+    pub IsBlockRefusalFrom-found : (history : HistoryOfBytes) (e : ReadError) → IsFirstReason (content_refusals history (content_from_headers format values properties)) e → IsBlockRefusalFrom format history bytes e
     IsBlockRefusalFrom-found history e told =
         IsBlockRefusalFrom-block history bytes rest found.block e found.is_block found.whole
-        (subst (λ sort. IsFirstReason (sort_refusals history sort) e) (sort_from_headers-block format bytes rest values properties found) told)
+        (subst (λ content. IsFirstReason (content_refusals history content) e) (content_from_headers-block format bytes rest values properties found) told)
 
   -- ---- a block that came in pieces
 
-  -- a block of another sort than a node says the same whatever its section
-  sort-other : (number path uuid : Option (List ℕ)) (f g : List ℕ → Node) → (is_none number && is_some path) ≡ false → sort_by_fields number (option_map f path) uuid ≡ sort_by_fields number (option_map g path) uuid
-  sort-other (Some number) path uuid f g other = refl
-  sort-other None None uuid f g other = refl
-  sort-other None (Some path) uuid f g other = absurd (both_ways _ other refl)
+  -- a block that is no node says the same whatever its section
+  content-other : (number path uuid : Option (List ℕ)) (f g : List ℕ → Node) → (is_none number && is_some path) ≡ false → content_by_fields number (option_map f path) uuid ≡ content_by_fields number (option_map g path) uuid
+  content-other (Some number) path uuid f g other = refl
+  content-other None None uuid f g other = refl
+  content-other None (Some path) uuid f g other = absurd (both_ways _ other refl)
 
-  sort_of-other : (block : Block) (properties : List ℕ) → is_node block.lines ≡ false → sort_from_headers format (fields_of block.lines) properties ≡ sort_of format block
-  unfolding sort_from_headers sort_of
-  sort_of-other block properties other =
-      sort-other _ _ _ (node_from_headers format (fields_of block.lines) properties) (node_of_block format block) other
+  content_of-other : (block : Block) (properties : List ℕ) → is_node block.lines ≡ false → content_from_headers format (fields_of block.lines) properties ≡ content_of format block
+  unfolding content_from_headers content_of
+  content_of-other block properties other =
+      content-other _ _ _ (node_from_headers format (fields_of block.lines) properties) (node_of_block format block) other
 
   module _ (header : List ℕ) (body : PartialBody) (come : List ℕ) (is : IsBodyTo header body come) (none : body.left ≡ 0) (begins : BeginsBlock header) where
     all_came : is.whole ≡ length come
@@ -126,8 +126,8 @@ module _ (format : Format) where
     text_is : header ++ 10 ∷ come ≡ block_text block_of ++ []
     text_is = whole_text header come is.lines body_is begins
 
-    sort_of-node : is_node (header_lines header) ≡ true → sort_from_headers format (fields_of (header_lines header)) body.section.items ≡ sort_of format block_of
-    sort_of-node node =
+    content_of-node : is_node (header_lines header) ≡ true → content_from_headers format (fields_of (header_lines header)) body.section.items ≡ content_of format block_of
+    content_of-node node =
         let section : length body.section.items ≡ is.section = ap length is.so_far.kept ∙ length-take-le is.section come (omega (arith, is.so_far.within, all_came)) in
         let found : BeginsWithBlock (header ++ 10 ∷ come) (fields_of (header_lines header)) body.section.items [] =
         record {
@@ -138,23 +138,23 @@ module _ (format : Format) where
           front = is.so_far.kept ∙ ap (λ n. take n come) (sym section);
           whole = text_is;
         } in
-        sort_from_headers-block format (header ++ 10 ∷ come) [] (fields_of (header_lines header)) body.section.items found
+        content_from_headers-block format (header ++ 10 ∷ come) [] (fields_of (header_lines header)) body.section.items found
 
-    sort_of-whole : sort_from_headers format (fields_of (header_lines header)) body.section.items ≡ sort_of format block_of
-    sort_of-whole = elim (cases_Bool (is_node (header_lines header))) [
-      | inl node ↦ sort_of-node node
-      | inr other ↦ sort_of-other block_of body.section.items other
+    content_of-whole : content_from_headers format (fields_of (header_lines header)) body.section.items ≡ content_of format block_of
+    content_of-whole = elim (cases_Bool (is_node (header_lines header))) [
+      | inl node ↦ content_of-node node
+      | inr other ↦ content_of-other block_of body.section.items other
     ]
 
-    pub AddsBlock-whole : (old new : HistoryOfBytes) → with_sort old (sort_from_headers format (fields_of (header_lines header)) body.section.items) ≡ Some new → AddsBlock format (header ++ 10 ∷ come) [] old new
+    pub AddsBlock-whole : (old new : HistoryOfBytes) → with_content old (content_from_headers format (fields_of (header_lines header)) body.section.items) ≡ Some new → AddsBlock format (header ++ 10 ∷ come) [] old new
     AddsBlock-whole old new told = record {
       block = block_of;
       is_block = is_block;
       whole = text_is;
-      adds = ap (with_sort old) (sym sort_of-whole) ∙ told;
+      adds = ap (with_content old) (sym content_of-whole) ∙ told;
     }
 
-    pub IsBlockRefusalFrom-whole : (history : HistoryOfBytes) (e : ReadError) → IsFirstReason (sort_refusals history (sort_from_headers format (fields_of (header_lines header)) body.section.items)) e → IsBlockRefusalFrom format history (header ++ 10 ∷ come) e
+    pub IsBlockRefusalFrom-whole : (history : HistoryOfBytes) (e : ReadError) → IsFirstReason (content_refusals history (content_from_headers format (fields_of (header_lines header)) body.section.items)) e → IsBlockRefusalFrom format history (header ++ 10 ∷ come) e
     IsBlockRefusalFrom-whole history e told =
         IsBlockRefusalFrom-block history (header ++ 10 ∷ come) [] block_of e is_block text_is
-        (subst (λ sort. IsFirstReason (sort_refusals history sort) e) sort_of-whole told)
+        (subst (λ content. IsFirstReason (content_refusals history content) e) content_of-whole told)

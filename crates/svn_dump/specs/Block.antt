@@ -24,13 +24,13 @@ pub record IsHeader (line : List ℕ) : Type 0 where
   pub colon : IsTrue (list_any is_colon line)
   pub named : IsTrue (is_not_empty (header_name line))
 
-abbrev pub is_named : List ℕ → List ℕ → Bool
-is_named name line = bytes_eq (header_name line) name
+abbrev pub is_header_named : List ℕ → List ℕ → Bool
+is_header_named name line = bytes_eq (header_name line) name
 
 -- the value of the first line of that name
 abbrev pub field : List ℕ → List (List ℕ) → Option (List ℕ)
 field name [] = None
-field name (line ∷ lines) = if is_named name line then Some (header_value line) else field name lines
+field name (line ∷ lines) = if is_header_named name line then Some (header_value line) else field name lines
 
 -- the names that are read, each of which stands at most once in a block; others are ignored
 abbrev pub listed_names : List (List ℕ)
@@ -76,7 +76,7 @@ block_text block = flat_map line_text block.lines ++ 10 ∷ block.body
 pub record IsBlock (block : Block) : Type 0 where
   pub some_line : length block.lines ≡ 0 → ⊥
   pub headers : All IsHeader block.lines
-  pub once : All (λ name. count_by (is_named name) block.lines ≤ 1) listed_names
+  pub once : All (λ name. count_by (is_header_named name) block.lines ≤ 1) listed_names
   pub whole : body_length block.lines ≡ Some (length block.body)
 
 -- the bytes are these blocks, with empty lines before, between and after them

@@ -4,7 +4,7 @@ use Rattle.svn_dump.specs.DumpError.{IsFirstAt}
 use Rattle.svn_dump.specs.DumpText.{first_line}
 use Rattle.svn_dump.specs.declared.error.DumpError.{DumpError}
 use Rattle.svn_dump.specs.declared.error.DumpError.TheVariants.{Refused, Memory}
-use Rattle.svn_dump.specs.declared.format.Format.{Format}
+use Rattle.svn_dump.specs.declared.grammar.format.Format.{Format}
 
 -- every input that begins with these bytes is refused with this number at this offset
 abbrev pub IsDecided : List ℕ → ℕ → ℕ → Type 0

@@ -20,7 +20,7 @@ action_in_bytes names texts act = rename_action (λ name. name_of names name.0) 
 abbrev pub record_in_bytes : List (List ℕ) → List (List ℕ) → NodeRecord → RecordOfBytes
 record_in_bytes names texts each = rename_record (λ name. name_of names name.0) (λ value. text_of texts value.0) (record_view each)
 
--- the new names are the old ones, and others after them; the same of texts
+-- the new names or texts are the old ones, and others after them
 abbrev pub Extends : List (List ℕ) → List (List ℕ) → Type 0
 Extends old new = (more : List (List ℕ)) × (new ≡ old ++ more)
 

@@ -5,8 +5,8 @@ use Rattle.svn_dump.specs.Block.{Block, AreBlocks}
 use Rattle.svn_dump.specs.Format.{version}
 use Rattle.svn_dump.specs.History.{Setting, keep, put, delete, change, add, copy}
 use Rattle.svn_dump.specs.Record.{RecordOfBytes, ActionOfBytes, HistoryOfBytes, history_of}
-use Rattle.svn_dump.specs.declared.format.Format.{Format}
-use Rattle.svn_dump.specs.declared.format.Format.TheVariants.{Two, Three}
+use Rattle.svn_dump.specs.declared.grammar.format.Format.{Format}
+use Rattle.svn_dump.specs.declared.grammar.format.Format.TheVariants.{Two, Three}
 
 abbrev pub first_line : Format → List ℕ
 first_line format = codes "SVN-fs-dump-format-version: " ++ (version format ++ 10 ∷ [])

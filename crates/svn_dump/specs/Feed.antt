@@ -3,13 +3,13 @@ use Rattle.std.specs.Prelude.{◌≡◌, ℕ, List, Option, None, Some, length}
 use Rattle.svn_dump.specs.Decided.{IsDecidedError}
 use Rattle.svn_dump.specs.Reader.{HasReadAll}
 use Rattle.svn_dump.specs.declared.error.DumpError.{DumpError}
-use Rattle.svn_dump.specs.declared.reader.Reader.{Reader}
+use Rattle.svn_dump.specs.declared.pieces.reader.Reader.{Reader}
 
 -- what it keeps, how many bytes have come, and the error that it answered, if it did
 pub record FeedValue : Type 0 where
   pub reader : Reader
   pub count : ℕ
-  pub refusal : Option DumpError
+  pub error : Option DumpError
 
 abbrev pub HasReadOrRefused : Reader → Option DumpError → List ℕ → Type 0
 HasReadOrRefused reader None bytes = HasReadAll reader bytes
@@ -18,4 +18,4 @@ HasReadOrRefused reader (Some error) bytes = IsDecidedError bytes error
 -- these bytes may be what has come to it, in whatever pieces; bytes that are skipped may be any of the same number
 pub record HasRead (feed : FeedValue) (bytes : List ℕ) : Type 0 where
   pub counted : feed.count ≡ length bytes
-  pub read : HasReadOrRefused feed.reader feed.refusal bytes
+  pub read : HasReadOrRefused feed.reader feed.error bytes

@@ -2,12 +2,12 @@
 use Rattle.std.specs.Prelude.{◌≡◌, ℕ, zero, suc, ◌-◌, ◌==◌, nat_eq, nat_lt, Bool, false, not, ◌&&◌, ◌||◌, List, [], ◌∷◌, ◌++◌, Option, Some, None, is_none, codes, count_by, drop, flat_map, length, option_and_then, take, unwrap_or, if◌then◌else◌}
 use Rattle.std.specs.List.{after_first, before_first, list_any, slice_split, starts_with}
 use Rattle.svn_text.specs.Bytes.{is_colon, is_not_empty}
-use Rattle.svn_dump.specs.Block.{Block, body_length, header_name, is_named, listed_names}
+use Rattle.svn_dump.specs.Block.{Block, body_length, header_name, is_header_named, listed_names}
 use Rattle.svn_text.specs.Line.{is_newline, line_text}
 use Rattle.svn_dump.specs.Format.{format_of_version}
-use Rattle.svn_dump.specs.Record.{HistoryOfBytes, sort_of, with_block}
-use Rattle.svn_dump.specs.Refusal.{Reason, first_holding, reason, sort_refusals}
-use Rattle.svn_dump.specs.declared.format.Format.{Format}
+use Rattle.svn_dump.specs.Record.{HistoryOfBytes, content_of, with_block}
+use Rattle.svn_dump.specs.Refusal.{Reason, first_holding, reason, content_refusals}
+use Rattle.svn_dump.specs.declared.grammar.format.Format.{Format}
 use Rattle.svn_dump.specs.declared.refusal.Refusal.{Refusal}
 use Rattle.svn_dump.specs.declared.refusal.Refusal.TheVariants.{Magic, Version, Header, Length, Truncated, Revision}
 
@@ -65,7 +65,7 @@ is_no_header line = not (list_any is_colon line) || not (is_not_empty (header_na
 
 -- some listed name stands twice
 abbrev pub has_twice : List (List ℕ) → Bool
-has_twice lines = list_any (λ name. nat_lt 1 (count_by (is_named name) lines)) listed_names
+has_twice lines = list_any (λ name. nat_lt 1 (count_by (is_header_named name) lines)) listed_names
 
 abbrev pub body_length_at : List ℕ → ℕ
 body_length_at bytes = unwrap_or (body_length (header_lines bytes)) 0
@@ -91,7 +91,7 @@ after_block bytes = drop (body_length_at bytes) (drop 1 (after_lines bytes))
 
 -- the first reason against it after a history
 unfoldable pub block_refusal : Format → HistoryOfBytes → List ℕ → Option Refusal
-block_refusal format history bytes = first_holding (front_refusals bytes ++ sort_refusals history (sort_of format (block_at bytes)))
+block_refusal format history bytes = first_holding (front_refusals bytes ++ content_refusals history (content_of format (block_at bytes)))
 
 -- ---- the whole dump
 

@@ -1,8 +1,8 @@
 -- The formats of a dump (Subversion's dump format notes, versions 2 and 3). Format 3 may hold deltas: its property
 -- sections may be changes, and its texts differences.
 use Rattle.std.specs.Prelude.{ℕ, List, Option, Some, None, bytes_eq, codes, if◌then◌else◌}
-use Rattle.svn_dump.specs.declared.format.Format.{Format}
-use Rattle.svn_dump.specs.declared.format.Format.TheVariants.{Two, Three}
+use Rattle.svn_dump.specs.declared.grammar.format.Format.{Format}
+use Rattle.svn_dump.specs.declared.grammar.format.Format.TheVariants.{Two, Three}
 
 -- its version, as the first line gives it
 abbrev pub version : Format → List ℕ

@@ -9,11 +9,11 @@ use Rattle.svn_dump.specs.Dump.{DumpValue, history_in_bytes}
 use Rattle.svn_dump.specs.Field.{fields_of}
 use Rattle.svn_dump.specs.FirstRefusal.{block_refusal}
 use Rattle.svn_dump.specs.Headers.{AreHeaders}
-use Rattle.svn_dump.specs.Node.{BlockSort}
+use Rattle.svn_dump.specs.Node.{BlockContent}
 use Rattle.svn_dump.specs.NumberedRecord.{IsFirstReason}
-use Rattle.svn_dump.specs.Record.{HistoryOfBytes, with_block, with_sort}
-use Rattle.svn_dump.specs.Refusal.{sort_refusals}
-use Rattle.svn_dump.specs.declared.format.Format.{Format}
+use Rattle.svn_dump.specs.Record.{HistoryOfBytes, with_block, with_content}
+use Rattle.svn_dump.specs.Refusal.{content_refusals}
+use Rattle.svn_dump.specs.declared.grammar.format.Format.{Format}
 use Rattle.svn_dump.specs.declared.read_error.ReadError.{ReadError}
 use Rattle.svn_dump.specs.declared.read_error.ReadError.TheVariants as read
 
@@ -53,7 +53,7 @@ pub record AddsBlock (format : Format) (bytes rest : List ℕ) (old new : Histor
   pub whole : bytes ≡ block_text block ++ rest
   pub adds : with_block format old block ≡ Some new
 
--- the same of the histories of two dumps
+-- the block makes the history of the new dump of that of the old one
 abbrev pub AddsBlockTo : Format → DumpValue → DumpValue → List ℕ → List ℕ → Type 0
 AddsBlockTo format old new bytes rest = AddsBlock format bytes rest (history_in_bytes old) (history_in_bytes new)
 
@@ -62,10 +62,10 @@ abbrev pub IsBlockRefusalFrom : Format → HistoryOfBytes → List ℕ → ReadE
 IsBlockRefusalFrom format history bytes (read.Refused refusal) = (more : List ℕ) → block_refusal format history (bytes ++ more) ≡ Some refusal
 IsBlockRefusalFrom format history bytes read.Memory = Unit {0}
 
--- the history of a dump that is being read gets a block of that sort
-abbrev pub AddsSort : DumpValue → BlockSort → DumpValue → Type 0
-AddsSort old sort new = with_sort (history_in_bytes old) sort ≡ Some (history_in_bytes new)
+-- the history of a dump that is being read gets a block of that content
+abbrev pub AddsContent : DumpValue → BlockContent → DumpValue → Type 0
+AddsContent old content new = with_content (history_in_bytes old) content ≡ Some (history_in_bytes new)
 
--- the error is the first reason against a block of that sort, or want of memory
-abbrev pub IsSortRefusal : DumpValue → BlockSort → ReadError → Type 0
-IsSortRefusal old sort error = IsWholeHistory old → IsFirstReason (sort_refusals (history_in_bytes old) sort) error
+-- the error is the first reason against a block of that content, or want of memory
+abbrev pub IsContentRefusal : DumpValue → BlockContent → ReadError → Type 0
+IsContentRefusal old content error = IsWholeHistory old → IsFirstReason (content_refusals (history_in_bytes old) content) error

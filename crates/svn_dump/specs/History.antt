@@ -22,7 +22,7 @@ pub record Record (C M : Type 0) : Type 0 where
 abbrev pub History : Type 0 → Type 0 → Type 0
 History C M = List (List (Record C M))
 
--- the same history with other components and other texts
+-- a history with other components and other texts
 abbrev pub rename_setting : {M N : Type 0} → (M → N) → Setting M → Setting N
 rename_setting text keep = keep
 rename_setting text (put value) = put (option_map text value)

@@ -50,15 +50,15 @@ pub record Node : Type 0 where
   pub setting : Option (Setting (List ℕ))
 
 -- what a block is, by the headers that it has: the number of a revision, a node, or the UUID of the repository
-pub data BlockSort : Type 0 where
-  revision_block : List ℕ → BlockSort
-  node_block : Node → BlockSort
-  uuid_block : BlockSort
-  other_block : BlockSort
+pub data BlockContent : Type 0 where
+  revision_block : List ℕ → BlockContent
+  node_block : Node → BlockContent
+  uuid_block : BlockContent
+  other_block : BlockContent
 
 -- `Revision-number` stands before `Node-path`, and that before `UUID`
-abbrev pub sort_by_fields : Option (List ℕ) → Option Node → Option (List ℕ) → BlockSort
-sort_by_fields (Some number) said uuid = revision_block number
-sort_by_fields None (Some said) uuid = node_block said
-sort_by_fields None None (Some uuid) = uuid_block
-sort_by_fields None None None = other_block
+abbrev pub content_by_fields : Option (List ℕ) → Option Node → Option (List ℕ) → BlockContent
+content_by_fields (Some number) said uuid = revision_block number
+content_by_fields None (Some said) uuid = node_block said
+content_by_fields None None (Some uuid) = uuid_block
+content_by_fields None None None = other_block

@@ -9,13 +9,13 @@ use Rattle.svn_path.specs.declared.names.NameId.{NameId}
 use Rattle.svn_dump.specs.Draft.{action_in_bytes, record_in_bytes, setting_in_bytes, only_tables}
 use Rattle.svn_dump.specs.Dump.{IsActOf, IsRecordOf, IsSettingOf}
 use Rattle.svn_dump.specs.DumpText.{most_numbered, parts_of_action, parts_of_record, texts_of_action, texts_of_setting}
-use Rattle.svn_dump.specs.HeaderValues.{mergeinfo_view, node_action_view}
+use Rattle.svn_dump.specs.HeaderValues.{mi_text_view, node_action_view}
 use Rattle.svn_dump.specs.History.{Setting}
 use Rattle.svn_dump.specs.Node.{Node, NodeAction}
-use Rattle.svn_dump.specs.Record.{ActionOfBytes, RecordOfBytes, action_of, is_late, is_long, most_components, paths_read, record_of}
+use Rattle.svn_dump.specs.Record.{ActionOfBytes, RecordOfBytes, action_of, has_late_source, is_long, most_components, paths_read, record_of}
 use Rattle.svn_dump.specs.Refusal.{Reason, action_refusals, first_holding, node_refusals}
-use Rattle.svn_dump.specs.declared.mergeinfo.Mergeinfo.{Mergeinfo}
-use Rattle.svn_dump.specs.declared.node_action.NodeAction.{NodeAction as ReadAction}
+use Rattle.svn_dump.specs.declared.grammar.mi_text.MiText.{MiText}
+use Rattle.svn_dump.specs.declared.grammar.node_action.NodeAction.{NodeAction as ReadAction}
 use Rattle.svn_dump.specs.declared.read_error.ReadError.{ReadError}
 use Rattle.svn_dump.specs.declared.read_error.ReadError.TheVariants as read
 use Rattle.svn_dump.specs.declared.record.Act.{Act}
@@ -81,10 +81,10 @@ is_record_large names texts (Some each) = is_full_with names (parts_of_record ea
 
 -- ---- what the headers and the section of a node block give
 
-abbrev pub action_of_node : ReadAction → Mergeinfo → ActionOfBytes
-action_of_node action mergeinfo = action_of (mergeinfo_view mergeinfo) (node_action_view action)
+abbrev pub action_of_node : ReadAction → MiText → ActionOfBytes
+action_of_node action mergeinfo = action_of (mi_text_view mergeinfo) (node_action_view action)
 
-abbrev pub texts_of_node : ReadAction → Mergeinfo → List (List ℕ)
+abbrev pub texts_of_node : ReadAction → MiText → List (List ℕ)
 texts_of_node action mergeinfo = texts_of_action (action_of_node action mergeinfo)
 
 -- the path of the source, if there is one, has too many components
@@ -92,19 +92,19 @@ abbrev pub has_long_source : ReadAction → Bool
 has_long_source action = list_any is_long (paths_read [] (node_action_view action))
 
 -- the action by numbers, in each revision in which its source is of an earlier one
-abbrev pub IsActOfNode : ReadAction → Mergeinfo → List (List ℕ) → List (List ℕ) → List (List ℕ) → Act → Type 0
+abbrev pub IsActOfNode : ReadAction → MiText → List (List ℕ) → List (List ℕ) → List (List ℕ) → Act → Type 0
 IsActOfNode action mergeinfo old new texts act =
-    (rev : ℕ) → IsFalse (is_late rev (node_action_view action)) → IsNumberedAct (action_of_node action mergeinfo) rev old new texts act
+    (rev : ℕ) → IsFalse (has_late_source rev (node_action_view action)) → IsNumberedAct (action_of_node action mergeinfo) rev old new texts act
 
 -- the source is too long, or the names or the texts of the action are too many
-abbrev pub is_act_large : List (List ℕ) → List (List ℕ) → ReadAction → Mergeinfo → Bool
+abbrev pub is_act_large : List (List ℕ) → List (List ℕ) → ReadAction → MiText → Bool
 is_act_large names texts action mergeinfo =
     has_long_source action || is_full_with names (parts_of_action (action_of_node action mergeinfo))
     || is_full_with texts (texts_of_action (action_of_node action mergeinfo))
 
-abbrev pub IsAcceptedAs : ℕ → Node → ℕ → ReadAction → Mergeinfo → Type 0
+abbrev pub IsAcceptedAs : ℕ → Node → ℕ → ReadAction → MiText → Type 0
 IsAcceptedAs revisions node rev action mergeinfo =
-    IsAcceptedNode revisions node rev (node_action_view action) (mergeinfo_view mergeinfo)
+    IsAcceptedNode revisions node rev (node_action_view action) (mi_text_view mergeinfo)
 
 -- the record of a node block after so many revisions
 abbrev pub IsRecordOfNode : ℕ → Node → List (List ℕ) → List (List ℕ) → List (List ℕ) → List (List ℕ) → NodeRecord → Type 0

@@ -1,6 +1,6 @@
 -- The body of a block, as far as it has come.
 use Rattle.std.specs.Prelude.{◌≡◌, ℕ, ◌+◌, ◌-◌, ◌<◌, ◌≤◌, List, ◌++◌, length, take}
-use Rattle.svn_dump.specs.declared.partial_body.PartialBody.{PartialBody}
+use Rattle.svn_dump.specs.declared.pieces.partial_body.PartialBody.{PartialBody}
 
 -- so much of the body has come, of which a section of this length is kept
 pub record IsPartialBody (body : PartialBody) (section whole : ℕ) (come : List ℕ) : Type 0 where

@@ -7,7 +7,7 @@ use Rattle.svn_dump.specs.FirstRefusal.{front_refusals, header_lines}
 use Rattle.svn_dump.specs.Headers.{AreHeaders, AreOnce}
 use Rattle.svn_dump.specs.PartialBody.{IsPartialBody}
 use Rattle.svn_dump.specs.Refusal.{first_holding}
-use Rattle.svn_dump.specs.declared.partial_body.PartialBody.{PartialBody}
+use Rattle.svn_dump.specs.declared.pieces.partial_body.PartialBody.{PartialBody}
 use Rattle.svn_dump.specs.declared.read_error.ReadError.{ReadError}
 use Rattle.svn_dump.specs.declared.read_error.ReadError.TheVariants as read
 use Rattle.svn_dump.specs.declared.refusal.Refusal.{Refusal}
@@ -19,7 +19,7 @@ pub record AreHeaderLines (bytes : List ℕ) : Type 0 where
   pub once : AreOnce lines
   pub whole : bytes ≡ flat_map line_text lines
 
--- the same, and the front of one more line
+-- the bytes are header lines, each listed name once, and the front of one more line
 pub record IsHeaderFront (bytes : List ℕ) : Type 0 where
   pub lines : List (List ℕ)
   pub last : List ℕ
@@ -44,7 +44,7 @@ pub record IsPartialHeader (bytes : List ℕ) (start : ℕ) (names : List (Optio
 abbrev pub IsDecidedFront : List ℕ → Refusal → Type 0
 IsDecidedFront bytes refusal = (more : List ℕ) → first_holding (front_refusals (bytes ++ more)) ≡ Some refusal
 
--- the same of an error, which may be want of memory
+-- the error is how every block that begins with these bytes is refused, or want of memory
 abbrev pub IsDecidedFrontError : List ℕ → ReadError → Type 0
 IsDecidedFrontError bytes (read.Refused refusal) = IsDecidedFront bytes refusal
 IsDecidedFrontError bytes read.Memory = Unit {0}

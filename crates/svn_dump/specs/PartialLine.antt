@@ -6,12 +6,12 @@ use Rattle.svn_dump.specs.DumpText.{first_line}
 use Rattle.svn_dump.specs.FirstRefusal.{line_refusals, magic}
 use Rattle.svn_dump.specs.Format.{format_of_version, version}
 use Rattle.svn_dump.specs.Refusal.{first_holding}
-use Rattle.svn_dump.specs.declared.format.Format.{Format}
+use Rattle.svn_dump.specs.declared.grammar.format.Format.{Format}
 use Rattle.svn_dump.specs.declared.refusal.Refusal.{Refusal}
-use Rattle.svn_dump.specs.declared.partial_line.LineAfter.{LineAfter}
-use Rattle.svn_dump.specs.declared.partial_line.LineAfter.TheVariants as after
-use Rattle.svn_dump.specs.declared.partial_line.PartialLine.{PartialLine}
-use Rattle.svn_dump.specs.declared.partial_line.PartialLine.TheVariants as line
+use Rattle.svn_dump.specs.declared.pieces.partial_line.LineAfter.{LineAfter}
+use Rattle.svn_dump.specs.declared.pieces.partial_line.LineAfter.TheVariants as after
+use Rattle.svn_dump.specs.declared.pieces.partial_line.PartialLine.{PartialLine}
+use Rattle.svn_dump.specs.declared.pieces.partial_line.PartialLine.TheVariants as line
 
 -- the bytes are so much of the line before its value
 pub record IsFrontOfLine (count : ℕ) (bytes : List ℕ) : Type 0 where

@@ -1,7 +1,7 @@
 -- The property section of a node (Subversion's dump format notes, `notes/dump-load-format.txt`, "property sections"):
 -- entries and an end. An entry is a name and a value, with their lengths before them. In version 3 a section under
--- `Prop-delta: true` is a delta: it holds changes to the node's properties, and may have entries of deleted ones too,
--- which are a name with its length. Any other section is the whole list of properties.
+-- `Prop-delta: true` holds changes to the node's properties, and may have entries of deleted ones too, which are a name
+-- with its length. Any other section is the whole list of properties.
 use Rattle.std.specs.Prelude.{◌≡◌, ◌≢◌, ◌↔◌, ℕ, zero, suc, ◌+◌, ◌==◌, nat_eq, nat_lt, Bool, IsTrue, ◌&&◌, List, [], ◌∷◌, ◌++◌, Option, Some, None, codes, bytes_eq, drop, fold, length, option_map, option_and_then, slice_index, take, if◌then◌else◌}
 use Rattle.std.specs.List.{after_first, before_first, list_any, starts_with}
 use Rattle.std.specs.Option.{option_or}
@@ -10,7 +10,7 @@ use Rattle.svn_dump.specs.History.{Setting, keep, put}
 use Rattle.svn_text.specs.Number.{number_of}
 
 -- an entry: a property and its value, or one that is deleted
-pub record Property : Type 0 where
+pub record SectionEntry : Type 0 where
   pub name : List ℕ
   pub value : Option (List ℕ)
 
@@ -25,16 +25,16 @@ IsPiece letter text bytes =
     (digits : List ℕ) × (number_of digits ≡ Some (length text)) × (bytes ≡ letter ∷ 32 ∷ (digits ++ 10 ∷ (text ++ 10 ∷ [])))
 
 -- the bytes are the entry of that name: `K` and `V`, or `D`, which only changes have
-abbrev pub IsEntry : Bool → List ℕ → Option (List ℕ) → List ℕ → Type 0
-IsEntry is_delta name (Some value) bytes =
+abbrev pub IsSectionEntry : Bool → List ℕ → Option (List ℕ) → List ℕ → Type 0
+IsSectionEntry has_changes name (Some value) bytes =
     (first second : List ℕ) × IsPiece 75 name first × IsPiece 86 value second × (bytes ≡ first ++ second)
-IsEntry is_delta name None bytes = IsTrue is_delta × IsPiece 68 name bytes
+IsSectionEntry has_changes name None bytes = IsTrue has_changes × IsPiece 68 name bytes
 
 -- the bytes are a section of these entries, which are changes or a whole list
-abbrev pub IsSection : Bool → List ℕ → List Property → Type 0
-IsSection is_delta bytes [] = bytes ≡ section_end
-IsSection is_delta bytes (property ∷ properties) =
-    (entry rest : List ℕ) × IsEntry is_delta property.name property.value entry × (bytes ≡ entry ++ rest) × IsSection is_delta rest properties
+abbrev pub IsSection : Bool → List ℕ → List SectionEntry → Type 0
+IsSection has_changes bytes [] = bytes ≡ section_end
+IsSection has_changes bytes (entry ∷ entries) =
+    (front rest : List ℕ) × IsSectionEntry has_changes entry.name entry.value front × (bytes ≡ front ++ rest) × IsSection has_changes rest entries
 
 -- ---- its reading
 
@@ -55,63 +55,63 @@ piece_of letter bytes =
     else None
 
 -- the property at the front, and what follows it
-abbrev pub valued_entry_of : List ℕ → Option (Property × List ℕ)
+abbrev pub valued_entry_of : List ℕ → Option (SectionEntry × List ℕ)
 valued_entry_of bytes =
     option_and_then
     (λ name. option_map (λ value. (record { name = name.0; value = Some value.0 }, value.1)) (piece_of 86 name.1))
     (piece_of 75 bytes)
 
--- the same of a deleted one
-abbrev pub deleted_entry_of : List ℕ → Option (Property × List ℕ)
+-- the deleted property at the front, and what follows it
+abbrev pub deleted_entry_of : List ℕ → Option (SectionEntry × List ℕ)
 deleted_entry_of bytes = option_map (λ name. (record { name = name.0; value = None }, name.1)) (piece_of 68 bytes)
 
 -- the entry at the front, and what follows it
-unfoldable pub entry_of : Bool → List ℕ → Option (Property × List ℕ)
-entry_of is_delta bytes = option_or (valued_entry_of bytes) (if is_delta then deleted_entry_of bytes else None)
+unfoldable pub entry_of : Bool → List ℕ → Option (SectionEntry × List ℕ)
+entry_of has_changes bytes = option_or (valued_entry_of bytes) (if has_changes then deleted_entry_of bytes else None)
 
 -- the entries, of which there are fewer than this
-unfoldable pub section_up_to : Bool → ℕ → List ℕ → Option (List Property)
-section_up_to is_delta zero bytes = None
-section_up_to is_delta (suc most) bytes =
+unfoldable pub section_up_to : Bool → ℕ → List ℕ → Option (List SectionEntry)
+section_up_to has_changes zero bytes = None
+section_up_to has_changes (suc most) bytes =
     if bytes_eq bytes section_end then Some []
     else option_and_then
-    (λ entry. option_map (λ properties. entry.0 ∷ properties) (section_up_to is_delta most entry.1))
-    (entry_of is_delta bytes)
+    (λ entry. option_map (λ entries. entry.0 ∷ entries) (section_up_to has_changes most entry.1))
+    (entry_of has_changes bytes)
 
 -- each entry takes bytes, so there are fewer than bytes
-abbrev pub section_of : Bool → List ℕ → Option (List Property)
-section_of is_delta bytes = section_up_to is_delta (length bytes) bytes
+abbrev pub section_of : Bool → List ℕ → Option (List SectionEntry)
+section_of has_changes bytes = section_up_to has_changes (length bytes) bytes
 
 -- a property section is read as its form says, both ways
 abbrev pub SectionsAreExact : Type 0
 SectionsAreExact =
-    (is_delta : Bool) (section : List ℕ) (properties : List Property) →
-    (section_of is_delta section ≡ Some properties) ↔ IsSection is_delta section properties
+    (has_changes : Bool) (section : List ℕ) (entries : List SectionEntry) →
+    (section_of has_changes section ≡ Some entries) ↔ IsSection has_changes section entries
 
 -- ---- mergeinfo
 
 -- what the last entry of that name says, if there is one: the property's value, or that it is deleted
-abbrev pub last_value : List ℕ → List Property → Option (Option (List ℕ))
-last_value name properties = fold (λ found each. if bytes_eq each.name name then Some each.value else found) None properties
+abbrev pub last_value : List ℕ → List SectionEntry → Option (Option (List ℕ))
+last_value name entries = fold (λ found each. if bytes_eq each.name name then Some each.value else found) None entries
 
 abbrev pub mergeinfo_name : List ℕ
 mergeinfo_name = codes "svn:mergeinfo"
 
 -- what a section says that doesn't name the mergeinfo: changes keep it, and a whole list has none
 abbrev pub setting_unnamed : Bool → Setting (List ℕ)
-setting_unnamed is_delta = if is_delta then keep else put None
+setting_unnamed has_changes = if has_changes then keep else put None
 
 -- given what the last entry of the mergeinfo says
 abbrev pub setting_by_value : Bool → Option (Option (List ℕ)) → Setting (List ℕ)
-setting_by_value is_delta None = setting_unnamed is_delta
-setting_by_value is_delta (Some value) = put value
+setting_by_value has_changes None = setting_unnamed has_changes
+setting_by_value has_changes (Some value) = put value
 
 -- what a section says of the mergeinfo
-abbrev pub setting_by : Bool → List Property → Setting (List ℕ)
-setting_by is_delta properties = setting_by_value is_delta (last_value mergeinfo_name properties)
+abbrev pub setting_by : Bool → List SectionEntry → Setting (List ℕ)
+setting_by has_changes entries = setting_by_value has_changes (last_value mergeinfo_name entries)
 
 -- what a node's body says of its mergeinfo, given the length of its property section: that it stays where there is none
 abbrev pub setting_of : Bool → Option ℕ → List ℕ → Option (Setting (List ℕ))
-setting_of is_delta None body = None
-setting_of is_delta (Some zero) body = Some keep
-setting_of is_delta (Some (suc n)) body = option_map (setting_by is_delta) (section_of is_delta (take (suc n) body))
+setting_of has_changes None body = None
+setting_of has_changes (Some zero) body = Some keep
+setting_of has_changes (Some (suc n)) body = option_map (setting_by has_changes) (section_of has_changes (take (suc n) body))

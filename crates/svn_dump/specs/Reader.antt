@@ -15,12 +15,12 @@ use Rattle.svn_dump.specs.PartialBody.{IsPartialBody}
 use Rattle.svn_dump.specs.PartialHeader.{AreHeaderLines, IsHeaderFront, is_node}
 use Rattle.svn_dump.specs.PartialLine.{IsPartialLine}
 use Rattle.svn_dump.specs.Record.{history_of}
-use Rattle.svn_dump.specs.declared.format.Format.{Format}
-use Rattle.svn_dump.specs.declared.partial_body.PartialBody.{PartialBody}
-use Rattle.svn_dump.specs.declared.partial_line.PartialLine.{PartialLine}
-use Rattle.svn_dump.specs.declared.reader.Part.{Part}
-use Rattle.svn_dump.specs.declared.reader.Part.TheVariants as part
-use Rattle.svn_dump.specs.declared.reader.Reader.{Reader}
+use Rattle.svn_dump.specs.declared.grammar.format.Format.{Format}
+use Rattle.svn_dump.specs.declared.pieces.partial_body.PartialBody.{PartialBody}
+use Rattle.svn_dump.specs.declared.pieces.partial_line.PartialLine.{PartialLine}
+use Rattle.svn_dump.specs.declared.pieces.reader.Progress.{Progress}
+use Rattle.svn_dump.specs.declared.pieces.reader.Progress.TheVariants as progress
+use Rattle.svn_dump.specs.declared.pieces.reader.Reader.{Reader}
 
 -- the bytes are the first line of a format and whole blocks, with empty lines beside them, which tell the history of
 -- this dump
@@ -71,15 +71,15 @@ pub record IsInBody (reader : Reader) (header : List ℕ) (body : PartialBody) (
   pub some : BeginsBlock header
   pub so_far : IsBodyTo header body come
 
-abbrev pub IsIn : Part → Reader → List ℕ → Type 0
-IsIn (part.Line line) reader bytes = IsInLine reader line bytes
-IsIn part.Blocks reader bytes = IsReadAs reader.format bytes reader.draft
-IsIn (part.Header header) reader bytes = IsInHeader reader header bytes
-IsIn (part.Body header body) reader bytes = IsInBody reader header body bytes × (0 < body.left)
+abbrev pub IsIn : Progress → Reader → List ℕ → Type 0
+IsIn (progress.Line line) reader bytes = IsInLine reader line bytes
+IsIn progress.Blocks reader bytes = IsReadAs reader.format bytes reader.draft
+IsIn (progress.Header header) reader bytes = IsInHeader reader header bytes
+IsIn (progress.Body header body) reader bytes = IsInBody reader header body bytes × (0 < body.left)
 
 -- the reader has read these bytes
 abbrev pub HasReadAll : Reader → List ℕ → Type 0
-HasReadAll reader bytes = IsIn reader.part reader bytes
+HasReadAll reader bytes = IsIn reader.progress reader bytes
 
 -- a piece that follows these bytes ends in a part of the dump, or in one that ends before the rest
 abbrev pub ReadsPart : Reader → List ℕ → List ℕ → Option (Bor (List ℕ)) → Type 0
@@ -97,7 +97,7 @@ ReadsAfter before new piece left = (bytes : List ℕ) → before bytes → Reads
 abbrev pub RefusesAfter : (List ℕ → Type 0) → Reader → List ℕ → ReadError → Type 0
 RefusesAfter before new piece e = (bytes : List ℕ) → before bytes → IsDecidedError (bytes ++ piece) (dump_error_at new.at e)
 
--- the same of a piece that ends at this offset
+-- a piece that ends at this offset is read, or decides this error
 abbrev pub ReadsUpTo : Reader → Reader → ℕ → List ℕ → Type 0
 ReadsUpTo old new end piece = (bytes : List ℕ) → HasReadAll old bytes → end ≡ length (bytes ++ piece) → HasReadAll new (bytes ++ piece)
 

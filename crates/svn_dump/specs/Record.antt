@@ -5,11 +5,11 @@ use Rattle.std.specs.List.{list_all, list_any}
 use Rattle.svn_path.specs.Components.{parts_of, is_dot}
 use Rattle.svn_dump.specs.Block.{Block, field, properties_length}
 use Rattle.svn_dump.specs.History.{Setting, Action, delete, change, add, copy, Record, History}
-use Rattle.svn_dump.specs.Node.{BlockSort, Node, NodeAction, action_named, node_add, node_change, node_copy, node_delete, is_change, node_block, other_block, revision_block, sort_by_fields, uuid_block}
+use Rattle.svn_dump.specs.Node.{BlockContent, Node, NodeAction, action_named, node_add, node_change, node_copy, node_delete, is_change, node_block, other_block, revision_block, content_by_fields, uuid_block}
 use Rattle.svn_text.specs.Number.{number_of}
 use Rattle.svn_dump.specs.Property.{setting_of}
-use Rattle.svn_dump.specs.declared.format.Format.{Format}
-use Rattle.svn_dump.specs.declared.format.Format.TheVariants.{Two, Three}
+use Rattle.svn_dump.specs.declared.grammar.format.Format.{Format}
+use Rattle.svn_dump.specs.declared.grammar.format.Format.TheVariants.{Two, Three}
 
 -- components and mergeinfo texts as bytes
 abbrev pub RecordOfBytes : Type 0
@@ -45,11 +45,11 @@ paths_read path (node_add replace kind) = path ∷ []
 paths_read path (node_copy replace from_rev from) = path ∷ from ∷ []
 
 -- a copy from the block's own revision, or a later one
-abbrev pub is_late : ℕ → NodeAction → Bool
-is_late rev node_delete = false
-is_late rev node_change = false
-is_late rev (node_add replace kind) = false
-is_late rev (node_copy replace from_rev from) = nat_le rev from_rev
+abbrev pub has_late_source : ℕ → NodeAction → Bool
+has_late_source rev node_delete = false
+has_late_source rev node_change = false
+has_late_source rev (node_add replace kind) = false
+has_late_source rev (node_copy replace from_rev from) = nat_le rev from_rev
 
 -- the root can only be changed
 abbrev pub is_root_action : List ℕ → NodeAction → Bool
@@ -60,7 +60,7 @@ is_root_action path action = is_root path && not (is_change action)
 abbrev pub is_allowed : ℕ → List ℕ → Bool → NodeAction → Bool
 is_allowed rev path is_delta action =
     list_all (λ each. not (has_dot each) && not (is_long each)) (paths_read path action)
-    && not is_delta && not (is_late rev action) && not (is_root_action path action) && nat_lt 0 rev
+    && not is_delta && not (has_late_source rev action) && not (is_root_action path action) && nat_lt 0 rev
 
 -- ---- the record of a node block
 
@@ -112,9 +112,9 @@ node_of_block format block path = record {
   setting = setting_of (has_changes format block.lines) (properties_length block.lines) block.body;
 }
 
-unfoldable pub sort_of : Format → Block → BlockSort
-sort_of format block =
-    sort_by_fields (field (codes "Revision-number") block.lines) (option_map (node_of_block format block) (field (codes "Node-path") block.lines))
+unfoldable pub content_of : Format → Block → BlockContent
+content_of format block =
+    content_by_fields (field (codes "Revision-number") block.lines) (option_map (node_of_block format block) (field (codes "Node-path") block.lines))
     (field (codes "UUID") block.lines)
 
 -- ---- the history
@@ -131,14 +131,14 @@ with_numbered history number =
     option_and_then (λ value. if value == length history then Some (history ++ [] ∷ []) else None) (number_of number)
 
 -- what a block adds: a revision, or a record of the revision before it; the repository's UUID adds nothing
-unfoldable pub with_sort : HistoryOfBytes → BlockSort → Option HistoryOfBytes
-with_sort history (revision_block number) = with_numbered history number
-with_sort history (node_block node) = option_map (with_record history) (record_of (pred (length history)) node)
-with_sort history uuid_block = Some history
-with_sort history other_block = None
+unfoldable pub with_content : HistoryOfBytes → BlockContent → Option HistoryOfBytes
+with_content history (revision_block number) = with_numbered history number
+with_content history (node_block node) = option_map (with_record history) (record_of (pred (length history)) node)
+with_content history uuid_block = Some history
+with_content history other_block = None
 
 abbrev pub with_block : Format → HistoryOfBytes → Block → Option HistoryOfBytes
-with_block format history block = with_sort history (sort_of format block)
+with_block format history block = with_content history (content_of format block)
 
 -- the history that these blocks tell, one after another
 abbrev pub history_of : Format → List Block → Option HistoryOfBytes

@@ -3,8 +3,8 @@
 use Rattle.std.specs.Prelude.{ℕ, pred, ◌==◌, nat_lt, Bool, true, false, not, ◌||◌, List, [], ◌∷◌, ◌++◌, Option, Some, None, codes, is_none, length, slice_index_or, if◌then◌else◌}
 use Rattle.std.specs.List.{list_any}
 use Rattle.svn_dump.specs.DumpText.{all_records, most_numbered, names_of, values_of}
-use Rattle.svn_dump.specs.Node.{BlockSort, Node, NodeAction, node_block, other_block, revision_block, uuid_block}
-use Rattle.svn_dump.specs.Record.{HistoryOfBytes, has_dot, is_late, is_long, is_root_action, paths_read, with_sort}
+use Rattle.svn_dump.specs.Node.{BlockContent, Node, NodeAction, node_block, other_block, revision_block, uuid_block}
+use Rattle.svn_dump.specs.Record.{HistoryOfBytes, has_dot, has_late_source, is_long, is_root_action, paths_read, with_content}
 use Rattle.svn_dump.specs.declared.refusal.Refusal.{Refusal}
 use Rattle.svn_dump.specs.declared.refusal.Refusal.TheVariants.{Magic, Version, Header, Length, Truncated, Props, BadRecord, Revision, BadPath, Delta, CopyRevision, RootAction, RevisionZero, TooLarge}
 
@@ -55,7 +55,7 @@ is_large history =
     nat_lt most_numbered (length (names_of history)) || nat_lt most_numbered (length (all_records history))
     || nat_lt most_numbered (length history) || nat_lt most_numbered (length (values_of history))
 
--- the same of what a block makes of a history, if it makes one
+-- what a block makes of a history, if it makes one, is large
 abbrev pub grows_large : Option HistoryOfBytes → Bool
 grows_large None = false
 grows_large (Some history) = is_large history
@@ -65,7 +65,7 @@ abbrev pub action_refusals : ℕ → Node → NodeAction → List Reason
 action_refusals rev node action =
     reason BadPath (list_any has_dot (paths_read node.path action))
     ∷ reason Delta node.is_delta
-    ∷ reason CopyRevision (is_late rev action)
+    ∷ reason CopyRevision (has_late_source rev action)
     ∷ reason RootAction (is_root_action node.path action)
     ∷ reason RevisionZero (not (nat_lt 0 rev))
     ∷ []
@@ -90,12 +90,12 @@ abbrev pub revision_refusals : Option HistoryOfBytes → List Reason
 revision_refusals after = reason Revision (is_none after) ∷ reason TooLarge (grows_large after) ∷ []
 
 -- given what the block makes of the history
-unfoldable pub refusals_by : HistoryOfBytes → Option HistoryOfBytes → BlockSort → List Reason
+unfoldable pub refusals_by : HistoryOfBytes → Option HistoryOfBytes → BlockContent → List Reason
 refusals_by history after (revision_block number) = revision_refusals after
 refusals_by history after (node_block node) = node_refusals (length history) node (grows_large after)
 refusals_by history after uuid_block = []
 refusals_by history after other_block = reason BadRecord true ∷ []
 
 -- against a whole block after a history
-abbrev pub sort_refusals : HistoryOfBytes → BlockSort → List Reason
-sort_refusals history sort = refusals_by history (with_sort history sort) sort
+abbrev pub content_refusals : HistoryOfBytes → BlockContent → List Reason
+content_refusals history content = refusals_by history (with_content history content) content

@@ -5,14 +5,14 @@ ghost use Rattle.svn_path.specs.Names.{IsTable};
 ghost use Rattle.svn_dump.specs.Dump.{IsDump};
 ghost use Rattle.svn_dump.specs.Draft.{dump_of, is_full, IsWholeHistory};
 ghost use Rattle.svn_dump.specs.Node.{node_block, revision_block};
-ghost use Rattle.svn_dump.specs.FrontBlock.{AddsSort, IsSortRefusal};
-ghost use Rattle.svn_dump.specs.HeaderValues.{node_of_front, sort_of_front};
+ghost use Rattle.svn_dump.specs.FrontBlock.{AddsContent, IsContentRefusal};
+ghost use Rattle.svn_dump.specs.HeaderValues.{node_of_front, content_of_front};
 
-use crate::block::BlockFront;
 use crate::dump::Dump;
 use crate::error::DumpError;
-use crate::field::Field;
-use crate::node::record_of;
+use crate::grammar::block::BlockFront;
+use crate::grammar::field::Field;
+use crate::grammar::node::record_of;
 use crate::read_error::ReadError;
 use crate::record::NodeRecord;
 use crate::refusal::Refusal;
@@ -60,9 +60,9 @@ impl Draft {
 
     /// Adds what a block says.
     pub(crate) fn add(&mut self, alloc: Global, found: &BlockFront) -> Result<(), ReadError>
-        ensures added { OnOk result (AddsSort self.old (sort_of_front found.now) self.new) }
+        ensures added { OnOk result (AddsContent self.old (content_of_front found.now) self.new) }
         ensures keeps { OnOk result (IsWholeHistory self.old → IsWholeHistory self.new) }
-        ensures refused { IfErr result (IsSortRefusal self.old (sort_of_front found.now)) }
+        ensures refused { IfErr result (IsContentRefusal self.old (content_of_front found.now)) }
     {
         if let Some(number) = found.headers.get(Field::RevisionNumber) {
             self.add_revision(number)
@@ -77,9 +77,9 @@ impl Draft {
 
     /// Adds a revision, whose number is to be the next.
     fn add_revision(&mut self, number: &[u8]) -> Result<(), ReadError>
-        ensures added { OnOk result (AddsSort self.old (revision_block number.now) self.new) }
+        ensures added { OnOk result (AddsContent self.old (revision_block number.now) self.new) }
         ensures keeps { OnOk result (IsWholeHistory self.old → IsWholeHistory self.new) }
-        ensures refused { IfErr result (IsSortRefusal self.old (revision_block number.now)) }
+        ensures refused { IfErr result (IsContentRefusal self.old (revision_block number.now)) }
     {
         let next = self.counts.len();
         if number_up_to(next as u64, number) != Some(next as u64) {
@@ -99,9 +99,9 @@ impl Draft {
         found: &BlockFront,
         path: &[u8],
     ) -> Result<(), ReadError>
-        ensures added { OnOk result (AddsSort self.old (node_block (node_of_front found.now path.now)) self.new) }
+        ensures added { OnOk result (AddsContent self.old (node_block (node_of_front found.now path.now)) self.new) }
         ensures keeps { OnOk result (IsWholeHistory self.old → IsWholeHistory self.new) }
-        ensures refused { IfErr result (IsSortRefusal self.old (node_block (node_of_front found.now path.now))) }
+        ensures refused { IfErr result (IsContentRefusal self.old (node_block (node_of_front found.now path.now))) }
     {
         let revisions = self.counts.len();
         let record = record_of(

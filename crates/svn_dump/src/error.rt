@@ -1,5 +1,3 @@
-//! Why bytes were not read as a dump.
-
 use std::alloc::{AllocError, AllocFailed};
 use thiserror::Error;
 

@@ -1,4 +1,3 @@
-//! A dump that comes in pieces.
 ghost use Rattle.std.specs.Prelude.{◌≡◌, ◌+◌, ◌<◌, ◌^◌, ◌++◌, ℕ, List, [], None, Some, length, IfErr, IfOk, IfSome, IsErrOf, OnOk};
 ghost use Rattle.svn_dump.specs.Decided.{IsDecidedError, IsUndecided};
 ghost use Rattle.svn_dump.specs.Dump.{history_in_bytes};
@@ -10,7 +9,7 @@ ghost use Rattle.svn_dump.specs.declared.error.DumpError.{DumpError};
 
 use crate::dump::Dump;
 use crate::error::DumpError;
-use crate::reader::Reader;
+use crate::pieces::reader::Reader;
 use std::alloc::Global;
 use std::marker::Model;
 
@@ -25,7 +24,7 @@ pub struct Feed {
     /// How many bytes have come.
     count: u64,
     /// The error that was answered.
-    refusal: Option<DumpError>,
+    error: Option<DumpError>,
 }
 
 impl Model for Feed {
@@ -35,9 +34,9 @@ impl Model for Feed {
 
     ghost Value = { FeedValue };
 
-    ghost view = { λ f. record { reader = f.reader; count = f.count; refusal = f.refusal } };
+    ghost view = { λ f. record { reader = f.reader; count = f.count; error = f.error } };
 
-    ghost invariant = { λ f. MatchOption f.refusal (IsWholeHistory f.reader.draft) (λ _. ⊤) };
+    ghost invariant = { λ f. MatchOption f.error (IsWholeHistory f.reader.draft) (λ _. ⊤) };
 }
 
 impl Feed {
@@ -45,13 +44,13 @@ impl Feed {
     pub fn new(alloc: Global) -> Self
         ensures read { HasRead result [] }
         ensures count { result.count ≡ 0 }
-        ensures refusal { result.refusal ≡ None }
+        ensures error { result.error ≡ None }
         ensures undecided { IsUndecided [] }
     {
         Feed {
             reader: Reader::new(alloc),
             count: 0,
-            refusal: None,
+            error: None,
         }
     }
 
@@ -74,19 +73,19 @@ impl Feed {
             (λ error. (before : List ℕ) → HasRead self.old before → IsDecidedError (before ++ bytes.now) error) }
 
         // An error is answered from then on.
-        ensures ok { OnOk result (self.new.refusal ≡ None) }
-        ensures kept { IfErr result (λ error. self.new.refusal ≡ Some error) }
-        ensures again { IfSome self.old.refusal (λ error. IsErrOf result error) }
+        ensures ok { OnOk result (self.new.error ≡ None) }
+        ensures kept { IfErr result (λ error. self.new.error ≡ Some error) }
+        ensures again { IfSome self.old.error (λ error. IsErrOf result error) }
     {
         self.count += bytes.len() as u64;
-        if let Some(error) = self.refusal {
+        if let Some(error) = self.error {
             return Err(error);
         }
         match self.reader.read(self.count, bytes) {
             Ok(()) => Ok(()),
             Err(error) => {
                 let error = error.at(self.reader.at);
-                self.refusal = Some(error);
+                self.error = Some(error);
                 Err(error)
             }
         }
@@ -106,15 +105,15 @@ impl Feed {
         ensures values { IfOk result (λ dump. (bytes : List ℕ) → HasRead self bytes
             → dump.values ≡ values_of (history_in_bytes dump)) }
         ensures refused { IfErr result (λ error. (bytes : List ℕ) → HasRead self bytes → IsRefusal bytes error) }
-        ensures again { IfSome self.refusal (λ error. IsErrOf result error) }
-        ensures memory { IsErrOf result DumpError.Memory → self.refusal ≡ Some DumpError.Memory }
+        ensures again { IfSome self.error (λ error. IsErrOf result error) }
+        ensures memory { IsErrOf result DumpError.Memory → self.error ≡ Some DumpError.Memory }
     {
         let Feed {
             reader,
             count,
-            refusal,
+            error,
         } = self;
-        match refusal {
+        match error {
             Some(error) => Err(error),
             None => reader.finish(count),
         }

@@ -1,4 +1,3 @@
-//! Why reading stopped.
 ghost use Rattle.std.specs.Prelude.{◌≡◌};
 ghost use Rattle.svn_dump.specs.ReadError.{dump_error_at};
 
@@ -17,7 +16,7 @@ pub(crate) enum ReadError {
 }
 
 impl ReadError {
-    /// The same of a block that begins there.
+    /// The error to report of a block that begins there.
     pub(crate) fn at(self, at: u64) -> DumpError
         ensures { result ≡ dump_error_at at self }
     {

@@ -1,4 +1,3 @@
-//! Why a dump is refused.
 ghost use Rattle.std.specs.Prelude.{◌≡◌};
 ghost use Rattle.svn_dump.specs.Refusal.{number_of_refusal, refusal_name_of};
 

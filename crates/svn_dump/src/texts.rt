@@ -1,4 +1,3 @@
-//! The table of mergeinfo texts.
 ghost use Rattle.std.specs.Prelude.{◌≡◌, ◌<◌, ◌≤◌, [], Some, bytes_eq, length, slice_get, ◌∷◌, IfErr, IfOk, OnErr};
 ghost use Rattle.std.specs.List.{IsDistinct};
 ghost use Rattle.svn_path.specs.Names.{most_names, with_name};

@@ -3,7 +3,7 @@ use Rattle.std.proofs.lemmas.List.{get_or_read}
 use Rattle.std.proofs.lemmas.Result.{err_from_is_err_and}
 use Rattle.svn_dump.specs.Draft.{dump_of}
 use Rattle.svn_dump.specs.Dump.{history_in_bytes}
-use Rattle.svn_dump.specs.Record.{record_of, with_sort}
+use Rattle.svn_dump.specs.Record.{record_of, with_content}
 use Rattle.svn_dump.specs.Refusal.{node_refusals}
 use Rattle.svn_dump.specs.HeaderValues.{node_from_headers}
 use Rattle.svn_dump.specs.NumberedRecord.{IsFirstReason, is_record_large}
@@ -69,7 +69,7 @@ invariant_of-self-3 c =
     rw (c.in_ok-push.ensures.items, counts_are) (IsDraft-with_record inside.names inside.records.items inside.counts.items inside.texts c.self.invariant c.record_of.new.names c.record_of.new.texts _ (pred c.len-revisions.result) c.in_ok-record.record c.in_ok-record.ensures.record last (room_left (dump_of c.record_of.new.names inside.records.items inside.counts.items c.record_of.new.texts) (sym c.is_full.ensures.full ∙ c.if-is_full.false)))
 
 pub returns-clause-added : goal.returns-clause-added
-unfolding with_sort
+unfolding with_content
 returns-clause-added c =
     let inside = c.self.inside in
     let told = c.in_ok-record.ensures.record in

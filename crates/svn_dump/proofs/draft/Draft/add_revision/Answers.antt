@@ -1,7 +1,7 @@
 use Rattle.std.proofs.Common.{◌≡◌, length, sym, ap, ◌∙◌, arith, rules}
 use Rattle.std.specs.Prelude.{Some}
 use Rattle.svn_text.specs.Number.{number_up_to}
-use Rattle.svn_dump.specs.Record.{with_sort}
+use Rattle.svn_dump.specs.Record.{with_content}
 use Rattle.svn_dump.proofs.Drafts.{not_same, IsDraft-with_revision, with_numbered-told, IsWholeHistory-with_revision, refused-number, refused-revision}
 use Rattle.svn_dump.proofs.draft.Draft.add_revision.Goals as goal
 
@@ -11,7 +11,7 @@ invariant_of-self-2 c =
     rw c.in_ok-push.ensures.items (IsDraft-with_revision inside.names inside.records.items inside.counts.items inside.texts c.self.invariant (omega arith))
 
 pub returns-clause-added : goal.returns-clause-added
-unfolding with_sort
+unfolding with_content
 returns-clause-added c =
     let inside = c.self.inside in
     rw (c.in_ok-push.ensures.items, ← c.self.view_is) (with_numbered-told inside.names inside.records.items inside.counts.items inside.texts c.self.invariant c.args.number.now (search rules))

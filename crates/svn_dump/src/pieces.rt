@@ -1,0 +1,6 @@
+//! What is kept of a dump between two pieces.
+
+pub(crate) mod partial_body;
+pub(crate) mod partial_header;
+pub(crate) mod partial_line;
+pub(crate) mod reader;
