@@ -1,4 +1,10 @@
 //! The reader of Subversion dumps, and the definitions of the history of a dump.
+//!
+//! ```
+//! let dump = read(alloc, THREE_NAMES)?;
+//! let names = dump.names();
+//! Ok(names.len() == 3 && names.find(name.as_bytes()) == Some(number))
+//! ```
 #![tactic(auto)]
 
 mod draft;

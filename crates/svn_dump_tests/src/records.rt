@@ -48,13 +48,10 @@ Node-copyfrom-path: /c//b/
 ";
 
 // Whether a name has this number among three names.
-fn is_numbered(names: &Names, name: &str, number: NameId) -> bool {
-    names.len() == 3 && names.find(name.as_bytes()) == Some(number)
-}
-
 fn is_read(alloc: Global, name: &str, number: NameId) -> Result<bool, Fail> {
     let dump = read(alloc, THREE_NAMES)?;
-    Ok(is_numbered(dump.names(), name, number))
+    let names = dump.names();
+    Ok(names.len() == 3 && names.find(name.as_bytes()) == Some(number))
 }
 
 #[test]

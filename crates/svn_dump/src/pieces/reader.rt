@@ -82,7 +82,7 @@ impl Reader {
         Ok(())
     }
 
-    /// Goes on with the part of the dump in progress, and answers what follows it, or `None` where the piece ends in it.
+    /// Goes on with the part in progress, and answers what follows it, or `None` where the piece ends in it.
     fn resume<'p>(&mut self, piece: &'p [u8]) -> Result<Option<&'p [u8]>, ReadError>
         ensures ok { IfOk result (ReadsAfter (HasReadAll self.old) self.new piece.now) }
         ensures within { IfOk result (λ left. IfSome left (λ rest. length rest.now ≤ length piece.now)) }

@@ -5,7 +5,7 @@ use Rattle.svn_dump.specs.Draft.{dump_of}
 use Rattle.svn_dump.specs.Dump.{history_in_bytes}
 use Rattle.svn_dump.specs.Record.{record_of, with_content}
 use Rattle.svn_dump.specs.Refusal.{node_refusals}
-use Rattle.svn_dump.specs.HeaderValues.{node_from_headers}
+use Rattle.svn_dump.specs.HeaderValues.{node_of_front}
 use Rattle.svn_dump.specs.NumberedRecord.{IsFirstReason, is_record_large}
 use Rattle.svn_dump.proofs.Drafts.{room_left, IsDraft-grows, count-le, IsDraft-with_record, with_record-told, IsWholeHistory-with_record, refused-full, refused-record}
 use Rattle.svn_dump.proofs.Grouped.{with_more, set_last_read}
@@ -37,16 +37,16 @@ returns-in_err-record-clause-refused c =
     let (error, errs, same) = err_from_is_err_and c.from_residual.result c.from_residual.ensures.1 in
     let inside = c.self.inside in
     let long : c.len-revisions.result ≡ length inside.counts.items = omega arith in
-    rw (errs, same, ← c.self.view_is) (refused-record inside.names inside.records.items inside.counts.items inside.texts c.self.invariant (node_from_headers c.args.found.now.format c.args.found.now.headers c.args.found.now.properties.now c.args.path.now) c.in_err-record.field-0.0
-    (subst (λ revisions. IsFirstReason (node_refusals revisions (node_from_headers c.args.found.now.format c.args.found.now.headers c.args.found.now.properties.now c.args.path.now) (is_record_large inside.names inside.texts (record_of (pred revisions) (node_from_headers c.args.found.now.format c.args.found.now.headers c.args.found.now.properties.now c.args.path.now)))) c.in_err-record.field-0.0) long c.in_err-record.ensures.refused))
+    rw (errs, same, ← c.self.view_is) (refused-record inside.names inside.records.items inside.counts.items inside.texts c.self.invariant (node_of_front c.args.found.now c.args.path.now) c.in_err-record.field-0.0
+    (subst (λ revisions. IsFirstReason (node_refusals revisions (node_of_front c.args.found.now c.args.path.now) (is_record_large inside.names inside.texts (record_of (pred revisions) (node_of_front c.args.found.now c.args.path.now)))) c.in_err-record.field-0.0) long c.in_err-record.ensures.refused))
 
 pub returns-then-is_full-clause-refused : goal.returns-then-is_full-clause-refused
 returns-then-is_full-clause-refused c =
     let inside = c.self.inside in
     let long : c.len-revisions.result ≡ length inside.counts.items = omega arith in
     rw (← c.self.view_is)
-    (refused-full inside.names inside.records.items inside.counts.items inside.texts c.self.invariant c.record_of.new.names c.record_of.new.texts _ (pred c.len-revisions.result) c.in_ok-record.record c.in_ok-record.ensures.record (ap pred long ∙ sym (sub-one (length inside.counts.items))) (node_from_headers c.args.found.now.format c.args.found.now.headers c.args.found.now.properties.now c.args.path.now)
-    (ap (λ revisions. record_of (pred revisions) (node_from_headers c.args.found.now.format c.args.found.now.headers c.args.found.now.properties.now c.args.path.now)) (long ∙ sym (length-history_in_bytes inside.names inside.records.items inside.counts.items inside.texts))) (sym c.is_full.ensures.full ∙ c.if-is_full.true))
+    (refused-full inside.names inside.records.items inside.counts.items inside.texts c.self.invariant c.record_of.new.names c.record_of.new.texts _ (pred c.len-revisions.result) c.in_ok-record.record c.in_ok-record.ensures.record (ap pred long ∙ sym (sub-one (length inside.counts.items))) (node_of_front c.args.found.now c.args.path.now)
+    (ap (λ revisions. record_of (pred revisions) (node_of_front c.args.found.now c.args.path.now)) (long ∙ sym (length-history_in_bytes inside.names inside.records.items inside.counts.items inside.texts))) (sym c.is_full.ensures.full ∙ c.if-is_full.true))
 
 pub overflow_add-index_mut : goal.overflow_add-index_mut
 overflow_add-index_mut c =
