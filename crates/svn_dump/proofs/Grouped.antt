@@ -98,9 +98,9 @@ set_last (count ∷ more ∷ counts) some =
     let e : length (count ∷ more ∷ counts) - 1 ≡ suc (length (more ∷ counts) - 1) = omega arith in
     ap (λ n. set (count ∷ more ∷ counts) n (get_or (count ∷ more ∷ counts) n 0 + 1)) e ∙ ap (λ rest. count ∷ rest) (set_last (more ∷ counts) (omega arith))
 
--- the same, where the last count was read
-pub set_last_read : (counts : List ℕ) (last count : ℕ) → last ≡ length counts - 1 → 0 < length counts → count ≡ get_or counts last count → set counts last (count + 1) ≡ with_more counts
-set_last_read counts last count is_last some read =
+-- the last count was read, and is one more
+pub set_last_read : (counts : List ℕ) (revisions count : ℕ) → revisions ≡ length counts → 0 < revisions → count ≡ get_or counts (revisions - 1) count → set counts (revisions - 1) (count + 1) ≡ with_more counts
+set_last_read counts revisions count long some read =
     let read_so : count ≡ get_or counts (length counts - 1) 0 =
-    get_or_read counts last count (omega arith) read 0 ∙ ap (λ n. get_or counts n 0) is_last in
-    ap₂ (λ n m. set counts n (m + 1)) is_last read_so ∙ set_last counts some
+    get_or_read counts (revisions - 1) count (omega arith) read 0 ∙ ap (λ n. get_or counts (n - 1) 0) long in
+    ap₂ (λ n m. set counts (n - 1) (m + 1)) long read_so ∙ set_last counts (omega arith)

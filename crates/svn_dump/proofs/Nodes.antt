@@ -60,34 +60,10 @@ module _ (rev : ℕ) (node : Node) (action : NodeAction) where
   abbrev dot : Bool
   dot = list_any has_dot (paths_read node.path action)
 
-  against : (a b c d e : Bool) → dot ≡ a → node.is_delta ≡ b → has_late_source rev action ≡ c → is_root_action node.path action ≡ d → not (nat_lt 0 rev) ≡ e → first_holding (action_judged a b c d e) ≡ first_holding (action_refusals rev node action)
+  pub against : (a b c d e : Bool) → dot ≡ a → node.is_delta ≡ b → has_late_source rev action ≡ c → is_root_action node.path action ≡ d → not (nat_lt 0 rev) ≡ e → first_holding (action_judged a b c d e) ≡ first_holding (action_refusals rev node action)
   against a b c d e h i j k l =
       ap₂ (λ x y. first_holding (action_judged x y c d e)) (sym h) (sym i) ∙ ap₂ (λ x y. first_holding (action_judged dot node.is_delta x y e)) (sym j) (sym k)
       ∙ ap (λ x. first_holding (action_judged dot node.is_delta (has_late_source rev action) (is_root_action node.path action) x)) (sym l)
-
-  pub against_dot : dot ≡ true → Some BadPath ≡ first_holding (action_refusals rev node action)
-  unfolding first_holding
-  against_dot h = against true _ _ _ _ h refl refl refl refl
-
-  pub against_delta : dot ≡ false → node.is_delta ≡ true → Some Delta ≡ first_holding (action_refusals rev node action)
-  unfolding first_holding
-  against_delta h i = against false true _ _ _ h i refl refl refl
-
-  pub against_late : dot ≡ false → node.is_delta ≡ false → has_late_source rev action ≡ true → Some CopyRevision ≡ first_holding (action_refusals rev node action)
-  unfolding first_holding
-  against_late h i j = against false false true _ _ h i j refl refl
-
-  pub against_root : dot ≡ false → node.is_delta ≡ false → has_late_source rev action ≡ false → is_root_action node.path action ≡ true → Some RootAction ≡ first_holding (action_refusals rev node action)
-  unfolding first_holding
-  against_root h i j k = against false false false true _ h i j k refl
-
-  pub against_zero : dot ≡ false → node.is_delta ≡ false → has_late_source rev action ≡ false → is_root_action node.path action ≡ false → rev ≡ 0 → Some RevisionZero ≡ first_holding (action_refusals rev node action)
-  unfolding first_holding
-  against_zero h i j k l = against false false false false true h i j k (ap (λ n. not (nat_lt 0 n)) l)
-
-  pub against_nothing : dot ≡ false → node.is_delta ≡ false → has_late_source rev action ≡ false → is_root_action node.path action ≡ false → 0 < rev → None ≡ first_holding (action_refusals rev node action)
-  unfolding first_holding
-  against_nothing h i j k l = against false false false false false h i j k (ap not (lt-ltb 0 rev l))
 
 -- ---- paths
 

@@ -6,7 +6,7 @@ use sample_dumps::{DELETE_AND_COPY, DUMPED, FIRST, MERGED, joined};
 use std::alloc::Global;
 use std::test::Fail;
 use svn_dump::read;
-use svn_path::{NameId, Names};
+use svn_path::NameId;
 
 // `check_blocks` compares what `dup` gives with the same text, so here is a record of each kind.
 const RECORDS: &str = "

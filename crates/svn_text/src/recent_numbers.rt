@@ -3,8 +3,9 @@ use std::alloc::{AllocError, Global};
 // How many places there are at least, once there are any: a power of two.
 const FEWEST: usize = 64;
 
-/// For some hashes the number that was put last. Asked before a map, it finds most numbers in a fraction of the time that
-/// the map takes. Nothing is promised of what it answers, so whoever asks checks the number, and only time depends on it.
+/// For some hashes the number that was put last. Asked before a map, it finds most numbers in a fraction of the time
+/// that the map takes. Nothing is promised of what it answers, so whoever asks checks the number, and only time depends
+/// on it.
 #[derive(Drop)]
 pub struct RecentNumbers {
     // None, or a power of two.

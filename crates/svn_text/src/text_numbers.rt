@@ -4,8 +4,8 @@ ghost use Rattle.svn_text.specs.TextTable.{hash_of, first_of, other_of, IsFoundA
 use std::alloc::{AllocError, Global};
 use std::collections::BTreeMap;
 
-/// Numbers of texts. The first text of each hash stands by the hash alone, so that most look-ups compare numbers. A text
-/// whose hash an earlier one has stands by its bytes. Unless somebody chose the texts, few stand so.
+/// Numbers of texts. The first text of each hash stands by the hash alone, so that most look-ups compare numbers. A
+/// text whose hash an earlier one has stands by its bytes. Unless somebody chose the texts, few stand so.
 #[derive(Drop)]
 pub(crate) struct TextNumbers {
     firsts: BTreeMap<u64, u32>,

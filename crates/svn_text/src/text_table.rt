@@ -19,8 +19,9 @@ pub enum TextTableError {
     Memory,
 }
 
-/// Distinct texts, numbered from 0 in the order in which they came, and seen as the list of their bytes. A look-up takes steps that grow at most as the logarithm of their
-/// number, also where texts are chosen to have one hash: the hash has no seed, so whoever writes a dump can choose them.
+/// Distinct texts, numbered from 0 in the order in which they came, and seen as the list of their bytes. A look-up
+/// takes steps that grow at most as the logarithm of their number, also where texts are chosen to have one hash: the
+/// hash has no seed, so whoever writes a dump can choose them.
 #[derive(Drop)]
 pub struct TextTable {
     texts: Vec<Vec<u8>>,
@@ -157,8 +158,8 @@ impl TextTable {
         }
     }
 
-    /// A number, if it is that of a text. The maps may have the number of a text that the table doesn't have, for want of
-    /// memory, so each number that they find is asked for.
+    /// A number, if it is that of a text. The maps may have the number of a text that the table doesn't have, for want
+    /// of memory, so each number that they find is asked for.
     fn if_of(&self, number: Option<u32>, text: &[u8]) -> Option<u32>
         ensures number { IfSome result (λ number. slice_get self.now number ≡ Some text.now) }
         ensures found { IfSome number (λ number. slice_get self.now number ≡ Some text.now → IsSome result) }

@@ -79,7 +79,8 @@ fn split_entry(has_changes: bool, bytes: &[u8]) -> Option<(SectionEntry<'_>, &[u
 
 /// What a section of changes or of the whole list says of the mergeinfo, and `None` if the bytes are no section.
 pub(crate) fn mergeinfo_of(has_changes: bool, section: &[u8]) -> Option<MiText<'_>>
-    ensures { option_map mi_text_view result ≡ option_map (setting_by has_changes) (section_of has_changes section.now) }
+    ensures { option_map mi_text_view result
+        ≡ option_map (setting_by has_changes) (section_of has_changes section.now) }
 {
     let mut found = MiText::unnamed(has_changes);
     let mut rest = section;

@@ -63,9 +63,8 @@ invariant_of-self-3 c =
     let told = c.in_ok-record.ensures.record in
     let long : c.len-revisions.result ≡ length inside.counts.items = omega arith in
     let last : pred c.len-revisions.result ≡ length inside.counts.items - 1 = ap pred long ∙ sym (sub-one (length inside.counts.items)) in
-    let counts_are : set inside.counts.items (c.len-revisions.result - 1) (c.index_mut.result.now + 1) ≡ with_more inside.counts.items =
-    set_last_read inside.counts.items (c.len-revisions.result - 1) c.index_mut.result.now (ap (λ n. n - 1) long)
-    (omega (arith, long, told.of_table.above_zero, told.revision, sub-one c.len-revisions.result)) c.index_mut.ensures.value in
+    let some : 0 < c.len-revisions.result = omega (arith, told.of_table.above_zero, told.revision) in
+    let counts_are = set_last_read inside.counts.items c.len-revisions.result c.index_mut.result.now long some c.index_mut.ensures.value in
     rw (c.in_ok-push.ensures.items, counts_are) (IsDraft-with_record inside.names inside.records.items inside.counts.items inside.texts c.self.invariant c.record_of.new.names c.record_of.new.texts _ (pred c.len-revisions.result) c.in_ok-record.record c.in_ok-record.ensures.record last (room_left (dump_of c.record_of.new.names inside.records.items inside.counts.items c.record_of.new.texts) (sym c.is_full.ensures.full ∙ c.if-is_full.false)))
 
 pub returns-clause-added : goal.returns-clause-added
@@ -75,9 +74,8 @@ returns-clause-added c =
     let told = c.in_ok-record.ensures.record in
     let long : c.len-revisions.result ≡ length inside.counts.items = omega arith in
     let last : pred c.len-revisions.result ≡ length inside.counts.items - 1 = ap pred long ∙ sym (sub-one (length inside.counts.items)) in
-    let counts_are : set inside.counts.items (c.len-revisions.result - 1) (c.index_mut.result.now + 1) ≡ with_more inside.counts.items =
-    set_last_read inside.counts.items (c.len-revisions.result - 1) c.index_mut.result.now (ap (λ n. n - 1) long)
-    (omega (arith, long, told.of_table.above_zero, told.revision, sub-one c.len-revisions.result)) c.index_mut.ensures.value in
+    let some : 0 < c.len-revisions.result = omega (arith, told.of_table.above_zero, told.revision) in
+    let counts_are = set_last_read inside.counts.items c.len-revisions.result c.index_mut.result.now long some c.index_mut.ensures.value in
     let revisions : pred (length (history_in_bytes c.args.self.now)) ≡ pred c.len-revisions.result =
     ap (λ dump. pred (length (history_in_bytes dump))) (sym c.self.view_is) ∙ ap pred (length-history_in_bytes inside.names inside.records.items inside.counts.items inside.texts ∙ sym long) in
     rw (revisions, c.in_ok-push.ensures.items, counts_are, ← c.self.view_is) (with_record-told inside.names inside.records.items inside.counts.items inside.texts c.self.invariant c.record_of.new.names c.record_of.new.texts _ (pred c.len-revisions.result) c.in_ok-record.record c.in_ok-record.ensures.record last)
@@ -88,9 +86,8 @@ returns-clause-keeps c =
     let told = c.in_ok-record.ensures.record in
     let long : c.len-revisions.result ≡ length inside.counts.items = omega arith in
     let last : pred c.len-revisions.result ≡ length inside.counts.items - 1 = ap pred long ∙ sym (sub-one (length inside.counts.items)) in
-    let counts_are : set inside.counts.items (c.len-revisions.result - 1) (c.index_mut.result.now + 1) ≡ with_more inside.counts.items =
-    set_last_read inside.counts.items (c.len-revisions.result - 1) c.index_mut.result.now (ap (λ n. n - 1) long)
-    (omega (arith, long, told.of_table.above_zero, told.revision, sub-one c.len-revisions.result)) c.index_mut.ensures.value in
+    let some : 0 < c.len-revisions.result = omega (arith, told.of_table.above_zero, told.revision) in
+    let counts_are = set_last_read inside.counts.items c.len-revisions.result c.index_mut.result.now long some c.index_mut.ensures.value in
     let room = sym c.is_full.ensures.full ∙ c.if-is_full.false in
     rw (c.in_ok-push.ensures.items, counts_are, ← c.self.view_is)
     (IsWholeHistory-with_record inside.names inside.records.items inside.counts.items inside.texts c.self.invariant c.record_of.new.names c.record_of.new.texts _ (pred c.len-revisions.result) c.in_ok-record.record c.in_ok-record.ensures.record last room (c.is_full.ensures.names c.if-is_full.false) (c.is_full.ensures.texts c.if-is_full.false))
