@@ -22,8 +22,8 @@ use Rattle.svn_dump.specs.declared.refusal.Refusal.TheVariants.{Header, Length, 
 use Rattle.svn_dump.proofs.Fronts.{after_lines-lines, has_twice-once, header_lines-empty, header_lines-line, header_lines-lines, header_lines-unfinished, list_any-no_header, once-has_twice}
 
 -- one more header line
-pub with_line : (bytes line more rest : List ℕ) (old new : List (Option (List ℕ))) → IsHeader line → rest ≡ line ++ 10 ∷ more → ((lines : List (List ℕ)) → AreHeaders old lines → AreHeaders new (lines ++ line ∷ [])) → BeginsWithLines bytes old rest → BeginsWithLines bytes new more
-with_line bytes line more rest old new header cut added before = record {
+pub BeginsWithLines-push : (bytes line more rest : List ℕ) (old new : List (Option (List ℕ))) → IsHeader line → rest ≡ line ++ 10 ∷ more → ((lines : List (List ℕ)) → AreHeaders old lines → AreHeaders new (lines ++ line ∷ [])) → BeginsWithLines bytes old rest → BeginsWithLines bytes new more
+BeginsWithLines-push bytes line more rest old new header cut added before = record {
   lines = before.lines ++ line ∷ [];
   all = All-push IsHeader before.lines line before.all header;
   fields = added before.lines before.fields;
@@ -56,12 +56,12 @@ properties_length-from_headers : (lines : List (List ℕ)) → properties_length
 properties_length-from_headers lines = refl
 
 -- a block, by its lines and the lengths of its body and of its property section
-pub with_body :
+pub BeginsWithBlock-body :
     (bytes : List ℕ) (values : List (Option (List ℕ))) (rest : List ℕ) (section whole : ℕ) →
     IsFalse (begins_with_newline bytes) → BeginsWithLines bytes values (10 ∷ rest) →
     body_length_from_headers values ≡ Some whole → length_or_zero (field_value values PropertiesLength) ≡ Some section → section ≤ whole → whole ≤ length rest →
     BeginsWithBlock bytes values (take section (take whole rest)) (drop whole rest)
-with_body bytes values rest section n other found said in_front inside within = record {
+BeginsWithBlock-body bytes values rest section n other found said in_front inside within = record {
   block = record { lines = found.lines; body = take n rest };
   is_block = record {
     some_line = some_lines bytes rest found.lines found.whole other;

@@ -62,10 +62,10 @@ abbrev pub IsBlockRefusalFrom : Format → HistoryOfBytes → List ℕ → ReadE
 IsBlockRefusalFrom format history bytes (read.Refused refusal) = (more : List ℕ) → block_refusal format history (bytes ++ more) ≡ Some refusal
 IsBlockRefusalFrom format history bytes read.Memory = Unit {0}
 
--- the history of a dump that is being read gets a block of that content
+-- the history of a dump that is being read gets a block with that content
 abbrev pub AddsContent : DumpValue → BlockContent → DumpValue → Type 0
 AddsContent old content new = with_content (history_in_bytes old) content ≡ Some (history_in_bytes new)
 
--- the error is the first reason against a block of that content, or want of memory
+-- the error is the first reason against a block with that content, or want of memory
 abbrev pub IsContentRefusal : DumpValue → BlockContent → ReadError → Type 0
 IsContentRefusal old content error = IsWholeHistory old → IsFirstReason (content_refusals (history_in_bytes old) content) error

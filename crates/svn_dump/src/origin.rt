@@ -1,5 +1,3 @@
-//! Where a path came from.
-
 use svn_path::Path;
 
 /// A path of an earlier revision, from which another path came.

@@ -1,4 +1,4 @@
-//! What is kept of a dump between two pieces.
+//! The reader of a dump that comes in pieces.
 
 pub(crate) mod partial_body;
 pub(crate) mod partial_header;

@@ -10,7 +10,7 @@ use crate::read_error::ReadError;
 use crate::record::Mi;
 use crate::texts::Texts;
 
-/// What a node block says of the mergeinfo of its path, lent by the dump.
+/// What a node block says of the mergeinfo of its path: an `Mi` by its text, which the dump lends.
 #[derive(Clone, Copy)]
 pub(crate) enum MiText<'a> {
     Keep,
@@ -40,7 +40,7 @@ impl<'a> MiText<'a> {
         }
     }
 
-    /// What is said by the number of the text, which the table takes where it is new.
+    /// What it says, with the number of the text, which the table takes where it is new.
     pub(crate) fn into_mi(self, texts: &mut Texts) -> Result<Mi, ReadError>
         ensures setting { IfOk result (IsNumberedSetting (mi_text_view self.entry) texts.old texts.new) }
         ensures refused { IfErr result

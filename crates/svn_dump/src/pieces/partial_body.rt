@@ -1,10 +1,10 @@
-//! The body of a block, as far as it has come.
 ghost use Rattle.std.specs.Prelude.{◌≡◌, ◌≤◌, [], drop, take, IfOk, MatchOption};
 ghost use Rattle.svn_dump.specs.PartialBody.{EndsBody, ExtendsBody, IsPartialBody};
 
 use std::alloc::{AllocError, Global};
 
-/// The body of a block, of which nothing is kept but the front of its property section, where this is read.
+/// What has come of the body of a block. Nothing of it is kept but the front of its property section, where this is
+/// read.
 #[derive(Drop)]
 pub(crate) struct PartialBody {
     /// What has come of the section.

@@ -1,5 +1,5 @@
 use Rattle.std.proofs.Common.{◌++◌, ◌∷◌, sym}
-use Rattle.svn_dump.proofs.Blocks.{BeginsWithLines-append, refused-length, with_body}
+use Rattle.svn_dump.proofs.Blocks.{BeginsWithLines-append, refused-length, BeginsWithBlock-body}
 use Rattle.svn_dump.proofs.Fronts.{header_lines-empty}
 use Rattle.svn_dump.proofs.grammar.block.first_block.Goals as goal
 
@@ -14,5 +14,5 @@ pub returns-clause-found : goal.returns-clause-found
 returns-clause-found c =
     let said = c.in-Some-lengths_of.ensures in
     rw (c.split_at-2.ensures.front, c.split_at.ensures.front, c.split_at.ensures.back)
-    (with_body c.args.bytes.now c.in_ok-headers.headers c.in-Some.rest.now c.in-Some-lengths_of.section c.in-Some-lengths_of.whole
+    (BeginsWithBlock-body c.args.bytes.now c.in_ok-headers.headers c.in-Some.rest.now c.in-Some-lengths_of.section c.in-Some-lengths_of.whole
     c.requires.not_empty_line (rw c.in-Some.is at c.in_ok-headers.ensures.headers) (sym said.whole) said.section said.within c.if-whole-rest.false)

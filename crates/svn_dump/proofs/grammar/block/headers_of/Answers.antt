@@ -1,13 +1,13 @@
 use Rattle.std.proofs.Common.{sym, ap, ◌++◌, ◌∷◌, ◌∙◌, Some, append_assoc}
 use Rattle.std.proofs.lemmas.Result.{err_from_is_err_and}
-use Rattle.svn_dump.proofs.Blocks.{BeginsWithLines-append, not_empty, with_line, refused-no_header, refused-twice}
+use Rattle.svn_dump.proofs.Blocks.{BeginsWithLines-append, not_empty, BeginsWithLines-push, refused-no_header, refused-twice}
 use Rattle.svn_dump.proofs.grammar.block.headers_of.Goals as goal
 
 pub loop-line-preserved : goal.loop-line-preserved
 loop-line-preserved c =
     let line = c.in-Some.line.now in
     let header = c.in-Some-header_of.ensures in
-    with_line c.args.bytes.now line c.in-Some.more.now c.loop-line.rest.now c.loop-line.headers c.add.new.self header.0 c.in-Some.ensures.1
+    BeginsWithLines-push c.args.bytes.now line c.in-Some.more.now c.loop-line.rest.now c.loop-line.headers c.add.new.self header.0 c.in-Some.ensures.1
     (λ lines before. c.in_ok-add.ensures.ok lines line (sym header.1) (sym header.2) before) c.loop-line.invariant
 
 pub returns-in_default-header_of-clause-refused : goal.returns-in_default-header_of-clause-refused
