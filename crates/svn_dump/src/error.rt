@@ -1,3 +1,4 @@
+use crate::refusal::refusal_name;
 use std::alloc::{AllocError, AllocFailed};
 use thiserror::Error;
 
@@ -5,7 +6,7 @@ use thiserror::Error;
 #[derive(Clone, Copy, Debug, PartialEq, Eq, Error)]
 pub enum DumpError {
     /// The number of the refusal, and where the faulty block begins, or the length of an input without a revision.
-    #[error("refusal {number} at byte {at}")]
+    #[error("dump refused: {number} {name} at byte {at}", name = refusal_name(*number))]
     Refused { number: u8, at: u64 },
     #[error("out of memory")]
     Memory,

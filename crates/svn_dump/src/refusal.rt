@@ -30,24 +30,24 @@ impl Refusal {
 }
 
 /// The name of the refusal of this number, or `Unknown`.
-pub fn refusal_name(number: u8) -> &'static [u8]
+pub fn refusal_name(number: u8) -> &'static str
     ensures { result.now ≡ refusal_name_of number }
 {
     match number {
-        1 => b"Magic",
-        2 => b"Version",
-        3 => b"Header",
-        4 => b"Length",
-        5 => b"Truncated",
-        6 => b"Props",
-        7 => b"BadRecord",
-        8 => b"Revision",
-        9 => b"BadPath",
-        10 => b"Delta",
-        11 => b"CopyRevision",
-        12 => b"RootAction",
-        13 => b"RevisionZero",
-        14 => b"TooLarge",
-        _ => b"Unknown",
+        1 => "Magic",
+        2 => "Version",
+        3 => "Header",
+        4 => "Length",
+        5 => "Truncated",
+        6 => "Props",
+        7 => "BadRecord",
+        8 => "Revision",
+        9 => "BadPath",
+        10 => "Delta",
+        11 => "CopyRevision",
+        12 => "RootAction",
+        13 => "RevisionZero",
+        14 => "TooLarge",
+        _ => "Unknown",
     }
 }

@@ -106,20 +106,14 @@ impl RunError {
                 Vec::from_slice(alloc, b"svnhist: more than 1000000 queries\n".as_slice())
             }
             RunError::Dump(DumpError::Refused { number, at }) => {
-                refused_line(
-                    alloc,
-                    *number,
-                    refusal_name(*number),
-                    b"byte".as_slice(),
-                    *at,
-                )
+                refused_line(alloc, *number, refusal_name(*number), "byte", *at)
             }
             RunError::Fault(fault) => {
                 refused_line(
                     alloc,
                     fault.kind.number(),
                     fault.kind.name(),
-                    b"record".as_slice(),
+                    "record",
                     u64::from(fault.number),
                 )
             }
@@ -135,18 +129,18 @@ impl RunError {
 fn refused_line(
     alloc: Global,
     number: u8,
-    name: &[u8],
-    what: &[u8],
+    name: &str,
+    unit: &str,
     place: u64,
 ) -> Result<Vec<u8>, AllocError>
-    ensures { IfOk result (λ line. line.items ≡ refused_text number name.now what.now place) }
+    ensures { IfOk result (λ line. line.items ≡ refused_text number name.now unit.now place) }
 {
     let mut line = Vec::from_slice(alloc, b"svnhist: dump refused: ".as_slice())?;
     push_number(&mut line, u64::from(number))?;
     line.push(b' ')?;
-    line.extend_from_slice(name)?;
+    line.extend_from_slice(name.as_bytes())?;
     line.extend_from_slice(b" at ".as_slice())?;
-    line.extend_from_slice(what)?;
+    line.extend_from_slice(unit.as_bytes())?;
     line.push(b' ')?;
     push_number(&mut line, place)?;
     line.push(b'\n')?;
