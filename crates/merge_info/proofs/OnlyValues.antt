@@ -63,7 +63,7 @@ runs_at-first line lines rising =
 HasSameRevisions-sym : (a b : List Line) → HasSameRevisions a b → HasSameRevisions b a
 HasSameRevisions-sym a b same path n = (sym (same path n).0, sym (same path n).1)
 
--- the same of equal lists
+-- lists that equal two with the same numbers have the same numbers
 HasSameNumbers-equal : (a b c d : List Run) → a ≡ c → b ≡ d → HasSameNumbers a b → HasSameNumbers c d
 HasSameNumbers-equal a b c d left right same = subst (λ runs. HasSameNumbers runs d) left (subst (HasSameNumbers a) right same)
 

@@ -46,7 +46,7 @@ pub BeginsFrom-tail : (run : Run) (runs : List Run) → IsCanonical (run ∷ run
 BeginsFrom-tail run [] canonical = tt
 BeginsFrom-tail run (next ∷ runs) canonical = omega (arith, canonical.1.after)
 
--- the same for any lower number
+-- runs that begin from a number on begin from any lower one on
 pub BeginsFrom-lower : (m n : ℕ) (runs : List Run) → m ≤ n → BeginsFrom n runs → BeginsFrom m runs
 BeginsFrom-lower m n [] lower begins = tt
 BeginsFrom-lower m n (run ∷ runs) lower begins = omega arith

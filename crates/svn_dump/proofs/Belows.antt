@@ -40,7 +40,7 @@ module _ {C : Type 0} (same : C → C → Bool) (is : IsSame same) where
       → same_path same (front ++ more) path ≡ same_path same more rest
   same_path-below front path more rest e = grind (arith, append-from_below is front path rest, same_path-append front more rest)
 
-  -- the same, the other way round
+  -- a path that is not under a front is none of those under it, the other way round
   pub apart_from_below : (front path rest : List C) → below same front path ≡ None → same_path same path (front ++ rest) ≡ false
   apart_from_below front path rest e = same_path_comm path (front ++ rest) ∙ other_from_below front path rest e
 

@@ -34,7 +34,7 @@ BeginsWithLines-push bytes line more rest old new header cut added before = reco
       ∙ append_assoc front (line_text line) more ∙ ap (λ text. front ++ text) (append_assoc line (10 ∷ []) more));
 }
 
--- the same of bytes that go on
+-- bytes that go on begin with the same header lines
 abbrev pub BeginsWithLines-append : (bytes : List ℕ) (values : List (Option (List ℕ))) (rest more : List ℕ) → BeginsWithLines bytes values rest → BeginsWithLines (bytes ++ more) values (rest ++ more)
 BeginsWithLines-append bytes values rest more found = record {
   lines = found.lines;

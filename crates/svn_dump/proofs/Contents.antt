@@ -59,7 +59,7 @@ module _ (format : Format) where
   nodes-front block properties None settled = refl
   nodes-front block properties (Some path) settled = ap Some (node_of_block-front block properties path settled)
 
-  -- the same that its headers say
+  -- the content of a block is what its headers say
   pub content_from_headers-block : (bytes rest : List ℕ) (values : List (Option (List ℕ))) (properties : List ℕ) (found : BeginsWithBlock bytes values properties rest) → content_from_headers format values properties ≡ content_of format found.block
   unfolding content_from_headers content_of
   content_from_headers-block bytes rest values properties found =

@@ -179,7 +179,7 @@ module _ {C M : Type 0} (same : C → C → Bool) where
       ∙ option_or_assoc here later _
       ∙ ap (λ n. option_or (option_or here later) (first_fault_from same (fold (with_revision same) next front) n back)) counted
 
-  -- the same from the first revision on
+  -- the first fault of two histories in a row, from the first revision on
   pub first_fault-append : (front back : History C M)
       → first_fault same (front ++ back)
       ≡ option_or (first_fault same front) (first_fault_from same (trees_of same front) (1 + record_count front) back)

@@ -10,7 +10,7 @@ use Rattle.svn_dump.proofs.Origins.{OriginsFall, OriginsAreThere}
 abbrev pub step_back : {C : Type 0} → (List C → ℕ → Option (List C)) → ℕ → Option (List C × ℕ) → Option (List C)
 step_back found wanted origin = option_and_then (λ from. if nat_lt from.1 wanted then None else found from.0 from.1) origin
 
--- the same from two that agree at the origin
+-- two that agree at the origin find one and the same by a step back
 pub step_back-same : {C : Type 0} (f g : List C → ℕ → Option (List C)) (wanted : ℕ) (o : Option (List C × ℕ))
     → ((from : List C × ℕ) → o ≡ Some from → f from.0 from.1 ≡ g from.0 from.1) → step_back f wanted o ≡ step_back g wanted o
 step_back-same f g wanted None same = refl

@@ -270,7 +270,7 @@ module _ (revisions : ℕ) (node : Node) (rev : ℕ) (action : NodeAction) (sett
       IsFirst-size revisions node (is_record_large names texts (record_of (pred revisions) node)) setting taken.settled action taken.does taken.some_revision e (is_path_large names node.path) none_at
       (large_path (pred revisions) node setting action taken.settled taken.does none_at names texts) is
 
-  -- the same of what it does
+  -- what it does is too large, or memory has run out
   pub IsFirst-action : (names mid texts : List (List ℕ)) (e : ReadError) → mid ≡ with_names names (parts_of node.path) →
       IsTooLarge (list_any is_long (paths_read [] action) || is_full_with mid (parts_of_action (action_of setting action)) || is_full_with texts (texts_of_action (action_of setting action))) e →
       IsFirstReason (node_refusals revisions node (is_record_large names texts (record_of (pred revisions) node))) e

@@ -239,7 +239,7 @@ values-lines bytes values None found =
 values-lines bytes values (Some rest) found =
     found.fields.fields ∙ ap fields_of (sym (lines_are_found bytes values (10 ∷ rest.now) found (header_lines-empty rest.now)))
 
--- the same where the front of one more line has come
+-- the values that are read where the front of one more line has come
 pub values-front :
     (bytes read : List ℕ) (front : IsHeaderFront bytes) (values : List (Option (List ℕ))) (rest : Option (Bor (List ℕ))) → read ≡ bytes → BeginsWithHeaders read values rest → values ≡ fields_of front.lines
 values-front bytes read front values rest same found = values-lines read values rest found ∙ ap fields_of (ap header_lines same ∙ header_lines-front bytes front)

@@ -192,7 +192,7 @@ module _ (reader : Reader) (bytes old piece new rest : List ℕ) (to : IsReadTo 
         subst (λ all. IsReadAs next.format all next.draft) (append_assoc bytes (ends.last ++ 10 ∷ []) last) read,
       )
 
--- the same of what reading the body gave
+-- what reading the body gave, of the piece that ends its header
 module _ (reader : Reader) (old piece new rest : List ℕ) (ends : EndsHeader old piece new rest) (body : PartialBody) (after : IsBodyAfter new body) (next : Reader) where
   pub IfOk-rest :
       (result : Result (Option (Bor (List ℕ))) ReadError) → IfOk result (λ left. (bytes : List ℕ) → IsInBody reader new body bytes → ReadsPart next bytes rest left) →

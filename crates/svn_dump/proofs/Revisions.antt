@@ -47,7 +47,7 @@ module _ {C M : Type 0} where
       (λ i. tree_from_revision (one_more i) (tree_of ((t ∷ trees) ++ tree ∷ []) (one_more i)))
       ∙ ap (tree_from_revision (length (t ∷ trees))) (tree_of_push (t ∷ trees) tree)
 
-  -- the same, by the number of the last tree
+  -- the tree with which the next revision begins, by the number of the last tree
   pub opening_last : (trees : List (Tree C M)) → 0 < length trees → start_tree trees ≡ tree_from_revision (length trees - 1) (tree_of trees (length trees - 1))
   unfolding start_tree
   opening_last [] some = absurd (omega arith)

@@ -13,7 +13,8 @@ use Rattle.svn_dump.proofs.Belows.{same_path_front, same_path_by_below, same_pat
 abbrev pub settled_entry : {C M : Type 0} → Setting M → Entry C M → Entry C M
 settled_entry setting e = record e { mergeinfo = mergeinfo_after setting e.mergeinfo }
 
--- the same for the entry at the record's path, given what is left of the entry's path below that; another entry stays
+-- the entry at the record's path with that mergeinfo, given what is left of the entry's path below that; another entry
+-- stays
 abbrev pub settled_entry_at : {C M : Type 0} → Setting M → List C → Entry C M → Entry C M
 settled_entry_at setting [] e = settled_entry setting e
 settled_entry_at setting (c ∷ rest) e = e

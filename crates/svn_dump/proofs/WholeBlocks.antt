@@ -73,7 +73,7 @@ module _ (format : Format) where
       ∙ ap (λ first. option_or first (first_holding (content_refusals history (content_of format (block_at bytes))))) front.0
       ∙ ap (λ each. first_holding (content_refusals history (content_of format each))) front.1 ∙ told
 
-  -- the same of what is found of it, whatever follows
+  -- the first reason against what is found of a block is that against the block, whatever follows
   pub IsBlockRefusalFrom-block :
       (history : HistoryOfBytes) (bytes rest : List ℕ) (block : Block) (e : ReadError) → IsBlock block → bytes ≡ block_text block ++ rest →
       IsFirstReason (content_refusals history (content_of format block)) e → IsBlockRefusalFrom format history bytes e

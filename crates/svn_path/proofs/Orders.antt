@@ -23,7 +23,7 @@ paths_cmp-Equal p q =
     let equal = Equal-is (slice_cmp name_cmp p q) in
     (λ tied. (paths_eq-Decides p q).0 (ties ∙ equal.1 tied), λ is. equal.0 (sym ties ∙ (paths_eq-Decides p q).1 is))
 
--- the same in the word that std's lemmas on maps take
+-- paths of which none comes first are equal, in the word that std's lemmas on maps take
 pub exact_paths : CmpEqualImpliesEq (slice_cmp name_cmp)
 exact_paths p q = (paths_cmp-Equal p q).0
 

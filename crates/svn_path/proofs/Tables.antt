@@ -82,7 +82,7 @@ name_of-same {names} table a b same =
       ]
     ]
 
--- the same as tests: names agree exactly where numbers do
+-- names agree exactly where numbers do, as tests
 pub bytes_eq-name_of : {names : List (List ℕ)} → IsTable names → (a b : ℕ) → bytes_eq (name_of names a) (name_of names b) ≡ (a == b)
 bytes_eq-name_of {names} table a b =
     let texts = bytes_eq-Decides (name_of names a) (name_of names b) in

@@ -1,4 +1,4 @@
-use Rattle.std.proofs.Common.{◌≡◌, ℕ, ◌+◌, ◌-◌, ◌<◌, pred, sub-one, length, set, sym, ap, ◌∙◌, subst, arith}
+use Rattle.std.proofs.Common.{◌≡◌, ℕ, ◌-◌, ◌<◌, pred, sub-one, length, sym, ap, ◌∙◌, subst, arith}
 use Rattle.std.proofs.lemmas.List.{get_or_read}
 use Rattle.std.proofs.lemmas.Result.{err_from_is_err_and}
 use Rattle.svn_dump.specs.Draft.{dump_of}
@@ -8,7 +8,7 @@ use Rattle.svn_dump.specs.Refusal.{node_refusals}
 use Rattle.svn_dump.specs.HeaderValues.{node_of_front}
 use Rattle.svn_dump.specs.NumberedRecord.{IsFirstReason, is_record_large}
 use Rattle.svn_dump.proofs.Drafts.{room_left, IsDraft-grows, count-le, IsDraft-with_record, with_record-told, IsWholeHistory-with_record, refused-full, refused-record}
-use Rattle.svn_dump.proofs.Grouped.{with_more, set_last_read}
+use Rattle.svn_dump.proofs.Grouped.{set_last_read}
 use Rattle.svn_dump.proofs.Histories.{length-history_in_bytes}
 use Rattle.svn_dump.proofs.draft.Draft.add_record.Goals as goal
 
