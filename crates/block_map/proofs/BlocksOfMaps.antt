@@ -13,7 +13,7 @@ use Rattle.svn_path.specs.Path.{same_name}
 use Rattle.svn_path.specs.declared.names.NameId.{NameId}
 use Rattle.svn_dump.specs.History.{Record}
 use Rattle.svn_dump.specs.declared.record.ValueId.{ValueId}
-use Rattle.block_map.specs.Blocks.{AreBlocksBefore, AreBlocksFrom, nodes_of, records_of, trees_of}
+use Rattle.block_map.specs.Blocks.{AreBlocksBefore, AreBlocksFrom, block_nodes, block_records, block_trees}
 use Rattle.block_map.specs.Look as found
 use Rattle.block_map.specs.Look.{Found, look, resolved, with_mergeinfo}
 use Rattle.block_map.specs.LookThrough.{look_through}
@@ -28,14 +28,14 @@ use Rattle.block_map.proofs.Standings.{look_at_first}
 
 -- the tick after their last record
 abbrev pub end_of_blocks : ℕ → List Trees → ℕ
-end_of_blocks lo blocks = lo + length (records_of blocks)
+end_of_blocks lo blocks = lo + length (block_records blocks)
 
-pub records_of-append : (front more : List Trees) → records_of (front ++ more) ≡ records_of front ++ records_of more
-records_of-append front more = flat_map-append (λ (block : Trees). block.records.records) front more
+pub block_records-append : (front more : List Trees) → block_records (front ++ more) ≡ block_records front ++ block_records more
+block_records-append front more = flat_map-append (λ (block : Trees). block.records.records) front more
 
 -- one block more at the front
 end-cons : (lo : ℕ) (first : Trees) (rest : List Trees) → first.start ≡ lo → end_of_blocks lo (first ∷ rest) ≡ end_of_blocks (end_of_trees first) rest
-end-cons lo first rest starts = omega (arith, starts, length-append first.records.records (records_of rest))
+end-cons lo first rest starts = omega (arith, starts, length-append first.records.records (block_records rest))
 
 pub AreBlocksFrom-append : (lo : ℕ) (front more : List Trees) → AreBlocksFrom lo front → AreBlocksFrom (end_of_blocks lo front) more → AreBlocksFrom lo (front ++ more)
 AreBlocksFrom-append lo [] more are next = let none : lo + 0 ≡ lo = omega arith in subst (λ at. AreBlocksFrom at more) none next
@@ -57,29 +57,29 @@ last-start lo earlier last are = (AreBlocksFrom-back lo earlier (last ∷ []) ar
 
 pub last-end : (lo : ℕ) (earlier : List Trees) (last : Trees) → AreBlocksFrom lo (earlier ++ last ∷ []) → end_of_trees last ≡ end_of_blocks lo (earlier ++ last ∷ [])
 last-end lo earlier last are =
-    omega (arith, last-start lo earlier last are, ap length (records_of-append earlier (last ∷ [])), length-append (records_of earlier) (records_of (last ∷ [])), length-append last.records.records [])
+    omega (arith, last-start lo earlier last are, ap length (block_records-append earlier (last ∷ [])), length-append (block_records earlier) (block_records (last ∷ [])), length-append last.records.records [])
 
 -- there are few nodes
-pub nodes_of-few : (lo : ℕ) (blocks : List Trees) → AreBlocksFrom lo blocks → nodes_of blocks ≤ most_nodes (length (records_of blocks))
-nodes_of-few lo [] are = omega arith
-nodes_of-few lo (first ∷ rest) are =
-    omega (arith, nodes_of-few (end_of_trees first) rest are.3, are.2.few, sum_by-cons (λ (block : Trees). length block.trie.nodes) first rest, length-append first.records.records (records_of rest))
+pub block_nodes-few : (lo : ℕ) (blocks : List Trees) → AreBlocksFrom lo blocks → block_nodes blocks ≤ most_nodes (length (block_records blocks))
+block_nodes-few lo [] are = omega arith
+block_nodes-few lo (first ∷ rest) are =
+    omega (arith, block_nodes-few (end_of_trees first) rest are.3, are.2.few, sum_by-cons (λ (block : Trees). length block.trie.nodes) first rest, length-append first.records.records (block_records rest))
 
 -- for their records, too
-pub nodes_of-records : (lo : ℕ) (blocks : List Trees) → AreBlocksFrom lo blocks → nodes_of blocks ≤ nodes_for (records_of blocks)
-nodes_of-records lo [] are = omega arith
-nodes_of-records lo (first ∷ rest) are = omega (
+pub block_nodes-records : (lo : ℕ) (blocks : List Trees) → AreBlocksFrom lo blocks → block_nodes blocks ≤ nodes_for (block_records blocks)
+block_nodes-records lo [] are = omega arith
+block_nodes-records lo (first ∷ rest) are = omega (
   arith,
-  nodes_of-records (end_of_trees first) rest are.3,
+  block_nodes-records (end_of_trees first) rest are.3,
   are.2.nodes,
   sum_by-cons (λ (block : Trees). length block.trie.nodes) first rest,
-  sum_by-append (λ (each : Record NameId ValueId). length each.path + 1) first.records.records (records_of rest),
+  sum_by-append (λ (each : Record NameId ValueId). length each.path + 1) first.records.records (block_records rest),
 )
 
-pub nodes_of-small : (lo : ℕ) (blocks : List Trees) → AreBlocksFrom lo blocks → nodes_of blocks ≤ most_nodes (2 ^ 32)
-nodes_of-small lo [] are = omega arith
-nodes_of-small lo (first ∷ rest) are =
-    omega (arith, nodes_of-few lo (first ∷ rest) are, end-small (end_of_trees first) rest are.3 are.2.is.few, end-cons lo first rest are.0)
+pub block_nodes-small : (lo : ℕ) (blocks : List Trees) → AreBlocksFrom lo blocks → block_nodes blocks ≤ most_nodes (2 ^ 32)
+block_nodes-small lo [] are = omega arith
+block_nodes-small lo (first ∷ rest) are =
+    omega (arith, block_nodes-few lo (first ∷ rest) are, end-small (end_of_trees first) rest are.3 are.2.is.few, end-cons lo first rest are.0)
   where
     end-small : (at : ℕ) (blocks : List Trees) → AreBlocksFrom at blocks → at < 2 ^ 32 → end_of_blocks at blocks < 2 ^ 32
     end-small at [] from few = omega (arith, few)
@@ -88,25 +88,25 @@ nodes_of-small lo (first ∷ rest) are =
 
 -- the trees of the last block and of the earlier ones
 pub trees-last : (blocks earlier : List (Arc Trees Global)) (last : Arc Trees Global) (block : Trees) → blocks ≡ earlier ++ last ∷ [] → block ≡ arc_value last
-    → trees_of blocks ≡ trees_of earlier ++ block ∷ []
+    → block_trees blocks ≡ block_trees earlier ++ block ∷ []
 trees-last blocks earlier last block split is =
-    ap trees_of split ∙ map-append arc_value earlier (last ∷ []) ∙ ap (λ each. trees_of earlier ++ each ∷ []) (sym is)
+    ap block_trees split ∙ map-append arc_value earlier (last ∷ []) ∙ ap (λ each. block_trees earlier ++ each ∷ []) (sym is)
 
 -- ---- the ticks at which blocks begin
 
-starts-from : (lo : ℕ) (blocks : List (Arc Trees Global)) (i : ℕ) (d : Arc Trees Global) → AreBlocksFrom lo (trees_of blocks) → i < length blocks → lo ≤ (arc_value (get_or blocks i d)).start
+starts-from : (lo : ℕ) (blocks : List (Arc Trees Global)) (i : ℕ) (d : Arc Trees Global) → AreBlocksFrom lo (block_trees blocks) → i < length blocks → lo ≤ (arc_value (get_or blocks i d)).start
 starts-from lo [] i d are within = absurd (omega (arith, within))
 starts-from lo (first ∷ rest) zero d are within = omega (arith, are.0)
 starts-from lo (first ∷ rest) (suc i) d are within =
     omega (arith, starts-from (end_of_trees (arc_value first)) rest i d are.3 (omega (arith, within)), are.0)
 
 -- each block is one
-pub each-block : (lo : ℕ) (blocks : List (Arc Trees Global)) (i : ℕ) (d : Arc Trees Global) → AreBlocksFrom lo (trees_of blocks) → i < length blocks → AreMapTrees (arc_value (get_or blocks i d))
+pub each-block : (lo : ℕ) (blocks : List (Arc Trees Global)) (i : ℕ) (d : Arc Trees Global) → AreBlocksFrom lo (block_trees blocks) → i < length blocks → AreMapTrees (arc_value (get_or blocks i d))
 each-block lo [] i d are within = absurd (omega (arith, within))
 each-block lo (first ∷ rest) zero d are within = are.2
 each-block lo (first ∷ rest) (suc i) d are within = each-block (end_of_trees (arc_value first)) rest i d are.3 (omega (arith, within))
 
-pub starts-rise : (lo : ℕ) (blocks : List (Arc Trees Global)) → AreBlocksFrom lo (trees_of blocks) → IsNonDecreasingBy (λ (block : Arc Trees Global). (arc_value block).start) blocks
+pub starts-rise : (lo : ℕ) (blocks : List (Arc Trees Global)) → AreBlocksFrom lo (block_trees blocks) → IsNonDecreasingBy (λ (block : Arc Trees Global). (arc_value block).start) blocks
 starts-rise lo [] are i j d upto within = absurd (omega (arith, within))
 starts-rise lo (first ∷ rest) are zero zero d upto within = omega arith
 starts-rise lo (first ∷ rest) are zero (suc j) d upto within =
@@ -136,32 +136,32 @@ with_mergeinfo-through lo tick path mergeinfo records says within is =
 -- what the last block leaves is looked up in the earlier ones
 pub through-earlier : (lo : ℕ) (earlier : List Trees) (last : Trees) (left right : Found NameId ValueId) → AreBlocksFrom lo (earlier ++ last ∷ [])
     → resolved last.start left ≡ resolved last.start right
-    → resolved lo (look_through same_name lo (records_of earlier) left) ≡ resolved lo (look_through same_name lo (records_of earlier) right)
+    → resolved lo (look_through same_name lo (block_records earlier) left) ≡ resolved lo (look_through same_name lo (block_records earlier) right)
 through-earlier lo [] last left right are same =
     ap (resolved lo) (look_through-none same_name lo left) ∙ subst (λ at. resolved at left ≡ resolved at right) are.0 same
     ∙ sym (ap (resolved lo) (look_through-none same_name lo right))
 through-earlier lo (first ∷ rest) last left right are same =
-    let later : last.start ≢ 0 = λ none. absurd (omega (arith, none, last-start lo (first ∷ rest) last are, are.1, length-append first.records.records (records_of rest))) in
-    ap (λ each. resolved lo (look_through same_name lo (records_of (first ∷ rest)) each)) (sym (resolved-later last.start left later) ∙ same ∙ resolved-later last.start right later)
+    let later : last.start ≢ 0 = λ none. absurd (omega (arith, none, last-start lo (first ∷ rest) last are, are.1, length-append first.records.records (block_records rest))) in
+    ap (λ each. resolved lo (look_through same_name lo (block_records (first ∷ rest)) each)) (sym (resolved-later last.start left later) ∙ same ∙ resolved-later last.start right later)
 
 -- what all blocks say is what the last one says, by the earlier ones
 pub through-last : (lo : ℕ) (earlier : List Trees) (last : Trees) (each : Found NameId ValueId) → AreBlocksFrom lo (earlier ++ last ∷ [])
-    → look_through same_name lo (records_of (earlier ++ last ∷ [])) each ≡ look_through same_name lo (records_of earlier) (look_through same_name last.start last.records.records each)
+    → look_through same_name lo (block_records (earlier ++ last ∷ [])) each ≡ look_through same_name lo (block_records earlier) (look_through same_name last.start last.records.records each)
 through-last lo earlier last each are =
-    ap (λ all. look_through same_name lo all each) (records_of-append earlier (last ∷ []) ∙ ap (λ more. records_of earlier ++ more) (append-nil last.records.records))
-    ∙ look_through-append same_name lo (records_of earlier) last.records.records each
-    ∙ ap (λ at. look_through same_name lo (records_of earlier) (look_through same_name at last.records.records each)) (sym (last-start lo earlier last are))
+    ap (λ all. look_through same_name lo all each) (block_records-append earlier (last ∷ []) ∙ ap (λ more. block_records earlier ++ more) (append-nil last.records.records))
+    ∙ look_through-append same_name lo (block_records earlier) last.records.records each
+    ∙ ap (λ at. look_through same_name lo (block_records earlier) (look_through same_name at last.records.records each)) (sym (last-start lo earlier last are))
 
 module _ (lo tick : ℕ) (path : List NameId) where
   abbrev look_of : List (Record NameId ValueId) → Found NameId ValueId
   look_of records = look same_name lo records tick path
 
   -- later blocks say nothing of an earlier tick
-  look-front : (front more : List Trees) → tick ≤ end_of_blocks lo front → look_of (records_of (front ++ more)) ≡ look_of (records_of front)
+  look-front : (front more : List Trees) → tick ≤ end_of_blocks lo front → look_of (block_records (front ++ more)) ≡ look_of (block_records front)
   look-front front more within =
-      ap look_of (records_of-append front more) ∙ look-append same_name lo (records_of front) (records_of more) tick path
-      ∙ ap (look_through same_name lo (records_of front)) (look_at_first (end_of_blocks lo front) (found.looks_of same_name (end_of_blocks lo front) (records_of more)) tick path within)
-      ∙ look_from-within same_name lo (records_of front) tick path within
+      ap look_of (block_records-append front more) ∙ look-append same_name lo (block_records front) (block_records more) tick path
+      ∙ ap (look_through same_name lo (block_records front)) (look_at_first (end_of_blocks lo front) (found.looks_of same_name (end_of_blocks lo front) (block_records more)) tick path within)
+      ∙ look_from-within same_name lo (block_records front) tick path within
 
   -- the last block that begins before a tick reaches it
   pub end-front : (all front : List Trees) → AreBlocksFrom lo all → AreBlocksBefore tick all front → tick ≤ end_of_blocks lo all → tick ≤ end_of_blocks lo front
@@ -174,13 +174,13 @@ module _ (lo tick : ℕ) (path : List NameId) where
           omega (arith, starts, All-head (λ (block : Trees). tick ≤ block.start) next more after)
 
   -- so all blocks say what those say
-  pub look-before : (all front : List Trees) → AreBlocksFrom lo all → AreBlocksBefore tick all front → tick ≤ end_of_blocks lo all → look_of (records_of all) ≡ look_of (records_of front)
+  pub look-before : (all front : List Trees) → AreBlocksFrom lo all → AreBlocksBefore tick all front → tick ≤ end_of_blocks lo all → look_of (block_records all) ≡ look_of (block_records front)
   look-before all front are before within =
-      ap (λ blocks. look_of (records_of blocks)) before.split ∙ look-front front before.more (end-front all front are before within)
+      ap (λ blocks. look_of (block_records blocks)) before.split ∙ look-front front before.more (end-front all front are before within)
 
   -- where there is only one, what it says
   pub look-only : (all : List Trees) (only : Trees) → AreBlocksFrom lo all → AreBlocksBefore tick all (only ∷ []) → tick ≤ end_of_blocks lo all
-      → look_in_trees only tick path ≡ resolved lo (look_of (records_of all))
+      → look_in_trees only tick path ≡ resolved lo (look_of (block_records all))
   look-only all only are before within =
       let starts = (AreBlocksFrom-front lo (only ∷ []) before.more (subst (AreBlocksFrom lo) before.split are)).0 in
       ap (λ at. resolved at (look same_name at only.records.records tick path)) starts

@@ -12,8 +12,8 @@ pub mod MapsBuilt
 pub mod MapsOfDumps
 pub mod NearestFound
 pub mod NodesPut
-pub mod PartLookups
-pub mod PartSteps
+pub mod ChildMapLookups
+pub mod ChildMapSteps
 pub mod Positions
 pub mod RecordNodes
 pub mod RevisionEnds

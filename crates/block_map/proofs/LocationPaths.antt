@@ -7,12 +7,11 @@ use Rattle.std.proofs.lemmas.List.Sums.{fold_push}
 use Rattle.std.proofs.lemmas.Option.{same_Some, slice_get-get_or, slice_get_within}
 use Rattle.svn_path.specs.declared.names.NameId.{NameId}
 use Rattle.block_map.specs.Locations.{AddsBelow, AreAfterThoseAbove, IsLocationBelow, location_below, locations_of, path_above, path_at, path_of, whole_location, with_stored}
-use Rattle.block_map.specs.Parts.{Extends}
-use Rattle.block_map.specs.declared.location.Location.{Location}
-use Rattle.block_map.specs.declared.location.LocationId.{LocationId}
-use Rattle.block_map.specs.declared.stored_location.StoredLocation.{StoredLocation}
-use Rattle.block_map.proofs.GrownTries.{Extends-again, Extends-none, slice_get-front, slice_get-grown}
-use Rattle.block_map.proofs.TreesNodes.{slice_get_last}
+use Rattle.block_map.specs.ChildMaps.{Extends}
+use Rattle.block_map.specs.declared.trie.location.Location.{Location}
+use Rattle.block_map.specs.declared.trie.location.LocationId.{LocationId}
+use Rattle.block_map.specs.declared.trie.stored_location.StoredLocation.{StoredLocation}
+use Rattle.block_map.proofs.GrownTries.{Extends-again, Extends-none, slice_get-front, slice_get-grown, slice_get-last}
 
 -- one more is added with its whole path
 pub locations_of-push : (items : List StoredLocation) (stored : StoredLocation) → locations_of (items ++ stored ∷ []) ≡ with_stored (locations_of items) stored
@@ -35,7 +34,7 @@ AreAfterThoseAbove-push items stored are after index each at = elim (cases_lt in
   | inr past ↦
       let inside = slice_get_within (items ++ stored ∷ []) index each at in
       let last : length items ≡ index = omega (arith, past, inside, length_push items stored) in
-      let is : stored ≡ each = same_Some stored each (sym (slice_get_last items stored index (sym last)) ∙ at) in
+      let is : stored ≡ each = same_Some stored each (sym (slice_get-last items stored index (sym last)) ∙ at) in
       subst (λ (which : StoredLocation). IfSome which.above (λ above. above.0 < index)) is
       (subst (λ count. IfSome stored.above (λ above. above.0 < count)) last after)
 ]
@@ -71,7 +70,7 @@ slice_get-fold locations (first ∷ items) zero stored at after =
     let here : length locations + 0 ≡ length locations = omega arith in
     let within : IfSome stored.above (λ above. above.0 < length locations) = subst (λ count. IfSome stored.above (λ above. above.0 < count)) here after in
     slice_get-grown next all (length locations + 0) (Extends-fold next items) (omega (arith, length_push locations (whole_location locations first)))
-    ∙ slice_get_last locations (whole_location locations first) (length locations + 0) here
+    ∙ slice_get-last locations (whole_location locations first) (length locations + 0) here
     ∙ ap (λ (which : StoredLocation). Some (whole_location locations which)) is
     ∙ ap (λ path. Some (record { path = path ++ stored.rest; tick = stored.tick }))
     (sym (path_above-grown locations all (Extends-fold locations (first ∷ items)) stored.above within))

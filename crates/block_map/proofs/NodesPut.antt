@@ -10,31 +10,31 @@ use Rattle.svn_path.specs.declared.names.NameId.{NameId}
 use Rattle.svn_path.proofs.Belows.{IsSame-same_name}
 use Rattle.block_map.specs.Look.{Found}
 use Rattle.block_map.specs.Node.{untouched}
-use Rattle.block_map.specs.Parts.{Extends, SetsChild, child_in}
-use Rattle.block_map.specs.Trie.{At, ExtendsTrie, IsNodeOf, IsSound, LookOfNumbers, PutsNode, TrieValue, at_path, child_at, child_of, found_below, found_here, inside}
-use Rattle.block_map.specs.declared.node.Node.{Node}
-use Rattle.block_map.specs.declared.part.NodeId.{NodeId}
-use Rattle.block_map.specs.declared.part.PartId.{PartId}
+use Rattle.block_map.specs.ChildMaps.{Extends, SetsChild, child_in}
+use Rattle.block_map.specs.Trie.{At, ExtendsTrie, IsNodeOf, IsSound, LookOfNumbers, PutsNode, TrieValue, at_path, child_at, child_of, found_below, own_found, base_look}
+use Rattle.block_map.specs.declared.trie.node.Node.{Node}
+use Rattle.block_map.specs.declared.trie.node.NodeId.{NodeId}
+use Rattle.block_map.specs.declared.trie.child_map.ChildMapId.{ChildMapId}
 use Rattle.block_map.proofs.CopiedNodes.{IsNodeOf-untouched, child_at-untouched}
-use Rattle.block_map.proofs.GrownTries.{Extends-none, child_in-grown, found_below-grown, inside-grown}
-use Rattle.block_map.proofs.PartLookups.{eqb-turned, slice_get-last}
+use Rattle.block_map.proofs.GrownTries.{Extends-none, child_in-grown, found_below-grown, base_look-grown, slice_get-last}
+use Rattle.block_map.proofs.ChildMapLookups.{eqb-turned}
 
 -- a node and what is found there without it
 abbrev from_node : Option Node → LookOfNumbers → At
-from_node node outside = record { node = node; outside = outside }
+from_node node over = record { node = node; base = over }
 
 -- ---- a node of which nothing is known
 
 -- below an untouched node is found what is found where there is no node
-found_below-untouched : (trie : TrieValue) (before : Option Node) (outside : LookOfNumbers) (path : List NameId)
-    → found_below trie (from_node before outside) path ≡ found_below trie (from_node (Some (unwrap_or before untouched)) outside) path
-found_below-untouched trie None outside [] = refl
-found_below-untouched trie (Some node) outside [] = refl
-found_below-untouched trie before outside (name ∷ path) = ap (λ next. found_below trie next path) (sym (child_at-untouched trie before outside name))
+found_below-untouched : (trie : TrieValue) (before : Option Node) (over : LookOfNumbers) (path : List NameId)
+    → found_below trie (from_node before over) path ≡ found_below trie (from_node (Some (unwrap_or before untouched)) over) path
+found_below-untouched trie None over [] = refl
+found_below-untouched trie (Some node) over [] = refl
+found_below-untouched trie before over (name ∷ path) = ap (λ next. found_below trie next path) (sym (child_at-untouched trie before over name))
 
 -- ---- a child put at a name
 
-module _ (old new : TrieValue) (node child : Node) (name : NameId) (id : NodeId) (children : PartId) where
+module _ (old new : TrieValue) (node child : Node) (name : NameId) (id : NodeId) (children : ChildMapId) where
   -- a child was added, and the map has it for the name
   pub record PutsChild : Type 0 where
     pub sound : IsSound old
@@ -42,15 +42,15 @@ module _ (old new : TrieValue) (node child : Node) (name : NameId) (id : NodeId)
     pub child_is : IsNodeOf old child
     pub nodes : new.nodes ≡ old.nodes ++ child ∷ []
     pub id_is : id.0 ≡ length old.nodes
-    pub parts : Extends old.parts new.parts
+    pub child_maps : Extends old.child_maps new.child_maps
     pub locations : new.locations ≡ old.locations
-    pub sets : SetsChild old.parts new.parts node.children name.0 id children
+    pub sets : SetsChild old.child_maps new.child_maps node.children name.0 id children
 
-  -- nothing but the child and parts were added
+  -- nothing but the child and maps were added
   ExtendsTrie-child : PutsChild → ExtendsTrie old new
   ExtendsTrie-child puts = record {
     nodes = record { more = child ∷ []; grown = puts.nodes };
-    parts = puts.parts;
+    child_maps = puts.child_maps;
     locations = subst (Extends old.locations) (sym puts.locations) (Extends-none old.locations);
   }
 
@@ -58,10 +58,10 @@ module _ (old new : TrieValue) (node child : Node) (name : NameId) (id : NodeId)
   child_of-put : PutsChild → (other : NameId) → (name.0 == other.0) ≡ true → child_of new (record node { children = children }) other ≡ Some child
   child_of-put puts other is =
       let turned : (other.0 == name.0) ≡ true = eqb-turned other.0 name.0 ∙ is in
-      let found : child_in new.parts children other.0 ≡ Some id =
-      puts.sets other.0 ∙ ap (λ same. if same then Some id else child_in old.parts node.children other.0) turned in
+      let found : child_in new.child_maps children other.0 ≡ Some id =
+      puts.sets other.0 ∙ ap (λ same. if same then Some id else child_in old.child_maps node.children other.0) turned in
       ap (option_and_then (λ (each : NodeId). slice_get new.nodes each.0)) found
-      ∙ ap (slice_get new.nodes) puts.id_is ∙ ap (λ nodes. slice_get nodes (length old.nodes)) puts.nodes ∙ slice_get-last old.nodes child
+      ∙ ap (λ nodes. slice_get nodes id.0) puts.nodes ∙ slice_get-last old.nodes child id.0 puts.id_is
 
   -- other children stay
   child_of-kept : PutsChild → (other : NameId) → (name.0 == other.0) ≡ false
@@ -69,29 +69,29 @@ module _ (old new : TrieValue) (node child : Node) (name : NameId) (id : NodeId)
   child_of-kept puts other is =
       let turned : (other.0 == name.0) ≡ false = eqb-turned other.0 name.0 ∙ is in
       ap (option_and_then (λ (each : NodeId). slice_get new.nodes each.0))
-      (puts.sets other.0 ∙ ap (λ same. if same then Some id else child_in old.parts node.children other.0) turned
-      ∙ sym (child_in-grown old.parts new.parts puts.sound.ordered puts.parts node.children other.0 puts.node_is.0))
+      (puts.sets other.0 ∙ ap (λ same. if same then Some id else child_in old.child_maps node.children other.0) turned
+      ∙ sym (child_in-grown old.child_maps new.child_maps puts.sound.ordered puts.child_maps node.children other.0 puts.node_is.0))
 
   -- below the node the child was put at the name
   pub PutsNode-child : PutsChild → PutsNode old new (Some node) (name ∷ []) child (record node { children = children })
-  PutsNode-child puts outside [] =
-      ap (λ (look : LookOfNumbers). found_here node.here (look []))
-      (inside-grown old new puts.sound (ExtendsTrie-child puts) node.region outside puts.node_is.1)
-  PutsNode-child puts outside (c ∷ rest) =
+  PutsNode-child puts over [] =
+      ap (λ (look : LookOfNumbers). own_found node.own (look []))
+      (base_look-grown old new puts.sound (ExtendsTrie-child puts) node.base over puts.node_is.1)
+  PutsNode-child puts over (c ∷ rest) =
       let grown = ExtendsTrie-child puts in
-      let within = inside-grown old new puts.sound grown node.region outside puts.node_is.1 in
-      let around : LookOfNumbers = λ more. inside old node.region outside (name ∷ more) in
+      let within = base_look-grown old new puts.sound grown node.base over puts.node_is.1 in
+      let child_base : LookOfNumbers = λ more. base_look old node.base over (name ∷ more) in
       elim (cases_Bool (name.0 == c.0)) [
         | inl is ↦
             let same : name ≡ c = IsSame-same_name.true_is name c is in
             rw is
             (ap (λ next. found_below new next rest)
             (λ i. from_node (child_of-put puts c is i) (λ more. within i (sym same i ∷ more)))
-            ∙ found_below-grown old new puts.sound grown (from_node (Some child) around) rest puts.child_is)
+            ∙ found_below-grown old new puts.sound grown (from_node (Some child) child_base) rest puts.child_is)
         | inr is ↦
             rw is
-            (ap (λ next. found_below new (from_node next (λ more. inside new node.region outside (c ∷ more))) rest) (child_of-kept puts c is)
-            ∙ found_below-grown old new puts.sound grown (from_node (Some node) outside) (c ∷ rest) puts.node_is)
+            (ap (λ next. found_below new (from_node next (λ more. base_look new node.base over (c ∷ more))) rest) (child_of-kept puts c is)
+            ∙ found_below-grown old new puts.sound grown (from_node (Some node) over) (c ∷ rest) puts.node_is)
       ]
 
 -- ---- a node put at a path
@@ -108,34 +108,34 @@ pub PutsNode-path : (old mid new : TrieValue) (before : Option Node) (name : Nam
     → IsSound old → ExtendsTrie old mid → IfSome before (IsNodeOf old)
     → PutsNode old mid (child_of old (unwrap_or before untouched) name) path put child
     → PutsNode mid new (Some (unwrap_or before untouched)) (name ∷ []) child after → PutsNode old new before (name ∷ path) put after
-PutsNode-path old mid new before name path put child after sound grown before_is first second outside [] =
+PutsNode-path old mid new before name path put child after sound grown before_is first second over [] =
     let above = unwrap_or before untouched in
-    second outside [] ∙ found_below-grown old mid sound grown (from_node (Some above) outside) [] (IsNodeOf-untouched old before before_is)
-    ∙ sym (found_below-untouched old before outside [])
-PutsNode-path old mid new before name path put child after sound grown before_is first second outside (c ∷ rest) =
+    second over [] ∙ found_below-grown old mid sound grown (from_node (Some above) over) [] (IsNodeOf-untouched old before before_is)
+    ∙ sym (found_below-untouched old before over [])
+PutsNode-path old mid new before name path put child after sound grown before_is first second over (c ∷ rest) =
     let above = unwrap_or before untouched in
     let above_is = IsNodeOf-untouched old before before_is in
-    let around : LookOfNumbers = λ more. inside mid above.region outside (name ∷ more) in
+    let child_base : LookOfNumbers = λ more. base_look mid above.base over (name ∷ more) in
     elim (cases_Bool (name.0 == c.0)) [
       | inl is ↦
           let same : name ≡ c = IsSame-same_name.true_is name c is in
-          let at_name = rw is at (second outside (c ∷ rest)) in
-          let child_from = from_node (child_of old above name) around in
-          let from = from_node before outside in
+          let at_name = rw is at (second over (c ∷ rest)) in
+          let child_from = from_node (child_of old above name) child_base in
+          let from = from_node before over in
           let next : child_from ≡ child_at old from name =
           ap (λ (look : LookOfNumbers). from_node (child_of old above name) (λ more. look (name ∷ more)))
-          (inside-grown old mid sound grown above.region outside above_is.1)
-          ∙ child_at-untouched old before outside name in
+          (base_look-grown old mid sound grown above.base over above_is.1)
+          ∙ child_at-untouched old before over name in
           rw is
-          (at_name ∙ first around rest
+          (at_name ∙ first child_base rest
           ∙ found-same (below same_name path rest) (found_below old child_from rest) (found_below old from (c ∷ rest))
-          (λ more. found_below old (from_node (Some put) (at_path old child_from path).outside) more)
-          (λ more. found_below old (from_node (Some put) (at_path old from (name ∷ path)).outside) more)
+          (λ more. found_below old (from_node (Some put) (at_path old child_from path).base) more)
+          (λ more. found_below old (from_node (Some put) (at_path old from (name ∷ path)).base) more)
           (ap (λ start. found_below old start rest) next ∙ ap (λ each. found_below old (child_at old from each) rest) same)
-          (λ more. ap (λ (start : At). found_below old (from_node (Some put) (at_path old start path).outside) more) next))
+          (λ more. ap (λ (start : At). found_below old (from_node (Some put) (at_path old start path).base) more) next))
       | inr is ↦
-          let at_other = rw is at (second outside (c ∷ rest)) in
+          let at_other = rw is at (second over (c ∷ rest)) in
           rw is
-          (at_other ∙ found_below-grown old mid sound grown (from_node (Some above) outside) (c ∷ rest) above_is
-          ∙ sym (found_below-untouched old before outside (c ∷ rest)))
+          (at_other ∙ found_below-grown old mid sound grown (from_node (Some above) over) (c ∷ rest) above_is
+          ∙ sym (found_below-untouched old before over (c ∷ rest)))
     ]

@@ -10,12 +10,12 @@ use Rattle.svn_dump.specs.declared.record.ValueId.{ValueId}
 use Rattle.block_map.specs.Trees.{ShowsAction, ShowsPath, ShowsTick, end_of_trees, look_in_trees}
 use Rattle.block_map.specs.Look as found
 use Rattle.block_map.specs.Look.{Found, resolved, look, with_setting, with_mergeinfo}
-use Rattle.block_map.specs.Node.{absent_node, here_with_mergeinfo, node_of_kind, node_settled, node_with_mergeinfo, untouched}
-use Rattle.block_map.specs.Trie.{At, IsNodeOf, LookOfNumbers, TrieValue, at_path, at_root, child_at, found_at, found_below, found_here}
+use Rattle.block_map.specs.Node.{absent_node, own_with_mergeinfo, node_of_kind, node_with_setting, node_with_mergeinfo, untouched}
+use Rattle.block_map.specs.Trie.{At, IsNodeOf, LookOfNumbers, TrieValue, at_path, at_root, child_at, found_at, found_below, own_found}
 use Rattle.block_map.specs.declared.trees.Trees.{Trees}
-use Rattle.block_map.specs.declared.node.Here.{Here}
-use Rattle.block_map.specs.declared.node.Here.TheVariants as here
-use Rattle.block_map.specs.declared.node.Node.{Node}
+use Rattle.block_map.specs.declared.trie.node.OwnEntry.{OwnEntry}
+use Rattle.block_map.specs.declared.trie.node.OwnEntry.TheVariants as own
+use Rattle.block_map.specs.declared.trie.node.Node.{Node}
 use Rattle.block_map.proofs.TreesNodes.{found_below-childless}
 use Rattle.block_map.proofs.CopiedNodes.{child_at-untouched, found_at-untouched}
 
@@ -45,28 +45,28 @@ resolved-with_setting lo (put mi) each = resolved-with_mergeinfo lo mi each
 
 -- ---- nodes with other mergeinfo
 
-found_here-with_mergeinfo : (mi : Option ValueId) (says : Here) (each : Found NameId ValueId) → found_here (here_with_mergeinfo mi says) each ≡ with_mergeinfo mi (found_here says each)
-found_here-with_mergeinfo mi here.Unchanged each = refl
-found_here-with_mergeinfo mi (here.WithMergeinfo old) (found.at path tick) = refl
-found_here-with_mergeinfo mi (here.WithMergeinfo old) (found.at_with path tick older) = refl
-found_here-with_mergeinfo mi (here.WithMergeinfo old) (found.is kind older) = refl
-found_here-with_mergeinfo mi (here.WithMergeinfo old) found.absent = refl
-found_here-with_mergeinfo mi (here.Is kind old) each = refl
-found_here-with_mergeinfo mi here.Absent each = refl
+own_found-with_mergeinfo : (mi : Option ValueId) (says : OwnEntry) (each : Found NameId ValueId) → own_found (own_with_mergeinfo mi says) each ≡ with_mergeinfo mi (own_found says each)
+own_found-with_mergeinfo mi own.AsBase each = refl
+own_found-with_mergeinfo mi (own.BaseWithMergeinfo old) (found.at path tick) = refl
+own_found-with_mergeinfo mi (own.BaseWithMergeinfo old) (found.at_with path tick older) = refl
+own_found-with_mergeinfo mi (own.BaseWithMergeinfo old) (found.is kind older) = refl
+own_found-with_mergeinfo mi (own.BaseWithMergeinfo old) found.absent = refl
+own_found-with_mergeinfo mi (own.Is kind old) each = refl
+own_found-with_mergeinfo mi own.Absent each = refl
 
 -- at the node itself
-pub found_at-with_setting : (trie : TrieValue) (setting : Setting ValueId) (node : Node) (outside : LookOfNumbers)
-    → found_at trie (record { node = Some (node_settled setting node); outside = outside }) ≡ with_setting setting (found_at trie (record { node = Some node; outside = outside }))
-found_at-with_setting trie keep node outside = refl
-found_at-with_setting trie (put mi) node outside = found_here-with_mergeinfo mi node.here _
+pub found_at-with_setting : (trie : TrieValue) (setting : Setting ValueId) (node : Node) (over : LookOfNumbers)
+    → found_at trie (record { node = Some (node_with_setting setting node); base = over }) ≡ with_setting setting (found_at trie (record { node = Some node; base = over }))
+found_at-with_setting trie keep node over = refl
+found_at-with_setting trie (put mi) node over = own_found-with_mergeinfo mi node.own _
 
 -- and below it
-pub child_at-with_setting : (trie : TrieValue) (setting : Setting ValueId) (node : Node) (outside : LookOfNumbers) (name : NameId)
-    → child_at trie (record { node = Some (node_settled setting node); outside = outside }) name ≡ child_at trie (record { node = Some node; outside = outside }) name
-child_at-with_setting trie keep node outside name = refl
-child_at-with_setting trie (put mi) node outside name = refl
+pub child_at-with_setting : (trie : TrieValue) (setting : Setting ValueId) (node : Node) (over : LookOfNumbers) (name : NameId)
+    → child_at trie (record { node = Some (node_with_setting setting node); base = over }) name ≡ child_at trie (record { node = Some node; base = over }) name
+child_at-with_setting trie keep node over name = refl
+child_at-with_setting trie (put mi) node over name = refl
 
-pub IsNodeOf-with_setting : (trie : TrieValue) (setting : Setting ValueId) (node : Node) → IsNodeOf trie node → IsNodeOf trie (node_settled setting node)
+pub IsNodeOf-with_setting : (trie : TrieValue) (setting : Setting ValueId) (node : Node) → IsNodeOf trie node → IsNodeOf trie (node_with_setting setting node)
 IsNodeOf-with_setting trie keep node is = is
 IsNodeOf-with_setting trie (put mi) node is = is
 
@@ -80,34 +80,34 @@ module _ (trees : Trees) (root : Node) (path : List NameId) where
   pub ShowsAction-delete : ShowsAction trees root path delete absent_node
   ShowsAction-delete [] = sym (resolved-absent trees.start)
   ShowsAction-delete (name ∷ rest) =
-      found_below-childless trees.trie absent_node.here absent_node.region (at_path trees.trie (at_root root) path).outside name rest ∙ sym (resolved-absent trees.start)
+      found_below-childless trees.trie absent_node.own absent_node.base (at_path trees.trie (at_root root) path).base name rest ∙ sym (resolved-absent trees.start)
 
   pub ShowsAction-add : (replace : Bool) (kind : Kind) (setting : Setting ValueId) → ShowsAction trees root path (add replace kind setting) (node_of_kind kind (mergeinfo_after setting None))
   ShowsAction-add replace kind setting [] = sym (resolved-is trees.start kind (mergeinfo_after setting None))
   ShowsAction-add replace kind setting (name ∷ rest) =
       let node = node_of_kind kind (mergeinfo_after setting None) in
-      found_below-childless trees.trie node.here node.region (at_path trees.trie (at_root root) path).outside name rest ∙ sym (resolved-absent trees.start)
+      found_below-childless trees.trie node.own node.base (at_path trees.trie (at_root root) path).base name rest ∙ sym (resolved-absent trees.start)
 
   pub ShowsAction-change : (mi : Option ValueId) → ShowsTick trees (end_of_trees trees) root
       → ShowsAction trees root path (change (put mi)) (node_with_mergeinfo mi (unwrap_or (at_path trees.trie (at_root root) path).node untouched))
   ShowsAction-change mi shows [] =
       let from = at_path trees.trie (at_root root) path in
-      found_at-with_setting trees.trie (put mi) (unwrap_or from.node untouched) from.outside
-      ∙ ap (with_mergeinfo mi) (found_at-untouched trees.trie from.node from.outside ∙ shows path)
+      found_at-with_setting trees.trie (put mi) (unwrap_or from.node untouched) from.base
+      ∙ ap (with_mergeinfo mi) (found_at-untouched trees.trie from.node from.base ∙ shows path)
       ∙ ap (λ whole. with_mergeinfo mi (look_in_trees trees (end_of_trees trees) whole)) (sym (append-nil path))
       ∙ sym (resolved-with_mergeinfo trees.start mi (look same_name trees.start trees.records.records (end_of_trees trees) (path ++ [])))
   ShowsAction-change mi shows (name ∷ rest) =
       let from = at_path trees.trie (at_root root) path in
-      ap (λ next. found_below trees.trie next rest) (child_at-with_setting trees.trie (put mi) (unwrap_or from.node untouched) from.outside name ∙ child_at-untouched trees.trie from.node from.outside name)
+      ap (λ next. found_below trees.trie next rest) (child_at-with_setting trees.trie (put mi) (unwrap_or from.node untouched) from.base name ∙ child_at-untouched trees.trie from.node from.base name)
       ∙ found_below-append trees.trie (at_root root) path (name ∷ rest) ∙ shows (path ++ name ∷ rest)
 
   pub ShowsAction-copy : (replace : Bool) (source : List NameId) (tick : ℕ) (setting : Setting ValueId) (node : Node) → ShowsPath trees tick source node
-      → ShowsAction trees root path (copy replace source tick setting) (node_settled setting node)
+      → ShowsAction trees root path (copy replace source tick setting) (node_with_setting setting node)
   ShowsAction-copy replace source tick setting node shows [] =
-      let outside = (at_path trees.trie (at_root root) path).outside in
-      found_at-with_setting trees.trie setting node outside
-      ∙ ap (with_setting setting) (shows outside [] ∙ ap (look_in_trees trees tick) (append-nil source))
+      let over = (at_path trees.trie (at_root root) path).base in
+      found_at-with_setting trees.trie setting node over
+      ∙ ap (with_setting setting) (shows over [] ∙ ap (look_in_trees trees tick) (append-nil source))
       ∙ sym (resolved-with_setting trees.start setting (look same_name trees.start trees.records.records tick source))
   ShowsAction-copy replace source tick setting node shows (name ∷ rest) =
-      let outside = (at_path trees.trie (at_root root) path).outside in
-      ap (λ next. found_below trees.trie next rest) (child_at-with_setting trees.trie setting node outside name) ∙ shows outside (name ∷ rest)
+      let over = (at_path trees.trie (at_root root) path).base in
+      ap (λ next. found_below trees.trie next rest) (child_at-with_setting trees.trie setting node over name) ∙ shows over (name ∷ rest)

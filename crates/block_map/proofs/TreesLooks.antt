@@ -15,10 +15,9 @@ use Rattle.block_map.specs.Trees.{AreTrees, IsRootAfter, IsRootAt, SameTrees, Sh
 use Rattle.block_map.specs.Look.{Found, Look, found_after_action, resolved, look, look_after, look_at, looks_of, with_look}
 use Rattle.block_map.specs.Trie.{ExtendsTrie, IsNodeOf, IsSound, PutsNode, TrieValue, at_path, at_root, found_below, nothing}
 use Rattle.block_map.specs.declared.trees.Trees.{Trees}
-use Rattle.block_map.specs.declared.node.Node.{Node}
-use Rattle.block_map.specs.declared.part.NodeId.{NodeId}
-use Rattle.block_map.proofs.TreesNodes.{slice_get_last}
-use Rattle.block_map.proofs.GrownTries.{Extends-none, found_below-grown, slice_get-front, slice_get-grown}
+use Rattle.block_map.specs.declared.trie.node.Node.{Node}
+use Rattle.block_map.specs.declared.trie.node.NodeId.{NodeId}
+use Rattle.block_map.proofs.GrownTries.{Extends-none, found_below-grown, slice_get-front, slice_get-grown, slice_get-last}
 use Rattle.block_map.proofs.Standings.{look_at-append, look_at_push}
 
 -- ---- one more record
@@ -82,7 +81,7 @@ IsRootAt-last trees id is at =
     let inside = slice_get_within trees.roots.items (length trees.roots.items - 1) id at in
     subst (λ tick. IsRootAt trees tick id) (omega (arith, inside, is.roots)) (is.each (length trees.roots.items - 1) id at)
 
--- a root stays as nodes, parts and locations are added
+-- a root stays as nodes, maps and locations are added
 pub IsRootAt-same : (old new : Trees) (tick : ℕ) (id : NodeId) → IsSound old.trie → SameTrees old new → IsRootAt old tick id → IsRootAt new tick id
 IsRootAt-same old new tick id sound same root = record {
   node = root.node;
@@ -144,12 +143,12 @@ look_after_record-cases trees each path = by (below same_name each.path path) re
 
 -- a node that was added is found
 pub pushed_node : (old new : TrieValue) (node : Node) (id : NodeId) → id.0 ≡ length old.nodes → new ≡ record old { nodes = old.nodes ++ node ∷ [] } → slice_get new.nodes id.0 ≡ Some node
-pushed_node old new node id at added = ap (λ trie. slice_get trie.nodes id.0) added ∙ slice_get_last old.nodes node id.0 at
+pushed_node old new node id at added = ap (λ trie. slice_get trie.nodes id.0) added ∙ slice_get-last old.nodes node id.0 at
 
 pub ExtendsTrie-pushed : (old new : TrieValue) (node : Node) → new ≡ record old { nodes = old.nodes ++ node ∷ [] } → ExtendsTrie old new
 ExtendsTrie-pushed old new node added = subst (ExtendsTrie old) (sym added) (record {
   nodes = record { more = node ∷ []; grown = refl };
-  parts = Extends-none old.parts;
+  child_maps = Extends-none old.child_maps;
   locations = Extends-none old.locations;
 })
 
@@ -183,7 +182,7 @@ IsRootAfter-put trees put new root node after each id sound is shows acts puts a
   where
     by : (path : List NameId) (left : Option (List NameId)) → elim left [
       | None ↦ found_below trees.trie (at_root root) path
-      | Some rest ↦ found_below trees.trie (record { node = Some node; outside = (at_path trees.trie (at_root root) each.path).outside }) rest
+      | Some rest ↦ found_below trees.trie (record { node = Some node; base = (at_path trees.trie (at_root root) each.path).base }) rest
     ] ≡ found_by_cases trees each path left
     by path None = shows path
     by path (Some rest) = acts rest
@@ -247,7 +246,7 @@ module _ (old new : Trees) (each : Record NameId ValueId) (id : NodeId) (trees :
         | inr past ↦
             let inside = slice_get_within (old.roots.items ++ id ∷ []) index root at in
             let last : index ≡ length old.roots.items = omega (arith, past, inside, length_push old.roots.items id) in
-            let is : id ≡ root = same_Some id root (sym (slice_get_last old.roots.items id index last) ∙ at) in
+            let is : id ≡ root = same_Some id root (sym (slice_get-last old.roots.items id index last) ∙ at) in
             subst (IsRootAt new (new.start + index + 1)) is (last_root (new.start + index + 1) (omega (arith, start, last, trees.roots)))
       ]
 

@@ -12,30 +12,30 @@ use Rattle.block_map.specs.Trees.{ShowsPath, look_in_trees}
 use Rattle.block_map.specs.Look as found
 use Rattle.block_map.specs.Look.{from_beginning, resolved, looks_of}
 use Rattle.block_map.specs.Node.{absent_node, no_children, node_at_location, node_of_kind}
-use Rattle.block_map.specs.Trie.{LookOfNumbers, TrieValue, as_at, found_below, inside}
+use Rattle.block_map.specs.Trie.{LookOfNumbers, TrieValue, as_at, found_below, base_look}
 use Rattle.block_map.specs.declared.trees.Trees.{Trees}
-use Rattle.block_map.specs.declared.node.Here.{Here}
-use Rattle.block_map.specs.declared.node.Region.{Region}
-use Rattle.block_map.specs.declared.part.NodeId.{NodeId}
-use Rattle.block_map.specs.declared.location.LocationId.{LocationId}
+use Rattle.block_map.specs.declared.trie.node.OwnEntry.{OwnEntry}
+use Rattle.block_map.specs.declared.trie.node.Base.{Base}
+use Rattle.block_map.specs.declared.trie.node.NodeId.{NodeId}
+use Rattle.block_map.specs.declared.trie.location.LocationId.{LocationId}
 use Rattle.block_map.proofs.GrownTries.{found_within-zero}
 use Rattle.block_map.proofs.Standings.{look_at_first}
 
 -- ---- nodes without children
 
--- where there is no node everything is found as around it
-pub found_below-none : (trie : TrieValue) (outside : LookOfNumbers) (path : List NameId) → found_below trie (record { node = None; outside = outside }) path ≡ outside path
-found_below-none trie outside [] = refl
-found_below-none trie outside (name ∷ path) = found_below-none trie (λ rest. outside (name ∷ rest)) path
+-- where there is no node everything is found as in the base
+pub found_below-none : (trie : TrieValue) (over : LookOfNumbers) (path : List NameId) → found_below trie (record { node = None; base = over }) path ≡ over path
+found_below-none trie over [] = refl
+found_below-none trie over (name ∷ path) = found_below-none trie (λ rest. over (name ∷ rest)) path
 
--- below a node without children everything is found as in its region
-pub found_below-childless : (trie : TrieValue) (here : Here) (region : Region) (outside : LookOfNumbers) (name : NameId) (path : List NameId)
-    → found_below trie (record { node = Some (record { here = here; region = region; children = no_children }); outside = outside }) (name ∷ path)
-    ≡ inside trie region outside (name ∷ path)
-found_below-childless trie here region outside name path =
-    ap (λ child. found_below trie (record { node = child; outside = λ rest. inside trie region outside (name ∷ rest) }) path)
-    (ap (option_and_then (λ (id : NodeId). slice_get trie.nodes id.0)) (found_within-zero trie.parts 0 name.0))
-    ∙ found_below-none trie (λ rest. inside trie region outside (name ∷ rest)) path
+-- below a node without children everything is found as in its base
+pub found_below-childless : (trie : TrieValue) (own : OwnEntry) (base : Base) (over : LookOfNumbers) (name : NameId) (path : List NameId)
+    → found_below trie (record { node = Some (record { own = own; base = base; children = no_children }); base = over }) (name ∷ path)
+    ≡ base_look trie base over (name ∷ path)
+found_below-childless trie own base over name path =
+    ap (λ child. found_below trie (record { node = child; base = λ rest. base_look trie base over (name ∷ rest) }) path)
+    (ap (option_and_then (λ (id : NodeId). slice_get trie.nodes id.0)) (found_within-zero trie.child_maps 0 name.0))
+    ∙ found_below-none trie (λ rest. base_look trie base over (name ∷ rest)) path
 
 -- ---- before the trees
 
@@ -57,38 +57,33 @@ look_in_trees-later trees tick path later before = look_in_trees-before trees ti
 
 -- then the root is there
 pub ShowsPath-root : (trees : Trees) (tick : ℕ) → trees.start ≡ 0 → tick ≤ trees.start → ShowsPath trees tick [] (node_of_kind Dir None)
-ShowsPath-root trees tick zero_is before = λ outside rest. by outside rest
+ShowsPath-root trees tick zero_is before = λ over rest. by over rest
   where
-    by : (outside : LookOfNumbers) (rest : List NameId)
-        → found_below trees.trie (record { node = Some (node_of_kind Dir None); outside = outside }) rest ≡ look_in_trees trees tick rest
-    by outside [] = sym (look_in_trees-beginning trees tick [] zero_is before)
-    by outside (name ∷ rest) =
-        found_below-childless trees.trie (node_of_kind Dir None).here (node_of_kind Dir None).region outside name rest
+    by : (over : LookOfNumbers) (rest : List NameId)
+        → found_below trees.trie (record { node = Some (node_of_kind Dir None); base = over }) rest ≡ look_in_trees trees tick rest
+    by over [] = sym (look_in_trees-beginning trees tick [] zero_is before)
+    by over (name ∷ rest) =
+        found_below-childless trees.trie (node_of_kind Dir None).own (node_of_kind Dir None).base over name rest
         ∙ sym (look_in_trees-beginning trees tick (name ∷ rest) zero_is before)
 
 -- and nothing else
 pub ShowsPath-absent : (trees : Trees) (tick : ℕ) (name : NameId) (path : List NameId) → trees.start ≡ 0 → tick ≤ trees.start → ShowsPath trees tick (name ∷ path) absent_node
-ShowsPath-absent trees tick name path zero_is before = λ outside rest. by outside rest
+ShowsPath-absent trees tick name path zero_is before = λ over rest. by over rest
   where
-    by : (outside : LookOfNumbers) (rest : List NameId)
-        → found_below trees.trie (record { node = Some absent_node; outside = outside }) rest ≡ look_in_trees trees tick (name ∷ path ++ rest)
-    by outside [] = sym (look_in_trees-beginning trees tick (name ∷ path ++ []) zero_is before)
-    by outside (next ∷ rest) =
-        found_below-childless trees.trie absent_node.here absent_node.region outside next rest
+    by : (over : LookOfNumbers) (rest : List NameId)
+        → found_below trees.trie (record { node = Some absent_node; base = over }) rest ≡ look_in_trees trees tick (name ∷ path ++ rest)
+    by over [] = sym (look_in_trees-beginning trees tick (name ∷ path ++ []) zero_is before)
+    by over (next ∷ rest) =
+        found_below-childless trees.trie absent_node.own absent_node.base over next rest
         ∙ sym (look_in_trees-beginning trees tick (name ∷ path ++ next ∷ rest) zero_is before)
 
 -- a node at a location shows what stood there
 pub ShowsPath-location : (trees : Trees) (tick : ℕ) (path : List NameId) (id : LocationId) → trees.start ≢ 0 → tick ≤ trees.start
     → slice_get trees.trie.locations id.0 ≡ Some (record { path = path; tick = tick }) → ShowsPath trees tick path (node_at_location id)
-ShowsPath-location trees tick path id later before kept = λ outside rest. by outside rest ∙ sym (look_in_trees-later trees tick (path ++ rest) later before)
+ShowsPath-location trees tick path id later before kept = λ over rest. by over rest ∙ sym (look_in_trees-later trees tick (path ++ rest) later before)
   where
-    by : (outside : LookOfNumbers) (rest : List NameId)
-        → found_below trees.trie (record { node = Some (node_at_location id); outside = outside }) rest ≡ found.at (path ++ rest) tick
-    by outside [] = ap (λ location. as_at location []) kept
-    by outside (name ∷ rest) =
-        found_below-childless trees.trie (node_at_location id).here (node_at_location id).region outside name rest ∙ ap (λ location. as_at location (name ∷ rest)) kept
-
--- the last location
-pub slice_get_last : {X : Type 0} (xs : List X) (x : X) (i : ℕ) → i ≡ length xs → slice_get (xs ++ x ∷ []) i ≡ Some x
-slice_get_last xs x i last =
-    slice_get-get_or (xs ++ x ∷ []) i x (omega (arith, last, length-append xs (x ∷ []))) ∙ ap Some (get_or_at xs x [] x i (sym last))
+    by : (over : LookOfNumbers) (rest : List NameId)
+        → found_below trees.trie (record { node = Some (node_at_location id); base = over }) rest ≡ found.at (path ++ rest) tick
+    by over [] = ap (λ location. as_at location []) kept
+    by over (name ∷ rest) =
+        found_below-childless trees.trie (node_at_location id).own (node_at_location id).base over name rest ∙ ap (λ location. as_at location (name ∷ rest)) kept

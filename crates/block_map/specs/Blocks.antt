@@ -11,14 +11,14 @@ use Rattle.block_map.specs.Trees.{AreMapTrees, end_of_trees}
 use Rattle.block_map.specs.declared.trees.Trees.{Trees}
 
 -- the trees of each block, which maps share
-abbrev pub trees_of : List (Arc Trees Global) → List Trees
-trees_of blocks = map arc_value blocks
+abbrev pub block_trees : List (Arc Trees Global) → List Trees
+block_trees blocks = map arc_value blocks
 
-abbrev pub records_of : List Trees → List (Record NameId ValueId)
-records_of blocks = flat_map (λ block. block.records.records) blocks
+abbrev pub block_records : List Trees → List (Record NameId ValueId)
+block_records blocks = flat_map (λ block. block.records.records) blocks
 
-abbrev pub nodes_of : List Trees → ℕ
-nodes_of blocks = sum_by (λ block. length block.trie.nodes) blocks
+abbrev pub block_nodes : List Trees → ℕ
+block_nodes blocks = sum_by (λ block. length block.trie.nodes) blocks
 
 -- each block begins where the one before it ends, and has some records and few nodes
 abbrev pub AreBlocksFrom : ℕ → List Trees → Type 0

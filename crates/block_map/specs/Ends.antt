@@ -18,7 +18,7 @@ ends_of counts = map (end_of counts) (range_with_len 0 (length counts))
 abbrev pub ends_view : List Sum → List ℕ
 ends_view sums = map (λ each. each.0) sums
 
--- the same with the tick at which the source of a copy stands, in place of its revision
+-- the action with the tick at which the source of a copy stands, in place of its revision
 abbrev pub action_at_tick : {C M : Type 0} → List ℕ → Action C M → Action C M
 action_at_tick ends delete = delete
 action_at_tick ends (change setting) = change setting

@@ -10,7 +10,7 @@ pub mod Looked
 pub mod LookThrough
 pub mod Map
 pub mod Node
-pub mod Parts
+pub mod ChildMaps
 pub mod Standing
 pub mod Trees
 pub mod Trie

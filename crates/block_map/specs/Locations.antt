@@ -1,9 +1,9 @@
 -- Locations that are kept without the path of the one above them.
 use Rattle.std.specs.Prelude.{◌≡◌, ℕ, ◌<◌, List, [], ◌∷◌, ◌++◌, Option, Some, None, IfSome, fold, option_map, slice_get}
 use Rattle.svn_path.specs.declared.names.NameId.{NameId}
-use Rattle.block_map.specs.declared.location.Location.{Location}
-use Rattle.block_map.specs.declared.location.LocationId.{LocationId}
-use Rattle.block_map.specs.declared.stored_location.StoredLocation.{StoredLocation}
+use Rattle.block_map.specs.declared.trie.location.Location.{Location}
+use Rattle.block_map.specs.declared.trie.location.LocationId.{LocationId}
+use Rattle.block_map.specs.declared.trie.stored_location.StoredLocation.{StoredLocation}
 
 -- the path of a location, if there is one
 abbrev pub path_at : Option Location → List NameId

@@ -11,12 +11,12 @@ use Rattle.svn_dump.specs.declared.kind.Kind.TheVariants.{Dir}
 pub data Found (C M : Type 0) : Type 0 where
   -- what stood at the path at the tick, which is not after the block's first one
   at : List C → ℕ → Found C M
-  -- the same with other mergeinfo
+  -- what stood at the path at the tick, with this mergeinfo
   at_with : List C → ℕ → Option M → Found C M
   is : Kind → Option M → Found C M
   absent : Found C M
 
--- the same with this mergeinfo, if something stands there
+-- what was found, with this mergeinfo if something stands there
 abbrev pub with_mergeinfo : {C M : Type 0} → Option M → Found C M → Found C M
 with_mergeinfo mergeinfo (at path tick) = at_with path tick mergeinfo
 with_mergeinfo mergeinfo (at_with path tick old) = at_with path tick mergeinfo

@@ -3,40 +3,40 @@ use Rattle.std.specs.Prelude.{Option}
 use Rattle.svn_dump.specs.History.{Setting, keep, put}
 use Rattle.svn_dump.specs.declared.kind.Kind.{Kind}
 use Rattle.svn_dump.specs.declared.record.ValueId.{ValueId}
-use Rattle.block_map.specs.declared.node.Here.{Here}
-use Rattle.block_map.specs.declared.node.Here.TheVariants as here
-use Rattle.block_map.specs.declared.node.Node.{Node}
-use Rattle.block_map.specs.declared.node.Region.TheVariants as region
-use Rattle.block_map.specs.declared.part.PartId.{PartId}
-use Rattle.block_map.specs.declared.location.LocationId.{LocationId}
+use Rattle.block_map.specs.declared.trie.node.OwnEntry.{OwnEntry}
+use Rattle.block_map.specs.declared.trie.node.OwnEntry.TheVariants as own
+use Rattle.block_map.specs.declared.trie.node.Node.{Node}
+use Rattle.block_map.specs.declared.trie.node.Base.TheVariants as base
+use Rattle.block_map.specs.declared.trie.child_map.ChildMapId.{ChildMapId}
+use Rattle.block_map.specs.declared.trie.location.LocationId.{LocationId}
 
-abbrev pub no_children : PartId
+abbrev pub no_children : ChildMapId
 no_children = record { 0 = 0 }
 
--- nothing is known of it but by its region
+-- nothing is known of it but by its base
 abbrev pub untouched : Node
-untouched = record { here = here.Unchanged; region = region.Above; children = no_children }
+untouched = record { own = own.AsBase; base = base.OfParent; children = no_children }
 
 abbrev pub absent_node : Node
-absent_node = record { here = here.Absent; region = region.Nothing; children = no_children }
+absent_node = record { own = own.Absent; base = base.Nothing; children = no_children }
 
 abbrev pub node_of_kind : Kind → Option ValueId → Node
-node_of_kind kind mi = record { here = here.Is kind mi; region = region.Nothing; children = no_children }
+node_of_kind kind mi = record { own = own.Is kind mi; base = base.Nothing; children = no_children }
 
 abbrev pub node_at_location : LocationId → Node
-node_at_location id = record { here = here.Unchanged; region = region.At id; children = no_children }
+node_at_location id = record { own = own.AsBase; base = base.At id; children = no_children }
 
--- what stands at the node with other mergeinfo, if anything stands there
-abbrev pub here_with_mergeinfo : Option ValueId → Here → Here
-here_with_mergeinfo mi here.Unchanged = here.WithMergeinfo mi
-here_with_mergeinfo mi (here.WithMergeinfo old) = here.WithMergeinfo mi
-here_with_mergeinfo mi (here.Is kind old) = here.Is kind mi
-here_with_mergeinfo mi here.Absent = here.Absent
+-- what stands at the node with this mergeinfo, if anything stands there
+abbrev pub own_with_mergeinfo : Option ValueId → OwnEntry → OwnEntry
+own_with_mergeinfo mi own.AsBase = own.BaseWithMergeinfo mi
+own_with_mergeinfo mi (own.BaseWithMergeinfo old) = own.BaseWithMergeinfo mi
+own_with_mergeinfo mi (own.Is kind old) = own.Is kind mi
+own_with_mergeinfo mi own.Absent = own.Absent
 
 abbrev pub node_with_mergeinfo : Option ValueId → Node → Node
-node_with_mergeinfo mi node = record node { here = here_with_mergeinfo mi node.here }
+node_with_mergeinfo mi node = record node { own = own_with_mergeinfo mi node.own }
 
--- the same with the mergeinfo that a record leaves
-abbrev pub node_settled : Setting ValueId → Node → Node
-node_settled keep node = node
-node_settled (put mi) node = node_with_mergeinfo mi node
+-- the node with the mergeinfo that a record leaves
+abbrev pub node_with_setting : Setting ValueId → Node → Node
+node_with_setting keep node = node
+node_with_setting (put mi) node = node_with_mergeinfo mi node

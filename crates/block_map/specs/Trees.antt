@@ -12,8 +12,8 @@ use Rattle.block_map.specs.Look.{Found, found_after_action, resolved, look, look
 use Rattle.block_map.specs.LookThrough.{look_through}
 use Rattle.block_map.specs.Trie.{ExtendsTrie, IsNodeOf, IsSound, LookOfNumbers, at_path, at_root, found_below}
 use Rattle.block_map.specs.declared.trees.Trees.{Trees}
-use Rattle.block_map.specs.declared.node.Node.{Node}
-use Rattle.block_map.specs.declared.part.NodeId.{NodeId}
+use Rattle.block_map.specs.declared.trie.node.Node.{Node}
+use Rattle.block_map.specs.declared.trie.node.NodeId.{NodeId}
 
 -- the tick after the last record
 abbrev pub end_of_trees : Trees → ℕ
@@ -50,7 +50,7 @@ pub record AreMapTrees (trees : Trees) : Type 0 where
   pub few : length trees.trie.nodes ≤ most_nodes (length trees.records.records)
   pub nodes : length trees.trie.nodes ≤ nodes_for trees.records.records
 
--- the same records, with nodes, parts and locations added
+-- the same records, with nodes, maps and locations added
 pub record SameTrees (old new : Trees) : Type 0 where
   pub start : new.start ≡ old.start
   pub roots : new.roots.items ≡ old.roots.items
@@ -58,10 +58,10 @@ pub record SameTrees (old new : Trees) : Type 0 where
   pub trie : ExtendsTrie old.trie new.trie
   pub sound : IsSound new.trie
 
--- outside all others the node shows what stood at a path and below it at a tick
+-- over any base the node shows what stood at a path and below it at a tick
 abbrev pub ShowsPath : Trees → ℕ → List NameId → Node → Type 0
-ShowsPath trees tick path node = (outside : LookOfNumbers) (rest : List NameId) →
-    found_below trees.trie (record { node = Some node; outside = outside }) rest ≡ look_in_trees trees tick (path ++ rest)
+ShowsPath trees tick path node = (over : LookOfNumbers) (rest : List NameId) →
+    found_below trees.trie (record { node = Some node; base = over }) rest ≡ look_in_trees trees tick (path ++ rest)
 
 -- what an action leaves at a path and below it
 abbrev pub look_after_action : Trees → List NameId → Action NameId ValueId → LookOfNumbers
@@ -72,7 +72,7 @@ look_after_action trees path action rest =
 -- the node shows that at the path below a root
 abbrev pub ShowsAction : Trees → Node → List NameId → Action NameId ValueId → Node → Type 0
 ShowsAction trees root path action node = (rest : List NameId) →
-    found_below trees.trie (record { node = Some node; outside = (at_path trees.trie (at_root root) path).outside }) rest
+    found_below trees.trie (record { node = Some node; base = (at_path trees.trie (at_root root) path).base }) rest
     ≡ look_after_action trees path action rest
 
 -- the node that an action puts; or it puts none, and leaves what is there

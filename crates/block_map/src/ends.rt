@@ -1,4 +1,3 @@
-//! Where the revisions of a history end.
 ghost use Rattle.std.specs.Prelude.{◌≡◌, ◌^◌, ◌<◌, All, length, slice_index_or};
 ghost use Rattle.block_map.specs.Ends.{ends_view};
 

@@ -1,5 +1,3 @@
-//! What stands at a path.
-
 use svn_dump::{Kind, ValueId};
 
 /// A file or a directory of a tree, and its mergeinfo.

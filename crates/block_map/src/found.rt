@@ -1,4 +1,3 @@
-//! What a map says of a path.
 ghost use Rattle.std.specs.Prelude.{◌≡◌, option_map};
 ghost use Rattle.block_map.specs.Look.{at_with, from_beginning, with_mergeinfo as changed};
 ghost use Rattle.block_map.specs.Map.{found_view};
@@ -11,12 +10,12 @@ use svn_path::Path;
 /// What the records of a map say of a path.
 #[derive(Drop)]
 pub enum Found {
-    /// The same as at this path after so many records of the history, none of which are the map's.
+    /// What stood at this path after so many records of the history, none of which are the map's.
     At {
         path: Path,
         tick: u32,
     },
-    /// The same, with other mergeinfo.
+    /// What stood at this path after so many records, with this mergeinfo.
     AtWith {
         path: Path,
         tick: u32,
@@ -32,7 +31,7 @@ pub enum Found {
 }
 
 impl Found {
-    /// The same with this mergeinfo, if something stands there.
+    /// What was found, with this mergeinfo if something stands there.
     pub(crate) fn with_mergeinfo(self, mi: Option<ValueId>) -> Found
         ensures { found_view result ≡ changed mi (found_view self) }
     {
@@ -58,7 +57,7 @@ impl Found {
         }
     }
 
-    /// The same where a history begins. Before its first record the root alone is there, a directory.
+    /// What was found, by a history of no earlier records. Before the first one the root alone is there, a directory.
     pub(crate) fn from_beginning(self) -> Found
         ensures { found_view result ≡ from_beginning (found_view self) }
     {

@@ -1,4 +1,3 @@
-//! The records of a map, for contracts alone.
 ghost use Rattle.std.specs.Prelude.{◌≡◌, ◌++◌, ◌∷◌, []};
 ghost use Rattle.svn_dump.specs.Dump.{record_view};
 ghost use Rattle.block_map.specs.Ends.{record_at_tick};

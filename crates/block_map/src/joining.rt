@@ -1,6 +1,6 @@
 //! Joining the maps of neighbouring parts of a history.
 ghost use Rattle.std.specs.Prelude.{◌≡◌, ◌++◌, OnOk};
-ghost use Rattle.block_map.specs.Blocks.{trees_of};
+ghost use Rattle.block_map.specs.Blocks.{block_trees};
 
 use crate::map::Map;
 use crate::trees::Trees;
@@ -73,7 +73,7 @@ impl Acts for Map {
 
 /// Appends these blocks, which both lists then share.
 fn share(shared: &mut Vec<Arc<Trees>>, blocks: &[Arc<Trees>]) -> Result<(), AllocError>
-    ensures { OnOk result (trees_of shared.new.items ≡ trees_of shared.old.items ++ trees_of blocks.now) }
+    ensures { OnOk result (block_trees shared.new.items ≡ block_trees shared.old.items ++ block_trees blocks.now) }
 {
     for block in blocks {
         shared.push(Arc::try_clone(block)?)?;

@@ -1,4 +1,10 @@
 //! What stands at each path after each record of a history, in a map that shares what revisions have in common.
+//!
+//! ```
+//! let ends = revision_ends(alloc, dump)?;
+//! let map = Map::build(alloc, dump.records(), 0, &ends)?;
+//! let entry = map.entry(map.hi(), path)?;
+//! ```
 #![tactic(auto)]
 
 mod ends;
@@ -8,17 +14,9 @@ mod faults;
 mod found;
 mod ghost_records;
 mod joining;
-mod location;
-mod locations;
 mod looked;
 mod map;
 mod nearest;
-mod node;
-mod numbers;
-mod part;
-mod parts;
-mod position;
-mod stored_location;
 mod trees;
 mod trie;
 

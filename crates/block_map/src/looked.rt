@@ -1,4 +1,3 @@
-//! What a block says of a path.
 ghost use Rattle.std.specs.Prelude.{◌≡◌};
 ghost use Rattle.block_map.specs.Looked.{looked_view};
 ghost use Rattle.block_map.specs.Map.{found_view};
@@ -9,7 +8,7 @@ use svn_path::Path;
 /// What a block says of a path, which is not copied where it is the path of a location, too.
 #[derive(Drop)]
 pub(crate) enum Looked {
-    /// The same as at this path after so many records of the history, none of which is the block's.
+    /// What stood at this path after so many records of the history, none of which is the block's.
     SamePath(u32),
     Other(Found),
 }

@@ -1,10 +1,9 @@
-//! A map of the paths of a history.
 ghost use Rattle.std.specs.Prelude.{◌≡◌, ℕ, ◌+◌, ◌^◌, ◌<◌, ◌≤◌, ◌++◌, All, List, length, option_and_then, option_map, IfOk};
 ghost use Rattle.svn_dump.specs.Dump.{DumpValue, IsDump};
 ghost use Rattle.svn_dump.specs.Record.{most_components};
 ghost use Rattle.svn_dump.specs.declared.record.NodeRecord.{NodeRecord};
 ghost use Rattle.svn_path.specs.Path.{same_name};
-ghost use Rattle.block_map.specs.Blocks.{AreBlocksBefore, AreBlocksFrom, nodes_of, records_of, trees_of};
+ghost use Rattle.block_map.specs.Blocks.{AreBlocksBefore, AreBlocksFrom, block_nodes, block_records, block_trees};
 ghost use Rattle.block_map.specs.Ends.{HaveSources, ends_of};
 ghost use Rattle.block_map.specs.Look.{IsFoundAtOrBefore, at, from_beginning, look, resolved};
 ghost use Rattle.block_map.specs.LookThrough.{IsFoundUpTo, look_through as looked_through};
@@ -33,18 +32,18 @@ pub struct Map {
 }
 
 impl Model for Map {
-    ghost use Rattle.block_map.specs.Blocks.{AreBlocksFrom, nodes_of, records_of, trees_of};
+    ghost use Rattle.block_map.specs.Blocks.{AreBlocksFrom, block_nodes, block_records, block_trees};
     ghost use Rattle.block_map.specs.Map.{MapValue};
 
     ghost Value = { MapValue };
 
     ghost view = { λ m. record {
       lo = m.lo;
-      records = records_of (trees_of m.blocks.items);
-      nodes = nodes_of (trees_of m.blocks.items);
+      records = block_records (block_trees m.blocks.items);
+      nodes = block_nodes (block_trees m.blocks.items);
     } };
 
-    ghost invariant = { λ m. AreBlocksFrom m.lo (trees_of m.blocks.items) };
+    ghost invariant = { λ m. AreBlocksFrom m.lo (block_trees m.blocks.items) };
 }
 
 impl Map {
@@ -189,7 +188,7 @@ impl Map {
         self.standing_and_nearest(tick, path.parts())
     }
 
-    /// The same of a path of these components.
+    /// What stands at a path of these components, and the nearest mergeinfo of it.
     fn standing_and_nearest(
         &self,
         tick: u32,
@@ -269,8 +268,8 @@ fn trees_after(
 
 /// How many nodes these blocks keep.
 fn count_nodes(blocks: &[Arc<Trees>]) -> u64
-    requires { (lo : ℕ) × AreBlocksFrom lo (trees_of blocks.now) }
-    ensures { result ≡ nodes_of (trees_of blocks.now) }
+    requires { (lo : ℕ) × AreBlocksFrom lo (block_trees blocks.now) }
+    ensures { result ≡ block_nodes (block_trees blocks.now) }
 {
     let mut nodes = 0;
     for block in blocks {
@@ -281,8 +280,8 @@ fn count_nodes(blocks: &[Arc<Trees>]) -> u64
 
 /// Those of these blocks that begin before a tick.
 fn blocks_before(blocks: &[Arc<Trees>], tick: u32) -> &[Arc<Trees>]
-    requires { (lo : ℕ) × AreBlocksFrom lo (trees_of blocks.now) }
-    ensures { AreBlocksBefore tick (trees_of blocks.now) (trees_of result.now) }
+    requires { (lo : ℕ) × AreBlocksFrom lo (block_trees blocks.now) }
+    ensures { AreBlocksBefore tick (block_trees blocks.now) (block_trees result.now) }
 {
     let count = blocks.partition_point(|block| block.start < tick);
     &blocks[..count]
@@ -328,10 +327,10 @@ fn look_in_blocks(
     tick: u32,
     path: &[NameId],
 ) -> Result<Looked, AllocError>
-    requires in_order { AreBlocksFrom lo (trees_of blocks.now) }
-    requires within { tick ≤ lo + length (records_of (trees_of blocks.now)) }
+    requires in_order { AreBlocksFrom lo (block_trees blocks.now) }
+    requires within { tick ≤ lo + length (block_records (block_trees blocks.now)) }
     ensures { IfOk result (λ looked. resolved lo (looked_view path.now looked)
-        ≡ resolved lo (look same_name lo (records_of (trees_of blocks.now)) tick path.now)) }
+        ≡ resolved lo (look same_name lo (block_records (block_trees blocks.now)) tick path.now)) }
 {
     look_through(
         blocks_before(blocks, tick),
@@ -349,10 +348,10 @@ fn look_through(
     looked: Looked,
     path: &[NameId],
 ) -> Result<Looked, AllocError>
-    requires in_order { AreBlocksFrom lo (trees_of blocks.now) }
-    requires within { IsFoundUpTo (lo + length (records_of (trees_of blocks.now))) (looked_view path.now looked) }
+    requires in_order { AreBlocksFrom lo (block_trees blocks.now) }
+    requires within { IsFoundUpTo (lo + length (block_records (block_trees blocks.now))) (looked_view path.now looked) }
     ensures { IfOk result (λ after. resolved lo (looked_view path.now after)
-        ≡ resolved lo (looked_through same_name lo (records_of (trees_of blocks.now)) (looked_view path.now looked))) }
+        ≡ resolved lo (looked_through same_name lo (block_records (block_trees blocks.now)) (looked_view path.now looked))) }
 {
     let mut looked = looked;
     let mut left = blocks;

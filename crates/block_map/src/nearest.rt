@@ -1,5 +1,3 @@
-//! Where mergeinfo was found.
-
 use svn_dump::ValueId;
 
 /// The nearest mergeinfo of a path: that of its first `depth` components.

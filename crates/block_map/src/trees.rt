@@ -1,4 +1,3 @@
-//! The trees after each of some records.
 ghost use Rattle.std.specs.Prelude.{◌≡◌, ◌+◌, ◌^◌, ◌<◌, ◌≤◌, ◌++◌, ◌∷◌, [], length, IfOk, OnOk};
 ghost use Rattle.std.specs.Prelude.{None};
 ghost use Rattle.svn_dump.specs.Dump.{record_view, setting_view};
@@ -18,9 +17,7 @@ use crate::found::Found;
 use crate::ghost_records::GhostRecords;
 use crate::looked::Looked;
 use crate::nearest::Nearest;
-use crate::node::Node;
-use crate::part::NodeId;
-use crate::trie::Trie;
+use crate::trie::{Node, NodeId, Trie};
 use std::alloc::{AllocError, Global};
 use svn_dump::{Act, Kind, Mi, NodeRecord, ValueId};
 use svn_path::{NameId, Path};
@@ -113,13 +110,13 @@ impl Trees {
         ensures shows { IfOk result (ShowsTick self.new (end_of_trees self.new)) }
     {
         if self.roots.is_empty() {
-            return self.outside(&[], self.start);
+            return self.node_before(&[], self.start);
         }
         Ok(self.root(self.start + self.roots.len() as u32))
     }
 
-    /// The node of what stood at a path at a tick that is not after `start`.
-    fn outside(&mut self, path: &[NameId], tick: u32) -> Result<Node, AllocError>
+    /// The node of what stood at a path before the records, at a tick that is not after `start`.
+    fn node_before(&mut self, path: &[NameId], tick: u32) -> Result<Node, AllocError>
         requires trees { AreTrees self.old }
         requires before { tick ≤ self.old.start }
         ensures same { OnOk result (SameTrees self.old self.new) }
@@ -149,7 +146,7 @@ impl Trees {
         ensures shows { IfOk result (ShowsPath self.new tick path.now) }
     {
         if tick <= self.start {
-            return self.outside(path, tick);
+            return self.node_before(path, tick);
         }
         let root = self.root(tick);
         let position = self.trie.find(root, path);
@@ -184,7 +181,7 @@ impl Trees {
     {
         match &each.act {
             Act::Delete => Ok(Some(Node::absent())),
-            Act::Add { kind, mi, .. } => Ok(Some(Node::is(*kind, given(*mi)))),
+            Act::Add { kind, mi, .. } => Ok(Some(Node::is(*kind, mergeinfo_of_addition(*mi)))),
             Act::Change { mi } => match mi {
                 Mi::Keep => Ok(None),
                 Mi::Put(mi) => {
@@ -276,8 +273,8 @@ impl Trees {
     }
 }
 
-/// The mergeinfo of an addition.
-fn given(mi: Mi) -> Option<ValueId>
+/// The mergeinfo that an addition leaves.
+fn mergeinfo_of_addition(mi: Mi) -> Option<ValueId>
     ensures { result ≡ mergeinfo_after (setting_view mi) None }
 {
     match mi {

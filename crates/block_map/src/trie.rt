@@ -1,22 +1,32 @@
-//! The nodes of a map, which trees share.
 ghost use Rattle.std.specs.Prelude.{◌≡◌, ◌+◌, ◌<◌, ◌++◌, ◌∷◌, [], Some, IfOk, IfSome, OnOk, length, option_map, slice_get};
 ghost use Rattle.block_map.specs.Look.{with_mergeinfo as changed};
 ghost use Rattle.block_map.specs.Looked.{looked_view};
 ghost use Rattle.block_map.specs.Map.{AreEntryAndNearest, found_view, nearest_view};
 ghost use Rattle.block_map.specs.Standing.{entry_view, mergeinfo_of, standing_of};
-ghost use Rattle.block_map.specs.Trie.{HasLocation, IsAroundOf, IsRegionAround, IsCopiedNode, ExtendsTrie, IsNodeOf, IsLocationAround, IsPositionOf, IsSound, PutsNode, around_view, as_at, child_at, child_of, found_at, found_here, position_view, standing_below};
+ghost use Rattle.block_map.specs.Trie.{ExtendsTrie, HasLocation, IsBaseOfPath, IsCopiedNode, IsLocationOfPath, IsNodeOf, IsPathBaseOf, IsPositionOf, IsSound, PutsNode};
+ghost use Rattle.block_map.specs.Trie.{as_at, child_at, child_of, found_at, own_found, path_base_view, position_view, standing_below};
+
+mod child_map;
+mod child_maps;
+mod location;
+mod locations;
+mod node;
+mod numbers;
+mod position;
+mod stored_location;
+
+pub(crate) use node::{Node, NodeId};
 
 use crate::entry::Entry;
 use crate::found::Found;
-use crate::location::{Location, LocationId};
-use crate::locations::Locations;
 use crate::looked::Looked;
 use crate::nearest::Nearest;
-use crate::node::{Here, Node, Region};
-use crate::numbers::next_number;
-use crate::part::NodeId;
-use crate::parts::Parts;
-use crate::position::{Around, Position, inside};
+use child_maps::ChildMaps;
+use location::{Location, LocationId};
+use locations::Locations;
+use node::{Base, OwnEntry};
+use numbers::next_number;
+use position::{PathBase, Position, base_of_path};
 use std::alloc::{AllocError, Global};
 use std::marker::Model;
 use svn_dump::ValueId;
@@ -26,7 +36,7 @@ use svn_path::{NameId, Path};
 #[derive(Drop)]
 pub(crate) struct Trie {
     nodes: Vec<Node>,
-    parts: Parts,
+    child_maps: ChildMaps,
     locations: Locations,
 }
 
@@ -35,21 +45,21 @@ impl Model for Trie {
 
     ghost Value = { TrieValue };
 
-    ghost view = { λ t. record { nodes = t.nodes.items; parts = t.parts; locations = t.locations } };
+    ghost view = { λ t. record { nodes = t.nodes.items; child_maps = t.child_maps; locations = t.locations } };
 
     ghost invariant = { λ t.
-        IsSound (record { nodes = t.nodes.items; parts = t.parts; locations = t.locations }) };
+        IsSound (record { nodes = t.nodes.items; child_maps = t.child_maps; locations = t.locations }) };
 }
 
 impl Trie {
     /// No nodes. It takes no memory.
     pub(crate) fn new(alloc: Global) -> Self
-        ensures empty { result ≡ record { nodes = []; parts = []; locations = [] } }
+        ensures empty { result ≡ record { nodes = []; child_maps = []; locations = [] } }
         ensures sound { IsSound result }
     {
         Trie {
             nodes: Vec::new(alloc),
-            parts: Parts::new(alloc),
+            child_maps: ChildMaps::new(alloc),
             locations: Locations::new(alloc),
         }
     }
@@ -99,7 +109,7 @@ impl Trie {
         ensures sound { IfSome result (IsNodeOf self.now) }
         ensures trie { IsSound self.now }
     {
-        match self.parts.get(node.children, name) {
+        match self.child_maps.get(node.children, name) {
             Some(id) => self.nodes.get(id.0 as usize).copied(),
             None => None,
         }
@@ -140,7 +150,7 @@ impl Trie {
         ensures trie { IsSound self.old }
     {
         let id = self.push(child)?;
-        let children = self.parts.set(node.children, name, id)?;
+        let children = self.child_maps.set(node.children, name, id)?;
         Ok(Node { children, ..node })
     }
 
@@ -148,9 +158,9 @@ impl Trie {
     fn step(&self, position: Position, name: NameId, depth: usize) -> Position
         requires node { IfSome position.node (IsNodeOf self.now) }
         ensures node { IfSome result.node (IsNodeOf self.now) }
-        ensures around { (path : _) → length path ≡ depth → IsAroundOf self.now path position.around
-            → IsAroundOf self.now (path ++ name ∷ []) result.around }
-        ensures is { (path : _) → length path ≡ depth → IsAroundOf self.now path position.around
+        ensures base { (path : _) → length path ≡ depth → IsPathBaseOf self.now path position.base
+            → IsPathBaseOf self.now (path ++ name ∷ []) result.base }
+        ensures is { (path : _) → length path ≡ depth → IsPathBaseOf self.now path position.base
             → position_view self.now (path ++ name ∷ []) result
             ≡ child_at self.now (position_view self.now path position) name }
     {
@@ -159,7 +169,7 @@ impl Trie {
         };
         Position {
             node: self.child(node, name),
-            around: inside(node.region, position.around, depth),
+            base: base_of_path(node.base, position.base, depth),
         }
     }
 
@@ -170,7 +180,7 @@ impl Trie {
     {
         let mut position = Position {
             node: Some(root),
-            around: Around::Nothing,
+            base: PathBase::Nothing,
         };
         for (depth, name) in path.iter().enumerate() {
             position = self.step(position, *name, depth);
@@ -178,14 +188,14 @@ impl Trie {
         position
     }
 
-    /// The location around the end of a path, if there is one.
-    fn location(&self, around: Around, path: &[NameId]) -> Result<Option<Location>, AllocError>
-        requires { IsAroundOf self.now path.now around }
-        ensures location { IfOk result (IsLocationAround self.now path.now around) }
+    /// The location of a path in its base, if there is one.
+    fn location(&self, base: PathBase, path: &[NameId]) -> Result<Option<Location>, AllocError>
+        requires { IsPathBaseOf self.now path.now base }
+        ensures location { IfOk result (IsLocationOfPath self.now path.now base) }
         ensures sound { IsSound self.now }
     {
         let locations = &self.locations;
-        let Around::At { location, from } = around else {
+        let PathBase::At { location, from } = base else {
             return Ok(None);
         };
         let (_, rest) = path.split_at(from);
@@ -195,73 +205,77 @@ impl Trie {
     /// What is found at a position.
     pub(crate) fn found(&self, position: Position, path: &[NameId]) -> Result<Looked, AllocError>
         requires node { IfSome position.node (IsNodeOf self.now) }
-        requires around { IsAroundOf self.now path.now position.around }
+        requires base { IsPathBaseOf self.now path.now position.base }
         ensures { IfOk result (λ looked.
             looked_view path.now looked ≡ found_at self.now (position_view self.now path.now position)) }
     {
         let Some(node) = position.node else {
-            return self.found_around(position.around, path);
+            return self.found_in_base(position.base, path);
         };
-        let around = inside(node.region, position.around, path.len());
-        self.found_with(node.here, around, path)
+        let base = base_of_path(node.base, position.base, path.len());
+        self.found_with(node.own, base, path)
     }
 
-    /// What is found at the end of a path, by what a node says of what is found around it.
-    fn found_with(&self, here: Here, around: Around, path: &[NameId]) -> Result<Looked, AllocError>
-        requires { IsAroundOf self.now path.now around }
+    /// What is found at a path whose node says this over the base of the path.
+    fn found_with(
+        &self,
+        own: OwnEntry,
+        base: PathBase,
+        path: &[NameId],
+    ) -> Result<Looked, AllocError>
+        requires { IsPathBaseOf self.now path.now base }
         ensures { IfOk result (λ looked.
-            looked_view path.now looked ≡ found_here here (around_view self.now path.now around [])) }
+            looked_view path.now looked ≡ own_found own (path_base_view self.now path.now base [])) }
     {
-        let found = match here {
-            Here::Unchanged => return self.found_around(around, path),
-            Here::WithMergeinfo(mi) => with_mergeinfo(self.location(around, path)?, mi),
-            Here::Is { kind, mi } => Found::Is { kind, mi },
-            Here::Absent => Found::Absent,
+        let found = match own {
+            OwnEntry::AsBase => return self.found_in_base(base, path),
+            OwnEntry::BaseWithMergeinfo(mi) => with_mergeinfo(self.location(base, path)?, mi),
+            OwnEntry::Is { kind, mi } => Found::Is { kind, mi },
+            OwnEntry::Absent => Found::Absent,
         };
         Ok(Looked::Other(found))
     }
 
-    /// What is found around the end of a path. If the location around it is that of the root, and it is so from the root
-    /// on, that is what stood at the path itself, and no path is made.
-    fn found_around(&self, around: Around, path: &[NameId]) -> Result<Looked, AllocError>
-        requires { IsAroundOf self.now path.now around }
-        ensures { IfOk result (λ looked.
-            looked_view path.now looked ≡ around_view self.now path.now around []) }
+    /// What the base of a path has there. Where that is what stood at the path itself, since the base is a location of the
+    /// root for all components, no path is made.
+    fn found_in_base(&self, base: PathBase, path: &[NameId]) -> Result<Looked, AllocError>
+        requires { IsPathBaseOf self.now path.now base }
+        ensures { IfOk result (λ looked. looked_view path.now looked ≡ path_base_view self.now path.now base []) }
     {
         let locations = &self.locations;
-        if let Around::At { location, from: 0 } = around {
+        if let PathBase::At { location, from: 0 } = base {
             if let Some(tick) = locations.tick_at_root(location) {
                 return Ok(Looked::SamePath(tick));
             }
         }
-        Ok(Looked::Other(found_at_location(self.location(around, path)?)))
+        Ok(Looked::Other(found_at_location(self.location(base, path)?)))
     }
 
-    /// The region in which there is what is found around the end of a path. It may add a location.
-    fn region_of(&mut self, around: Around, path: &[NameId]) -> Result<Region, AllocError>
-        requires { IsAroundOf self.old path.now around }
+    /// The base of a node that has anywhere what the base of a path has there. It may add a location.
+    fn node_base(&mut self, base: PathBase, path: &[NameId]) -> Result<Base, AllocError>
+        requires { IsPathBaseOf self.old path.now base }
         ensures grown { OnOk result (ExtendsTrie self.old self.new) }
         ensures nodes { OnOk result (self.new.nodes ≡ self.old.nodes) }
         ensures location { IfOk result (HasLocation self.new) }
-        ensures exact { IfOk result (IsRegionAround self.old self.new path.now around) }
+        ensures exact { IfOk result (IsBaseOfPath self.old self.new path.now base) }
         ensures before { IsSound self.old }
         ensures after { IsSound self.new }
     {
         let locations = &mut self.locations;
-        let Around::At { location, from } = around else {
-            return Ok(Region::Nothing);
+        let PathBase::At { location, from } = base else {
+            return Ok(Base::Nothing);
         };
         let (_, rest) = path.split_at(from);
         if rest.is_empty() {
-            return Ok(Region::At(location));
+            return Ok(Base::At(location));
         }
-        Ok(Region::At(locations.push_below(location, rest)?))
+        Ok(Base::At(locations.push_below(location, rest)?))
     }
 
-    /// The node at a position, as it is outside all others. It may add a location.
+    /// A node that says anywhere what is found at a position and below it. It may add a location.
     pub(crate) fn copied(&mut self, position: Position, path: &[NameId]) -> Result<Node, AllocError>
         requires node { IfSome position.node (IsNodeOf self.old) }
-        requires around { IsAroundOf self.old path.now position.around }
+        requires base { IsPathBaseOf self.old path.now position.base }
         ensures grown { OnOk result (ExtendsTrie self.old self.new) }
         ensures nodes { OnOk result (self.new.nodes ≡ self.old.nodes) }
         ensures sound { IfOk result (IsNodeOf self.new) }
@@ -269,9 +283,9 @@ impl Trie {
         ensures after { OnOk result (IsSound self.new) }
     {
         let node = Node::or_untouched(position.node);
-        let around = inside(node.region, position.around, path.len());
-        let region = self.region_of(around, path)?;
-        Ok(Node { region, ..node })
+        let base = base_of_path(node.base, position.base, path.len());
+        let base = self.node_base(base, path)?;
+        Ok(Node { base, ..node })
     }
 
     /// What stands at a position, if it is known.
@@ -282,7 +296,7 @@ impl Trie {
         match position.node {
             Some(
                 Node {
-                    here: Here::Is { kind, mi },
+                    own: OwnEntry::Is { kind, mi },
                     ..
                 },
             ) => Some(Entry { kind, mi }),
@@ -302,7 +316,7 @@ impl Trie {
     {
         let mut position = Position {
             node: Some(root),
-            around: Around::Nothing,
+            base: PathBase::Nothing,
         };
         let mut nearest = self.mergeinfo(position, 0);
         for (depth, name) in path.iter().enumerate() {

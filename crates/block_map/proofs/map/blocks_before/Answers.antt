@@ -7,7 +7,7 @@ use Rattle.std.proofs.lemmas.Bool.{ltb-true, ltb-false}
 use Rattle.std.proofs.lemmas.List.{get_or-drop, get_or-take, map-append, take-append-drop}
 use Rattle.std.proofs.lemmas.List.Elements.{All-map}
 use Rattle.std.proofs.lemmas.List.Sorted.{IsPartitionedBy-ltb, IsPartitionPoint-from_clause}
-use Rattle.block_map.specs.Blocks.{trees_of}
+use Rattle.block_map.specs.Blocks.{block_trees}
 use Rattle.block_map.specs.declared.trees.Trees.{Trees}
 use Rattle.block_map.proofs.BlocksOfMaps.{starts-rise}
 use Rattle.block_map.proofs.map.blocks_before.Goals as goal
@@ -22,8 +22,8 @@ returns c =
     IsPartitionPoint-from_clause (λ each. ltb (start each) tick) blocks count c.partition_point-count.ensures.partitioned
     (IsPartitionedBy-ltb start blocks tick (starts-rise c.requires.0 blocks c.requires.1)) (λ a r f' k. search rules) in
     record {
-      more = trees_of (drop count blocks);
-      split = sym (ap trees_of (take-append-drop count blocks)) ∙ map-append arc_value (take count blocks) (drop count blocks);
+      more = block_trees (drop count blocks);
+      split = sym (ap block_trees (take-append-drop count blocks)) ∙ map-append arc_value (take count blocks) (drop count blocks);
       before = All-map (λ (block : Trees). block.start < tick) arc_value (take count blocks) (λ k d within.
           let below : k < count = omega (arith, within, length-take count blocks) in
           ltb-true (start (get_or (take count blocks) k d)) tick (ap (λ each. ltb (start each) tick) (get_or-take count blocks k d below) ∙ point.0 k d (omega arith) below));

@@ -1,7 +1,7 @@
 use Rattle.std.proofs.Common.{◌≡◌, ap, sym, subst, ◌∙◌}
 use Rattle.std.proofs.lemmas.Result.{IfOk-weaker}
 use Rattle.svn_path.specs.Path.{same_name}
-use Rattle.block_map.specs.Blocks.{AreBlocksFrom, records_of, trees_of}
+use Rattle.block_map.specs.Blocks.{AreBlocksFrom, block_records, block_trees}
 use Rattle.block_map.specs.Look.{at, look, resolved}
 use Rattle.block_map.specs.LookThrough.{look_through}
 use Rattle.block_map.specs.Looked.{looked_view}
@@ -12,24 +12,24 @@ use Rattle.block_map.proofs.map.look_in_blocks.Goals as goal
 pub look_through-requires-clause-in_order : goal.look_through-requires-clause-in_order
 look_through-requires-clause-in_order c =
     let before = c.blocks_before.ensures in
-    AreBlocksFrom-front c.args.lo (trees_of c.blocks_before.result.now) before.more (subst (AreBlocksFrom c.args.lo) before.split c.requires.in_order)
+    AreBlocksFrom-front c.args.lo (block_trees c.blocks_before.result.now) before.more (subst (AreBlocksFrom c.args.lo) before.split c.requires.in_order)
 
 pub look_through-requires-clause-within : goal.look_through-requires-clause-within
 look_through-requires-clause-within c =
-    end-front c.args.lo c.args.tick c.args.path.now (trees_of c.args.blocks.now) (trees_of c.blocks_before.result.now) c.requires.in_order c.blocks_before.ensures c.requires.within
+    end-front c.args.lo c.args.tick c.args.path.now (block_trees c.args.blocks.now) (block_trees c.blocks_before.result.now) c.requires.in_order c.blocks_before.ensures c.requires.within
 
 pub returns : goal.returns
 returns c =
     let lo = c.args.lo in
     let tick = c.args.tick in
     let path = c.args.path.now in
-    let all = trees_of c.args.blocks.now in
-    let front = trees_of c.blocks_before.result.now in
+    let all = block_trees c.args.blocks.now in
+    let front = block_trees c.blocks_before.result.now in
     let before = c.blocks_before.ensures in
-    let through = look_through same_name lo (records_of front) (at path tick) in
-    let whole = look same_name lo (records_of all) tick path in
+    let through = look_through same_name lo (block_records front) (at path tick) in
+    let whole = look same_name lo (block_records all) tick path in
     IfOk-weaker c.look_through.result (λ looked. resolved lo (looked_view path looked) ≡ resolved lo through) (λ looked. resolved lo (looked_view path looked) ≡ resolved lo whole)
     (λ looked is. is ∙ ap (resolved lo)
-    (look_from-within same_name lo (records_of front) tick path (end-front lo tick path all front c.requires.in_order before c.requires.within)
+    (look_from-within same_name lo (block_records front) tick path (end-front lo tick path all front c.requires.in_order before c.requires.within)
     ∙ sym (look-before lo tick path all front c.requires.in_order before c.requires.within)))
     c.look_through.ensures

@@ -1,6 +1,6 @@
 use Rattle.std.proofs.Common.{[], ◌∷◌, ap, sym, subst, ◌∙◌}
 use Rattle.svn_path.specs.Path.{same_name}
-use Rattle.block_map.specs.Blocks.{AreBlocksFrom, records_of, trees_of}
+use Rattle.block_map.specs.Blocks.{AreBlocksFrom, block_records, block_trees}
 use Rattle.block_map.specs.Look.{resolved}
 use Rattle.block_map.specs.LookThrough.{IsFoundUpTo, look_through}
 use Rattle.block_map.specs.Looked.{looked_view}
@@ -9,14 +9,14 @@ use Rattle.block_map.proofs.map.look_through.Goals as goal
 
 pub look_through-requires-clause-trees : goal.look_through-requires-clause-trees
 look_through-requires-clause-trees c =
-    let earlier = trees_of c.in-Some.earlier.now in
+    let earlier = block_trees c.in-Some.earlier.now in
     let block = c.deref.result.now in
     let split = trees-last c.loop-last.left.now c.in-Some.earlier.now c.in-Some.last.now block c.in-Some.ensures.cases.0 c.deref.ensures in
     (AreBlocksFrom-back c.args.lo earlier (block ∷ []) (subst (AreBlocksFrom c.args.lo) split c.loop-last.invariant.0)).2.is
 
 pub look_through-requires-clause-within : goal.look_through-requires-clause-within
 look_through-requires-clause-within c =
-    let earlier = trees_of c.in-Some.earlier.now in
+    let earlier = block_trees c.in-Some.earlier.now in
     let block = c.deref.result.now in
     let split = trees-last c.loop-last.left.now c.in-Some.earlier.now c.in-Some.last.now block c.in-Some.ensures.cases.0 c.deref.ensures in
     let end = ap (end_of_blocks c.args.lo) split ∙ sym (last-end c.args.lo earlier block (subst (AreBlocksFrom c.args.lo) split c.loop-last.invariant.0)) in
@@ -24,7 +24,7 @@ look_through-requires-clause-within c =
 
 pub loop-last-preserved : goal.loop-last-preserved
 loop-last-preserved c =
-    let earlier = trees_of c.in-Some.earlier.now in
+    let earlier = block_trees c.in-Some.earlier.now in
     let block = c.deref.result.now in
     let before = looked_view c.args.path.now c.loop-last.looked in
     let after = looked_view c.args.path.now c.in_ok-looked.looked in
@@ -34,6 +34,6 @@ loop-last-preserved c =
       subst (λ tick. IsFoundUpTo tick after) (last-start c.args.lo earlier block are) c.in_ok-looked.ensures.earlier,
       through-earlier c.args.lo earlier block after (look_through same_name block.start block.records.records before) are c.in_ok-looked.ensures.exact
           ∙ ap (resolved c.args.lo) (sym (through-last c.args.lo earlier block before are))
-          ∙ ap (λ blocks. resolved c.args.lo (look_through same_name c.args.lo (records_of blocks) before)) (sym split)
+          ∙ ap (λ blocks. resolved c.args.lo (look_through same_name c.args.lo (block_records blocks) before)) (sym split)
           ∙ c.loop-last.invariant.2,
     )

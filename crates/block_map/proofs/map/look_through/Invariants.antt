@@ -1,6 +1,6 @@
 use Rattle.std.proofs.Common.{◌≡◌, length}
 use Rattle.svn_path.specs.Path.{same_name}
-use Rattle.block_map.specs.Blocks.{AreBlocksFrom, records_of, trees_of}
+use Rattle.block_map.specs.Blocks.{AreBlocksFrom, block_records, block_trees}
 use Rattle.block_map.specs.Look.{resolved}
 use Rattle.block_map.specs.LookThrough.{IsFoundUpTo, look_through}
 use Rattle.block_map.specs.Looked.{looked_view}
@@ -10,10 +10,10 @@ use Rattle.block_map.proofs.map.look_through.Given as goal
 -- the blocks that are left say of what is said so far what all blocks say
 abbrev pub invariant-loop-last : goal.invariant-loop-last
 invariant-loop-last l =
-    AreBlocksFrom l.fn.lo (trees_of l.left)
-    × IsFoundUpTo (end_of_blocks l.fn.lo (trees_of l.left)) (looked_view l.fn.path l.looked)
-    × (resolved l.fn.lo (look_through same_name l.fn.lo (records_of (trees_of l.left)) (looked_view l.fn.path l.looked))
-    ≡ resolved l.fn.lo (look_through same_name l.fn.lo (records_of (trees_of l.fn.blocks)) (looked_view l.fn.path l.fn.looked)))
+    AreBlocksFrom l.fn.lo (block_trees l.left)
+    × IsFoundUpTo (end_of_blocks l.fn.lo (block_trees l.left)) (looked_view l.fn.path l.looked)
+    × (resolved l.fn.lo (look_through same_name l.fn.lo (block_records (block_trees l.left)) (looked_view l.fn.path l.looked))
+    ≡ resolved l.fn.lo (look_through same_name l.fn.lo (block_records (block_trees l.fn.blocks)) (looked_view l.fn.path l.fn.looked)))
 
 abbrev pub decreases-loop-last : goal.decreases-loop-last
 decreases-loop-last l = length l.left

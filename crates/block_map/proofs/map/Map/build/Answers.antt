@@ -1,13 +1,8 @@
 use Rattle.std.proofs.Common.{◌≡◌, ap, ◌∙◌}
-use Rattle.std.specs.Prelude.{Result, Ok, Err, IfOk}
 use Rattle.block_map.specs.Map.{IsMapOfFirstRecords, MapValue, records_at_ticks}
+use Rattle.block_map.proofs.ChildMapLookups.{IfOk-both}
 use Rattle.block_map.proofs.MapsOfDumps.{IsMapOfFirstRecords-built}
 use Rattle.block_map.proofs.map.Map.build.Goals as goal
-
--- what two clauses say together
-IfOk-both : {T E : Type 0} (r : Result T E) (P Q R : T → Type 0) → ((x : T) → P x → Q x → R x) → IfOk r P → IfOk r Q → IfOk r R
-IfOk-both (Ok x) P Q R both p q = both x p q
-IfOk-both (Err e) P Q R both p q = tt
 
 pub returns-clause-of_first : goal.returns-clause-of_first
 returns-clause-of_first c = λ dump more zero ends_are all.

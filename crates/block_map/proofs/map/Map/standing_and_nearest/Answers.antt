@@ -3,7 +3,7 @@ use Rattle.std.specs.Arc.{arc_value}
 use Rattle.std.specs.declared.sync.Arc.{Arc}
 use Rattle.std.specs.Global.{Global}
 use Rattle.svn_path.specs.Path.{same_name}
-use Rattle.block_map.specs.Blocks.{AreBlocksBefore, AreBlocksFrom, records_of, trees_of}
+use Rattle.block_map.specs.Blocks.{AreBlocksBefore, AreBlocksFrom, block_records, block_trees}
 use Rattle.block_map.specs.Look.{look, resolved}
 use Rattle.block_map.specs.Map.{AreEntryAndNearest, hi_of, look_in}
 use Rattle.block_map.specs.Standing.{standing_of}
@@ -21,18 +21,18 @@ pub returns-in-len1 : goal.returns-in-len1
 returns-in-len1 c =
     let lo = c.self.inside.lo in
     let tick = c.args.tick in
-    let all = trees_of c.as_slice.result.now in
+    let all = block_trees c.as_slice.result.now in
     let blocks = c.blocks_before.result.now in
     let only = c.deref.result.now in
-    let are = subst (λ items. AreBlocksFrom lo (trees_of items)) (sym c.as_slice.ensures.value) c.self.invariant in
+    let are = subst (λ items. AreBlocksFrom lo (block_trees items)) (sym c.as_slice.ensures.value) c.self.invariant in
     let within : tick ≤ end_of_blocks lo all =
-    subst (λ items. tick ≤ end_of_blocks lo (trees_of items)) (sym c.as_slice.ensures.value) (subst (λ map. tick ≤ hi_of map) (sym c.self.view_is) c.requires.within) in
-    let one : trees_of blocks ≡ only ∷ [] =
-    ap trees_of (only-element blocks c.only-item.result c.in-len1.len_at_least c.in-len1.len_below)
+    subst (λ items. tick ≤ end_of_blocks lo (block_trees items)) (sym c.as_slice.ensures.value) (subst (λ map. tick ≤ hi_of map) (sym c.self.view_is) c.requires.within) in
+    let one : block_trees blocks ≡ only ∷ [] =
+    ap block_trees (only-element blocks c.only-item.result c.in-len1.len_at_least c.in-len1.len_below)
     ∙ ap (λ each. arc_value each ∷ []) (sym c.only-item.is) ∙ ap (λ each. each ∷ []) (sym c.deref.ensures) in
     let before = subst (AreBlocksBefore tick all) one c.blocks_before.ensures in
     subst (λ standing. AreEntryAndNearest standing c.args.path.now c.entry_and_nearest.result)
     (λ i above. standing_of ((look-only lo tick above all only are before within
-    ∙ ap (λ items. resolved lo (look same_name lo (records_of (trees_of items)) tick above)) c.as_slice.ensures.value
+    ∙ ap (λ items. resolved lo (look same_name lo (block_records (block_trees items)) tick above)) c.as_slice.ensures.value
     ∙ ap (λ map. look_in map tick above) c.self.view_is) i))
     c.entry_and_nearest.ensures

@@ -5,7 +5,7 @@ use Rattle.block_map.specs.Trees.{AreTrees, IsNodeAfter, SameTrees, ShowsTick, a
 use Rattle.block_map.specs.Ends.{record_at_tick}
 use Rattle.block_map.specs.Trie.{IsNodeOf, PutsNode}
 use Rattle.block_map.specs.declared.trees.Trees.{Trees}
-use Rattle.block_map.specs.declared.node.Node.{Node}
+use Rattle.block_map.specs.declared.trie.node.Node.{Node}
 use Rattle.block_map.proofs.TreesLooks.{IfOk-kept, AreTrees-same, IsRootAfter-kept, IsRootAfter-put, ShowsTick-same, end_of_trees-same}
 use Rattle.block_map.proofs.GrownTries.{IsNodeOf-grown}
 use Rattle.block_map.proofs.trees.Trees.next_root.Goals as goal

@@ -15,7 +15,7 @@ returns-in-Delete-clause-after c =
 
 pub returns-in-Add-clause-after : goal.returns-in-Add-clause-after
 returns-in-Add-clause-after c =
-    rw (c.is.ensures, c.given.ensures, c.in-Add.is)
+    rw (c.is.ensures, c.mergeinfo_of_addition.ensures, c.in-Add.is)
     (((omega arith), tt), ShowsAction-add c.args.self.now c.args.root c.args.each.now.path c.in-Add.replace c.in-Add.kind (setting_view c.in-Add.mi))
 
 pub returns-in-Put-clause-after : goal.returns-in-Put-clause-after

@@ -1,7 +1,7 @@
 use Rattle.std.proofs.Common.{◌∷◌, [], Some, sym, ap, subst, ◌∙◌}
 use Rattle.std.proofs.lemmas.Result.{IfOk-weaker}
 use Rattle.block_map.specs.Trie.{PutsNode, child_of}
-use Rattle.block_map.specs.declared.node.Node.{Node}
+use Rattle.block_map.specs.declared.trie.node.Node.{Node}
 use Rattle.block_map.proofs.NodesPut.{PutsNode-path}
 use Rattle.block_map.proofs.trie.Trie.+put.Goals as goal
 

@@ -1,8 +1,8 @@
 use Rattle.std.proofs.Common.{ap, ◌∙◌}
-use Rattle.block_map.specs.Trie.{around_view, inside, position_view}
-use Rattle.block_map.specs.declared.node.Node.{Node}
-use Rattle.block_map.proofs.CopiedNodes.{IsCopiedNode-region}
-use Rattle.block_map.proofs.Positions.{around_view-inside}
+use Rattle.block_map.specs.Trie.{path_base_view, base_look, position_view}
+use Rattle.block_map.specs.declared.trie.node.Node.{Node}
+use Rattle.block_map.proofs.CopiedNodes.{IsCopiedNode-base}
+use Rattle.block_map.proofs.Positions.{path_base_view-base_of_path}
 use Rattle.block_map.proofs.trie.Trie.copied.Goals as goal
 
 pub returns-clause-exact : goal.returns-clause-exact
@@ -11,6 +11,6 @@ returns-clause-exact c =
     let path = c.args.path.now in
     let node = c.or_untouched-node.result in
     rw c.or_untouched-node.ensures
-    (IsCopiedNode-region old c.region_of.new.self c.region_of.ensures.before c.in_ok-region.ensures.grown (position_view old path c.args.position) c.requires.node c.in_ok-region.region
-    (λ outside. c.in_ok-region.ensures.exact outside ∙ ap (around_view old path) c.inside-around.ensures
-    ∙ around_view-inside old node.region path c.args.position.around ∙ ap (λ (each : Node). inside old each.region (around_view old path c.args.position.around)) c.or_untouched-node.ensures))
+    (IsCopiedNode-base old c.node_base.new.self c.node_base.ensures.before c.in_ok-base.ensures.grown (position_view old path c.args.position) c.requires.node c.in_ok-base.base
+    (λ over. c.in_ok-base.ensures.exact over ∙ ap (path_base_view old path) c.base_of_path-base.ensures
+    ∙ path_base_view-base_of_path old node.base path c.args.position.base ∙ ap (λ (each : Node). base_look old each.base (path_base_view old path c.args.position.base)) c.or_untouched-node.ensures))

@@ -2,7 +2,7 @@ use Rattle.std.proofs.Common.{◌≡◌, ◌+◌, List, [], Option, length, take
 use Rattle.std.proofs.lemmas.List.{length-take-le, take_all}
 use Rattle.block_map.specs.Standing.{mergeinfo_of, standing_of}
 use Rattle.block_map.specs.Trie.{IsPositionOf, TrieValue, at_root, found_at, found_below}
-use Rattle.block_map.specs.declared.node.Node.{Node}
+use Rattle.block_map.specs.declared.trie.node.Node.{Node}
 use Rattle.svn_path.specs.declared.names.NameId.{NameId}
 use Rattle.svn_dump.specs.declared.record.ValueId.{ValueId}
 use Rattle.block_map.proofs.NearestFound.{IsNearestOrNone-all, IsNearestUpTo-more, IsNearestUpTo-root}
@@ -28,7 +28,7 @@ loop-depth-preserved c =
     let long = length-take-le depth whole c.loop-depth.auto.depth-end in
     let at : IsPositionOf trie c.args.root (take (depth + 1) whole) c.step-position.result =
     IsPositionOf-step trie c.args.root whole depth (record { 0 = 0 }) c.loop-depth.position c.step-position.result
-    c.loop-depth-test.true before c.step-position.ensures.node (c.step-position.ensures.around path long before.around) (c.step-position.ensures.is path long before.around) in
+    c.loop-depth-test.true before c.step-position.ensures.node (c.step-position.ensures.base path long before.base) (c.step-position.ensures.is path long before.base) in
     let found = c.mergeinfo.ensures (take (depth + 1) whole) (length-take-le (depth + 1) whole (omega (arith, c.loop-depth-test.true)))
     ∙ ap (λ from. option_map (λ mi. (mi, depth + 1)) (mergeinfo_of (found_at trie from))) at.is in
     (at, rw c.or-nearest.ensures (IsNearestUpTo-more (mergeinfo_at trie c.args.root) whole depth c.mergeinfo.result c.loop-depth.nearest found c.loop-depth.invariant.1))

@@ -9,4 +9,4 @@ loop-depth-preserved c =
     let depth = length-take-le c.loop-depth.depth c.args.path.now c.loop-depth.auto.depth-end in
     IsPositionOf-step c.args.self.now c.args.root c.args.path.now c.loop-depth.depth (record { 0 = 0 }) c.loop-depth.position c.step-position.result
     c.loop-depth-test.true c.loop-depth.invariant c.step-position.ensures.node
-    (c.step-position.ensures.around path depth c.loop-depth.invariant.around) (c.step-position.ensures.is path depth c.loop-depth.invariant.around)
+    (c.step-position.ensures.base path depth c.loop-depth.invariant.base) (c.step-position.ensures.is path depth c.loop-depth.invariant.base)

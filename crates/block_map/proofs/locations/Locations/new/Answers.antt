@@ -1,7 +1,0 @@
-use Rattle.std.proofs.Common.{ap}
-use Rattle.block_map.specs.Locations.{locations_of}
-use Rattle.block_map.proofs.locations.Locations.new.Goals as goal
-
-pub returns : goal.returns
-unfolding locations_of
-returns c = ap locations_of c.new.ensures.items

@@ -1,9 +1,0 @@
-use Rattle.std.proofs.lemmas.Iterator.Adapters.{YieldsList-from_rev_slice, items_from_extend}
-use Rattle.std.proofs.lemmas.Iterator.Consumers.{YieldsList-from_copied}
-use Rattle.std.proofs.lemmas.Result.{on_ok_weaker}
-use Rattle.block_map.proofs.locations.push_reversed.Goals as goal
-
-pub returns : goal.returns
-returns c =
-    on_ok_weaker c.extend.result (λ gives. gives.0)
-    (items_from_extend c.extend.result c.extend.ensures.ran (YieldsList-from_copied (YieldsList-from_rev_slice c.args.more.now cc)))

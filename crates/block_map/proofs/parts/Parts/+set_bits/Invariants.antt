@@ -1,4 +1,0 @@
-use Rattle.block_map.proofs.parts.Parts.+set_bits.Given as goal
-
-abbrev pub decreases-set_bits : goal.decreases-set_bits
-decreases-set_bits l = l.map.0

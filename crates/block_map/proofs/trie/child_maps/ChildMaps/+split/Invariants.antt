@@ -1,0 +1,5 @@
+use Rattle.std.proofs.Common.{◌+◌}
+use Rattle.block_map.proofs.trie.child_maps.ChildMaps.+split.Given as goal
+
+abbrev pub decreases-split : goal.decreases-split
+decreases-split l = l.one + l.other
