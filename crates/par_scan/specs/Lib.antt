@@ -1,4 +1,5 @@
 pub mod Chain
+pub mod GhostList
 pub mod Making
 pub mod Parts
 pub mod Sum

@@ -1,4 +1,3 @@
-//! Elements that act on points and can be joined with their neighbours.
 ghost use Rattle.std.specs.Prelude.{◌≡◌, ℕ, List, [], ◌∷◌, IfOk, IsTrue, ◌↔◌};
 ghost use Rattle.std.specs.List.{sum_by};
 ghost use Rattle.par_scan.specs.Chain.{ActsAsAll, ActsLike, IsChain, IsJoined, IsUnitOf};

@@ -1,4 +1,3 @@
-//! Making elements by their numbers.
 ghost use Rattle.std.specs.Prelude.{ℕ, IfOk};
 
 use crate::acts::Acts;

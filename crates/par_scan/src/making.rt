@@ -39,7 +39,7 @@ pub fn make_all<R: Threads + Sync, K: Make>(
     append_all(Vec::new(alloc), made)
 }
 
-// The items of `count` neighbouring numbers.
+/// The items of `count` neighbouring numbers.
 fn make_run<K: Make>(
     alloc: Global,
     maker: &K,

@@ -16,7 +16,7 @@ ghost use Rattle.std.specs.Prelude.{
 };
 ghost use Rattle.par_scan.specs.Chain.{AreJoinedUpTo, IsChain, IsJoined, IsSomeChain};
 ghost use denote.Param.Send.{IsSend, IsSync};
-ghost use Rattle.par_scan.specs.Parts.{AreOfParts, AreScans, FitsAt, IsAfterAt, IsFilled, IsScan, IsUpToPart, most_parts};
+ghost use Rattle.par_scan.specs.Parts.{AreScans, FitsAt, IsAfterAt, IsFilled, IsScan, IsUpToPart, most_parts};
 
 use crate::acts::Acts;
 use crate::gathering::{all_ok, append_all};
@@ -68,7 +68,7 @@ pub fn total<R: Threads + Sync, M: Acts>(
     Ok(Some(joined))
 }
 
-// All items joined, by at most so many threads at a time: each half is joined on its own.
+/// All items joined, by at most so many threads at a time: each half is joined on its own.
 #[cycle(join_across)]
 fn join_across<R: Threads + Sync, M: Acts>(
     rt: &R,
@@ -95,7 +95,7 @@ fn join_across<R: Threads + Sync, M: Acts>(
     earlier?.append(later?)
 }
 
-// Each part scanned on its own.
+/// Each part scanned on its own.
 fn scan_each<R: Threads + Sync, M: Acts>(
     rt: &R,
     alloc: Global,
@@ -114,7 +114,7 @@ fn scan_each<R: Threads + Sync, M: Acts>(
     all_ok(alloc, results)
 }
 
-// Each part scanned on its own, and for each part but the last one all items up to its end.
+/// Each part scanned on its own, and for each part but the last one all items up to its end.
 fn scan_parts<R: Threads + Sync, M: Acts>(
     rt: &R,
     alloc: Global,
@@ -138,7 +138,7 @@ fn scan_parts<R: Threads + Sync, M: Acts>(
     Ok((scanned, before))
 }
 
-// The items of each part but the first one, joined to what stands before the part.
+/// The items of each part but the first one, joined to what stands before the part.
 fn join_parts<R: Threads + Sync, M: Acts>(
     rt: &R,
     alloc: Global,

@@ -1,4 +1,3 @@
-//! Numbers that are added up.
 ghost use Rattle.std.specs.Prelude.{ℕ};
 
 use crate::acts::Acts;

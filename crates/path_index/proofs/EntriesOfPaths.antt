@@ -13,8 +13,8 @@ use Rattle.svn_dump.specs.declared.record.Act.{Act}
 use Rattle.svn_dump.specs.declared.record.Act.TheVariants as act
 use Rattle.svn_dump.specs.declared.record.Mi.{Mi}
 use Rattle.svn_dump.specs.declared.record.NodeRecord.{NodeRecord}
-use Rattle.path_index.specs.NamedRevisions.{is_named, named_revisions}
-use Rattle.path_index.specs.Nodes.{node_of, Extends}
+use Rattle.path_index.specs.NamedRevisions.{revision_names, named_revisions}
+use Rattle.path_index.specs.Nodes.{node_of, ExtendsNodes}
 use Rattle.path_index.specs.Numbers.{has_number, AddsNumbers, ArePair, HasNumber, HaveSameNumbers}
 use Rattle.path_index.specs.Operative.{down_from}
 use Rattle.path_index.specs.RecordEffect.{IsAddition, IsCopy, SetsPath}
@@ -27,14 +27,14 @@ use Rattle.path_index.proofs.NumbersOfNodes.{has_number-HasNumber, HasNumber-has
 
 -- ---- nodes that are added
 
-pub Extends-none : (nodes : List Child) → Extends nodes nodes
-Extends-none nodes = record { more = []; grown = sym (append-nil nodes) }
+pub ExtendsNodes-none : (nodes : List Child) → ExtendsNodes nodes nodes
+ExtendsNodes-none nodes = record { more = []; grown = sym (append-nil nodes) }
 
-pub Extends-again : (old middle new : List Child) → Extends old middle → Extends middle new → Extends old new
-Extends-again old middle new one other =
+pub ExtendsNodes-again : (old middle new : List Child) → ExtendsNodes old middle → ExtendsNodes middle new → ExtendsNodes old new
+ExtendsNodes-again old middle new one other =
     record { more = one.more ++ other.more; grown = other.grown ∙ ap (λ front. front ++ other.more) one.grown ∙ append_assoc old one.more other.more }
 
-module _ (old new : List Child) (grown : Extends old new) where
+module _ (old new : List Child) (grown : ExtendsNodes old new) where
   IsEntryOf-grown : (P : List NameId → ℕ → Type 0) (node number : ℕ) → IsEntryOf old P node number → IsEntryOf new P node number
   IsEntryOf-grown P node number of = record { path = of.path; found = node_of-grown old new of.path node grown of.found; small = of.small; holds = of.holds }
 
@@ -114,7 +114,7 @@ AddsEntries-next nodes whole most rev node old middle new adds found small inser
 
 -- one record more
 pub AreEntriesOf-more : (old_nodes nodes : List Child) (IsOf : NodeRecord → ℕ → List NameId → ℕ → Type 0) (records : List NodeRecord) (index : ℕ) (each : NodeRecord) (old new : List (Vec ℕ))
-    → Extends old_nodes nodes → slice_get records index ≡ Some each → AreEntriesOf old_nodes (IsOfSome IsOf records index) old → AddsEntries nodes (IsOf each index) old new
+    → ExtendsNodes old_nodes nodes → slice_get records index ≡ Some each → AreEntriesOf old_nodes (IsOfSome IsOf records index) old → AddsEntries nodes (IsOf each index) old new
     → AreEntriesOf nodes (IsOfSome IsOf records (index + 1)) new
 AreEntriesOf-more old_nodes nodes IsOf records index each old new grown at are adds =
     let before = AreEntriesOf-grown old_nodes nodes grown (IsOfSome IsOf records index) old are in
@@ -139,7 +139,7 @@ AreEntriesOf-more old_nodes nodes IsOf records index each old new grown at are a
     }
 
 -- all three lists, where each gets those of the record
-pub AreListed-more : (old_nodes nodes : List Child) (records : List NodeRecord) (index : ℕ) (each : NodeRecord) (added copied named added' copied' named' : List (Vec ℕ)) → Extends old_nodes nodes → slice_get records index ≡ Some each
+pub AreListed-more : (old_nodes nodes : List Child) (records : List NodeRecord) (index : ℕ) (each : NodeRecord) (added copied named added' copied' named' : List (Vec ℕ)) → ExtendsNodes old_nodes nodes → slice_get records index ≡ Some each
     → AreListed records index old_nodes added copied named → AddsEntries nodes (AddsPath each index) added added' → AddsEntries nodes (CopiesPath each index) copied copied' → AddsEntries nodes (NamesPath each index) named named'
     → AreListed records (index + 1) nodes added' copied' named'
 AreListed-more old_nodes nodes records index each added copied named added' copied' named' grown at so adds copies names = record {
@@ -183,7 +183,7 @@ not_IsCopy each not_so = by each.act refl
     by (act.Add replace kind mi) is so = so
     by (act.Copy replace from from_rev mi) is so = not_so replace from from_rev mi is
 
--- the same numbers again
+-- a copy of the numbers
 AreEntriesOf-same : (nodes : List Child) (P : List NameId → ℕ → Type 0) (old new : List (Vec ℕ)) → HaveSameNumbers old new → AreEntriesOf nodes P old → AreEntriesOf nodes P new
 AreEntriesOf-same nodes P old new same are = record {
   sound = λ node number has. are.sound node number (subst (λ all. Contains all number) (same node) has);
@@ -212,21 +212,21 @@ HasNumber-HasEntryOf nodes path node number lists found has =
 
 -- ---- the revisions in which a path is named
 
-is_named-from_index : (path : List NameId) (rev : ℕ) (records : List NodeRecord) (index : ℕ) (each : NodeRecord) → slice_get records index ≡ Some each → each.rev ≡ rev → is_below same_name path each.path ≡ true → is_named path records rev ≡ true
-is_named-from_index path rev [] index each at here below = cc
-is_named-from_index path rev (x ∷ records) zero each at here below =
+revision_names-from_index : (path : List NameId) (rev : ℕ) (records : List NodeRecord) (index : ℕ) (each : NodeRecord) → slice_get records index ≡ Some each → each.rev ≡ rev → is_below same_name path each.path ≡ true → revision_names path records rev ≡ true
+revision_names-from_index path rev [] index each at here below = cc
+revision_names-from_index path rev (x ∷ records) zero each at here below =
     let same : x ≡ each = same_Some x each at in
     let now : (x.rev == rev) ≡ true = eq-eqb x.rev rev (ap (λ (r : NodeRecord). r.rev) same ∙ here) in
     let named : is_below same_name path x.path ≡ true = ap (λ (r : NodeRecord). is_below same_name path r.path) same ∙ below in
     rw (now, named) refl
-is_named-from_index path rev (x ∷ records) (suc index) each at here below =
-    let rest = is_named-from_index path rev records index each at here below in
+revision_names-from_index path rev (x ∷ records) (suc index) each at here below =
+    let rest = revision_names-from_index path rev records index each at here below in
     elim (cases_Bool (x.rev == rev)) [
-      | inl now ↦ rw now (or_right (is_below same_name path x.path) (is_named path records rev) rest)
+      | inl now ↦ rw now (or_right (is_below same_name path x.path) (revision_names path records rev) rest)
       | inr other ↦ rw other rest
     ]
 
-index-from_is_named : (path : List NameId) (rev : ℕ) (records : List NodeRecord) → is_named path records rev ≡ true → (index : ℕ) × (each : NodeRecord) × (slice_get records index ≡ Some each) × (each.rev ≡ rev) × (is_below same_name path each.path ≡ true)
+index-from_is_named : (path : List NameId) (rev : ℕ) (records : List NodeRecord) → revision_names path records rev ≡ true → (index : ℕ) × (each : NodeRecord) × (slice_get records index ≡ Some each) × (each.rev ≡ rev) × (is_below same_name path each.path ≡ true)
 index-from_is_named path rev [] named = cc
 index-from_is_named path rev (x ∷ records) named = elim (cases_Bool (x.rev == rev)) [
   | inl now ↦ elim (cases_Bool (is_below same_name path x.path)) [
@@ -251,16 +251,16 @@ take-from_is_below whole path below =
     (length path, omega (arith, ap length is, length-append path rest), sym (ap (take (length path)) is ∙ take_at path rest (length path) refl))
 
 -- what is found by the numbers are the revisions whose records name the path
-has_number-is_named : (records : List NodeRecord) (by_path : RecordsByPath) → AreByPath records by_path → (path : List NameId) (node : ℕ) → node_of by_path.nodes path ≡ Some node → (rev : ℕ)
-    → has_number by_path.named node rev ≡ is_named path records rev
-has_number-is_named records by_path are path node found rev = elim (cases_Bool (has_number by_path.named node rev)) [
+has_number-revision_names : (records : List NodeRecord) (by_path : RecordsByPath) → AreByPath records by_path → (path : List NameId) (node : ℕ) → node_of by_path.nodes path ≡ Some node → (rev : ℕ)
+    → has_number by_path.named node rev ≡ revision_names path records rev
+has_number-revision_names records by_path are path node found rev = elim (cases_Bool (has_number by_path.named node rev)) [
   | inl has ↦
       let of = holds-HasEntryOf by_path.nodes (IsOfSome NamesPath records (length records)) by_path.named path rev are.listed.of_named
       (record { node = node; found = found; within = HasNumber-has_number by_path.named node rev has }) in
       let ((n, few, is), at) = of.so in
-      has ∙ sym (is_named-from_index path rev records of.index of.each of.at (sym at) (is_below-from_take of.each.path path n is))
+      has ∙ sym (revision_names-from_index path rev records of.index of.each of.at (sym at) (is_below-from_take of.each.path path n is))
   | inr lacks ↦
-      lacks ∙ sym (false_from_ne_true (is_named path records rev) (λ named.
+      lacks ∙ sym (false_from_ne_true (revision_names path records rev) (λ named.
       let (index, each, at, here, below) = index-from_is_named path rev records named in
       let front = take-from_is_below each.path path below in
       let has = are.listed.of_named.complete path rev (record { index = index; each = each; early = slice_get_within records index each at; at = at; so = (front, sym here) }) in
@@ -268,8 +268,8 @@ has_number-is_named records by_path are path node found rev = elim (cases_Bool (
 ]
 
 -- a path without a node is named in none
-is_named-none : (records : List NodeRecord) (by_path : RecordsByPath) → AreByPath records by_path → (path : List NameId) → node_of by_path.nodes path ≡ None → (rev : ℕ) → is_named path records rev ≡ false
-is_named-none records by_path are path none rev = false_from_ne_true (is_named path records rev) (λ named.
+revision_names-none : (records : List NodeRecord) (by_path : RecordsByPath) → AreByPath records by_path → (path : List NameId) → node_of by_path.nodes path ≡ None → (rev : ℕ) → revision_names path records rev ≡ false
+revision_names-none records by_path are path none rev = false_from_ne_true (revision_names path records rev) (λ named.
     let (index, each, at, here, below) = index-from_is_named path rev records named in
     let front = take-from_is_below each.path path below in
     let has = are.listed.of_named.complete path rev (record { index = index; each = each; early = slice_get_within records index each at; at = at; so = (front, sym here) }) in
@@ -279,13 +279,13 @@ is_named-none records by_path are path none rev = false_from_ne_true (is_named p
 pub named_revisions-numbers : (records : List NodeRecord) (by_path : RecordsByPath) → AreByPath records by_path → (path : List NameId) (node lo hi : ℕ) → node_of by_path.nodes path ≡ Some node
     → filter (has_number by_path.named node) (down_from (hi - lo) hi) ≡ named_revisions path lo hi records
 named_revisions-numbers records by_path are path node lo hi found =
-    filter_down-same (has_number by_path.named node) (is_named path records) (hi - lo) hi (omega arith)
-    (λ rev up within. has_number-is_named records by_path are path node found rev)
+    filter_down-same (has_number by_path.named node) (revision_names path records) (hi - lo) hi (omega arith)
+    (λ rev up within. has_number-revision_names records by_path are path node found rev)
 
 pub named_revisions-none : (records : List NodeRecord) (by_path : RecordsByPath) → AreByPath records by_path → (path : List NameId) (lo hi : ℕ) → node_of by_path.nodes path ≡ None
     → named_revisions path lo hi records ≡ []
 named_revisions-none records by_path are path lo hi none =
-    filter_down-none (is_named path records) (hi - lo) hi (omega arith) (λ rev up within. is_named-none records by_path are path none rev)
+    filter_down-none (revision_names path records) (hi - lo) hi (omega arith) (λ rev up within. revision_names-none records by_path are path none rev)
 
 -- ---- the records that set the origin of a path
 

@@ -6,7 +6,7 @@ use Rattle.std.proofs.lemmas.List.{get_or_append_left, get_or-append-add}
 use Rattle.std.proofs.lemmas.Option.{get_or_from_slice_get, slice_get-get_or, slice_get_within}
 use Rattle.svn_path.specs.declared.names.NameId.{NameId}
 use Rattle.svn_dump.specs.declared.record.NodeRecord.{NodeRecord}
-use Rattle.path_index.specs.Nodes.{AreNodesOf, Extends}
+use Rattle.path_index.specs.Nodes.{AreNodesOf, ExtendsNodes}
 use Rattle.path_index.specs.Numbers.{AddsNumbers, FitShifted, IsMoved}
 use Rattle.path_index.specs.RecordsByPath.{AddsPath, AreByPath, AreEntriesOf, CopiesPath, IsOfSome, NamesPath}
 use Rattle.path_index.specs.declared.nodes.Child.{Child}
@@ -23,7 +23,7 @@ record AreBoth (P Q R : List NameId → ℕ → Type 0) (shift : ℕ) : Type 0 w
   small : (path : List NameId) (number : ℕ) → Q path number → number < 2 ^ 32 → number + shift < 2 ^ 32
   either : (path : List NameId) (number : ℕ) → R path number → P path number ⊎ ((earlier : ℕ) × Q path earlier × (number ≡ earlier + shift))
 
-AreEntriesOf-both : (P Q R : List NameId → ℕ → Type 0) (shift : ℕ) → AreBoth P Q R shift → (old_nodes nodes later_nodes : List Child) (mapped : List ℕ) (old new later : List (Vec ℕ)) → Extends old_nodes nodes
+AreEntriesOf-both : (P Q R : List NameId → ℕ → Type 0) (shift : ℕ) → AreBoth P Q R shift → (old_nodes nodes later_nodes : List Child) (mapped : List ℕ) (old new later : List (Vec ℕ)) → ExtendsNodes old_nodes nodes
     → AreNodesOf later_nodes nodes mapped → AddsNumbers (IsMoved later mapped (length mapped) shift) old new → AreEntriesOf old_nodes P old → AreEntriesOf later_nodes Q later → AreEntriesOf nodes R new
 AreEntriesOf-both P Q R shift both old_nodes nodes later_nodes mapped old new later grown nodes_of adds one other =
     let before = AreEntriesOf-grown old_nodes nodes grown P old one in
@@ -128,7 +128,7 @@ module _ (records more : List NodeRecord) (few : length records + length more < 
   pub FitShifted-named : FitShifted other.named 0
   FitShifted-named = record { fits = λ node number has. let of = second.listed.of_named.sound node number has in let small = of.small in omega (arith, small) }
 
-  module _ (joined : RecordsByPath) (mapped : List ℕ) (grown : Extends one.nodes joined.nodes) (nodes_of : AreNodesOf other.nodes joined.nodes mapped)
+  module _ (joined : RecordsByPath) (mapped : List ℕ) (grown : ExtendsNodes one.nodes joined.nodes) (nodes_of : AreNodesOf other.nodes joined.nodes mapped)
       (added : AddsNumbers (IsMoved other.added mapped (length mapped) (length records)) one.added joined.added)
       (copied : AddsNumbers (IsMoved other.copied mapped (length mapped) (length records)) one.copied joined.copied)
       (named : AddsNumbers (IsMoved other.named mapped (length mapped) 0) one.named joined.named) where

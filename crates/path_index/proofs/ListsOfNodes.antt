@@ -8,15 +8,15 @@ use Rattle.std.proofs.lemmas.List.{get_or-set_same, get_or-set_other, length-set
 use Rattle.std.proofs.lemmas.List.Edits.{length-insert, get_or-insert_at, get_or-insert_below, get_or-insert_above}
 use Rattle.std.proofs.lemmas.List.Elements.{Contains-append_left, Contains-push, Contains-push_cases}
 use Rattle.std.proofs.lemmas.Option.{same_Some, slice_get-get_or, slice_get_past}
-use Rattle.path_index.specs.Numbers.{items_of, numbers_of, AddsNumbers, AreAllRising, ArePair, HasNumber, HaveSameNumbers, IsMoved, IsFirstNotBelow, IsRising, IsShifted, IsWith}
+use Rattle.path_index.specs.Numbers.{numbers_in, numbers_of, AddsNumbers, AreAllRising, ArePair, HasNumber, HaveSameNumbers, IsMoved, IsFirstNotBelow, IsRising, IsShifted, IsWith}
 
 -- ---- the numbers of one node
 
 pub numbers_of-within : (lists : List (Vec ℕ)) (node : ℕ) (d : Vec ℕ) → node < length lists → numbers_of lists node ≡ (get_or lists node d).items
-numbers_of-within lists node d within = ap items_of (slice_get-get_or lists node d within)
+numbers_of-within lists node d within = ap numbers_in (slice_get-get_or lists node d within)
 
 pub numbers_of-past : (lists : List (Vec ℕ)) (node : ℕ) → length lists ≤ node → numbers_of lists node ≡ []
-numbers_of-past lists node past = ap items_of (slice_get_past lists node past)
+numbers_of-past lists node past = ap numbers_in (slice_get_past lists node past)
 
 pub numbers_of-set : (lists : List (Vec ℕ)) (node : ℕ) (list : Vec ℕ) → node < length lists → numbers_of (set lists node list) node ≡ list.items
 numbers_of-set lists node list within =

@@ -6,7 +6,7 @@ use Rattle.std.proofs.lemmas.List.{length_push, get_or_push, get_or_append_left}
 use Rattle.std.proofs.lemmas.List.Elements.{All-push, All-weaker}
 use Rattle.std.proofs.lemmas.Option.{same_Some, get_or_from_slice_get, slice_get-get_or}
 use Rattle.svn_path.specs.declared.names.NameId.{NameId}
-use Rattle.path_index.specs.Nodes.{same_child, child_of, node_of, AreNodesOf, HaveParentsBefore, Extends}
+use Rattle.path_index.specs.Nodes.{same_child, child_of, node_of, AreNodesOf, HaveParentsBefore, ExtendsNodes}
 use Rattle.path_index.specs.declared.nodes.Child.{Child}
 use Rattle.path_index.proofs.NodesOfPaths.{index_from_child, child_at, child_of-within, last_or_none, node_before, node_of_push, node_of-grown, node_of-one, node_of-within}
 
@@ -29,7 +29,7 @@ AreMapped-root later children = record {
 }
 
 module _ (later children children' : List Child) (nodes : List ℕ) (count node : ℕ) (child : Child) (so_far : AreMapped later count children nodes) (ordered : HaveParentsBefore later) (at : slice_get later count ≡ Some child)
-    (grown : Extends children children') (added : child_of children' (get_or nodes child.parent 0) child.name ≡ Some node) where
+    (grown : ExtendsNodes children children') (added : child_of children' (get_or nodes child.parent 0) child.name ≡ Some node) where
   early : child.parent ≤ count
   early = ordered count child at
 

@@ -9,7 +9,7 @@ use Rattle.std.proofs.lemmas.Option.{same_Some, option_and_then_some, cond_some}
 use Rattle.svn_path.specs.Path.{same_name}
 use Rattle.svn_path.specs.declared.names.NameId.{NameId}
 use Rattle.svn_path.proofs.Belows.{IsSame-same_name}
-use Rattle.path_index.specs.Nodes.{same_child, child_of, node_below, node_of, Extends}
+use Rattle.path_index.specs.Nodes.{same_child, child_of, node_below, node_of, ExtendsNodes}
 use Rattle.path_index.specs.declared.nodes.Child.{Child}
 
 -- ---- one component
@@ -113,7 +113,7 @@ node_below-grown children more start (name ∷ path) node found =
     (λ child at below. ap (option_and_then (λ child. node_below (children ++ more) child path)) (child_of-grown children more start name child at) ∙ node_below-grown children more child path node below)
 
 -- as more are added it keeps its node
-pub node_of-grown : (old new : List Child) (path : List NameId) (node : ℕ) → Extends old new → node_of old path ≡ Some node → node_of new path ≡ Some node
+pub node_of-grown : (old new : List Child) (path : List NameId) (node : ℕ) → ExtendsNodes old new → node_of old path ≡ Some node → node_of new path ≡ Some node
 node_of-grown old new path node grown found =
     subst (λ children. node_of children path ≡ Some node) (sym grown.grown) (node_below-grown old grown.more 0 path node found)
 

@@ -8,7 +8,7 @@ use Rattle.std.proofs.lemmas.Cmp.{nat_eq_equiv}
 use Rattle.std.proofs.lemmas.Map.Views.{list_any-from_Contains, Contains-from_any}
 use Rattle.std.proofs.lemmas.List.{length_push, get_or_push, get_or_append_left, length-take-le, get_or-take, get_or_default}
 use Rattle.std.proofs.lemmas.Option.{get_or_from_slice_get, slice_get-get_or, slice_get_within}
-use Rattle.path_index.specs.Numbers.{has_number, newer_of, numbers_of, HasNumber, IsNewestBelow, IsRising, IsUpTo}
+use Rattle.path_index.specs.Numbers.{has_number, newer_of, numbers_of, HasNumber, IsNewestBelow, IsRising, IsFrontUpTo}
 use Rattle.path_index.specs.Operative.{down_from, hit_at}
 use Rattle.path_index.specs.declared.hit.Hit.{Hit}
 use Rattle.path_index.proofs.DownFrom.{filter_down-none}
@@ -73,9 +73,9 @@ IsNonDecreasing-rising numbers rising i j d before within = elim (cases_lt i j) 
   | inr same ↦ let e : i ≡ j = omega arith in let here = ap (λ k. get_or numbers k d) e in omega (arith, here)
 ]
 
-pub IsUpTo-take : (last count : ℕ) (numbers : List ℕ) → IsRising numbers → count ≤ length numbers → IsPartitionPoint (λ each. leb each last ≡ true) (λ each. leb each last ≡ false) numbers count
-    → IsUpTo last numbers (take count numbers)
-IsUpTo-take last count numbers rising bound point =
+pub IsFrontUpTo-take : (last count : ℕ) (numbers : List ℕ) → IsRising numbers → count ≤ length numbers → IsPartitionPoint (λ each. leb each last ≡ true) (λ each. leb each last ≡ false) numbers count
+    → IsFrontUpTo last numbers (take count numbers)
+IsFrontUpTo-take last count numbers rising bound point =
     let long : length (take count numbers) ≡ count = length-take-le count numbers bound in
     let at = λ (k d : ℕ) (within : k < length (take count numbers)). let same : get_or (take count numbers) k d ≡ get_or numbers k d = get_or-take count numbers k d (omega arith) in same in
     let all : All (λ each. each ≤ last) (take count numbers) = λ k d within. subst (λ each. each ≤ last) (sym (at k d within)) (leb-true (get_or numbers k d) last (point.0 k d (omega arith) (omega arith))) in
@@ -94,7 +94,7 @@ IsUpTo-take last count numbers rising bound point =
 -- ---- the greatest number below a limit
 
 -- the last of those up to the one before the limit
-pub IsNewestBelow-last : (numbers front : List ℕ) (limit : ℕ) → 0 < limit → IsUpTo (limit - 1) numbers front → IsNewestBelow limit (Contains numbers) (slice_get front (length front - 1))
+pub IsNewestBelow-last : (numbers front : List ℕ) (limit : ℕ) → 0 < limit → IsFrontUpTo (limit - 1) numbers front → IsNewestBelow limit (Contains numbers) (slice_get front (length front - 1))
 IsNewestBelow-last numbers front limit some up = by (slice_get front (length front - 1)) refl
   where
     by : (o : Option ℕ) → slice_get front (length front - 1) ≡ o → IsNewestBelow limit (Contains numbers) o
@@ -156,7 +156,7 @@ module _ (lists : List (Vec ℕ)) (segment node lo hi : ℕ) (old : List Hit) wh
     pub found : hits ++ map (hit_at segment) (numbers_up_to top) ≡ old ++ map (hit_at segment) (numbers_up_to hi)
 
   -- at first
-  pub IsPushed-start : (rest : List ℕ) → IsUpTo hi (numbers_of lists node) rest → IsPushed rest old
+  pub IsPushed-start : (rest : List ℕ) → IsFrontUpTo hi (numbers_of lists node) rest → IsPushed rest old
   IsPushed-start rest up = record {
     top = hi;
     rising = up.rising;

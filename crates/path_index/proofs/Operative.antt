@@ -22,7 +22,7 @@ use Rattle.path_index.proofs.HistoryTo.{records_in-history_to}
 use Rattle.path_index.proofs.CameFromItself.{came-from_location, location-from_came}
 use Rattle.path_index.proofs.Segments.{AreSegments-segments_of}
 use Rattle.path_index.proofs.DownFrom.{filter_down-same}
-use Rattle.path_index.specs.NamedRevisions.{first_of, is_named, named_revisions}
+use Rattle.path_index.specs.NamedRevisions.{first_revision, revision_names, named_revisions}
 
 -- one number more, at the end
 down_from_more : (n top : ℕ) → down_from (suc n) top ≡ down_from n top ++ (top - n) ∷ []
@@ -78,7 +78,7 @@ module _ {C M : Type 0} (same : C → C → Bool) (is : IsSame same) (history : 
         there_by_record (nat_lt 0 (suc k)) (is_there same (tree_of trees (suc k)) q) (names_below same q (records_in history (suc k)))
         (came_from_itself same q (suc k) (origin_of same trees q (suc k))) (lt-ltb 0 (suc k) (omega arith)) (there_in (suc k) (omega arith) to) came
 
-    operative_lo : (lo : ℕ) → segment.lo ≡ lo → filter (is_operative same history trees q) (lo ∷ []) ≡ first_of lo
+    operative_lo : (lo : ℕ) → segment.lo ≡ lo → filter (is_operative same history trees q) (lo ∷ []) ≡ first_revision lo
     operative_lo zero begins = rw operative_zero refl
     operative_lo (suc k) begins = rw (operative_first k begins, lt-ltb 0 (suc k) (omega arith)) refl
 
@@ -89,7 +89,7 @@ module _ {C M : Type 0} (same : C → C → Bool) (is : IsSame same) (history : 
 
     -- so those of the segment are these
     pub operative_in-segment : (p : ℕ → Bool) → ((k : ℕ) → k ≤ segment.hi → p k ≡ names_below same q (records_in history k))
-        → operative_in same history trees segment (Some q) ≡ filter p (down_from (segment.hi - segment.lo) segment.hi) ++ first_of segment.lo
+        → operative_in same history trees segment (Some q) ≡ filter p (down_from (segment.hi - segment.lo) segment.hi) ++ first_revision segment.lo
     operative_in-segment p named =
         let test = is_operative same history trees q in
         let n = segment.hi - segment.lo in
@@ -100,7 +100,7 @@ module _ {C M : Type 0} (same : C → C → Bool) (is : IsSame same) (history : 
         ∙ filter-append test (down_from n segment.hi) ((segment.hi - n) ∷ [])
         ∙ ap (λ lo. filter test (down_from n segment.hi) ++ filter test (lo ∷ [])) last
         ∙ ap (λ revs. filter test (down_from n segment.hi) ++ revs) (operative_lo segment.lo refl)
-        ∙ ap (λ revs. revs ++ first_of segment.lo)
+        ∙ ap (λ revs. revs ++ first_revision segment.lo)
         (filter_down-same test p n segment.hi (omega arith) (λ k up within. operative_after p named k up (omega arith)))
 
 -- ---- segment by segment
@@ -112,7 +112,7 @@ hits_at index revs = map (hit_at index) revs
 -- the hits in a segment, given its path
 abbrev pub hits_in : ℕ → List NodeRecord → Segment NameId → Option (List NameId) → List Hit
 hits_in located records segment None = []
-hits_in located records segment (Some path) = hits_at located (named_revisions path segment.lo segment.hi records ++ first_of segment.lo)
+hits_in located records segment (Some path) = hits_at located (named_revisions path segment.lo segment.hi records ++ first_revision segment.lo)
 
 -- the hits in the segments
 abbrev pub hits_from : ℕ → List NodeRecord → List (Segment NameId) → List Hit
@@ -127,7 +127,7 @@ module _ (is : IsSame same_name) (history : History NameId ValueId) (trees : Lis
       → hits_in located records segment o ≡ map (hit_at located) (operative_in same_name history trees segment o)
   in_segment located segment so up None at = refl
   in_segment located segment so up (Some q) at =
-      ap (hits_at located) (sym (operative_in-segment same_name is history trees fall origins path rev there segment q so at (is_named q records)
+      ap (hits_at located) (sym (operative_in-segment same_name is history trees fall origins path rev there segment q so at (revision_names q records)
       (λ k to. ap (names_below same_name q) (sym (are k (omega arith))))))
 
   from_segments : (located bound : ℕ) (segments : List (Segment NameId)) → AreSegments (λ k. location same_name trees path rev k) bound segments

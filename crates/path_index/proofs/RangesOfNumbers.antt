@@ -6,7 +6,7 @@ use Rattle.std.proofs.lemmas.List.{map-append}
 use Rattle.std.proofs.lemmas.List.Elements.{filter-append}
 use Rattle.svn_path.specs.declared.names.NameId.{NameId}
 use Rattle.svn_dump.specs.declared.record.NodeRecord.{NodeRecord}
-use Rattle.path_index.specs.NamedRevisions.{first_of, is_named, named_revisions}
+use Rattle.path_index.specs.NamedRevisions.{first_revision, revision_names, named_revisions}
 use Rattle.path_index.specs.Operative.{down_from, hit_at}
 use Rattle.path_index.specs.Range.{is_in_range}
 use Rattle.path_index.specs.declared.hit.Hit.{Hit}
@@ -107,12 +107,12 @@ module _ (range : Option (ℕ × ℕ)) (lo hi : ℕ) (bounds : ℕ × ℕ) (is :
           filter_range-down_from some (hi - lo) hi (omega arith) ∙ ap₂ down_from count last
 
   -- the first revision, if it is in the range
-  filter-first_of : (first : Bool) → first ≡ (nat_lt 0 lo && is_in_range range lo)
-      → filter (is_in_range range) (first_of lo) ≡ (if first then lo ∷ [] else [])
-  filter-first_of first so = by (nat_lt 0 lo) refl (is_in_range range lo) refl so
+  filter-first_revision : (first : Bool) → first ≡ (nat_lt 0 lo && is_in_range range lo)
+      → filter (is_in_range range) (first_revision lo) ≡ (if first then lo ∷ [] else [])
+  filter-first_revision first so = by (nat_lt 0 lo) refl (is_in_range range lo) refl so
     where
       by : (a : Bool) → nat_lt 0 lo ≡ a → (b : Bool) → is_in_range range lo ≡ b → first ≡ (a && b)
-          → filter (is_in_range range) (first_of lo) ≡ (if first then lo ∷ [] else [])
+          → filter (is_in_range range) (first_revision lo) ≡ (if first then lo ∷ [] else [])
       by true a true b e = rw (a, b, e) refl
       by true a false b e = rw (a, b, e) refl
       by false a b is_b e = rw (a, e) refl
@@ -120,16 +120,16 @@ module _ (range : Option (ℕ × ℕ)) (lo hi : ℕ) (bounds : ℕ × ℕ) (is :
   filter-hits_in : (path : List NameId) (records : List NodeRecord) (index : ℕ) (first : Bool)
       → first ≡ (nat_lt 0 lo && is_in_range range lo)
       → filter (λ (hit : Hit). is_in_range range hit.rev)
-      (map (hit_at index) (named_revisions path lo hi records ++ first_of lo))
+      (map (hit_at index) (named_revisions path lo hi records ++ first_revision lo))
       ≡ map (hit_at index) (named_revisions path lo_in hi_in records) ++ (if first then hit_at index lo ∷ [] else [])
   filter-hits_in path records index first so =
       let test = is_in_range range in
       let named = named_revisions path lo hi records in
-      filter-hits_at test index (named ++ first_of lo)
-      ∙ ap (map (hit_at index)) (filter-append test named (first_of lo)
+      filter-hits_at test index (named ++ first_revision lo)
+      ∙ ap (map (hit_at index)) (filter-append test named (first_revision lo)
       ∙ ap₂ (λ later begin. later ++ begin)
-      (filter-filter test (is_named path records) (down_from (hi - lo) hi) ∙ ap (filter (is_named path records)) filter-in_range)
-      (filter-first_of first so))
+      (filter-filter test (revision_names path records) (down_from (hi - lo) hi) ∙ ap (filter (revision_names path records)) filter-in_range)
+      (filter-first_revision first so))
       ∙ map-append (hit_at index) (named_revisions path lo_in hi_in records) (if first then lo ∷ [] else [])
       ∙ ap (λ more. map (hit_at index) (named_revisions path lo_in hi_in records) ++ more) (by first)
     where
@@ -143,7 +143,7 @@ module _ (range : Option (ℕ × ℕ)) (lo hi : ℕ) (bounds : ℕ × ℕ) (is :
       → first ≡ (nat_lt 0 lo && is_in_range range lo)
       → named ++ (if first then hit_at index lo ∷ [] else [])
       ≡ old ++ filter (λ (hit : Hit). is_in_range range hit.rev)
-      (map (hit_at index) (named_revisions path lo hi records ++ first_of lo))
+      (map (hit_at index) (named_revisions path lo hi records ++ first_revision lo))
   hits-in_range path records index from to first old named from_is to_is named_are so =
       let begin = if first then hit_at index lo ∷ [] else [] in
       ap (λ front. front ++ begin)

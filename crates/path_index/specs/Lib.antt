@@ -1,4 +1,3 @@
-pub mod GhostRecords
 pub mod History
 pub mod Index
 pub mod Joining

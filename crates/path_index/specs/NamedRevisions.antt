@@ -10,12 +10,12 @@ use Rattle.path_index.specs.declared.hit.Hit.{Hit}
 use Rattle.path_index.specs.declared.segment.Segment.{Segment}
 
 -- a record of the revision names the path or a path below it
-abbrev pub is_named : List NameId → List NodeRecord → ℕ → Bool
-is_named path records rev = names_below same_name path (records_of records rev)
+abbrev pub revision_names : List NameId → List NodeRecord → ℕ → Bool
+revision_names path records rev = names_below same_name path (records_of records rev)
 
 -- the revisions after `lo` and up to `hi` that name it, the newest first
 abbrev pub named_revisions : List NameId → ℕ → ℕ → List NodeRecord → List ℕ
-named_revisions path lo hi records = filter (is_named path records) (down_from (hi - lo) hi)
+named_revisions path lo hi records = filter (revision_names path records) (down_from (hi - lo) hi)
 
 -- to the hits come the revisions after `lo` and up to `hi`, in the segment of this index, whose records name the path
 -- or one below it
@@ -23,8 +23,8 @@ abbrev pub AddsNamed : List Hit → List Hit → ℕ → List NameId → ℕ →
 AddsNamed old new segment path lo hi records = new ≡ old ++ map (hit_at segment) (named_revisions path lo hi records)
 
 -- the first revision of a segment, unless it is revision 0
-abbrev pub first_of : ℕ → List ℕ
-first_of lo = if nat_lt 0 lo then lo ∷ [] else []
+abbrev pub first_revision : ℕ → List ℕ
+first_revision lo = if nat_lt 0 lo then lo ∷ [] else []
 
 -- to the hits come those of the segment of this index that are in the range: the later revisions of the segment whose
 -- records name its path or one below it, and its first one
@@ -32,4 +32,4 @@ abbrev pub AddsOperative : List Hit → List Hit → ℕ → Segment → List Na
 AddsOperative old new index segment path range records =
     new
     ≡ old ++ filter (λ hit. is_in_range range hit.rev)
-    (map (hit_at index) (named_revisions path segment.lo segment.hi records ++ first_of segment.lo))
+    (map (hit_at index) (named_revisions path segment.lo segment.hi records ++ first_revision segment.lo))

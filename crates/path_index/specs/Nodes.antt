@@ -41,7 +41,7 @@ AreDistinct children =
     → child_of children child.parent child.name ≡ Some (index + 1)
 
 -- children were added, and none removed
-pub record Extends (old new : List Child) : Type 0 where
+pub record ExtendsNodes (old new : List Child) : Type 0 where
   pub more : List Child
   pub grown : new ≡ old ++ more
 

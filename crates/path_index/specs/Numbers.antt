@@ -6,13 +6,13 @@ use Rattle.std.specs.List.{list_any}
 abbrev pub IsRising : List ℕ → Type 0
 IsRising numbers = AllPairs (λ each later. each < later) numbers
 
-abbrev pub items_of : Option (Vec ℕ) → List ℕ
-items_of None = []
-items_of (Some list) = list.items
+abbrev pub numbers_in : Option (Vec ℕ) → List ℕ
+numbers_in None = []
+numbers_in (Some list) = list.items
 
 -- the numbers of a node: past the end of the lists it has none
 abbrev pub numbers_of : List (Vec ℕ) → ℕ → List ℕ
-numbers_of lists node = items_of (slice_get lists node)
+numbers_of lists node = numbers_in (slice_get lists node)
 
 abbrev pub HasNumber : List (Vec ℕ) → ℕ → ℕ → Type 0
 HasNumber lists node number = Contains (numbers_of lists node) number
@@ -64,7 +64,7 @@ pub record FitShifted (lists : List (Vec ℕ)) (shift : ℕ) : Type 0 where
   pub fits : (node number : ℕ) → HasNumber lists node number → number + shift < 2 ^ 32
 
 -- the numbers up to this one, in rising order
-pub record IsUpTo (last : ℕ) (numbers front : List ℕ) : Type 0 where
+pub record IsFrontUpTo (last : ℕ) (numbers front : List ℕ) : Type 0 where
   pub rising : IsRising front
   pub within : All (λ each. each ≤ last) front
   pub among : (number : ℕ) → Contains front number → Contains numbers number

@@ -16,7 +16,7 @@ pub(crate) struct Copied {
 impl Copied {
     ghost use Rattle.path_index.specs.Records.{moved_by};
 
-    /// The same copy with a greater index.
+    /// The copy, of a record whose index is greater by `shift`.
     pub(crate) fn moved(self, shift: u32) -> Self
         requires { self.index + shift < 2 ^ 32 }
         ensures { result ≡ moved_by shift self }
@@ -27,7 +27,7 @@ impl Copied {
         }
     }
 
-    /// The same copy again.
+    /// An equal copy.
     pub(crate) fn dup(&self) -> Result<Self, AllocError>
         ensures { IfOk result (λ copied. copied ≡ self.now) }
     {

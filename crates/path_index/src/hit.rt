@@ -1,5 +1,3 @@
-//! An operative revision of a path.
-
 /// An operative revision of the path of a segment, and the index of the segment.
 #[derive(Clone, Copy, Debug, PartialEq, Eq)]
 pub struct Hit {

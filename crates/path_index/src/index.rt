@@ -1,4 +1,3 @@
-//! An index of the records of a history.
 ghost use Rattle.std.specs.Prelude.{◌≡◌, ◌+◌, ◌^◌, ◌<◌, ◌++◌, None, IfOk, OnOk, length};
 ghost use Rattle.path_index.specs.History.{AreRising};
 ghost use Rattle.path_index.specs.Index.{AreHitsInRange, AreHitsOf, AreMaximal, AreSegmentsOf, IsThere, IsWhole, gap_between, location_in};
@@ -139,8 +138,8 @@ impl Index {
         self.operative_in(segments, None)
     }
 
-    /// Those of the operative revisions that are in a range of revisions, with both ends; without a range, all of them.
-    /// It takes time for what is in the range, and for each segment.
+    /// Those of the operative revisions that are in a range of revisions, with both ends, the newest first; without a
+    /// range, all of them. It takes time for what is in the range, and for each segment.
     pub fn operative_in(
         &self,
         segments: &[Segment],

@@ -1,8 +1,14 @@
 //! Where paths stood through the revisions of a history, and their operative revisions.
+//!
+//! An `Index` of the records of a history, which `Index::build` makes, is asked about a path of revision 2:
+//!
+//! ```
+//! let segments = index.segments(path, 2)?;
+//! let hits = index.operative(segments.as_slice())?;
+//! ```
 #![tactic(auto)]
 
 mod copied;
-mod ghost_records;
 mod hit;
 mod index;
 mod joining;

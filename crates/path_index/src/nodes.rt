@@ -1,6 +1,6 @@
 //! The paths of records, each once, as a tree of components.
 ghost use Rattle.std.specs.Prelude.{◌≡◌, ◌≤◌, List, [], None, Some, length, IfOk, IfSome, OnOk};
-ghost use Rattle.path_index.specs.Nodes.{child_of, node_of, AreNodesOf, Extends};
+ghost use Rattle.path_index.specs.Nodes.{child_of, node_of, AreNodesOf, ExtendsNodes};
 
 use std::alloc::{AllocError, Global};
 use std::collections::BTreeMap;
@@ -52,7 +52,7 @@ impl Nodes {
         }
     }
 
-    /// The same nodes again.
+    /// An equal tree, with no memory of recent nodes.
     pub(crate) fn dup(&self) -> Result<Self, AllocError>
         ensures { IfOk result (λ nodes. nodes ≡ self.now) }
     {
@@ -76,7 +76,7 @@ impl Nodes {
     pub(crate) fn add(&mut self, parent: u32, name: NameId) -> Result<u32, AllocError>
         requires { parent ≤ length self.old }
         ensures node { IfOk result (λ node. child_of self.new parent name ≡ Some node) }
-        ensures grown { OnOk result (Extends self.old self.new) }
+        ensures grown { OnOk result (ExtendsNodes self.old self.new) }
     {
         let child = Child { parent, name };
         let hash = hash_of(child);
@@ -108,7 +108,7 @@ impl Nodes {
         requires above { child.parent ≤ length self.old }
         requires absent { child_of self.old child.parent child.name ≡ None }
         ensures node { IfOk result (λ node. child_of self.new child.parent child.name ≡ Some node) }
-        ensures grown { OnOk result (Extends self.old self.new) }
+        ensures grown { OnOk result (ExtendsNodes self.old self.new) }
     {
         let before = self.children.len();
         if before == u32::MAX as usize {
@@ -127,7 +127,7 @@ impl Nodes {
     /// Adds the nodes of another tree. Returns the node of each, from the root on.
     pub(crate) fn add_all(&mut self, later: Nodes) -> Result<Vec<u32>, AllocError>
         ensures nodes { IfOk result (λ nodes. AreNodesOf later self.new nodes.items) }
-        ensures grown { OnOk result (Extends self.old self.new) }
+        ensures grown { OnOk result (ExtendsNodes self.old self.new) }
     {
         let mut nodes = Vec::with_capacity(*self.children.allocator(), later.children.len() + 1)?;
         nodes.push(0)?;

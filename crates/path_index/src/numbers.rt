@@ -1,8 +1,7 @@
-//! Rising lists of numbers, one for each node.
 ghost use Rattle.std.specs.Prelude.{◌≡◌, ◌≢◌, ℕ, ◌+◌, ◌-◌, ◌^◌, ◌<◌, ◌++◌, [], All, filter, length, map, IfOk, OnOk};
 ghost use Rattle.path_index.specs.Numbers.{has_number, newer_of, numbers_of, AddsNumbers, ArePair, FitShifted};
 ghost use Rattle.path_index.specs.Numbers.{HasNumber, HaveSameNumbers, IsMoved, IsNewestBelow, IsFirstNotBelow, IsRising};
-ghost use Rattle.path_index.specs.Numbers.{IsShifted, IsUpTo, IsWith};
+ghost use Rattle.path_index.specs.Numbers.{IsShifted, IsFrontUpTo, IsWith};
 ghost use Rattle.path_index.specs.Operative.{down_from, hit_at};
 
 use crate::hit::Hit;
@@ -108,7 +107,7 @@ impl Numbers {
         }
     }
 
-    /// The same numbers again.
+    /// A copy in which each node has the same numbers.
     pub(crate) fn dup(&self) -> Result<Self, AllocError>
         ensures { IfOk result (HaveSameNumbers self.now) }
     {
@@ -191,7 +190,7 @@ impl Numbers {
 
     /// The numbers of a node up to this one.
     fn up_to(&self, node: u32, last: u32) -> &[u32]
-        ensures { IsUpTo last (numbers_of self.now node) result.now }
+        ensures { IsFrontUpTo last (numbers_of self.now node) result.now }
     {
         let numbers = self.of(node as usize);
         let count = numbers.partition_point(|each| *each <= last);

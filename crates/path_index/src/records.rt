@@ -1,4 +1,3 @@
-//! What an index keeps of its records.
 ghost use Rattle.std.specs.Prelude.{◌≡◌, ◌+◌, ◌^◌, ◌<◌, ◌++◌, All, Some, length, map, option_copied, slice_get};
 ghost use Rattle.std.specs.Prelude.{IfOk, OnOk};
 ghost use Rattle.svn_dump.specs.declared.record.NodeRecord.{NodeRecord as Record};
@@ -6,7 +5,7 @@ ghost use Rattle.path_index.specs.History.{AreRising};
 ghost use Rattle.path_index.specs.Records.{moved_by, AddsCopy, IsCopyAt, IsCountUpTo, IsOriginAt, SetsPathAt};
 
 use crate::copied::Copied;
-use crate::ghost_records::GhostRecords;
+use par_scan::GhostList;
 use std::alloc::{AllocError, Global};
 use std::marker::Model;
 use svn_dump::{Act, NodeRecord, Origin};
@@ -18,7 +17,7 @@ pub(crate) struct Records {
     revs: Vec<u32>,
     /// The copies in the order of the records.
     copies: Vec<Copied>,
-    all: GhostRecords,
+    all: GhostList<NodeRecord>,
 }
 
 impl Model for Records {
@@ -28,9 +27,9 @@ impl Model for Records {
 
     ghost Value = { List Record };
 
-    ghost view = { λ r. r.all.records };
+    ghost view = { λ r. r.all.items };
 
-    ghost invariant = { λ r. AreKept r.all.records r.revs.items r.copies.items };
+    ghost invariant = { λ r. AreKept r.all.items r.revs.items r.copies.items };
 }
 
 /// Appends the record of this index, if it is a copy.
@@ -48,7 +47,7 @@ fn push_copy(copies: &mut Vec<Copied>, index: u32, each: &NodeRecord) -> Result<
     Ok(())
 }
 
-/// The same copies again.
+/// Equal copies.
 fn dup_all(alloc: Global, copies: &[Copied]) -> Result<Vec<Copied>, AllocError>
     ensures { IfOk result (λ again. again.items ≡ copies.now) }
 {
@@ -87,7 +86,7 @@ impl Records {
     {
         let mut revs = Vec::with_capacity(alloc, records.len())?;
         let mut copies = Vec::new(alloc);
-        let mut all = GhostRecords::new();
+        let mut all = GhostList::new();
         for (index, each) in records.iter().enumerate() {
             revs.push(each.rev)?;
             push_copy(&mut copies, index as u32, each)?;
@@ -97,7 +96,7 @@ impl Records {
         Ok(Records { revs, copies, all })
     }
 
-    /// The same records again.
+    /// An equal copy.
     pub(crate) fn dup(&self) -> Result<Self, AllocError>
         ensures { IfOk result (λ kept. kept ≡ self.now) }
     {

@@ -1,8 +1,7 @@
-//! The records of a history by the paths that they name.
 ghost use Rattle.std.specs.Prelude.{◌≡◌, ◌+◌, ◌^◌, ◌<◌, List, Some, length, slice_get, IfOk, OnOk};
 ghost use Rattle.svn_dump.specs.declared.record.NodeRecord.{NodeRecord as Record};
 ghost use Rattle.path_index.specs.NamedRevisions.{AddsNamed};
-ghost use Rattle.path_index.specs.Nodes.{node_of, Extends};
+ghost use Rattle.path_index.specs.Nodes.{node_of, ExtendsNodes};
 ghost use Rattle.path_index.specs.Numbers.{IsNewestBelow};
 ghost use Rattle.path_index.specs.RecordsByPath.{AddsEntries, AreByPath, AreListed, AreNeighbours, IsFrontAt};
 ghost use Rattle.path_index.specs.RecordsByPath.{IsOfBoth, IsOfSameRecords, SetsAt};
@@ -74,7 +73,7 @@ impl RecordsByPath {
     /// Adds the path and all paths above it, with the revision. Returns the path's node.
     fn name(&mut self, path: &Path, rev: u32) -> Result<u32, AllocError>
         ensures node { IfOk result (λ node. node_of self.new.nodes path.now ≡ Some node) }
-        ensures grown { OnOk result (Extends self.old.nodes self.new.nodes) }
+        ensures grown { OnOk result (ExtendsNodes self.old.nodes self.new.nodes) }
         ensures named { OnOk result (AddsEntries self.new.nodes (IsFrontAt path.now (length path.now) rev)
             self.old.named self.new.named) }
         ensures added { self.new.added ≡ self.old.added }
@@ -89,7 +88,7 @@ impl RecordsByPath {
         Ok(node)
     }
 
-    /// The same again.
+    /// A copy that has the same records.
     pub(crate) fn dup(&self) -> Result<Self, AllocError>
         ensures { IfOk result (IsOfSameRecords self.now) }
     {

@@ -1,8 +1,7 @@
-//! A location segment of a path.
-
 use svn_path::Path;
 
-/// The neighbouring revisions from `lo` to `hi`, in which a path stood at one location, or nowhere.
+/// A location segment of a path: the neighbouring revisions from `lo` to `hi`, in which it stood at one location, or
+/// nowhere.
 #[derive(Drop)]
 pub struct Segment {
     pub lo: u32,

@@ -1,4 +1,3 @@
-//! The newest revisions through which a path stood at one location.
 ghost use Rattle.std.specs.Prelude.{IfOk};
 ghost use Rattle.path_index.specs.History.{AreRising};
 ghost use Rattle.path_index.specs.Index.{IsThere};

@@ -122,7 +122,7 @@ fn scan_ends<R: Threads + Sync>(
     Ok(has_failed == fails && calls.have_ended())
 }
 
-// The same of a total.
+// Whether a total of six items fails where one of its joins does, after all its joins have ended.
 fn total_ends<R: Threads + Sync>(
     rt: &R,
     alloc: Global,
@@ -138,7 +138,7 @@ fn total_ends<R: Threads + Sync>(
     Ok(has_failed == fails && calls.have_ended())
 }
 
-// The same of the makes of six items.
+// Whether making six items fails where one of its makes does, after all its makes have ended.
 fn making_ends<R: Threads + Sync>(
     rt: &R,
     alloc: Global,

@@ -158,7 +158,7 @@ fn met_in_scan<R: Threads + Sync>(
     Ok(if scanned.len() == n { meeting.met() } else { 0 })
 }
 
-// The same of a total.
+// How many of the first joins of a total of n items met, of so many guests.
 fn met_in_total<R: Threads + Sync>(
     rt: &R,
     alloc: Global,

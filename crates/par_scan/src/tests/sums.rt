@@ -31,6 +31,14 @@ impl Make for Successors {
 }
 
 #[test]
+fn three_sums_are_scanned(rt: HostRuntime) -> Result<(), Fail> {
+    let items = Vec::from_slice(rt.alloc(), &[Sum(1), Sum(2), Sum(3)])?;
+    let scanned = scan(&rt, rt.alloc(), items, 2)?;
+    assert_eq!(rt; scanned.as_slice(), [Sum(1), Sum(3), Sum(6)].as_slice());
+    Ok(())
+}
+
+#[test]
 fn four_sums_are_scanned(rt: HostRuntime) -> Result<(), Fail> {
     for parts in [1, 2, 3, 4, 5, 64] {
         let scanned = scan(&rt, rt.alloc(), four(rt.alloc())?, parts)?;

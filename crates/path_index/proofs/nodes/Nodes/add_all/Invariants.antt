@@ -1,9 +1,9 @@
-use Rattle.path_index.specs.Nodes.{Extends}
+use Rattle.path_index.specs.Nodes.{ExtendsNodes}
 use Rattle.path_index.proofs.MappedNodes.{AreMapped}
 use Rattle.path_index.proofs.nodes.Nodes.add_all.Given as goal
 
 abbrev pub invariant-loop-child : goal.invariant-loop-child
 invariant-loop-child l = record {
   mapped : AreMapped l.child-items l.child-index l.self l.nodes.items;
-  grown : Extends l.fn.self l.self;
+  grown : ExtendsNodes l.fn.self l.self;
 }

@@ -9,9 +9,9 @@ pub invariant_of-result : goal.invariant_of-result
 invariant_of-result c =
     let one = c.self.inside in
     let other = c.later.inside in
-    let count : c.len-count.result ≡ length one.all.records =
-    omega (arith, c.len-count.ensures, ap length c.self.invariant.of_revs, length-map one.all.records (λ (each : Record). each.rev)) in
-    AreKept-join one.all.records other.all.records c.join.result.records one.revs.items other.revs.items c.append_revs.new.revs.items one.copies.items other.copies.items c.append_moved.new.copies.items
+    let count : c.len-count.result ≡ length one.all.items =
+    omega (arith, c.len-count.ensures, ap length c.self.invariant.of_revs, length-map one.all.items (λ (each : Record). each.rev)) in
+    AreKept-join one.all.items other.all.items c.join.result.items one.revs.items other.revs.items c.append_revs.new.revs.items one.copies.items other.copies.items c.append_moved.new.copies.items
     c.join.ensures c.in_ok-append_revs.ensures
     (c.in_ok-append_moved.ensures ∙ ap (λ n. one.copies.items ++ map (moved_by n) other.copies.items) count)
     c.self.invariant c.later.invariant

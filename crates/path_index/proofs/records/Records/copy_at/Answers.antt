@@ -19,7 +19,7 @@ returns-in_default c =
     let index = c.args.index in
     let copies = c.deref.result.now in
     let number = c.partition_point-number.result in
-    let are : AreCopies records copies = subst (λ all. AreCopies all copies) c.self.view_is (subst (AreCopies c.self.inside.all.records) (sym c.deref.ensures.value) c.self.invariant.of_copies) in
+    let are : AreCopies records copies = subst (λ all. AreCopies all copies) c.self.view_is (subst (AreCopies c.self.inside.all.items) (sym c.deref.ensures.value) c.self.invariant.of_copies) in
     let point : IsPartitionPoint (λ each. ltb each.index index ≡ true) (λ each. ltb each.index index ≡ false) copies number =
     IsPartitionPoint-from_clause (λ each. ltb each.index index) copies number c.partition_point-number.ensures.partitioned
     (IsPartitionedBy-ltb (λ each. each.index) copies index (IsNonDecreasingBy-indices records copies are)) (λ a r f' k. search rules) in

@@ -4,6 +4,6 @@ use Rattle.path_index.proofs.records.Records.of.Given as goal
 
 abbrev pub invariant-loop-index : goal.invariant-loop-index
 invariant-loop-index l = record {
-  all : l.all.records ≡ take l.index l.records;
-  kept : AreKept l.all.records l.revs.items l.copies.items;
+  all : l.all.items ≡ take l.index l.records;
+  kept : AreKept l.all.items l.revs.items l.copies.items;
 }

@@ -2,7 +2,7 @@ use Rattle.std.proofs.Common.{◌≡◌, ◌+◌, Some, refl, take, length, sym,
 use Rattle.std.proofs.lemmas.List.{take_all}
 use Rattle.path_index.specs.Nodes.{node_of}
 use Rattle.path_index.specs.RecordsByPath.{AddsEntries, IsFrontAt}
-use Rattle.path_index.proofs.EntriesOfPaths.{AddsEntries-root, AddsEntries-next, AddsEntries-grown, Extends-none, Extends-again}
+use Rattle.path_index.proofs.EntriesOfPaths.{AddsEntries-root, AddsEntries-next, AddsEntries-grown, ExtendsNodes-none, ExtendsNodes-again}
 use Rattle.path_index.proofs.NodesOfPaths.{node_of-grown, node_of-take_more, node_of-within}
 use Rattle.path_index.proofs.records_by_path.RecordsByPath.name.Goals as goal
 
@@ -12,7 +12,7 @@ loop-name-init c =
     let parts = c.parts-name-items.result.now in
     record {
       node = refl;
-      grown = Extends-none old.nodes;
+      grown = ExtendsNodes-none old.nodes;
       named = AddsEntries-root old.nodes parts c.args.rev old.named c.insert.new.self (omega (arith, c.ranges.rev.fits)) c.in_ok-insert.ensures;
       added = refl;
       copied = refl;
@@ -35,7 +35,7 @@ loop-name-preserved c =
     ∙ c.in_ok-node.ensures.node in
     record {
       node = node;
-      grown = Extends-again old.nodes before.nodes nodes so.grown grown;
+      grown = ExtendsNodes-again old.nodes before.nodes nodes so.grown grown;
       named = AddsEntries-next nodes parts n c.args.rev c.in_ok-node.node old.named before.named c.insert-in-loop-name.new.self
           (AddsEntries-grown before.nodes nodes grown (IsFrontAt parts n c.args.rev) old.named before.named so.named) node (omega (arith, c.ranges.rev.fits)) c.in_ok-insert-2.ensures;
       added = so.added;
