@@ -31,11 +31,11 @@ abbrev pub end_of_blocks : ℕ → List Trees → ℕ
 end_of_blocks lo blocks = lo + length (block_records blocks)
 
 pub block_records-append : (front more : List Trees) → block_records (front ++ more) ≡ block_records front ++ block_records more
-block_records-append front more = flat_map-append (λ (block : Trees). block.records.records) front more
+block_records-append front more = flat_map-append (λ (block : Trees). block.records.items) front more
 
 -- one block more at the front
 end-cons : (lo : ℕ) (first : Trees) (rest : List Trees) → first.start ≡ lo → end_of_blocks lo (first ∷ rest) ≡ end_of_blocks (end_of_trees first) rest
-end-cons lo first rest starts = omega (arith, starts, length-append first.records.records (block_records rest))
+end-cons lo first rest starts = omega (arith, starts, length-append first.records.items (block_records rest))
 
 pub AreBlocksFrom-append : (lo : ℕ) (front more : List Trees) → AreBlocksFrom lo front → AreBlocksFrom (end_of_blocks lo front) more → AreBlocksFrom lo (front ++ more)
 AreBlocksFrom-append lo [] more are next = let none : lo + 0 ≡ lo = omega arith in subst (λ at. AreBlocksFrom at more) none next
@@ -57,13 +57,13 @@ last-start lo earlier last are = (AreBlocksFrom-back lo earlier (last ∷ []) ar
 
 pub last-end : (lo : ℕ) (earlier : List Trees) (last : Trees) → AreBlocksFrom lo (earlier ++ last ∷ []) → end_of_trees last ≡ end_of_blocks lo (earlier ++ last ∷ [])
 last-end lo earlier last are =
-    omega (arith, last-start lo earlier last are, ap length (block_records-append earlier (last ∷ [])), length-append (block_records earlier) (block_records (last ∷ [])), length-append last.records.records [])
+    omega (arith, last-start lo earlier last are, ap length (block_records-append earlier (last ∷ [])), length-append (block_records earlier) (block_records (last ∷ [])), length-append last.records.items [])
 
 -- there are few nodes
 pub block_nodes-few : (lo : ℕ) (blocks : List Trees) → AreBlocksFrom lo blocks → block_nodes blocks ≤ most_nodes (length (block_records blocks))
 block_nodes-few lo [] are = omega arith
 block_nodes-few lo (first ∷ rest) are =
-    omega (arith, block_nodes-few (end_of_trees first) rest are.3, are.2.few, sum_by-cons (λ (block : Trees). length block.trie.nodes) first rest, length-append first.records.records (block_records rest))
+    omega (arith, block_nodes-few (end_of_trees first) rest are.3, are.2.few, sum_by-cons (λ (block : Trees). length block.trie.nodes) first rest, length-append first.records.items (block_records rest))
 
 -- for their records, too
 pub block_nodes-records : (lo : ℕ) (blocks : List Trees) → AreBlocksFrom lo blocks → block_nodes blocks ≤ nodes_for (block_records blocks)
@@ -73,7 +73,7 @@ block_nodes-records lo (first ∷ rest) are = omega (
   block_nodes-records (end_of_trees first) rest are.3,
   are.2.nodes,
   sum_by-cons (λ (block : Trees). length block.trie.nodes) first rest,
-  sum_by-append (λ (each : Record NameId ValueId). length each.path + 1) first.records.records (block_records rest),
+  sum_by-append (λ (each : Record NameId ValueId). length each.path + 1) first.records.items (block_records rest),
 )
 
 pub block_nodes-small : (lo : ℕ) (blocks : List Trees) → AreBlocksFrom lo blocks → block_nodes blocks ≤ most_nodes (2 ^ 32)
@@ -141,16 +141,16 @@ through-earlier lo [] last left right are same =
     ap (resolved lo) (look_through-none same_name lo left) ∙ subst (λ at. resolved at left ≡ resolved at right) are.0 same
     ∙ sym (ap (resolved lo) (look_through-none same_name lo right))
 through-earlier lo (first ∷ rest) last left right are same =
-    let later : last.start ≢ 0 = λ none. absurd (omega (arith, none, last-start lo (first ∷ rest) last are, are.1, length-append first.records.records (block_records rest))) in
+    let later : last.start ≢ 0 = λ none. absurd (omega (arith, none, last-start lo (first ∷ rest) last are, are.1, length-append first.records.items (block_records rest))) in
     ap (λ each. resolved lo (look_through same_name lo (block_records (first ∷ rest)) each)) (sym (resolved-later last.start left later) ∙ same ∙ resolved-later last.start right later)
 
 -- what all blocks say is what the last one says, by the earlier ones
 pub through-last : (lo : ℕ) (earlier : List Trees) (last : Trees) (each : Found NameId ValueId) → AreBlocksFrom lo (earlier ++ last ∷ [])
-    → look_through same_name lo (block_records (earlier ++ last ∷ [])) each ≡ look_through same_name lo (block_records earlier) (look_through same_name last.start last.records.records each)
+    → look_through same_name lo (block_records (earlier ++ last ∷ [])) each ≡ look_through same_name lo (block_records earlier) (look_through same_name last.start last.records.items each)
 through-last lo earlier last each are =
-    ap (λ all. look_through same_name lo all each) (block_records-append earlier (last ∷ []) ∙ ap (λ more. block_records earlier ++ more) (append-nil last.records.records))
-    ∙ look_through-append same_name lo (block_records earlier) last.records.records each
-    ∙ ap (λ at. look_through same_name lo (block_records earlier) (look_through same_name at last.records.records each)) (sym (last-start lo earlier last are))
+    ap (λ all. look_through same_name lo all each) (block_records-append earlier (last ∷ []) ∙ ap (λ more. block_records earlier ++ more) (append-nil last.records.items))
+    ∙ look_through-append same_name lo (block_records earlier) last.records.items each
+    ∙ ap (λ at. look_through same_name lo (block_records earlier) (look_through same_name at last.records.items each)) (sym (last-start lo earlier last are))
 
 module _ (lo tick : ℕ) (path : List NameId) where
   abbrev look_of : List (Record NameId ValueId) → Found NameId ValueId
@@ -183,6 +183,6 @@ module _ (lo tick : ℕ) (path : List NameId) where
       → look_in_trees only tick path ≡ resolved lo (look_of (block_records all))
   look-only all only are before within =
       let starts = (AreBlocksFrom-front lo (only ∷ []) before.more (subst (AreBlocksFrom lo) before.split are)).0 in
-      ap (λ at. resolved at (look same_name at only.records.records tick path)) starts
-      ∙ ap (λ records. resolved lo (look_of records)) (sym (append-nil only.records.records))
+      ap (λ at. resolved at (look same_name at only.records.items tick path)) starts
+      ∙ ap (λ records. resolved lo (look_of records)) (sym (append-nil only.records.items))
       ∙ ap (resolved lo) (sym (look-before all (only ∷ []) are before within))

@@ -275,12 +275,7 @@ SetsChild-branch old mid new map bits even odd node near far same after ordered 
         ∙ ap (λ map. sides_of bits (child_in old map) (child_in old (if bits % 2 == 0 then odd else even)) each) (sym near_is)
         ∙ ap (λ map. sides_of bits (child_in old near) (child_in old map) each) (sym far_is)
 
--- ---- results
-
--- what holds of a value for two reasons
-pub IfOk-both : {X E : Type 0} (r : Result X E) (P Q R : X → Type 0) → ((x : X) → P x → Q x → R x) → IfOk r P → IfOk r Q → IfOk r R
-IfOk-both (Ok x) P Q R both p q = both x p q
-IfOk-both (Err e) P Q R both p q = tt
+-- ---- failed pushes
 
 -- what holds whether or not a map was added
 pub push-cases : {X E : Type 0} (r : Result X E) (old new : List ChildMap) (child_map : ChildMap) (P : List ChildMap → Type 0)
@@ -293,8 +288,3 @@ pub Extends-push : {X E : Type 0} (r : Result X E) (old new : List ChildMap) (ch
     → OnOk r (new ≡ old ++ child_map ∷ []) → OnErr r (new ≡ old) → Extends old new
 Extends-push r old new child_map added failed =
     push-cases r old new child_map (Extends old) added failed (record { more = child_map ∷ []; grown = refl }) (Extends-none old)
-
--- what holds in any case holds of an `Ok`
-pub OnOk-from : {X E : Type 0} (r : Result X E) (P : Type 0) → P → OnOk r P
-OnOk-from (Ok x) P holds = holds
-OnOk-from (Err e) P holds = tt

@@ -16,6 +16,7 @@ pub mod ChildMapLookups
 pub mod ChildMapSteps
 pub mod Positions
 pub mod RecordNodes
+pub mod Results
 pub mod RevisionEnds
 pub mod RevisionStates
 pub mod Sources

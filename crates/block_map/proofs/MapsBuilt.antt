@@ -36,8 +36,8 @@ nodes_for-few ends (first ∷ rest) short =
 pub record IsBuiltOf (start : ℕ) (ends : List ℕ) (records : List NodeRecord) (trees : Trees) : Type 0 where
   pub is : AreTrees trees
   pub start_is : trees.start ≡ start
-  pub records_are : trees.records.records ≡ records_at_ticks ends records
-  pub nodes : length trees.trie.nodes ≤ nodes_for trees.records.records
+  pub records_are : trees.records.items ≡ records_at_ticks ends records
+  pub nodes : length trees.trie.nodes ≤ nodes_for trees.records.items
 
 -- it ends after them
 pub end_of-built : (start : ℕ) (ends : List ℕ) (records : List NodeRecord) (trees : Trees) → IsBuiltOf start ends records trees → end_of_trees trees ≡ start + length records
@@ -53,7 +53,7 @@ source-of_next start ends records index d trees sources within built =
 
 -- one record more
 pub IsBuiltOf-more : (start : ℕ) (ends : List ℕ) (records : List NodeRecord) (index : ℕ) (d : NodeRecord) (old new : Trees) → index < length records → IsBuiltOf start ends (take index records) old
-    → AreTrees new → new.start ≡ old.start → new.records.records ≡ old.records.records ++ record_at_tick ends (record_view (get_or records index d)) ∷ []
+    → AreTrees new → new.start ≡ old.start → new.records.items ≡ old.records.items ++ record_at_tick ends (record_view (get_or records index d)) ∷ []
     → length new.trie.nodes ≤ length old.trie.nodes + length (get_or records index d).path + 1 → IsBuiltOf start ends (take (index + 1) records) new
 IsBuiltOf-more start ends records index d old new within built is start_is added nodes = record {
   is = is;
@@ -63,11 +63,11 @@ IsBuiltOf-more start ends records index d old new within built is start_is added
       ∙ map-append (λ (each : NodeRecord). record_at_tick ends (record_view each)) (take index records) (get_or records index d ∷ []));
   nodes =
       let last = record_at_tick ends (record_view (get_or records index d)) in
-      omega (arith, nodes, built.nodes, ap nodes_for added, sum_by-append nodes_of_record old.records.records (last ∷ []), sum_by-cons nodes_of_record last []);
+      omega (arith, nodes, built.nodes, ap nodes_for added, sum_by-append nodes_of_record old.records.items (last ∷ []), sum_by-cons nodes_of_record last []);
 }
 
 -- trees of no records
-pub IsBuiltOf-none : (start : ℕ) (ends : List ℕ) (trees : Trees) → AreTrees trees → trees.start ≡ start → trees.records.records ≡ [] → trees.trie.nodes ≡ [] → IsBuiltOf start ends [] trees
+pub IsBuiltOf-none : (start : ℕ) (ends : List ℕ) (trees : Trees) → AreTrees trees → trees.start ≡ start → trees.records.items ≡ [] → trees.trie.nodes ≡ [] → IsBuiltOf start ends [] trees
 IsBuiltOf-none start ends trees is start_is records nodes = record { is = is; start_is = start_is; records_are = records; nodes = omega (arith, ap length nodes) }
 
 -- where the trees of the first so many records end

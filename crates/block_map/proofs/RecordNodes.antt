@@ -95,7 +95,7 @@ module _ (trees : Trees) (root : Node) (path : List NameId) where
       found_at-with_setting trees.trie (put mi) (unwrap_or from.node untouched) from.base
       ∙ ap (with_mergeinfo mi) (found_at-untouched trees.trie from.node from.base ∙ shows path)
       ∙ ap (λ whole. with_mergeinfo mi (look_in_trees trees (end_of_trees trees) whole)) (sym (append-nil path))
-      ∙ sym (resolved-with_mergeinfo trees.start mi (look same_name trees.start trees.records.records (end_of_trees trees) (path ++ [])))
+      ∙ sym (resolved-with_mergeinfo trees.start mi (look same_name trees.start trees.records.items (end_of_trees trees) (path ++ [])))
   ShowsAction-change mi shows (name ∷ rest) =
       let from = at_path trees.trie (at_root root) path in
       ap (λ next. found_below trees.trie next rest) (child_at-with_setting trees.trie (put mi) (unwrap_or from.node untouched) from.base name ∙ child_at-untouched trees.trie from.node from.base name)
@@ -107,7 +107,7 @@ module _ (trees : Trees) (root : Node) (path : List NameId) where
       let over = (at_path trees.trie (at_root root) path).base in
       found_at-with_setting trees.trie setting node over
       ∙ ap (with_setting setting) (shows over [] ∙ ap (look_in_trees trees tick) (append-nil source))
-      ∙ sym (resolved-with_setting trees.start setting (look same_name trees.start trees.records.records tick source))
+      ∙ sym (resolved-with_setting trees.start setting (look same_name trees.start trees.records.items tick source))
   ShowsAction-copy replace source tick setting node shows (name ∷ rest) =
       let over = (at_path trees.trie (at_root root) path).base in
       ap (λ next. found_below trees.trie next rest) (child_at-with_setting trees.trie setting node over name) ∙ shows over (name ∷ rest)

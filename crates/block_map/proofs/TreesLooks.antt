@@ -122,10 +122,10 @@ look_after_record-cases : (trees : Trees) (each : Record NameId ValueId) (path :
 look_after_record-cases trees each path = by (below same_name each.path path) refl
   where
     looks : List (Look NameId ValueId)
-    looks = looks_of same_name trees.start trees.records.records
+    looks = looks_of same_name trees.start trees.records.items
 
     end_is : trees.start + length looks ≡ end_of_trees trees
-    end_is = ap (λ n. trees.start + n) (length-looks_of same_name trees.start trees.records.records)
+    end_is = ap (λ n. trees.start + n) (length-looks_of same_name trees.start trees.records.items)
 
     by : (left : Option (List NameId)) → below same_name each.path path ≡ left
         → resolved trees.start (elim left [
@@ -160,11 +160,6 @@ IsRootAt-pushed trees new tick node id sound is shows at added = record {
   at = pushed_node trees.trie new node id at added;
   shows = λ path. found_below-grown trees.trie new sound (ExtendsTrie-pushed trees.trie new node added) (at_root node) path is ∙ shows path;
 }
-
--- what a fact of the value and another fact make of it
-pub IfOk-kept : {T E : Type 0} (r : Result T E) (P Q : T → Type 0) (R : Type 0) → ((x : T) → P x → R → Q x) → IfOk r P → OnOk r R → IfOk r Q
-IfOk-kept (Ok x) P Q R both p q = both x p q
-IfOk-kept (Err e) P Q R both p q = tt
 
 -- ---- the root of the next tree
 
@@ -203,13 +198,13 @@ IsRootAfter-same trees each id root leaves = record {
 -- ---- trees with one more record
 
 module _ (old new : Trees) (each : Record NameId ValueId) (id : NodeId) (trees : AreTrees old) (few : end_of_trees old + 1 < 2 ^ 32) (sound : IsSound new.trie) (grown : ExtendsTrie old.trie new.trie)
-    (start : new.start ≡ old.start) (roots : new.roots.items ≡ old.roots.items ++ id ∷ []) (records : new.records.records ≡ old.records.records ++ each ∷ [])
+    (start : new.start ≡ old.start) (roots : new.roots.items ≡ old.roots.items ++ id ∷ []) (records : new.records.items ≡ old.records.items ++ each ∷ [])
     (after : IsRootAfter (record old { trie = new.trie }) each id) where
-  one_more : length new.records.records ≡ length old.records.records + 1
-  one_more = ap length records ∙ length_push old.records.records each
+  one_more : length new.records.items ≡ length old.records.items + 1
+  one_more = ap length records ∙ length_push old.records.items each
 
   -- the look of the new trees, by the records of the old ones
-  look_is : (tick : ℕ) (path : List NameId) → look_in_trees new tick path ≡ resolved old.start (look same_name old.start (old.records.records ++ each ∷ []) tick path)
+  look_is : (tick : ℕ) (path : List NameId) → look_in_trees new tick path ≡ resolved old.start (look same_name old.start (old.records.items ++ each ∷ []) tick path)
   look_is tick path = λ i. resolved (start i) (look same_name (start i) (records i) tick path)
 
   -- the roots there were
@@ -219,7 +214,7 @@ module _ (old new : Trees) (each : Record NameId ValueId) (id : NodeId) (trees :
     at = slice_get-grown old.trie.nodes new.trie.nodes root.0 grown.nodes (slice_get_within old.trie.nodes root.0 was.node was.at) ∙ was.at;
     shows = λ path.
         found_below-grown old.trie new.trie trees.sound grown (at_root was.node) path (trees.sound.nodes root.0 was.node was.at) ∙ was.shows path
-        ∙ sym (look_is tick path ∙ ap (resolved old.start) (look_push-before same_name old.start old.records.records each tick path within));
+        ∙ sym (look_is tick path ∙ ap (resolved old.start) (look_push-before same_name old.start old.records.items each tick path within));
   }
 
   -- and the last one
@@ -227,7 +222,7 @@ module _ (old new : Trees) (each : Record NameId ValueId) (id : NodeId) (trees :
   last_root tick last = record {
     node = after.node;
     at = after.at;
-    shows = λ path. after.shows path ∙ sym (look_is tick path ∙ ap (resolved old.start) (look_push-last same_name old.start old.records.records each tick path last));
+    shows = λ path. after.shows path ∙ sym (look_is tick path ∙ ap (resolved old.start) (look_push-last same_name old.start old.records.items each tick path last));
   }
 
   pub AreTrees-push : AreTrees new

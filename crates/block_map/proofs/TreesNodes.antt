@@ -42,7 +42,7 @@ found_below-childless trie own base over name path =
 -- what was found before it is not known to it
 pub look_in_trees-before : (trees : Trees) (tick : ℕ) (path : List NameId) → tick ≤ trees.start → look_in_trees trees tick path ≡ resolved trees.start (found.at path tick)
 look_in_trees-before trees tick path before =
-    ap (resolved trees.start) (look_at_first trees.start (looks_of same_name trees.start trees.records.records) tick path before)
+    ap (resolved trees.start) (look_at_first trees.start (looks_of same_name trees.start trees.records.items) tick path before)
 
 -- except before the first record of the history
 pub look_in_trees-beginning : (trees : Trees) (tick : ℕ) (path : List NameId) → trees.start ≡ 0 → tick ≤ trees.start → look_in_trees trees tick path ≡ from_beginning (found.at path tick)

@@ -15,7 +15,7 @@ abbrev pub block_trees : List (Arc Trees Global) → List Trees
 block_trees blocks = map arc_value blocks
 
 abbrev pub block_records : List Trees → List (Record NameId ValueId)
-block_records blocks = flat_map (λ block. block.records.records) blocks
+block_records blocks = flat_map (λ block. block.records.items) blocks
 
 abbrev pub block_nodes : List Trees → ℕ
 block_nodes blocks = sum_by (λ block. length block.trie.nodes) blocks
@@ -24,7 +24,7 @@ block_nodes blocks = sum_by (λ block. length block.trie.nodes) blocks
 abbrev pub AreBlocksFrom : ℕ → List Trees → Type 0
 AreBlocksFrom lo [] = ⊤
 AreBlocksFrom lo (first ∷ rest) =
-    (first.start ≡ lo) × (0 < length first.records.records) × AreMapTrees first × AreBlocksFrom (end_of_trees first) rest
+    (first.start ≡ lo) × (0 < length first.records.items) × AreMapTrees first × AreBlocksFrom (end_of_trees first) rest
 
 -- the first ones are those that begin before a tick
 pub record AreBlocksBefore (tick : ℕ) (all front : List Trees) : Type 0 where

@@ -2,7 +2,6 @@ pub mod Blocks
 pub mod Ends
 pub mod FaultFound
 pub mod FaultKind
-pub mod GhostRecords
 pub mod Joining
 pub mod Locations
 pub mod Look

@@ -17,15 +17,15 @@ use Rattle.block_map.specs.declared.trie.node.NodeId.{NodeId}
 
 -- the tick after the last record
 abbrev pub end_of_trees : Trees → ℕ
-end_of_trees trees = trees.start + length trees.records.records
+end_of_trees trees = trees.start + length trees.records.items
 
 -- what the records of the trees say of a path at a tick
 abbrev pub look_in_trees : Trees → ℕ → LookOfNumbers
-look_in_trees trees tick path = resolved trees.start (look same_name trees.start trees.records.records tick path)
+look_in_trees trees tick path = resolved trees.start (look same_name trees.start trees.records.items tick path)
 
 -- and what they say of what later records found
 abbrev pub look_through_trees : Trees → Found NameId ValueId → Found NameId ValueId
-look_through_trees trees each = look_through same_name trees.start trees.records.records each
+look_through_trees trees each = look_through same_name trees.start trees.records.items each
 
 -- the tree below the node shows what they say of a tick
 abbrev pub ShowsTick : Trees → ℕ → Node → Type 0
@@ -41,20 +41,20 @@ pub record IsRootAt (trees : Trees) (tick : ℕ) (id : NodeId) : Type 0 where
 pub record AreTrees (trees : Trees) : Type 0 where
   pub few : end_of_trees trees < 2 ^ 32
   pub sound : IsSound trees.trie
-  pub roots : length trees.roots.items ≡ length trees.records.records
+  pub roots : length trees.roots.items ≡ length trees.records.items
   pub each : (index : ℕ) (id : NodeId) → slice_get trees.roots.items index ≡ Some id → IsRootAt trees (trees.start + index + 1) id
 
 -- and few nodes, for the number of the records and for their paths
 pub record AreMapTrees (trees : Trees) : Type 0 where
   pub is : AreTrees trees
-  pub few : length trees.trie.nodes ≤ most_nodes (length trees.records.records)
-  pub nodes : length trees.trie.nodes ≤ nodes_for trees.records.records
+  pub few : length trees.trie.nodes ≤ most_nodes (length trees.records.items)
+  pub nodes : length trees.trie.nodes ≤ nodes_for trees.records.items
 
 -- the same records, with nodes, maps and locations added
 pub record SameTrees (old new : Trees) : Type 0 where
   pub start : new.start ≡ old.start
   pub roots : new.roots.items ≡ old.roots.items
-  pub records : new.records.records ≡ old.records.records
+  pub records : new.records.items ≡ old.records.items
   pub trie : ExtendsTrie old.trie new.trie
   pub sound : IsSound new.trie
 
@@ -66,8 +66,8 @@ ShowsPath trees tick path node = (over : LookOfNumbers) (rest : List NameId) →
 -- what an action leaves at a path and below it
 abbrev pub look_after_action : Trees → List NameId → Action NameId ValueId → LookOfNumbers
 look_after_action trees path action rest =
-    resolved trees.start (found_after_action trees.start (looks_of same_name trees.start trees.records.records) action
-    (look same_name trees.start trees.records.records (end_of_trees trees) (path ++ rest)) rest)
+    resolved trees.start (found_after_action trees.start (looks_of same_name trees.start trees.records.items) action
+    (look same_name trees.start trees.records.items (end_of_trees trees) (path ++ rest)) rest)
 
 -- the node shows that at the path below a root
 abbrev pub ShowsAction : Trees → Node → List NameId → Action NameId ValueId → Node → Type 0
@@ -87,7 +87,7 @@ action_in ends each = action_at_tick ends (action_view each.act)
 
 -- what is found after one more record
 abbrev pub look_after_record : Trees → Record NameId ValueId → LookOfNumbers
-look_after_record trees each path = resolved trees.start (look_after same_name trees.start (looks_of same_name trees.start trees.records.records) each path)
+look_after_record trees each path = resolved trees.start (look_after same_name trees.start (looks_of same_name trees.start trees.records.items) each path)
 
 -- the root of the tree after one more record
 pub record IsRootAfter (trees : Trees) (each : Record NameId ValueId) (id : NodeId) : Type 0 where

@@ -12,7 +12,7 @@ mod entry;
 mod fault;
 mod faults;
 mod found;
-mod ghost_records;
+mod ghost_record;
 mod joining;
 mod looked;
 mod map;

@@ -74,7 +74,7 @@ impl Map {
     fn of_block(alloc: Global, trees: Trees) -> Result<Self, AllocError>
         requires { AreMapTrees trees }
         ensures lo { IfOk result (λ map. map.lo ≡ trees.start) }
-        ensures records { IfOk result (λ map. map.records ≡ trees.records.records) }
+        ensures records { IfOk result (λ map. map.records ≡ trees.records.items) }
         ensures nodes { IfOk result (λ map. map.nodes ≤ length trees.trie.nodes) }
     {
         let lo = trees.start;
@@ -257,7 +257,7 @@ fn trees_after(
     requires sources { HaveSources start ends.now records.now }
     ensures trees { IfOk result AreMapTrees }
     ensures start { IfOk result (λ trees. trees.start ≡ start) }
-    ensures records { IfOk result (λ trees. trees.records.records ≡ records_at_ticks ends.now records.now) }
+    ensures records { IfOk result (λ trees. trees.records.items ≡ records_at_ticks ends.now records.now) }
 {
     let mut trees = Trees::new(alloc, start);
     for record in records {
@@ -351,7 +351,8 @@ fn look_through(
     requires in_order { AreBlocksFrom lo (block_trees blocks.now) }
     requires within { IsFoundUpTo (lo + length (block_records (block_trees blocks.now))) (looked_view path.now looked) }
     ensures { IfOk result (λ after. resolved lo (looked_view path.now after)
-        ≡ resolved lo (looked_through same_name lo (block_records (block_trees blocks.now)) (looked_view path.now looked))) }
+        ≡ resolved lo (looked_through same_name lo (block_records (block_trees blocks.now))
+        (looked_view path.now looked))) }
 {
     let mut looked = looked;
     let mut left = blocks;

@@ -14,10 +14,11 @@ ghost use Rattle.block_map.specs.Trie.{IsNodeOf, IsSound};
 use crate::ends::Ends;
 use crate::entry::Entry;
 use crate::found::Found;
-use crate::ghost_records::GhostRecords;
+use crate::ghost_record::GhostRecord;
 use crate::looked::Looked;
 use crate::nearest::Nearest;
 use crate::trie::{Node, NodeId, Trie};
+use par_scan::GhostList;
 use std::alloc::{AllocError, Global};
 use svn_dump::{Act, Kind, Mi, NodeRecord, ValueId};
 use svn_path::{NameId, Path};
@@ -28,7 +29,7 @@ pub(crate) struct Trees {
     pub(crate) start: u32,
     pub(crate) roots: Vec<NodeId>,
     pub(crate) trie: Trie,
-    pub(crate) records: GhostRecords,
+    pub(crate) records: GhostList<GhostRecord>,
 }
 
 impl Trees {
@@ -36,14 +37,14 @@ impl Trees {
     pub(crate) fn new(alloc: Global, start: u32) -> Self
         ensures trees { AreTrees result }
         ensures start { result.start ≡ start }
-        ensures records { result.records.records ≡ [] }
+        ensures records { result.records.items ≡ [] }
         ensures nodes { result.trie.nodes ≡ [] }
     {
         Trees {
             start,
             roots: Vec::new(alloc),
             trie: Trie::new(alloc),
-            records: GhostRecords::new(),
+            records: GhostList::new(),
         }
     }
 
@@ -54,14 +55,14 @@ impl Trees {
         requires source { HasSourceBefore ends.now (end_of_trees self.old + 1) each.now.act }
         ensures trees { OnOk result (AreTrees self.new) }
         ensures start { OnOk result (self.new.start ≡ self.old.start) }
-        ensures records { OnOk result (self.new.records.records
-            ≡ self.old.records.records ++ record_at_tick ends.now (record_view each.now) ∷ []) }
+        ensures records { OnOk result (self.new.records.items
+            ≡ self.old.records.items ++ record_at_tick ends.now (record_view each.now) ∷ []) }
         ensures nodes { OnOk result
             (length self.new.trie.nodes ≤ length self.old.trie.nodes + length each.now.path + 1) }
     {
         let id = self.next_root(each, ends)?;
         self.roots.push(id)?;
-        self.records.push(each, ends);
+        self.records.push(&GhostRecord::of(each, ends));
         Ok(())
     }
 

@@ -96,8 +96,8 @@ impl Trie {
     /// Adds a location.
     pub(crate) fn push_location(&mut self, path: Path, tick: u32) -> Result<LocationId, AllocError>
         ensures id { IfOk result (λ id. id.0 ≡ length self.old.locations) }
-        ensures added { OnOk result
-            (self.new ≡ record self.old { locations = self.old.locations ++ record { path = path; tick = tick } ∷ [] }) }
+        ensures added { OnOk result (self.new
+            ≡ record self.old { locations = self.old.locations ++ record { path = path; tick = tick } ∷ [] }) }
         ensures after { IsSound self.new }
     {
         self.locations.push(path, tick)
@@ -236,8 +236,8 @@ impl Trie {
         Ok(Looked::Other(found))
     }
 
-    /// What the base of a path has there. Where that is what stood at the path itself, since the base is a location of the
-    /// root for all components, no path is made.
+    /// What the base of a path has there. Where that is what stood at the path itself, as it is from the root on, no path
+    /// is made.
     fn found_in_base(&self, base: PathBase, path: &[NameId]) -> Result<Looked, AllocError>
         requires { IsPathBaseOf self.now path.now base }
         ensures { IfOk result (λ looked. looked_view path.now looked ≡ path_base_view self.now path.now base []) }

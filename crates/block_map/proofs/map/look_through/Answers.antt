@@ -32,7 +32,7 @@ loop-last-preserved c =
     let are = subst (AreBlocksFrom c.args.lo) split c.loop-last.invariant.0 in (
       AreBlocksFrom-front c.args.lo earlier (block ∷ []) are,
       subst (λ tick. IsFoundUpTo tick after) (last-start c.args.lo earlier block are) c.in_ok-looked.ensures.earlier,
-      through-earlier c.args.lo earlier block after (look_through same_name block.start block.records.records before) are c.in_ok-looked.ensures.exact
+      through-earlier c.args.lo earlier block after (look_through same_name block.start block.records.items before) are c.in_ok-looked.ensures.exact
           ∙ ap (resolved c.args.lo) (sym (through-last c.args.lo earlier block before are))
           ∙ ap (λ blocks. resolved c.args.lo (look_through same_name c.args.lo (block_records blocks) before)) (sym split)
           ∙ c.loop-last.invariant.2,

@@ -23,7 +23,7 @@ pub loop-record-preserved : goal.loop-record-preserved
 loop-record-preserved c =
     IsBuiltOf-more c.args.start c.args.ends.now c.args.records.now c.loop-record.record-index c.record-item.result c.loop-record.trees c.add.new.self
     c.loop-record-test.true c.loop-record.invariant c.in_ok-add.ensures.trees c.in_ok-add.ensures.start
-    (c.in_ok-add.ensures.records ∙ ap (λ each. c.loop-record.trees.records.records ++ record_at_tick c.args.ends.now (record_view each) ∷ []) c.record-item.is)
+    (c.in_ok-add.ensures.records ∙ ap (λ each. c.loop-record.trees.records.items ++ record_at_tick c.args.ends.now (record_view each) ∷ []) c.record-item.is)
     (subst (λ (each : NodeRecord). length c.add.new.self.trie.nodes ≤ length c.loop-record.trees.trie.nodes + length each.path + 1) c.record-item.is c.in_ok-add.ensures.nodes)
 
 pub returns-clause-trees : goal.returns-clause-trees

@@ -1,4 +1,4 @@
-use Rattle.std.proofs.Common.{refl, arith}
+use Rattle.std.proofs.Common.{◌∷◌, ◌++◌, [], refl, ap, ◌∙◌, arith}
 use Rattle.svn_dump.specs.Dump.{record_view}
 use Rattle.block_map.specs.Ends.{record_at_tick}
 use Rattle.block_map.specs.declared.trees.Trees.{Trees}
@@ -10,7 +10,7 @@ pub returns-clause-trees : goal.returns-clause-trees
 returns-clause-trees c =
     let old = c.next_root.new.self in
     let same = c.in_ok-id.ensures.same in
-    let new : Trees = record { start = old.start; roots = c.push.new.self; trie = old.trie; records = c.push-2.new.self } in
+    let new : Trees = record { start = old.start; roots = c.push.new.self; trie = old.trie; records = c.push-3.new.self } in
     AreTrees-push old new (record_at_tick c.args.ends.now (record_view c.args.each.now)) c.in_ok-id.id
     (AreTrees-same c.args.self.now old c.requires.trees same) (omega (arith, c.requires.few, end_of_trees-same c.args.self.now old same)) c.in_ok-id.ensures.sound (ExtendsTrie-none old.trie)
-    refl c.in_ok-push.ensures.items c.push-2.ensures c.in_ok-id.ensures.shows
+    refl c.in_ok-push.ensures.items (c.push-3.ensures ∙ ap (λ each. old.records.items ++ each ∷ []) c.of.ensures) c.in_ok-id.ensures.shows

@@ -14,5 +14,5 @@ returns-clause-earlier c =
     let says = look_in_trees trees c.args.tick path in
     IfOk-weaker c.found.result (λ looked. looked_view path looked ≡ says) (λ looked. IsFoundUpTo trees.start (looked_view path looked))
     (λ looked exact. subst (IsFoundUpTo trees.start) (sym exact)
-    (IsFoundUpTo-earlier trees.start says (IsFoundAtOrBefore-look same_name trees.start trees.records.records c.args.tick path)))
+    (IsFoundUpTo-earlier trees.start says (IsFoundAtOrBefore-look same_name trees.start trees.records.items c.args.tick path)))
     (search rules)

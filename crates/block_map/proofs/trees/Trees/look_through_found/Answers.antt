@@ -14,7 +14,7 @@ returns-in_ok-looked-in-AtWith-clause-exact c =
     let looked = c.in_ok-looked-in-AtWith.looked in
     let within : tick ≤ end_of_trees trees = subst (λ each. IsFoundUpTo (end_of_trees trees) (found_view each)) c.in-AtWith.is c.requires.within in
     ap (resolved trees.start) c.with_mergeinfo.ensures
-    ∙ with_mergeinfo-through trees.start tick c.in-AtWith.path c.in-AtWith.mi trees.records.records (found_view c.into_found-in-AtWith.result) within
+    ∙ with_mergeinfo-through trees.start tick c.in-AtWith.path c.in-AtWith.mi trees.records.items (found_view c.into_found-in-AtWith.result) within
     (ap (resolved trees.start) (c.into_found-in-AtWith.ensures ∙ ap (λ path. looked_view path looked) (sym c.parts-in-AtWith.ensures))
     ∙ c.in_ok-looked-in-AtWith.ensures.exact ∙ ap (look_in_trees trees tick) c.parts-in-AtWith.ensures)
     ∙ ap (λ each. resolved trees.start (look_through_trees trees (found_view each))) (sym c.in-AtWith.is)

@@ -6,7 +6,8 @@ use Rattle.block_map.specs.Ends.{record_at_tick}
 use Rattle.block_map.specs.Trie.{IsNodeOf, PutsNode}
 use Rattle.block_map.specs.declared.trees.Trees.{Trees}
 use Rattle.block_map.specs.declared.trie.node.Node.{Node}
-use Rattle.block_map.proofs.TreesLooks.{IfOk-kept, AreTrees-same, IsRootAfter-kept, IsRootAfter-put, ShowsTick-same, end_of_trees-same}
+use Rattle.block_map.proofs.Results.{IfOk-both}
+use Rattle.block_map.proofs.TreesLooks.{AreTrees-same, IsRootAfter-kept, IsRootAfter-put, ShowsTick-same, end_of_trees-same}
 use Rattle.block_map.proofs.GrownTries.{IsNodeOf-grown}
 use Rattle.block_map.proofs.trees.Trees.next_root.Goals as goal
 
@@ -55,7 +56,7 @@ returns-in_ok-node-in-Some-clause-shows c =
     subst (IsNodeAfter two root path (action_in c.args.ends.now c.args.each.now)) c.in-Some.is c.in_ok-node.ensures.after in
     let puts : PutsNode two.trie c.put.new.self (Some root) path c.in-Some.node c.in_ok-node-in-Some.node =
     subst (λ (whole : List NameId). PutsNode two.trie c.put.new.self (Some root) whole c.in-Some.node c.in_ok-node-in-Some.node) c.parts.ensures c.in_ok-node-in-Some.ensures.exact in
-    IfOk-kept c.push.result _ _ _
+    IfOk-both c.push.result _ _ _
     (λ id at added. IsRootAfter-put two c.put.new.self c.push.new.self root c.in-Some.node c.in_ok-node-in-Some.node each id
     c.push.ensures.trie c.in_ok-node-in-Some.ensures.sound shows after.1 puts at added)
     c.push.ensures.id c.push.ensures.added
@@ -67,4 +68,4 @@ returns-in-None-clause-shows c =
     let each = record_at_tick c.args.ends.now (record_view c.args.each.now) in
     let leaves : IsNodeAfter two c.in_ok-root.root c.args.each.now.path (action_in c.args.ends.now c.args.each.now) None =
     subst (IsNodeAfter two c.in_ok-root.root c.args.each.now.path (action_in c.args.ends.now c.args.each.now)) c.in-None.is c.in_ok-node.ensures.after in
-    IfOk-kept c.same_root.result _ _ _ (λ id root same. IsRootAfter-kept two three each id same root leaves) c.same_root.ensures.shows c.same_root.ensures.same
+    IfOk-both c.same_root.result _ _ _ (λ id root same. IsRootAfter-kept two three each id same root leaves) c.same_root.ensures.shows c.same_root.ensures.same

@@ -1,7 +1,8 @@
 use Rattle.std.proofs.Common.{◌≡◌, ◌-◌, Some, length, sym, ap, subst, ◌∙◌}
 use Rattle.std.specs.Prelude.{option_copied, slice_get}
 use Rattle.block_map.specs.Trees.{end_of_trees}
-use Rattle.block_map.proofs.TreesLooks.{IfOk-kept, IsRootAt-last, IsRootAt-pushed}
+use Rattle.block_map.proofs.Results.{IfOk-both}
+use Rattle.block_map.proofs.TreesLooks.{IsRootAt-last, IsRootAt-pushed}
 use Rattle.block_map.proofs.trees.Trees.same_root.Goals as goal
 
 pub returns-in-Some-clause-shows : goal.returns-in-Some-clause-shows
@@ -14,6 +15,6 @@ returns-in-Some-clause-shows c =
 pub returns-in-None-clause-shows : goal.returns-in-None-clause-shows
 returns-in-None-clause-shows c =
     let trees = c.args.self.now in
-    IfOk-kept c.push.result _ _ _
+    IfOk-both c.push.result _ _ _
     (λ id at added. IsRootAt-pushed trees c.push.new.self (end_of_trees trees) c.args.root id c.push.ensures.trie c.requires.sound c.requires.shows at added)
     c.push.ensures.id c.push.ensures.added

@@ -1,6 +1,6 @@
 use Rattle.block_map.specs.ChildMaps.{HaveNodesBelow}
 use Rattle.svn_path.proofs.Exits.{OnErr-from}
-use Rattle.block_map.proofs.ChildMapLookups.{OnOk-from}
+use Rattle.block_map.proofs.Results.{OnOk-from}
 use Rattle.block_map.proofs.trie.child_maps.ChildMaps.set.Goals as goal
 
 pub returns-clause-nodes : goal.returns-clause-nodes
