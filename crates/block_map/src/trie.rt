@@ -15,8 +15,6 @@ mod numbers;
 mod position;
 mod stored_location;
 
-pub(crate) use node::{Node, NodeId};
-
 use crate::entry::Entry;
 use crate::found::Found;
 use crate::looked::Looked;
@@ -24,6 +22,7 @@ use crate::nearest::Nearest;
 use child_maps::ChildMaps;
 use location::{Location, LocationId};
 use locations::Locations;
+pub(crate) use node::{Node, NodeId};
 use node::{Base, OwnEntry};
 use numbers::next_number;
 use position::{PathBase, Position, base_of_path};

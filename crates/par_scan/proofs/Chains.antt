@@ -56,11 +56,6 @@ module _ {M P : Type 0} (act : M → P → P) (begin end : M → ℕ) where
   pub IsJoined-one : (x : M) → IsJoined act begin end (x ∷ []) x
   IsJoined-one x = record { some = omega arith; acts = λ p. refl; begins = λ d. refl; ends = λ d. refl }
 
-  pub IsJoined-only : (xs : List M) (x : M) → length xs ≡ 1 → x ≡ get_or xs 0 x → IsJoined act begin end xs x
-  IsJoined-only [] x only read = absurd (omega arith)
-  IsJoined-only (y ∷ []) x only read = subst (λ z. IsJoined act begin end (y ∷ []) z) (sym read) (IsJoined-one y)
-  IsJoined-only (y ∷ z ∷ xs) x only read = absurd (omega arith)
-
   -- what acts as a joined element is joined too
   pub IsJoined-alike : (xs : List M) (x y : M) → IsJoined act begin end xs x → ActsLike act begin end x y → IsJoined act begin end xs y
   IsJoined-alike xs x y j l = record { some = j.some; acts = λ p. l.acts p ∙ j.acts p; begins = λ d. l.begins ∙ j.begins d; ends = λ d. l.ends ∙ j.ends d }

@@ -3,10 +3,7 @@ ghost use Rattle.std.specs.Prelude.{
   ◌≡◌,
   ◌-◌,
   ◌<◌,
-  [],
-  IfNone,
   IfOk,
-  IfSome,
   length,
   slice_index_or,
 };

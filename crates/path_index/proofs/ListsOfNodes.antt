@@ -30,13 +30,6 @@ numbers_of-set_other lists node list other differs = elim (cases_lt other (lengt
   | inr past ↦ numbers_of-past (set lists node list) other (omega (arith, length-set lists node list)) ∙ sym (numbers_of-past lists other past)
 ]
 
--- another list of the same numbers
-pub HaveSameNumbers-set : (old lists : List (Vec ℕ)) (node : ℕ) (list : Vec ℕ) → node < length lists → list.items ≡ numbers_of lists node → HaveSameNumbers old lists → HaveSameNumbers old (set lists node list)
-HaveSameNumbers-set old lists node list within is same other = elim (cases_eq other node) [
-  | inl here ↦ ap (numbers_of (set lists node list)) here ∙ numbers_of-set lists node list within ∙ is ∙ same node ∙ ap (numbers_of old) (sym here)
-  | inr differs ↦ numbers_of-set_other lists node list other differs ∙ same other
-]
-
 pub AreAllRising-same : (old new : List (Vec ℕ)) → HaveSameNumbers old new → AreAllRising old → AreAllRising new
 AreAllRising-same old new same rising node = subst IsRising (sym (same node)) (rising node)
 

@@ -1,5 +1,5 @@
 -- The trees of the records up to a revision, and those of fewer records that have the same revisions up to it.
-use Rattle.std.proofs.Common.{◌≡◌, ◌≢◌, ℕ, zero, suc, ◌+◌, ◌<◌, ◌≤◌, ◌==◌, if◌then◌else◌, List, [], ◌∷◌, ◌++◌, All, filter, map, length, ◌-◌, refl, sym, ap, ap₂, ◌∙◌, append-nil, arith, inl, inr}
+use Rattle.std.proofs.Common.{◌≡◌, ◌≢◌, ℕ, zero, suc, ◌+◌, ◌<◌, ◌≤◌, ◌==◌, if◌then◌else◌, List, [], ◌∷◌, ◌++◌, All, filter, map, length, ◌-◌, refl, sym, ap, ◌∙◌, arith, inl, inr}
 use Rattle.std.proofs.lemmas.Bool.{cases_lt, cond_both, eq-eqb, eqb-true}
 use Rattle.std.proofs.lemmas.List.{map-append}
 use Rattle.std.proofs.lemmas.List.Elements.{All-nil, All-cons, All-head, All-tail, All-weaker, filter-append}
@@ -7,7 +7,7 @@ use Rattle.svn_path.specs.Path.{same_name}
 use Rattle.svn_path.specs.declared.names.NameId.{NameId}
 use Rattle.svn_dump.specs.Dump.{record_view}
 use Rattle.svn_dump.specs.History.{Record}
-use Rattle.svn_dump.specs.Tree.{Tree, tree_of, end_tree, start_tree, tree_from_revision, first_tree, trees_of}
+use Rattle.svn_dump.specs.Tree.{Tree, tree_of, end_tree, start_tree, tree_from_revision, first_tree}
 use Rattle.svn_dump.specs.declared.record.NodeRecord.{NodeRecord}
 use Rattle.svn_dump.specs.declared.record.ValueId.{ValueId}
 use Rattle.svn_dump.proofs.Revisions.{tree_of-append, trees_of-nil, trees_of_push, tree_of_push, length-trees_of, opening_last, start_tree-nil}
@@ -96,25 +96,6 @@ All-records_of P (each ∷ records) limit rev within all =
     (λ other. more)
 
 -- ---- fewer records
-
--- records of later revisions are not of these revisions
-pub records_of-front : (front more : List NodeRecord) (rev last : ℕ) → rev ≤ last → All (λ each. last < each.rev) more → records_of (front ++ more) rev ≡ records_of front rev
-records_of-front front more rev last low later =
-    records_of-append front more rev
-    ∙ ap (λ rest. records_of front rev ++ rest)
-    (records_of-others more rev (All-weaker (λ (each : NodeRecord). last < each.rev) (λ each. each.rev ≢ rev) (λ each past e. omega arith) more later))
-    ∙ append-nil (records_of front rev)
-
-history_to-front : (front more : List NodeRecord) (rev last : ℕ) → rev ≤ last → All (λ each. last < each.rev) more → history_to (front ++ more) rev ≡ history_to front rev
-unfolding history_to
-history_to-front front more zero last low later = ap (λ records. records ∷ []) (records_of-front front more 0 last low later)
-history_to-front front more (suc rev) last low later =
-    ap₂ (λ history records. history ++ records ∷ [])
-    (history_to-front front more rev last (omega arith) later) (records_of-front front more (suc rev) last low later)
-
--- so they change no tree
-pub trees_to-front : (front more : List NodeRecord) (last : ℕ) → All (λ each. last < each.rev) more → trees_to (front ++ more) last ≡ trees_to front last
-trees_to-front front more last later = ap (λ history. trees_of same_name history) (history_to-front front more last last (omega arith) later)
 
 -- records of earlier revisions are not of a later one
 pub records_of-back : (front more : List NodeRecord) (rev : ℕ) → All (λ each. each.rev < rev) front → records_of (front ++ more) rev ≡ records_of more rev

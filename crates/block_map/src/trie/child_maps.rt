@@ -121,7 +121,12 @@ impl ChildMaps {
     }
 
     /// The map of two others: of the names that have the lowest bit of these bits, and of those that have not.
-    fn push_sides(&mut self, bits: u32, same: ChildMapId, other: ChildMapId) -> Result<ChildMapId, AllocError>
+    fn push_sides(
+        &mut self,
+        bits: u32,
+        same: ChildMapId,
+        other: ChildMapId,
+    ) -> Result<ChildMapId, AllocError>
         requires same { same.0 ≤ length self.old }
         requires other { other.0 ≤ length self.old }
         ensures more { Extends self.old self.new }
@@ -137,7 +142,12 @@ impl ChildMaps {
 
     /// The map with this node for the name of which these bits are left.
     #[cycle(set_bits)]
-    fn set_bits(&mut self, map: ChildMapId, bits: u32, node: NodeId) -> Result<ChildMapId, AllocError>
+    fn set_bits(
+        &mut self,
+        map: ChildMapId,
+        bits: u32,
+        node: NodeId,
+    ) -> Result<ChildMapId, AllocError>
         requires { map.0 ≤ length self.old }
         ensures more { Extends self.old self.new }
         ensures within { IfOk result (λ after. after.0 ≤ length self.new) }

@@ -1,5 +1,5 @@
 //! Sums of small numbers.
-ghost use Rattle.std.specs.Prelude.{◌≡◌, [], IfOk, ◌<◌, ◌^◌, ◌+◌};
+ghost use Rattle.std.specs.Prelude.{◌≡◌, ◌+◌, ◌^◌, ◌<◌, IfOk};
 ghost use Rattle.par_scan.specs.Chain.{IsChain};
 ghost use Rattle.par_scan.specs.Sum.{no_border, sum_weight};
 
