@@ -41,7 +41,7 @@ pub(crate) fn form_at(
     Ok(form)
 }
 
-// The same of some paths of `NESTED` after all records.
+// The forms of what a map says of some paths of `NESTED` after all records.
 fn nested_forms(alloc: Global, dump: &Dump, map: &Map) -> Result<[Form; 3], Fail> {
     Ok([
         form_at(alloc, dump, map, 7, b"/n/q")?,
@@ -50,7 +50,7 @@ fn nested_forms(alloc: Global, dump: &Dump, map: &Map) -> Result<[Form; 3], Fail
     ])
 }
 
-// The same in the map of the last two records.
+// What the map of the last two records says of them.
 fn forms_of_copies(alloc: Global, dump: &Dump) -> Result<[Form; 3], Fail> {
     let map = map_of(alloc, dump, COPIES)?;
     let forms = nested_forms(alloc, dump, &map);

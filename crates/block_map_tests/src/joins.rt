@@ -68,7 +68,7 @@ fn map_of_parts(
     Ok(map)
 }
 
-// The same of all records.
+// The map of all records, joined of maps of so many.
 fn joined_map(alloc: Global, dump: &Dump, size: usize) -> Result<Map, Fail> {
     let ends = revision_ends(alloc, dump)?;
     let map = map_of_parts(alloc, dump, &ends, size, dump.records().len());
@@ -134,7 +134,7 @@ fn agrees_with_parts(alloc: Global, dump: &Dump, whole: &Map, size: usize) -> Re
     agrees
 }
 
-// The same of the map of all its records.
+// Whether the map of all records of `NESTED` says what the one says that is joined of maps of so many records.
 fn nested_agrees(alloc: Global, dump: &Dump, size: usize) -> Result<bool, Fail> {
     let whole = joined_map(alloc, dump, 7)?;
     let agrees = agrees_with_parts(alloc, dump, &whole, size);
@@ -228,7 +228,7 @@ fn joined_copies<R: Threads + Sync>(
     Ok((nodes, found?))
 }
 
-// The same for the dump of so many copies.
+// How many nodes a map of so many copies of the root keeps, and whether it finds them.
 fn copies_of_dump<R: Threads + Sync>(
     rt: &R,
     alloc: Global,
@@ -302,7 +302,7 @@ fn nested_standings(alloc: Global, dump: &Dump, map: &Map) -> Result<[Option<Ent
     ])
 }
 
-// The same in the map that is joined of a map for each record.
+// What stands at these paths in the map that is joined of a map for each record.
 fn total_standings<R: Threads + Sync>(
     rt: &R,
     alloc: Global,

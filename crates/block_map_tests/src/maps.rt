@@ -41,7 +41,7 @@ pub(crate) fn map_of_part(alloc: Global, dump: &Dump, ends: &Ends, part: Part) -
     Ok(build(alloc, dump, ends, part)?)
 }
 
-// The same of records that are there.
+// The map of these records, which are there.
 pub(crate) fn build(alloc: Global, dump: &Dump, ends: &Ends, part: Part) -> Result<Map, AllocError>
     requires ends { ends.now ≡ ends_of dump.now.counts }
     requires order { part.start ≤ part.end }
@@ -94,7 +94,7 @@ pub(crate) fn look(
     Ok(found?)
 }
 
-// The same in the map of these records.
+// What the map of these records says of a path after so many records.
 fn look_in_part(
     alloc: Global,
     dump: &Dump,
@@ -153,6 +153,31 @@ fn end_of(alloc: Global, dump: &Dump, rev: u32) -> Result<Option<u32>, AllocErro
     Ok(Some(end))
 }
 
+// What stands at a path after all records of a dump.
+fn newest_entry(alloc: Global, dump: &Dump, path: &Path) -> Result<Option<Entry>, AllocError> {
+    let ends = revision_ends(alloc, dump)?;
+    let map = Map::build(alloc, dump.records(), 0, &ends)?;
+    let entry = map.entry(map.hi(), path)?;
+    Ok(entry)
+}
+
+fn newest_entry_at(alloc: Global, dump: &Dump, path: &[u8]) -> Result<Option<Entry>, Fail> {
+    let path = path_of(alloc, dump, path)?;
+    let entry = newest_entry(alloc, dump, &path);
+    drop(path);
+    Ok(entry?)
+}
+
+#[test]
+fn a_map_of_all_records_has_what_they_leave(rt: HostRuntime) -> Result<(), Fail> {
+    let dump = read(rt.alloc(), NESTED)?;
+    let entry = newest_entry_at(rt.alloc(), &dump, b"/p/q/s");
+    drop(dump);
+    let kind = Kind::File;
+    assert_eq!(rt; entry?, Some(Entry { kind, mi: None }));
+    Ok(())
+}
+
 // Whether a map finds no faulty record, and no fault of the record of this number.
 pub(crate) fn is_lawful_in<R: Threads + Sync>(
     rt: &R,
@@ -171,7 +196,7 @@ pub(crate) fn is_lawful_in<R: Threads + Sync>(
     Ok(fault.is_none() && check(rt, map, dump, ends)?.is_none())
 }
 
-// The same of the map of all records.
+// Whether the map of all records finds none faulty, and no fault of the record of this number.
 fn is_lawful_with<R: Threads + Sync>(
     rt: &R,
     alloc: Global,
@@ -212,7 +237,7 @@ fn standing_in(
     Ok(found)
 }
 
-// The same in the map of all records.
+// What stands at a path after so many records, and the nearest mergeinfo of it, by the map of all records.
 fn standing_at(
     alloc: Global,
     dump: &Dump,
@@ -238,7 +263,7 @@ fn ends_count_the_records_up_to_a_revision(rt: HostRuntime) -> Result<(), Fail> 
     Ok(())
 }
 
-// The same of a part of `NESTED`.
+// The ticks before and after the records of a part of `NESTED`, and how many nodes its map keeps.
 fn extent_of_nested(alloc: Global, part: Part) -> Result<(u32, u32, u64), Fail> {
     let dump = read(alloc, NESTED)?;
     let found = extent(alloc, &dump, part);
@@ -422,7 +447,7 @@ fn a_lawful_history_has_no_faulty_record(rt: HostRuntime) -> Result<(), Fail> {
     Ok(())
 }
 
-// The same after record 8 of `MERGED`.
+// What stands at a path after record 8 of `MERGED`, and the nearest mergeinfo of it.
 fn standing_in_merged(
     alloc: Global,
     path: &[u8],

@@ -82,7 +82,7 @@ fn built(alloc: Global, dump: &Dump, ends: &Ends, part: Part) -> Result<Map, All
     map
 }
 
-// Whether that map is right, or memory was wanting for it; and the same map, built afterwards, is right.
+// Whether that map is right, or memory was wanting for it; and it is right when it is built afterwards.
 fn is_built(alloc: Global, dump: &Dump, part: Part, wanted: Signs) -> Result<bool, Fail> {
     if part.end < part.start || dump.records().len() < part.end {
         return Err("there are not so many records")?;

@@ -67,7 +67,7 @@ fn ends_after_all<R: Threads + Sync>(rt: &R, alloc: Global, dump: &Dump) -> Resu
     ends
 }
 
-// The same for the dump of so many copies.
+// Whether the index that is joined of those of the single records of so many copies ends after all of them.
 fn indexes_are_joined<R: Threads + Sync>(rt: &R, alloc: Global, count: u32) -> Result<bool, Fail> {
     let text = copies_of_the_root(alloc, count)?;
     let dump = read(alloc, text.as_slice());

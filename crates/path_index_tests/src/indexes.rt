@@ -249,6 +249,37 @@ fn segments_end_at_a_copy(rt: HostRuntime) -> Result<(), Fail> {
     Ok(())
 }
 
+// How many segments and how many operative revisions a path of revision 2 has.
+fn counts_of(index: &Index, path: &Path) -> Result<(usize, usize), AllocError>
+    requires whole { IsWhole index.now }
+    requires there { IsThere index.now.records path.now 2 }
+{
+    let segments = index.segments(path, 2)?;
+    let hits = index.operative(segments.as_slice())?;
+    Ok((segments.len(), hits.len()))
+}
+
+fn counts_of_copied(index: &Index, alloc: Global) -> Result<(usize, usize), AllocError>
+    requires whole { IsWhole index.now }
+    requires there { IsThere index.now.records (record { 0 = 1 } ∷ []) 2 }
+{
+    let b = path_of(alloc, B)?;
+    let counts = counts_of(index, &b);
+    drop(b);
+    counts
+}
+
+#[test]
+fn a_copied_path_has_two_segments_with_an_operative_revision_each(
+    rt: HostRuntime,
+) -> Result<(), Fail> {
+    let index = index_of_copy(rt.alloc())?;
+    let counts = counts_of_copied(&index, rt.alloc());
+    drop(index);
+    assert_eq!(rt; counts?, (2, 2));
+    Ok(())
+}
+
 #[test]
 fn operative_revisions_of_both_segments_are_found(rt: HostRuntime) -> Result<(), Fail> {
     let index = index_of_copy(rt.alloc())?;
@@ -366,14 +397,14 @@ fn end_of(alloc: Global, index: &Index) -> Result<u32, AllocError> {
     Ok(3)
 }
 
-// The same of an index that is dropped.
+// How many records there are up to the end of an index, which is dropped.
 fn end_of_dropped(alloc: Global, index: Index) -> Result<u32, AllocError> {
     let end = end_of(alloc, &index);
     drop(index);
     end
 }
 
-// The same of an index and one that follows it, joined, if they fit.
+// How many records there are up to the end of an index and one that follows it, joined, if they fit.
 fn end_of_joined(alloc: Global, earlier: &Index, later: &Index) -> Result<Option<u32>, AllocError> {
     if !earlier.fits(later) {
         return Ok(None);
@@ -382,14 +413,15 @@ fn end_of_joined(alloc: Global, earlier: &Index, later: &Index) -> Result<Option
     Ok(Some(end_of_dropped(alloc, joined)?))
 }
 
-// The same of a copy of an index and of its unit.
+// How many records there are up to the ends of a copy of an index and of its unit.
 fn ends_of_copies(alloc: Global, index: &Index) -> Result<(u32, u32), AllocError> {
     let copied = end_of_dropped(alloc, index.dup()?)?;
     let unit = end_of_dropped(alloc, index.unit()?)?;
     Ok((copied, unit))
 }
 
-// The same of an index of the second of two records, joined to this one, and the other way round.
+// How many records there are up to the end of an index of the second of two records, joined to this one, and of both
+// joined the other way round.
 fn ends_of_neighbours(
     alloc: Global,
     earlier: &Index,

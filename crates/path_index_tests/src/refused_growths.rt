@@ -64,7 +64,7 @@ fn stand_after_join(alloc: Global, earlier: &Index, later: &Index) -> Result<boo
     Ok(are_joined && stands && are_joined_again(alloc, earlier, later)?)
 }
 
-// The same of the index of the first part and that of these records.
+// Whether the index of the first part and that of these records are joined and stand so.
 fn last_is_joined(alloc: Global, earlier: &Index, last: &[NodeRecord]) -> Result<bool, AllocError>
     requires earlier { IsIndexOf first_records 0 earlier.now }
     requires last { last.now ≡ last_records }

@@ -1,5 +1,4 @@
 use Rattle.std.proofs.Common.{◌≡◌, ℕ, ◌-◌, List, ◌++◌, drop, length, sym, ap, ◌∙◌, arith, length-drop}
-use Rattle.std.specs.Prelude.{Result, Ok, Err, IfOk}
 use Rattle.std.specs.List.{slice_range}
 use Rattle.std.proofs.lemmas.List.{map-append, take_all}
 use Rattle.std.proofs.lemmas.List.Folds.{drop_split}
@@ -8,13 +7,8 @@ use Rattle.svn_dump.specs.declared.record.NodeRecord.{NodeRecord}
 use Rattle.block_map.specs.Ends.{record_at_tick}
 use Rattle.block_map.specs.Map.{IsMapOf, MapValue, records_at_ticks}
 use Rattle.block_map.proofs.MapsOfDumps.{IsMapOf-built}
+use Rattle.block_map.proofs.Results.{IfOk-both}
 use Rattle.block_map_tests.proofs.joins.map_of_both.Goals as goal
-
--- what two clauses say together
-IfOk-both : {T E : Type 0} (r : Result T E) (P Q R : T → Type 0) → ((x : T) → P x → Q x → R x)
-    → IfOk r P → IfOk r Q → IfOk r R
-IfOk-both (Ok x) P Q R both p q = both x p q
-IfOk-both (Err e) P Q R both p q = tt
 
 -- the records of both parts are all records
 both-parts : (ends : List ℕ) (all : List NodeRecord) (count : ℕ)
