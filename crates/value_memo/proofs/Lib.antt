@@ -1,3 +1,3 @@
 pub mod Callers
-mod Places
+mod KnownCells
 pub mod SharedMemos

@@ -1,5 +1,5 @@
 pub mod Parsed
-pub mod Place
-pub mod PlaceValue
+pub mod KnownCell
+pub mod KnownCellValue
 pub mod Seen
 pub mod SeenValue

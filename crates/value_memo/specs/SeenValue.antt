@@ -3,7 +3,7 @@
 use Rattle.std.specs.Prelude.{◌≡◌, ◌≢◌, ℕ, ◌+◌, ◌≤◌, Bool, true, false, List, Option, Some, None, is_some, map, slice_get, slice_set}
 use Rattle.std.specs.List.{count_by}
 use Rattle.std.specs.Option.{ForSome, option_flatten}
-use Rattle.value_memo.specs.PlaceValue.{PlaceValue}
+use Rattle.value_memo.specs.KnownCellValue.{KnownCellValue}
 
 pub record SeenValue : Type 0 where
   -- the memo
@@ -15,10 +15,10 @@ pub record SeenValue : Type 0 where
   -- how many readings of texts it counted
   pub parses : ℕ
 
--- what the places of a memo's cells show
-abbrev pub seen_view : List PlaceValue → ℕ → SeenValue
-seen_view places parses =
-    record { memo = map (λ place. place.cell) places; texts = map (λ place. place.text) places; own = map (λ place. place.own) places; parses = parses }
+-- what is seen of what is known of each cell
+abbrev pub seen_view : List KnownCellValue → ℕ → SeenValue
+seen_view cells parses =
+    record { memo = map (λ cell. cell.name) cells; texts = map (λ cell. cell.text) cells; own = map (λ cell. cell.own) cells; parses = parses }
 
 -- a memo of which nothing is known
 abbrev pub nothing_seen : List ℕ → SeenValue

@@ -1,9 +1,8 @@
-//! What all workers share.
 ghost use Rattle.std.specs.Prelude.{◌≡◌, ◌<◌, Some, IfOk, length, map, slice_get};
 ghost use Rattle.once_cell.specs.Once.{cell_name};
-ghost use Rattle.value_memo.specs.PlaceValue.{unanswered};
+ghost use Rattle.value_memo.specs.KnownCellValue.{unanswered};
 
-use crate::place::Place;
+use crate::known_cell::KnownCell;
 use crate::reading::Reading;
 use once_cell::race::OnceBox;
 use std::alloc::{AllocError, Global};
@@ -38,16 +37,17 @@ impl<'t> Memo<'t> {
     }
 
     /// What is known of each cell before anything was asked.
-    pub(crate) fn places(&self, alloc: Global) -> Result<Vec<Place<'t>>, AllocError>
-        ensures { IfOk result (λ places. places.items ≡ map unanswered self.now) }
+    pub(crate) fn known_cells(&self, alloc: Global) -> Result<Vec<KnownCell<'t>>, AllocError>
+        ensures { IfOk result (λ known. known.items ≡ map unanswered self.now) }
     {
-        let mut places = Vec::with_capacity(alloc, self.cells.len())?;
+        let mut known = Vec::with_capacity(alloc, self.cells.len())?;
         for cell in &self.cells {
-            places.push(Place::new(cell))?;
+            known.push(KnownCell::new(cell))?;
         }
-        Ok(places)
+        Ok(known)
     }
 
+    /// The cell of a number.
     pub(crate) fn cell(&self, at: usize) -> &OnceBox<Reading<'t>>
         requires { at < length self.now }
         ensures { slice_get self.now at ≡ Some (cell_name result.now) }

@@ -1,4 +1,3 @@
-//! Texts with what they say.
 ghost use Rattle.std.specs.Prelude.{◌≡◌, IfOk};
 ghost use Rattle.merge_info.specs.CanonicalValue.{value_of};
 ghost use Rattle.value_memo.specs.Parsed.{parsed_view};
@@ -7,7 +6,7 @@ use crate::parsed::Parsed;
 use merge_info::{MergeError, MergeInfo};
 use std::alloc::{AllocError, Global};
 
-/// A text and its value, or none where the text is malformed.
+/// A mergeinfo text and its value, or none where the text is malformed.
 #[derive(Drop)]
 pub(crate) struct Reading<'t> {
     pub(crate) text: &'t [u8],
@@ -16,6 +15,7 @@ pub(crate) struct Reading<'t> {
 }
 
 impl<'t> Reading<'t> {
+    /// Parses a text.
     pub(crate) fn read(alloc: Global, text: &'t [u8]) -> Result<Self, AllocError>
         ensures { IfOk result (λ reading. reading.text.now ≡ text.now) }
     {
@@ -29,6 +29,7 @@ impl<'t> Reading<'t> {
         }
     }
 
+    /// What the text says.
     pub(crate) fn parsed(&self) -> Parsed<'_>
         ensures { parsed_view result ≡ value_of self.now.text.now }
     {

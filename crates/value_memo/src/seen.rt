@@ -1,13 +1,12 @@
-//! What one worker knows of a memo.
 ghost use Rattle.std.specs.Prelude.{◌≡◌, ◌<◌, ◌≤◌, true, Some, IfOk, IfSome, IfNone, IsOk, IsSome, OnOk, OnErr, length, slice_get};
 ghost use Rattle.std.specs.Borrow.{sem};
 ghost use Rattle.merge_info.specs.CanonicalValue.{value_of};
 ghost use Rattle.value_memo.specs.Parsed.{parsed_view};
 ghost use Rattle.value_memo.specs.SeenValue.{IsAnswered, MayAsk, asked_of, nothing_seen, text_at};
 
+use crate::known_cell::KnownCell;
 use crate::memo::Memo;
 use crate::parsed::Parsed;
-use crate::place::Place;
 use crate::reading::Reading;
 use std::alloc::{AllocError, Global};
 use std::marker::Model;
@@ -17,7 +16,7 @@ use svn_dump::ValueId;
 /// worker keeps the reading of it itself, and how many readings of texts it counted.
 #[derive(Drop)]
 pub struct Seen<'t> {
-    places: Vec<Place<'t>>,
+    cells: Vec<KnownCell<'t>>,
     asked: u64,
     parses: u64,
 }
@@ -28,9 +27,9 @@ impl<'t> Model for Seen<'t> {
 
     ghost Value = { SeenValue };
 
-    ghost view = { λ seen. seen_view seen.places.items seen.parses };
+    ghost view = { λ seen. seen_view seen.cells.items seen.parses };
 
-    ghost invariant = { λ seen. (seen.asked ≡ asked_of (seen_view seen.places.items seen.parses)) × (seen.parses ≤ seen.asked) };
+    ghost invariant = { λ seen. (seen.asked ≡ asked_of (seen_view seen.cells.items seen.parses)) × (seen.parses ≤ seen.asked) };
 }
 
 impl<'t> Seen<'t> {
@@ -41,7 +40,7 @@ impl<'t> Seen<'t> {
         ensures { IfOk result (λ seen. seen ≡ nothing_seen memo.now) }
     {
         Ok(Seen {
-            places: memo.places(alloc)?,
+            cells: memo.known_cells(alloc)?,
             asked: 0,
             parses: 0,
         })
@@ -95,12 +94,12 @@ impl<'t> Seen<'t> {
         ensures err { OnErr result (self.new ≡ self.old) }
         ensures again { text_at self.old at ≡ Some text.now → IsOk result }
     {
-        let alloc = *self.places.allocator();
-        let place = &mut self.places[at];
-        if place.is_answered() {
+        let alloc = *self.cells.allocator();
+        let known = &mut self.cells[at];
+        if known.is_answered() {
             return Ok(());
         }
-        let is_read = place.learn(alloc, memo.cell(at), text)?;
+        let is_read = known.learn(alloc, memo.cell(at), text)?;
         self.asked += 1;
         self.parses += is_read as u64;
         Ok(())
@@ -114,7 +113,7 @@ impl<'t> Seen<'t> {
         ensures shared { IfSome result (λ reading. text_at self.old at ≡ Some reading.now.text.now) }
         ensures own { IfNone result (IsSome (text_at self.old at) → slice_get self.old.own at ≡ Some true) }
     {
-        self.places[at].shared(memo.cell(at))
+        self.cells[at].shared(memo.cell(at))
     }
 
     /// The worker's own reading for the number.
@@ -122,6 +121,6 @@ impl<'t> Seen<'t> {
         requires { slice_get self.now.own at ≡ Some true }
         ensures { text_at self.now at ≡ Some result.now.text.now }
     {
-        self.places[at].own()
+        self.cells[at].own()
     }
 }

@@ -5,7 +5,8 @@ ghost use Rattle.value_memo.specs.SeenValue.{nothing_seen};
 use crate::asking::{MALFORMED, asks, asks_twice, counts};
 use std::alloc::{AllocError, Global};
 use std::test::Fail;
-use value_memo::{Memo, Seen};
+use svn_dump::ValueId;
+use value_memo::{Memo, Parsed, Seen};
 
 // Whether a worker that was not asked yet is told what is wanted, twice, and has then read so many texts.
 fn is_told<'t>(
@@ -68,6 +69,17 @@ fn is_told_in_turn(alloc: Global, memo: &Memo<'_>, times: u32) -> Result<bool, A
         }
     }
     Ok(counts(&seen, 2, 2))
+}
+
+#[test]
+fn a_worker_reads_a_text(rt: HostRuntime) -> Result<(), Fail> {
+    let alloc = rt.alloc();
+    let memo = Memo::new(alloc, 1)?;
+    let mut seen = Seen::new(alloc, &memo)?;
+    let parsed = seen.value(&memo, ValueId(0), b"/trunk:1-3".as_slice())?;
+    assert!(rt; matches!(parsed, Parsed::Good(_)));
+    assert_eq!(rt; seen.parses(), 1);
+    Ok(())
 }
 
 #[test]

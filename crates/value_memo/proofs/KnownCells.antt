@@ -1,4 +1,4 @@
--- What the places of a memo's cells show, and what changes where one of them is answered.
+-- What is seen of what is known of each cell, and what changes where one of them is answered.
 use Rattle.std.proofs.Common.{◌≡◌, ◌≢◌, ℕ, ◌+◌, ◌<◌, ◌≤◌, arith, Bool, List, [], ◌∷◌, length, map, get_or, zero, suc, cond, true, false, Option, Some, None, is_some, slice_get, slice_set, refl, sym, ap, ◌∙◌}
 use mir.Val.{bool_byte}
 use Rattle.std.specs.Option.{ForSome, option_flatten}
@@ -8,7 +8,7 @@ use Rattle.std.proofs.lemmas.List.{get_or-set_same, length-map, length-set, map-
 use Rattle.std.proofs.lemmas.List.Sums.{sum_by-set, count_by-le-length}
 use Rattle.std.proofs.lemmas.Option.{get_or_from_slice_get, same_Some, slice_get-get_or, slice_get-map, none-some, slice_get_read, slice_get_within}
 use Rattle.std.proofs.lemmas.Simd.{map-map}
-use Rattle.value_memo.specs.PlaceValue.{PlaceValue, IsAnsweredPlace, unanswered}
+use Rattle.value_memo.specs.KnownCellValue.{KnownCellValue, IsAnsweredCell, unanswered}
 use Rattle.value_memo.specs.SeenValue.{SeenValue, IsAnswered, asked_of, nothing_seen, seen_view, text_at}
 
 -- ---- lists
@@ -43,45 +43,45 @@ asked_of-nothing_seen (cell ∷ memo) = asked_of-nothing_seen memo
 
 pub seen_view-unanswered : (memo : List ℕ) → seen_view (map unanswered memo) 0 ≡ nothing_seen memo
 seen_view-unanswered memo =
-    rw (map-map (λ place. place.cell) unanswered memo, map-map (λ place. place.text) unanswered memo, map-map (λ place. place.own) unanswered memo, map-id memo) refl
+    rw (map-map (λ cell. cell.name) unanswered memo, map-map (λ cell. cell.text) unanswered memo, map-map (λ cell. cell.own) unanswered memo, map-id memo) refl
 
--- ---- one place
+-- ---- one cell
 
-module _ (places : List PlaceValue) (parses at : ℕ) (place : PlaceValue) (there : slice_get places at ≡ Some place) where
-  pub text_at-place : text_at (seen_view places parses) at ≡ place.text
-  text_at-place = rw (slice_get-map (λ p. p.text) places at, there) refl
+module _ (cells : List KnownCellValue) (parses at : ℕ) (cell : KnownCellValue) (there : slice_get cells at ≡ Some cell) where
+  pub text_at-cell : text_at (seen_view cells parses) at ≡ cell.text
+  text_at-cell = rw (slice_get-map (λ p. p.text) cells at, there) refl
 
-  pub own-place : slice_get (seen_view places parses).own at ≡ Some place.own
-  own-place = rw (slice_get-map (λ p. p.own) places at, there) refl
+  pub own-cell : slice_get (seen_view cells parses).own at ≡ Some cell.own
+  own-cell = rw (slice_get-map (λ p. p.own) cells at, there) refl
 
-  pub cell-place : slice_get (seen_view places parses).memo at ≡ Some place.cell
-  cell-place = rw (slice_get-map (λ p. p.cell) places at, there) refl
+  pub name-cell : slice_get (seen_view cells parses).memo at ≡ Some cell.name
+  name-cell = rw (slice_get-map (λ p. p.name) cells at, there) refl
 
-  module _ (text : List ℕ) (new : PlaceValue) (answered : IsAnsweredPlace place text new) (unknown : place.text ≡ None) where
-    texts-set : map (λ p. p.text) (slice_set places at new) ≡ slice_set (map (λ p. p.text) places) at (Some text)
-    texts-set = map-set (λ p. p.text) places at new ∙ ap (slice_set (map (λ p. p.text) places) at) answered.text
+  module _ (text : List ℕ) (new : KnownCellValue) (answered : IsAnsweredCell cell text new) (unknown : cell.text ≡ None) where
+    texts-set : map (λ p. p.text) (slice_set cells at new) ≡ slice_set (map (λ p. p.text) cells) at (Some text)
+    texts-set = map-set (λ p. p.text) cells at new ∙ ap (slice_set (map (λ p. p.text) cells) at) answered.text
 
-    pub asked_of-answered : (more : ℕ) → asked_of (seen_view (slice_set places at new) more) ≡ asked_of (seen_view places parses) + 1
+    pub asked_of-answered : (more : ℕ) → asked_of (seen_view (slice_set cells at new) more) ≡ asked_of (seen_view cells parses) + 1
     asked_of-answered more =
-        let texts = map (λ p. p.text) places in
-        let here : slice_get texts at ≡ Some None = slice_get-map (λ p. p.text) places at ∙ rw (there, unknown) refl in
+        let texts = map (λ p. p.text) cells in
+        let here : slice_get texts at ≡ Some None = slice_get-map (λ p. p.text) cells at ∙ rw (there, unknown) refl in
         let changed = sum_by-set (λ o. cond (is_some o) 1 0) texts at (Some text) None (slice_get_within texts at None here) in
         let before = get_or_from_slice_get texts at None None here in
         rw texts-set (omega (arith, rw before at changed))
 
-    text_at-answered : (more : ℕ) → text_at (seen_view (slice_set places at new) more) at ≡ Some text
-    text_at-answered more = rw (slice_get-map (λ p. p.text) (slice_set places at new) at, slice_get-set_same places at place new there, answered.text) refl
+    text_at-answered : (more : ℕ) → text_at (seen_view (slice_set cells at new) more) at ≡ Some text
+    text_at-answered more = rw (slice_get-map (λ p. p.text) (slice_set cells at new) at, slice_get-set_same cells at cell new there, answered.text) refl
 
-    own-answered : (more : ℕ) → slice_get (seen_view (slice_set places at new) more).own at ≡ Some new.own
-    own-answered more = rw (slice_get-map (λ p. p.own) (slice_set places at new) at, slice_get-set_same places at place new there) refl
+    own-answered : (more : ℕ) → slice_get (seen_view (slice_set cells at new) more).own at ≡ Some new.own
+    own-answered more = rw (slice_get-map (λ p. p.own) (slice_set cells at new) at, slice_get-set_same cells at cell new there) refl
 
-    pub IsAnswered-place : (more : ℕ) → parses ≤ more → more ≤ parses + 1 → (new.own ≡ true → more ≡ parses + 1) → IsAnswered (seen_view places parses) at text (seen_view (slice_set places at new) more)
-    IsAnswered-place more least most counted = record {
-      memo = map-unchanged (λ p. p.cell) places at place new there answered.cell;
+    pub IsAnswered-cell : (more : ℕ) → parses ≤ more → more ≤ parses + 1 → (new.own ≡ true → more ≡ parses + 1) → IsAnswered (seen_view cells parses) at text (seen_view (slice_set cells at new) more)
+    IsAnswered-cell more least most counted = record {
+      memo = map-unchanged (λ p. p.name) cells at cell new there answered.name;
       texts = texts-set;
-      others = λ other apart. ap (λ own. slice_get own other) (map-set (λ p. p.own) places at new) ∙ slice_get-set_other (map (λ p. p.own) places) at other new.own apart;
+      others = λ other apart. ap (λ own. slice_get own other) (map-set (λ p. p.own) cells at new) ∙ slice_get-set_other (map (λ p. p.own) cells) at other new.own apart;
       known = text_at-answered more;
-      again = λ before. absurd (none-some text (sym (text_at-place ∙ unknown) ∙ before));
+      again = λ before. absurd (none-some text (sym (text_at-cell ∙ unknown) ∙ before));
       asked = λ _. asked_of-answered more;
       parses = least;
       one_parse = most;
@@ -121,19 +121,19 @@ pub bool_byte-le-1 : (b : Bool) → bool_byte b ≤ 1
 bool_byte-le-1 true = omega arith
 bool_byte-le-1 false = omega arith
 
--- a reading that a place keeps itself is counted
+-- a reading that the worker keeps itself is counted
 pub own-counted : (is_read own : Bool) (parses : ℕ) → (is_read ≡ false → own ≡ false) → own ≡ true → parses + bool_byte is_read ≡ parses + 1
 own-counted true own parses shared is_own = refl
 own-counted false own parses shared is_own = absurd (both_ways own (shared refl) is_own)
 
--- the place that was read at a number of the memo
-pub place_at : (places : List PlaceValue) (parses : ℕ) (seen : SeenValue) (memo : List ℕ) (at : ℕ) (place : PlaceValue) → seen_view places parses ≡ seen → seen.memo ≡ memo → at < length memo → place ≡ get_or places at place → slice_get places at ≡ Some place
-place_at places parses seen memo at place view same within read =
-    slice_get_read places (length places) at place refl (omega (arith, within, ap length same, ap (λ s. length s.memo) view, length-map places (λ p. p.cell))) read
+-- what is known of the cell of a number of the memo
+pub cell_at : (cells : List KnownCellValue) (parses : ℕ) (seen : SeenValue) (memo : List ℕ) (at : ℕ) (cell : KnownCellValue) → seen_view cells parses ≡ seen → seen.memo ≡ memo → at < length memo → cell ≡ get_or cells at cell → slice_get cells at ≡ Some cell
+cell_at cells parses seen memo at cell view same within read =
+    slice_get_read cells (length cells) at cell refl (omega (arith, within, ap length same, ap (λ s. length s.memo) view, length-map cells (λ p. p.name))) read
 
--- a place that stays as it was
-pub seen_view-same : (places : List PlaceValue) (parses at : ℕ) (place : PlaceValue) → slice_get places at ≡ Some place → seen_view (slice_set places at place) parses ≡ seen_view places parses
-seen_view-same places parses at place there = ap (λ p. seen_view p parses) (set_same places at place there)
+-- it stays as it was
+pub seen_view-same : (cells : List KnownCellValue) (parses at : ℕ) (cell : KnownCellValue) → slice_get cells at ≡ Some cell → seen_view (slice_set cells at cell) parses ≡ seen_view cells parses
+seen_view-same cells parses at cell there = ap (λ p. seen_view p parses) (set_same cells at cell there)
 
-pub asked_of-fits : (places : List PlaceValue) (parses : ℕ) → asked_of (seen_view places parses) ≤ length places
-asked_of-fits places parses = let texts = map (λ p. p.text) places in omega (arith, count_by-le-length is_some texts, length-map places (λ p. p.text))
+pub asked_of-fits : (cells : List KnownCellValue) (parses : ℕ) → asked_of (seen_view cells parses) ≤ length cells
+asked_of-fits cells parses = let texts = map (λ p. p.text) cells in omega (arith, count_by-le-length is_some texts, length-map cells (λ p. p.text))

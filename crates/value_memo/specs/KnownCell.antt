@@ -1,8 +1,8 @@
 -- How a note and an answer show what a worker knows of a cell.
 use Rattle.std.specs.Prelude.{ℕ, Bool, true, false, List, Option, Some, None, IsSome, option_map, ⊤}
 use Rattle.value_memo.specs.declared.reading.Reading.{Reading}
-use Rattle.value_memo.specs.declared.place.Answer.{Answer}
-use Rattle.value_memo.specs.declared.place.Answer.TheVariants.{Unknown, Shared, Own}
+use Rattle.value_memo.specs.declared.known_cell.Answer.{Answer}
+use Rattle.value_memo.specs.declared.known_cell.Answer.TheVariants.{Unknown, Shared, Own}
 
 -- the text of an answer, given what the note knows of the cell
 abbrev pub answered_text : Option Reading → Answer → Option (List ℕ)

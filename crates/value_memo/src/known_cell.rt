@@ -1,49 +1,53 @@
-//! What a worker knows of one cell.
 ghost use Rattle.std.specs.Prelude.{◌≡◌, true, false, Some, None, IfOk, IfSome, IfNone, OnOk, OnErr, IsSome, IsTrue, IsFalse, is_some};
 ghost use Rattle.once_cell.specs.Once.{cell_name};
-ghost use Rattle.value_memo.specs.PlaceValue.{unanswered, IsAnsweredPlace};
+ghost use Rattle.value_memo.specs.KnownCellValue.{unanswered, IsAnsweredCell};
 
 use crate::reading::Reading;
 use once_cell::race::{Note, OnceBox};
 use std::alloc::{AllocError, Global};
 use std::marker::Model;
 
-/// Where the reading of a number's text is.
+/// Where the worker finds the reading of the text that it was answered for.
 #[derive(Drop)]
 enum Answer<'t> {
+    /// It was not answered yet.
     Unknown,
+    /// In the cell.
     Shared,
+    /// In its own memory, as the cell was set to another one.
     Own(Box<Reading<'t>>),
 }
 
 /// What a worker knows of one cell.
 #[derive(Drop)]
-pub(crate) struct Place<'t> {
+pub(crate) struct KnownCell<'t> {
     note: Note<Reading<'t>>,
     answer: Answer<'t>,
 }
 
-impl<'t> Model for Place<'t> {
-    ghost use Rattle.value_memo.specs.PlaceValue.{PlaceValue};
-    ghost use Rattle.value_memo.specs.Place.{answered_text, is_own, IsKnown};
+impl<'t> Model for KnownCell<'t> {
+    ghost use Rattle.value_memo.specs.KnownCellValue.{KnownCellValue};
+    ghost use Rattle.value_memo.specs.KnownCell.{answered_text, is_own, IsKnown};
 
-    ghost Value = { PlaceValue };
+    ghost Value = { KnownCellValue };
 
-    ghost view = { λ place. record { cell = place.note.cell; text = answered_text place.note.known place.answer; own = is_own place.answer } };
+    ghost view = { λ cell. record { name = cell.note.cell; text = answered_text cell.note.known cell.answer; own = is_own cell.answer } };
 
-    ghost invariant = { λ place. IsKnown place.note.known place.answer };
+    ghost invariant = { λ cell. IsKnown cell.note.known cell.answer };
 }
 
-impl<'t> Place<'t> {
+impl<'t> KnownCell<'t> {
+    /// A cell that nothing was asked of yet.
     pub(crate) fn new(cell: &OnceBox<Reading<'t>>) -> Self
         ensures { result ≡ unanswered (cell_name cell.now) }
     {
-        Place {
+        KnownCell {
             note: cell.note(),
             answer: Answer::Unknown,
         }
     }
 
+    /// Whether the worker was answered for a text.
     pub(crate) fn is_answered(&self) -> bool
         ensures { result ≡ is_some self.now.text }
     {
@@ -60,9 +64,9 @@ impl<'t> Place<'t> {
         cell: &OnceBox<Reading<'t>>,
         text: &'t [u8],
     ) -> Result<bool, AllocError>
-        requires cell { self.old.cell ≡ cell_name cell.now }
+        requires cell { self.old.name ≡ cell_name cell.now }
         requires new { self.old.text ≡ None }
-        ensures ok { OnOk result (IsAnsweredPlace self.old text.now self.new) }
+        ensures ok { OnOk result (IsAnsweredCell self.old text.now self.new) }
         ensures shared { IfOk result (λ is_read. IsFalse is_read → self.new.own ≡ false) }
         ensures err { OnErr result (self.new ≡ self.old) }
     {
@@ -76,9 +80,9 @@ impl<'t> Place<'t> {
 
     /// Looks in the cell. Its reading becomes the answer where it is one of the text.
     fn finds(&mut self, cell: &OnceBox<Reading<'t>>, text: &'t [u8]) -> bool
-        requires cell { self.old.cell ≡ cell_name cell.now }
+        requires cell { self.old.name ≡ cell_name cell.now }
         requires new { self.old.text ≡ None }
-        ensures found { IsTrue result → IsAnsweredPlace self.old text.now self.new }
+        ensures found { IsTrue result → IsAnsweredCell self.old text.now self.new }
         ensures shared { IsTrue result → self.new.own ≡ false }
         ensures missed { IsFalse result → self.new ≡ self.old }
     {
@@ -93,8 +97,8 @@ impl<'t> Place<'t> {
 
     /// Sets the cell to a reading, or keeps it where the cell holds another.
     fn keep(&mut self, cell: &OnceBox<Reading<'t>>, reading: Box<Reading<'t>>)
-        requires cell { self.old.cell ≡ cell_name cell.now }
-        ensures { IsAnsweredPlace self.old reading.entry.value.text.now self.new }
+        requires cell { self.old.name ≡ cell_name cell.now }
+        ensures { IsAnsweredCell self.old reading.entry.value.text.now self.new }
     {
         self.answer = match cell.set_as(reading, &mut self.note) {
             Ok(()) => Answer::Shared,
@@ -104,7 +108,7 @@ impl<'t> Place<'t> {
 
     /// The cell's reading, where that is the answer.
     pub(crate) fn shared<'a>(&mut self, cell: &'a OnceBox<Reading<'t>>) -> Option<&'a Reading<'t>>
-        requires { self.old.cell ≡ cell_name cell.now }
+        requires { self.old.name ≡ cell_name cell.now }
         ensures same { self.new ≡ self.old }
         ensures shared { IfSome result (λ reading. self.old.text ≡ Some reading.now.text.now) }
         ensures own { IfNone result (IsSome self.old.text → self.old.own ≡ true) }
@@ -115,7 +119,7 @@ impl<'t> Place<'t> {
         }
     }
 
-    /// The reading that the place keeps itself.
+    /// The reading that the worker keeps itself.
     pub(crate) fn own(&self) -> &Reading<'t>
         requires { self.now.own ≡ true }
         ensures { self.now.text ≡ Some result.now.text.now }
