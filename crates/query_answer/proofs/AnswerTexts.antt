@@ -24,14 +24,18 @@ use Rattle.svn_dump.specs.Location.{location}
 use Rattle.svn_dump.specs.Record.{HistoryOfBytes}
 use Rattle.svn_dump.specs.Tree.{is_there, tree_of}
 use Rattle.svn_dump.specs.declared.record.NodeRecord.{NodeRecord}
-use Rattle.query_answer.specs.Answer.{Answer, IsAnswer, IsLocationOf, HasPathOf, TreesOfBytes, if_both_exist, if_peg_exists, with_effective_mergeinfo, with_value, answer_of, eligible_line, eligible_lines, hit_line, locate_lines, location_line, log_line, log_lines, merged_line, merged_lines, mergeinfo_lines, needs_mergeinfo, ok_answer, refuse_or, refused_answer, segment_in_bytes, segment_line, segments_in_bytes, segments_lines}
+use Rattle.query_answer.specs.Answer.{Answer, IsAnswer, IsLocationOf, HasPathOf, TreesOfBytes, if_both_exist, if_peg_exists, with_effective_mergeinfo, with_value, answer_of, eligible_line, eligible_lines, hit_line, locate_lines, location_line, log_line, log_lines, merged_line, merged_lines, mergeinfo_answer_of, mergeinfo_lines, ok_answer, refused_answer, segment_in_bytes, segment_line, segments_in_bytes, segments_lines}
 use Rattle.query_answer.specs.Peg.{Peg, PegValue, peg_view}
 use Rattle.query_answer.specs.Query.{bad, eligible, locate, log, merged, mergeinfo, segments}
 use Rattle.query_answer.specs.Held.{held_value}
-use Rattle.query_answer.specs.Repo.{IsPair, IsPathFound, IsPegFound, IsRepo, with_peg_in, with_pair_in, effective_in, eligible_answer, eligible_in, index_of, locate_answer, log_answer, merged_answer, merged_in, mergeinfo_answer, pair_answer, peg_found, segments_answer, trees_in_bytes, verb_answer}
+use Rattle.query_answer.specs.Repo.{IsPair, IsPairRefused, IsPegFound, IsPegRefused, IsRepo, with_peg_in, with_pair_in, effective_in, eligible_answer, eligible_in, index_of, locate_answer, log_answer, merged_answer, merged_in, mergeinfo_answer, pair_answer, peg_in_bytes, segments_answer, trees_in_bytes, verb_answer}
 use Rattle.query_answer.specs.declared.answers.Answer.TheVariants as kept
 use Rattle.query_answer.specs.declared.merged_revision.MergedRevision.{MergedRevision}
 use Rattle.query_answer.specs.declared.held_mergeinfo.HeldMergeinfo.{HeldMergeinfo}
+use Rattle.query_answer.specs.declared.path_rev.PathRev.{PathRev}
+use Rattle.query_answer.specs.declared.unanswered.Unanswered.{Unanswered}
+use Rattle.query_answer.specs.declared.unanswered.Unanswered.TheVariants.{Memory, Refused}
+use Rattle.query_answer.specs.Unanswered.{IsAnswered}
 use Rattle.query_answer.specs.declared.verbs.pair.Pair.{Pair}
 use Rattle.query_answer.specs.declared.verbs.pair.PairVerb.{PairVerb}
 use Rattle.query_answer.specs.declared.verbs.pair.PairVerb.TheVariants as verb
@@ -55,17 +59,6 @@ module _ (trees : TreesOfBytes) (peg : Peg) (answer : Answer) where
 
   pub if_peg_exists-present : peg.rev < length trees → is_there bytes_eq (tree_of trees peg.rev) peg.path ≡ true → if_peg_exists trees peg answer ≡ answer
   if_peg_exists-present within there = rw (lt-leb _ _ within, there) refl
-
--- whatever would be answered about a peg is refused, so it is for the peg
-pub refused_peg : (trees : TreesOfBytes) (peg : Peg) (why : Status)
-    → ((answer : Answer) → if_peg_exists trees peg answer ≡ refused_answer why) → needs_mergeinfo why ≡ false
-refused_peg trees peg why refused = by (nat_le (length trees) peg.rev) (is_there bytes_eq (tree_of trees peg.rev) peg.path) refused
-  where
-    by : (late there : Bool) → ((answer : Answer) → refuse_or (if late then status.NoSuchRevision else (if there then status.Ok else status.NoSuchPath)) answer ≡ refused_answer why)
-        → needs_mergeinfo why ≡ false
-    by true there all = subst (λ each. needs_mergeinfo each ≡ false) (ap (λ (answer : Answer). answer.status) (all (ok_answer []))) refl
-    by false true all = let never : [] ∷ [] ≡ [] = ap (λ (answer : Answer). answer.lines) (all (ok_answer ([] ∷ []))) in cc
-    by false false all = subst (λ each. needs_mergeinfo each ≡ false) (ap (λ (answer : Answer). answer.status) (all (ok_answer []))) refl
 
 -- ---- by what is asked
 
@@ -155,24 +148,24 @@ hit_line-found names kept hit path at =
     path_at-view (segment ∷ some) zero = refl
     path_at-view (segment ∷ some) (suc n) = path_at-view some n
 
-module _ (dump : DumpValue) (peg : PegValue) (path : List NameId) (found : IsPathFound dump peg path) where
-  pub IsAnswer-Location : (rev : ℕ) (located : Option (List NameId)) → located ≡ location same_name (trees_to dump.records peg.rev) path peg.rev rev
+module _ (dump : DumpValue) (peg : PegValue) (at : PathRev) (found : IsPegFound dump peg at) where
+  pub IsAnswer-Location : (rev : ℕ) (located : Option (List NameId)) → located ≡ location same_name (trees_to dump.records at.rev) at.path at.rev rev
       → IsAnswer dump.names (locate_answer dump peg rev) (kept.Location located)
   IsAnswer-Location rev located is = record {
-    names_of = subst (IsLocationOf dump.names) (sym is) (location-of_names dump found.kept peg.rev found.within path rev found.of_names);
+    names_of = subst (IsLocationOf dump.names) (sym is) (location-of_names dump found.is_in.kept at.rev found.is_in.within at.path rev found.is_in.of_names);
     same = ap (λ line. ok_answer (location_line line ∷ []))
-        (ap (option_map (components_of dump.names)) is ∙ sym (location-in_bytes dump found.kept peg.rev found.within path rev))
+        (ap (option_map (components_of dump.names)) is ∙ sym (location-in_bytes dump found.is_in.kept at.rev found.is_in.within at.path rev))
         ∙ sym (found.answered (λ each. ok_answer (locate_lines (trees_in_bytes dump) rev each)));
   }
 
-  module _ (kept_segments : Vec KeptSegment Global) (is : map segment_view kept_segments.items ≡ segments_of same_name (trees_to dump.records peg.rev) path peg.rev) where
+  module _ (kept_segments : Vec KeptSegment Global) (is : map segment_view kept_segments.items ≡ segments_of same_name (trees_to dump.records at.rev) at.path at.rev) where
     kept_names : All (HasPathOf dump.names) kept_segments.items
-    kept_names = All-kept dump.names kept_segments.items (subst (All (λ segment. IsLocationOf dump.names segment.path)) (sym is) (segments-of_names dump found.kept peg.rev found.within path found.of_names))
+    kept_names = All-kept dump.names kept_segments.items (subst (All (λ segment. IsLocationOf dump.names segment.path)) (sym is) (segments-of_names dump found.is_in.kept at.rev found.is_in.within at.path found.is_in.of_names))
 
-    kept_in_bytes : segments_in_bytes dump.names kept_segments.items ≡ segments_of bytes_eq (trees_in_bytes dump) (components_of dump.names path) peg.rev
+    kept_in_bytes : segments_in_bytes dump.names kept_segments.items ≡ segments_of bytes_eq (trees_in_bytes dump) (components_of dump.names at.path) at.rev
     kept_in_bytes =
         segments_in_bytes-view dump.names kept_segments.items ∙ ap (map (rename_segment (λ id. name_of dump.names id.0))) is
-        ∙ sym (segments-in_bytes dump found.kept peg.rev found.within path)
+        ∙ sym (segments-in_bytes dump found.is_in.kept at.rev found.is_in.within at.path)
 
     pub IsAnswer-Segments : IsAnswer dump.names (segments_answer dump peg) (kept.Segments kept_segments)
     IsAnswer-Segments = record {
@@ -181,17 +174,17 @@ module _ (dump : DumpValue) (peg : PegValue) (path : List NameId) (found : IsPat
     }
 
     -- a line for each operative revision in the range
-    module _ (maximal : AreMaximal (index_of dump) path peg.rev kept_segments.items)
+    module _ (maximal : AreMaximal (index_of dump) at.path at.rev kept_segments.items)
         (range : Option (ℕ × ℕ)) (hits : Vec Hit Global)
         (hits_are : hits.items ≡ filter (λ hit. is_in_range range hit.rev)
-        (operative_of same_name (history_to dump.records peg.rev) (trees_to dump.records peg.rev)
+        (operative_of same_name (history_to dump.records at.rev) (trees_to dump.records at.rev)
         (map segment_view kept_segments.items))) where
       -- the segments of these have paths
       hits_located : All (HasLocation (map segment_view kept_segments.items)) hits.items
       hits_located =
           let segments = map segment_view kept_segments.items in
-          let history = history_to dump.records peg.rev in
-          let trees = trees_to dump.records peg.rev in
+          let history = history_to dump.records at.rev in
+          let trees = trees_to dump.records at.rev in
           rw hits_are
           (All-filter (λ hit. is_in_range range hit.rev) (HasLocation segments)
           (operative_of same_name history trees segments) (operative_of-located segments same_name history trees))
@@ -205,18 +198,18 @@ module _ (dump : DumpValue) (peg : PegValue) (path : List NameId) (found : IsPat
           sym (map-filter_map find found_line line hits.items
           (All-weaker (HasLocation (map segment_view kept_segments.items))
           (λ hit. option_map found_line (find hit) ≡ Some (line hit))
-          (λ hit at. hit_line-found dump.names kept_segments.items hit at.0 at.1) hits.items hits_located))
+          (λ hit there. hit_line-found dump.names kept_segments.items hit there.0 there.1) hits.items hits_located))
 
       hit_lines-log : map (hit_line (segments_in_bytes dump.names kept_segments.items)) hits.items
-          ≡ log_lines (history_in_bytes dump) (trees_in_bytes dump) (peg_found dump peg path) range
+          ≡ log_lines (history_in_bytes dump) (trees_in_bytes dump) (peg_in_bytes dump at) range
       hit_lines-log =
           hit_lines-found
           ∙ ap (map found_line)
           (sym (reverse-reverse (filter_map (found_by_name dump.names kept_segments.items found_here) hits.items))
           ∙ ap reverse
-          (found-in_range dump found.kept path peg.rev found.within kept_segments.items is maximal found_here
+          (found-in_range dump at found.is_in kept_segments.items is maximal found_here
           (λ each. each.1) found_here-keeps range hits.items hits_are)
-          ∙ sym (filter-reverse (λ each. is_in_range range each.1) (found_by dump path peg.rev found_here)))
+          ∙ sym (filter-reverse (λ each. is_in_range range each.1) (found_by dump at.path at.rev found_here)))
 
       pub IsAnswer-Log : IsAnswer dump.names (log_answer dump peg range) (kept.Log kept_segments hits)
       IsAnswer-Log = record {
@@ -228,47 +221,53 @@ module _ (dump : DumpValue) (peg : PegValue) (path : List NameId) (found : IsPat
       }
 
 -- the mergeinfo that holds for the path
-module _ (dump : DumpValue) (peg : PegValue) (path : List NameId) (found : IsPathFound dump peg path) (value : Option MergeInfoValue) (is : value ≡ effective_in dump path peg.rev) where
-  effective_answered : mergeinfo_answer dump peg ≡ with_value value (λ each. ok_answer (mergeinfo_lines each))
-  effective_answered =
-      found.answered (λ each. with_effective_mergeinfo (trees_in_bytes dump) each (λ lines. ok_answer (mergeinfo_lines lines)))
-      ∙ ap (λ each. with_value each (λ lines. ok_answer (mergeinfo_lines lines))) (sym is)
+pub mergeinfo_answer-found : (dump : DumpValue) (peg : PegValue) (at : PathRev) → IsPegFound dump peg at
+    → mergeinfo_answer dump peg ≡ mergeinfo_answer_of (effective_in dump at.path at.rev)
+mergeinfo_answer-found dump peg at found =
+    found.answered (λ each. with_effective_mergeinfo (trees_in_bytes dump) each (λ value. ok_answer (mergeinfo_lines value)))
 
-  pub IsAnswer-Mergeinfo : (lines : MergeInfoValue) → value ≡ Some lines → IsAnswer dump.names (mergeinfo_answer dump peg) (kept.Mergeinfo lines)
-  IsAnswer-Mergeinfo lines some = record { names_of = tt; same = ap (λ each. with_value each (λ all. ok_answer (mergeinfo_lines all))) (sym some) ∙ sym effective_answered }
+-- ---- a refused peg
 
-  pub IsAnswer-Malformed : value ≡ None → IsAnswer dump.names (mergeinfo_answer dump peg) (kept.Refused status.MalformedMergeinfo)
-  IsAnswer-Malformed none = record { names_of = tt; same = ap (λ each. with_value each (λ all. ok_answer (mergeinfo_lines all))) (sym none) ∙ sym effective_answered }
+pub IsAnswered-peg_refused : (dump : DumpValue) (peg : PegValue) (e : Unanswered) → IsPegRefused dump peg e
+    → (answer : Peg → Answer) → IsAnswered dump.names (with_peg_in dump peg answer) (Err e)
+IsAnswered-peg_refused dump peg (Refused status) refused answer = IsAnswer-Refused dump.names _ status (refused.0 (answer (peg_view peg)))
+IsAnswered-peg_refused dump peg Memory refused answer = tt
 
--- ---- a source and a target
+module _ (dump : DumpValue) (source target : PegValue) where
+  pub IsPairRefused-source : (e : Unanswered) → IsPegRefused dump source e → IsPairRefused dump source target e
+  IsPairRefused-source (Refused status) refused = (
+    λ answer. refused.0 (with_peg_in dump target (λ to. with_effective_mergeinfo (trees_in_bytes dump) to (answer (peg_view source) to))),
+    refused.1,
+  )
+  IsPairRefused-source Memory refused = tt
 
-module _ (dump : DumpValue) (source target : PegValue) (answer : Peg → Peg → MergeInfoValue → Answer) where
-  pub with_pair_in-source : (status : Status) → IsPegFound dump source (Err status) → with_pair_in dump source target answer ≡ refused_answer status
-  with_pair_in-source status found =
-      found (with_peg_in dump target (λ to. with_effective_mergeinfo (trees_in_bytes dump) to (answer (peg_view source) to)))
+  module _ (at : PathRev) (found : IsPegFound dump source at) where
+    with_pair_in-target : (answer : Peg → Peg → MergeInfoValue → Answer) → with_pair_in dump source target answer
+        ≡ with_peg_in dump target (λ to. with_effective_mergeinfo (trees_in_bytes dump) to (answer (peg_in_bytes dump at) to))
+    with_pair_in-target answer =
+        found.answered (λ from. with_peg_in dump target (λ to. with_effective_mergeinfo (trees_in_bytes dump) to (answer from to)))
 
-  module _ (path : List NameId) (found : IsPathFound dump source path) where
-    with_pair_in-target : with_pair_in dump source target answer
-        ≡ with_peg_in dump target (λ to. with_effective_mergeinfo (trees_in_bytes dump) to (answer (peg_found dump source path) to))
-    with_pair_in-target = found.answered (λ from. with_peg_in dump target (λ to. with_effective_mergeinfo (trees_in_bytes dump) to (answer from to)))
+    pub IsPairRefused-target : (e : Unanswered) → IsPegRefused dump target e → IsPairRefused dump source target e
+    IsPairRefused-target (Refused status) refused = (
+      λ answer. with_pair_in-target answer
+          ∙ refused.0 (with_effective_mergeinfo (trees_in_bytes dump) (peg_view target) (answer (peg_in_bytes dump at) (peg_view target))),
+      refused.1,
+    )
+    IsPairRefused-target Memory refused = tt
 
-    pub with_pair_in-refused : (status : Status) → IsPegFound dump target (Err status) → with_pair_in dump source target answer ≡ refused_answer status
-    with_pair_in-refused status other =
-        with_pair_in-target ∙ other (with_effective_mergeinfo (trees_in_bytes dump) (peg_view target) (answer (peg_found dump source path) (peg_view target)))
-
-    pub with_pair_in-found : (to : List NameId) → IsPathFound dump target to
-        → with_pair_in dump source target answer ≡ with_value (effective_in dump to target.rev) (answer (peg_found dump source path) (peg_found dump target to))
-    with_pair_in-found to other =
-        with_pair_in-target ∙ other.answered (λ each. with_effective_mergeinfo (trees_in_bytes dump) each (answer (peg_found dump source path) each))
+    pub with_pair_in-found : (to : PathRev) → IsPegFound dump target to → (answer : Peg → Peg → MergeInfoValue → Answer)
+        → with_pair_in dump source target answer ≡ with_value (effective_in dump to.path to.rev) (answer (peg_in_bytes dump at) (peg_in_bytes dump to))
+    with_pair_in-found to other answer =
+        with_pair_in-target answer ∙ other.answered (λ each. with_effective_mergeinfo (trees_in_bytes dump) each (answer (peg_in_bytes dump at) each))
 
 -- the revisions that are asked for, where a peg or the mergeinfo stands against each answer
-pub IsAnswer-Pair_refused : (dump : DumpValue) (wanted : Wanted) (source target : PegValue) (status : Status)
-    → ((answer : Peg → Peg → MergeInfoValue → Answer) → with_pair_in dump source target answer ≡ refused_answer status)
-    → IsAnswer dump.names (pair_answer dump wanted source target) (kept.Refused status)
-IsAnswer-Pair_refused dump wanted source target status refused = by wanted.verb
+pub IsAnswer-pair_refused : (dump : DumpValue) (wanted : Wanted) (status : Status)
+    → ((answer : Peg → Peg → MergeInfoValue → Answer) → with_pair_in dump wanted.source.now wanted.target.now answer ≡ refused_answer status)
+    → IsAnswer dump.names (pair_answer dump wanted) (kept.Refused status)
+IsAnswer-pair_refused dump wanted status refused = by wanted.verb
   where
     by : (each : PairVerb)
-        → IsAnswer dump.names (verb_answer dump each source target wanted.range) (kept.Refused status)
+        → IsAnswer dump.names (verb_answer dump each wanted.source.now wanted.target.now wanted.range) (kept.Refused status)
     by verb.Merged =
         let lines = merged_lines (history_in_bytes dump) (trees_in_bytes dump) in
         IsAnswer-Refused dump.names _ status (refused (λ from to value. ok_answer (lines from wanted.range value)))
@@ -276,22 +275,27 @@ IsAnswer-Pair_refused dump wanted source target status refused = by wanted.verb
         let lines = eligible_lines (history_in_bytes dump) (trees_in_bytes dump) in
         IsAnswer-Refused dump.names _ status (refused (λ from to value. ok_answer (lines from to wanted.range value)))
 
+pub IsAnswered-pair_refused : (dump : DumpValue) (wanted : Wanted) (e : Unanswered)
+    → IsPairRefused dump wanted.source.now wanted.target.now e → IsAnswered dump.names (pair_answer dump wanted) (Err e)
+IsAnswered-pair_refused dump wanted (Refused status) refused = IsAnswer-pair_refused dump wanted status refused.0
+IsAnswered-pair_refused dump wanted Memory refused = tt
+
 -- the revisions of a pair
 module _ (dump : DumpValue) (source target : PegValue) (pair : Pair) (found : IsPair dump source target pair) where
-  pub with_pair_in-malformed : effective_in dump pair.target.path target.rev ≡ None → (answer : Peg → Peg → MergeInfoValue → Answer)
+  pub with_pair_in-malformed : effective_in dump pair.target.at.path pair.target.at.rev ≡ None → (answer : Peg → Peg → MergeInfoValue → Answer)
       → with_pair_in dump source target answer ≡ refused_answer status.MalformedMergeinfo
   with_pair_in-malformed none answer =
-      found.answered answer ∙ ap (λ each. with_value each (answer (peg_found dump source pair.source) (peg_found dump target pair.target.path))) none
+      found.answered answer ∙ ap (λ each. with_value each (answer (peg_in_bytes dump pair.source) (peg_in_bytes dump pair.target.at))) none
 
-  module _ (held : HeldMergeinfo) (is : effective_in dump pair.target.path target.rev ≡ Some (held_value dump.names held)) where
+  module _ (held : HeldMergeinfo) (is : effective_in dump pair.target.at.path pair.target.at.rev ≡ Some (held_value dump.names held)) where
     with_pair_in-held : (answer : Peg → Peg → MergeInfoValue → Answer) → with_pair_in dump source target answer
-        ≡ answer (peg_found dump source pair.source) (peg_found dump target pair.target.path) (held_value dump.names held)
+        ≡ answer (peg_in_bytes dump pair.source) (peg_in_bytes dump pair.target.at) (held_value dump.names held)
     with_pair_in-held answer =
-        found.answered answer ∙ ap (λ each. with_value each (answer (peg_found dump source pair.source) (peg_found dump target pair.target.path))) is
+        found.answered answer ∙ ap (λ each. with_value each (answer (peg_in_bytes dump pair.source) (peg_in_bytes dump pair.target.at))) is
 
     module _ (range : Option (ℕ × ℕ)) where
       pub IsAnswer-Merged : (revisions : Vec MergedRevision Global)
-          → revisions.items ≡ merged_in dump source pair range held
+          → revisions.items ≡ merged_in dump pair range held
           → IsAnswer dump.names (merged_answer dump source target range) (kept.Merged revisions)
       IsAnswer-Merged revisions are = record {
         names_of = tt;
@@ -302,7 +306,7 @@ module _ (dump : DumpValue) (source target : PegValue) (pair : Pair) (found : Is
       }
 
       pub IsAnswer-Eligible : (revisions : Vec ℕ Global)
-          → revisions.items ≡ eligible_in dump source target pair range held
+          → revisions.items ≡ eligible_in dump pair range held
           → IsAnswer dump.names (eligible_answer dump source target range) (kept.Eligible revisions)
       IsAnswer-Eligible revisions are = record {
         names_of = tt;

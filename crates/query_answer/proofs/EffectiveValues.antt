@@ -1,21 +1,23 @@
 -- What a mergeinfo says of a path below its own.
-use Rattle.std.proofs.Common.{◌≡◌, ◌≢◌, ℕ, ◌-◌, ◌<◌, ◌≤◌, ◌==◌, false, List, [], ◌∷◌, Option, Some, None, drop, take, length, slice_get, refl, ap, sym, ◌∙◌, arith, eq-eqb, eqb-true}
+use Rattle.std.proofs.Common.{◌≡◌, ◌≢◌, ℕ, ◌-◌, ◌<◌, ◌≤◌, ◌==◌, false, List, [], ◌∷◌, Option, Some, None, IfSome, bytes_eq, drop, take, length, refl, ap, sym, ◌∙◌, arith, eq-eqb, eqb-true}
 use Rattle.std.specs.Prelude.{option_map}
 use Rattle.std.proofs.lemmas.Bool.{false_from_ne_true}
 use Rattle.std.proofs.lemmas.List.{drop-map, length-drop, length-map}
-use Rattle.std.proofs.lemmas.Option.{get_or_from_slice_get}
 use Rattle.svn_dump.specs.Dump.{DumpValue, IsDump, text_of}
 use Rattle.svn_dump.specs.Tree.{tree_of}
-use Rattle.svn_path.specs.Components.{parts_of, path_text}
+use Rattle.svn_path.specs.Components.{path_text}
 use Rattle.svn_path.specs.Names.{name_of}
 use Rattle.svn_path.specs.Path.{components_of, same_name}
 use Rattle.svn_path.specs.declared.names.NameId.{NameId}
-use Rattle.merge_info.specs.CanonicalValue.{inherited_value, value_of}
+use Rattle.merge_info.specs.CanonicalValue.{inherited_value}
 use Rattle.merge_info.specs.Value.{MergeInfoValue}
-use Rattle.query_answer.specs.Effective.{effective_of, nearest_text, own_or_inherited}
+use Rattle.query_answer.specs.Effective.{NearestMergeinfo, effective_of, nearest, own_or_inherited}
 use Rattle.query_answer.specs.HeldValue.{own_or_below}
+use Rattle.query_answer.specs.Held.{depth_in}
+use Rattle.query_answer.specs.NearestValue.{text_found, value_said}
 use Rattle.query_answer.specs.Peg.{PegValue, peg_view}
-use Rattle.query_answer.specs.Repo.{IsNearestIn, effective_in, nearest_text_at, nearest_text_in, nearest_view, trees_in_bytes}
+use Rattle.query_answer.specs.Repo.{IsNearestIn, IsTargetFound, effective_in, nearest_text_at, nearest_text_in, nearest_view, trees_in_bytes}
+use Rattle.query_answer.specs.declared.target.Target.{Target}
 use Rattle.block_map.specs.Map.{revision_in}
 use Rattle.block_map.specs.declared.nearest.Nearest.{Nearest}
 use Rattle.query_answer.proofs.InBytes.{nearest-in_bytes}
@@ -49,54 +51,52 @@ module _ (names : List (List ℕ)) (path : List NameId) (depth : ℕ) (value : M
 
 -- ---- by the trees of the dump
 
-module _ (dump : DumpValue) (kept : IsDump dump) (path : List NameId) (rev : ℕ) where
-  effective_in-found : (found : Option Nearest) → IsNearestIn dump path rev found
-      → effective_in dump path rev ≡ effective_of (components_of dump.names path) (option_map (with_mergeinfo_by (λ id. text_of dump.values id.0)) (option_map nearest_view found))
-  effective_in-found found is =
-      ap (effective_of (components_of dump.names path))
-      (nearest-in_bytes dump kept path rev ∙ ap (option_map (with_mergeinfo_by (λ id. text_of dump.values id.0))) (sym is.nearest_is))
+module _ (dump : DumpValue) (kept : IsDump dump) (path : List NameId) (rev : ℕ) (found : Option Nearest) (is : IsNearestIn dump path rev found) where
+  -- the nearest mergeinfo in bytes
+  abbrev found_text : Option (NearestMergeinfo (List ℕ))
+  found_text = option_map (with_mergeinfo_by (λ id. text_of dump.values id.0)) (option_map nearest_view found)
 
-  pub effective_in-none : IsNearestIn dump path rev None → effective_in dump path rev ≡ Some []
-  effective_in-none is = effective_in-found None is
+  nearest-found : nearest bytes_eq (tree_of (trees_in_bytes dump) rev) (components_of dump.names path) ≡ found_text
+  nearest-found =
+      nearest-in_bytes dump kept path rev ∙ ap (option_map (with_mergeinfo_by (λ id. text_of dump.values id.0))) (sym is.nearest_is)
 
-  -- there is no text to read then
-  pub nearest_text-none : IsNearestIn dump path rev None → nearest_text_in dump path rev ≡ None
-  nearest_text-none is =
-      ap (option_map (λ each. each.mergeinfo))
-      (nearest-in_bytes dump kept path rev ∙ ap (option_map (with_mergeinfo_by (λ id. text_of dump.values id.0))) (sym is.nearest_is))
+  -- its text is one of the dump
+  pub mergeinfo-found : IfSome found (λ each. each.mi.0 < length dump.values)
+  mergeinfo-found = by found is.nearest_is
+    where
+      by : (each : Option Nearest) → option_map nearest_view each ≡ nearest same_name (revision_in dump rev) path → IfSome each (λ one. one.mi.0 < length dump.values)
+      by None none = tt
+      by (Some one) some =
+          mergeinfo-within dump kept (take one.depth path) rev one.mi
+          (own-nearest_from same_name (revision_in dump rev) path one.mi one.depth (length path) (sym some))
 
-  module _ (found : Nearest) (is : IsNearestIn dump path rev (Some found)) where
-    -- the text is one of the dump
-    pub mergeinfo-found : found.mi.0 < length dump.values
-    mergeinfo-found =
-        mergeinfo-within dump kept (take found.depth path) rev found.mi
-        (own-nearest_from same_name (revision_in dump rev) path found.mi found.depth (length path) (sym is.nearest_is))
+  -- and it is the text that is read for the path
+  pub nearest_text-found : nearest_text_in dump path rev ≡ text_found dump found
+  nearest_text-found = ap (option_map (λ each. each.mergeinfo)) nearest-found ∙ by found
+    where
+      by : (each : Option Nearest) → option_map (λ one. one.mergeinfo) (option_map (with_mergeinfo_by (λ id. text_of dump.values id.0)) (option_map nearest_view each)) ≡ text_found dump each
+      by None = refl
+      by (Some one) = refl
 
-    module _ (text : List ℕ) (of_id : slice_get dump.values found.mi.0 ≡ Some text) where
-      text_is : text_of dump.values found.mi.0 ≡ text
-      text_is = get_or_from_slice_get dump.values found.mi.0 text [] of_id
+  -- what the text says holds for the path or is inherited
+  pub effective_in-found : effective_in dump path rev ≡ option_map (own_or_inherited (components_of dump.names path) (depth_in path found)) (value_said (text_found dump found))
+  effective_in-found = ap (effective_of (components_of dump.names path)) nearest-found ∙ by found
+    where
+      by : (each : Option Nearest) → effective_of (components_of dump.names path) (option_map (with_mergeinfo_by (λ id. text_of dump.values id.0)) (option_map nearest_view each))
+          ≡ option_map (own_or_inherited (components_of dump.names path) (depth_in path each)) (value_said (text_found dump each))
+      by None = ap Some (sym (own_or_inherited-own dump.names path (length path) [] refl))
+      by (Some one) = refl
 
-      pub effective_in-text : effective_in dump path rev ≡ option_map (own_or_inherited (components_of dump.names path) found.depth) (value_of text)
-      effective_in-text =
-          effective_in-found (Some found) is
-          ∙ ap (λ each. option_map (own_or_inherited (components_of dump.names path) found.depth) (value_of each)) text_is
+  pub effective_in-below : effective_in dump path rev ≡ option_map (own_or_below (components_of dump.names (drop (depth_in path found) path))) (value_said (text_found dump found))
+  effective_in-below = effective_in-found ∙ by (value_said (text_found dump found))
+    where
+      by : (value : Option MergeInfoValue) → option_map (own_or_inherited (components_of dump.names path) (depth_in path found)) value
+          ≡ option_map (own_or_below (components_of dump.names (drop (depth_in path found) path))) value
+      by None = refl
+      by (Some value) = ap Some (own_or_inherited-below dump.names path (depth_in path found) value is.depth)
 
-      pub effective_in-below : effective_in dump path rev ≡ option_map (own_or_below (components_of dump.names (drop found.depth path))) (value_of text)
-      effective_in-below = effective_in-text ∙ by (value_of text)
-        where
-          by : (value : Option MergeInfoValue) → option_map (own_or_inherited (components_of dump.names path) found.depth) value
-              ≡ option_map (own_or_below (components_of dump.names (drop found.depth path))) value
-          by None = refl
-          by (Some value) = ap Some (own_or_inherited-below dump.names path found.depth value is.depth)
-
-      -- and it is the text that is read for the path
-      pub nearest_text-found : nearest_text_in dump path rev ≡ Some text
-      nearest_text-found =
-          ap (option_map (λ each. each.mergeinfo))
-          (nearest-in_bytes dump kept path rev ∙ ap (option_map (with_mergeinfo_by (λ id. text_of dump.values id.0))) (sym is.nearest_is))
-          ∙ ap Some text_is
-
--- what is read for a peg is what is read for its path
-pub nearest_text_at-peg : (dump : DumpValue) (peg : PegValue) (path : List NameId) → components_of dump.names path ≡ parts_of peg.path
-    → nearest_text_at dump (peg_view peg) ≡ nearest_text_in dump path peg.rev
-nearest_text_at-peg dump peg path spells = ap (nearest_text (tree_of (trees_in_bytes dump) peg.rev)) (sym spells)
+-- the text that is read for a peg is that of its target
+pub nearest_text-target : (dump : DumpValue) (peg : PegValue) (target : Target) → IsTargetFound dump peg target → nearest_text_at dump (peg_view peg) ≡ text_found dump target.nearest
+nearest_text-target dump peg target found =
+    sym (ap (nearest_text_at dump) found.peg_is.spells)
+    ∙ nearest_text-found dump found.peg_is.is_in.kept target.at.path target.at.rev target.nearest found.nearest

@@ -11,6 +11,7 @@ use Rattle.svn_dump.proofs.Trees.{entry_at-nil}
 use Rattle.svn_dump.proofs.Renaming.Paths.{KeepsSame}
 use Rattle.svn_dump.proofs.Renaming.Trees.{rename_entry, rename_tree, entry_at-rename}
 use Rattle.query_answer.specs.Effective.{NearestMergeinfo, nearest, nearest_from, own_mergeinfo, own_or}
+use Rattle.query_answer.specs.Held.{depth_in}
 use Rattle.query_answer.specs.Repo.{IsNearestIn, nearest_view}
 use Rattle.svn_dump.specs.declared.record.ValueId.{ValueId}
 use Rattle.block_map.specs.Map.{HasNoneFrom, IsNearest, IsNearestOrNone, revision_in}
@@ -134,8 +135,8 @@ module _ (tree : Tree NameId ValueId) (path : List NameId) where
   nearest-found None none = sym (nearest_from-none_above (length path) (omega arith) none)
   nearest-found (Some found) (is, none) = sym (nearest_from-found found is none (length path) is.0 (omega arith))
 
-  nearest_depth : (found : Option Nearest) → IsNearestOrNone (own_mergeinfo same_name tree) path found → IfSome found (λ each. each.depth ≤ length path)
-  nearest_depth None none = tt
+  nearest_depth : (found : Option Nearest) → IsNearestOrNone (own_mergeinfo same_name tree) path found → depth_in path found ≤ length path
+  nearest_depth None none = omega arith
   nearest_depth (Some found) (is, none) = is.0
 
 -- what is found in the tree of a revision is the nearest

@@ -24,8 +24,9 @@ use Rattle.query_answer.specs.Merged.{RevisionsByPath, eligible_at, found_in, is
 use Rattle.query_answer.specs.Merged.{operative_location, value_has}
 use Rattle.query_answer.specs.SourceHits.{eligible_hit, eligible_of_hits, has_in, has_revision, is_eligible_from, lent_ranges, merged_hit, merged_of_hits, segment_path}
 use Rattle.query_answer.specs.declared.held_mergeinfo.HeldMergeinfo.{HeldMergeinfo}
+use Rattle.query_answer.specs.declared.path_rev.PathRev.{PathRev}
 use Rattle.query_answer.specs.declared.verbs.source.SourceRanges.{SourceRanges}
-use Rattle.query_answer.specs.Repo.{eligible_by, merged_by, location_by, trees_in_bytes}
+use Rattle.query_answer.specs.Repo.{IsPathIn, eligible_by, merged_by, location_by, trees_in_bytes}
 use Rattle.query_answer.proofs.HeldRevisions.{held-has, some_have}
 use Rattle.query_answer.proofs.InBytes.{alike, hits-index, location-in_bytes, location-index, name, segments-index, text, trees-renamed, trees_by_number}
 use Rattle.query_answer.proofs.OperativeLocations.{found-operative_of, found_in-rename, found_of_hit}
@@ -133,39 +134,39 @@ eligible_at-keeps has target here rev found = by (is_eligible bytes_eq has targe
     by true some = cc
     by false none = cc
 
-module _ (dump : DumpValue) (kept : IsDump dump) (path : List NameId) (rev : ℕ) (within : rev < length dump.counts) where
+module _ (dump : DumpValue) (at : PathRev) (is_in : IsPathIn dump at) where
   module _ (segments : List KeptSegment)
-      (exact : map segment_view segments ≡ segments_of same_name (trees_to dump.records rev) path rev)
-      (maximal : AreSegments (location_in dump.records path rev) (rev + 1) (map segment_view segments)) where
-    all_maximal : AreSegments (location same_name (trees_by_number dump kept) path rev) (rev + 1) (map segment_view segments)
-    all_maximal = subst (λ located. AreSegments located (rev + 1) (map segment_view segments)) (λ i k. location-index dump kept rev within path k i) maximal
+      (exact : map segment_view segments ≡ segments_of same_name (trees_to dump.records at.rev) at.path at.rev)
+      (maximal : AreSegments (location_in dump.records at.path at.rev) (at.rev + 1) (map segment_view segments)) where
+    all_maximal : AreSegments (location same_name (trees_by_number dump is_in.kept) at.path at.rev) (at.rev + 1) (map segment_view segments)
+    all_maximal = subst (λ located. AreSegments located (at.rev + 1) (map segment_view segments)) (λ i k. location-index dump is_in.kept at.rev is_in.within at.path k i) maximal
 
     -- the operative revisions of the segments
     abbrev all_hits : List Hit
     all_hits =
-        operative_of same_name (history_to dump.records rev) (trees_to dump.records rev) (map segment_view segments)
+        operative_of same_name (history_to dump.records at.rev) (trees_to dump.records at.rev) (map segment_view segments)
 
     all_hits-dump : all_hits
-        ≡ operative_of same_name (history_view dump) (trees_by_number dump kept) (map segment_view segments)
+        ≡ operative_of same_name (history_view dump) (trees_by_number dump is_in.kept) (map segment_view segments)
     all_hits-dump =
-        ap (operative_of same_name (history_to dump.records rev) (trees_to dump.records rev)) exact
-        ∙ hits-index dump kept rev within path
-        ∙ ap (operative_of same_name (history_view dump) (trees_by_number dump kept)) (sym (exact ∙ segments-index dump kept rev within path))
+        ap (operative_of same_name (history_to dump.records at.rev) (trees_to dump.records at.rev)) exact
+        ∙ hits-index dump is_in.kept at.rev is_in.within at.path
+        ∙ ap (operative_of same_name (history_view dump) (trees_by_number dump is_in.kept)) (sym (exact ∙ segments-index dump is_in.kept at.rev is_in.within at.path))
 
     module _ {X : Type 0} (find : List (List ℕ) → ℕ → Option X) where
       -- what is found at all of them
       found-found_by : reverse (filter_map (found_by_name dump.names segments find) all_hits)
-          ≡ found_by dump path rev find
+          ≡ found_by dump at.path at.rev find
       found-found_by =
           let history = history_view dump in
-          let trees = trees_by_number dump kept in
+          let trees = trees_by_number dump is_in.kept in
           ap (λ all. reverse (filter_map (found_by_name dump.names segments find) all)) all_hits-dump
-          ∙ found-operative_of same_name history trees (location same_name trees path rev)
-          (λ located. find (components_of dump.names located)) rev (map segment_view segments) all_maximal
-          ∙ sym (found_in-rename (name dump kept) (text dump kept) same_name bytes_eq (alike dump kept)
-          history trees path rev find)
-          ∙ ap (λ all. found_in bytes_eq (history_in_bytes dump) all (components_of dump.names path) rev find)
-          (sym (trees-renamed dump kept))
+          ∙ found-operative_of same_name history trees (location same_name trees at.path at.rev)
+          (λ located. find (components_of dump.names located)) at.rev (map segment_view segments) all_maximal
+          ∙ sym (found_in-rename (name dump is_in.kept) (text dump is_in.kept) same_name bytes_eq (alike dump is_in.kept)
+          history trees at.path at.rev find)
+          ∙ ap (λ all. found_in bytes_eq (history_in_bytes dump) all (components_of dump.names at.path) at.rev find)
+          (sym (trees-renamed dump is_in.kept))
 
       -- what is found at those in a range is what is found in the range
       module _ (revision_of : X → ℕ) (keeps : KeepsRevision find revision_of)
@@ -182,7 +183,7 @@ module _ (dump : DumpValue) (kept : IsDump dump) (path : List NameId) (rev : ℕ
             by (Some one) some = ap (is_in_range range) (keeps (components_of dump.names one) hit.rev x some)
 
         pub found-in_range : reverse (filter_map (found_by_name dump.names segments find) hits)
-            ≡ filter (λ x. is_in_range range (revision_of x)) (found_by dump path rev find)
+            ≡ filter (λ x. is_in_range range (revision_of x)) (found_by dump at.path at.rev find)
         found-in_range =
             let found = found_by_name dump.names segments find in
             let passes = λ (x : X). is_in_range range (revision_of x) in
@@ -196,25 +197,25 @@ module _ (dump : DumpValue) (kept : IsDump dump) (path : List NameId) (rev : ℕ
         (has_is : (hit : Hit) → has hit ≡ option_and_then (λ located. value_has value (components_of dump.names located) hit.rev) (segment_path segments hit.segment)) where
       -- the merged revisions in the range
       pub merged-merged_by : merged_of_hits has hits
-          ≡ filter (λ revision. is_in_range range revision.rev) (merged_by dump path rev value)
+          ≡ filter (λ revision. is_in_range range revision.rev) (merged_by dump at value)
       merged-merged_by =
           (λ i. reverse (filter_map (λ hit. merged_in dump.names value segments has has_is hit i) hits))
           ∙ found-in_range (merged_at (value_has value)) (λ revision. revision.rev) (merged_at-keeps (value_has value))
           range hits hits_are
 
       -- the eligible revisions in the range
-      module _ (target : List NameId) (target_rev : ℕ) (target_within : target_rev < length dump.counts) where
-        location_alike : (located : List NameId) (number : ℕ) → same_location bytes_eq (location_by dump target target_rev number) (Some (components_of dump.names located))
-            ≡ same_location same_name (location_in dump.records target target_rev number) (Some located)
+      module _ (target : PathRev) (target_in : IsPathIn dump target) where
+        location_alike : (located : List NameId) (number : ℕ) → same_location bytes_eq (location_by dump target number) (Some (components_of dump.names located))
+            ≡ same_location same_name (location_in dump.records target.path target.rev number) (Some located)
         location_alike located number =
-            ap (λ found. same_location bytes_eq found (Some (components_of dump.names located))) (location-in_bytes dump kept target_rev target_within target number)
-            ∙ same_location-rename (name dump kept) same_name bytes_eq (alike dump kept) (location_in dump.records target target_rev number) (Some located)
+            ap (λ found. same_location bytes_eq found (Some (components_of dump.names located))) (location-in_bytes dump is_in.kept target.rev target_in.within target.path number)
+            ∙ same_location-rename (name dump is_in.kept) same_name bytes_eq (alike dump is_in.kept) (location_in dump.records target.path target.rev number) (Some located)
 
-        pub eligible-eligible_by : eligible_of_hits has segments (location_in dump.records target target_rev) hits
-            ≡ filter (is_in_range range) (eligible_by dump path rev target target_rev value)
+        pub eligible-eligible_by : eligible_of_hits has segments (location_in dump.records target.path target.rev) hits
+            ≡ filter (is_in_range range) (eligible_by dump at target value)
         eligible-eligible_by =
-            let located = location_by dump target target_rev in
-            (λ i. reverse (filter_map (λ hit. eligible_in dump.names value segments has has_is (location_in dump.records target target_rev) (location_by dump target target_rev) location_alike hit i) hits))
+            let located = location_by dump target in
+            (λ i. reverse (filter_map (λ hit. eligible_in dump.names value segments has has_is (location_in dump.records target.path target.rev) (location_by dump target) location_alike hit i) hits))
             ∙ found-in_range (eligible_at bytes_eq (value_has value) located) (λ each. each)
             (eligible_at-keeps (value_has value) located) range hits hits_are
 
@@ -225,11 +226,11 @@ filter_map-none f [] none = refl
 filter_map-none f (x ∷ xs) none = rw (none x) (filter_map-none f xs none)
 
 -- it has no revisions
-pub merged_by-empty : (dump : DumpValue) (path : List NameId) (rev : ℕ) → merged_by dump path rev [] ≡ []
-merged_by-empty dump path rev =
-    filter_map-none (λ each. option_and_then (λ located. merged_at (value_has []) located each) (operative_location bytes_eq (history_in_bytes dump) (trees_in_bytes dump) (components_of dump.names path) rev each))
-    (range_with_len 0 (rev + 1))
-    (λ each. by_location each (operative_location bytes_eq (history_in_bytes dump) (trees_in_bytes dump) (components_of dump.names path) rev each))
+pub merged_by-empty : (dump : DumpValue) (at : PathRev) → merged_by dump at [] ≡ []
+merged_by-empty dump at =
+    filter_map-none (λ each. option_and_then (λ located. merged_at (value_has []) located each) (operative_location bytes_eq (history_in_bytes dump) (trees_in_bytes dump) (components_of dump.names at.path) at.rev each))
+    (range_with_len 0 (at.rev + 1))
+    (λ each. by_location each (operative_location bytes_eq (history_in_bytes dump) (trees_in_bytes dump) (components_of dump.names at.path) at.rev each))
   where
     by_location : (each : ℕ) (located : Option (List (List ℕ))) → option_and_then (λ one. merged_at (value_has []) one each) located ≡ None
     by_location each None = refl

@@ -110,6 +110,10 @@ with_effective_mergeinfo trees peg answer = with_value (effective_value (tree_of
 abbrev pub mergeinfo_lines : MergeInfoValue → List (List ℕ)
 mergeinfo_lines value = map printed_entry value
 
+-- the answer to `mergeinfo`, by the effective mergeinfo
+abbrev pub mergeinfo_answer_of : Option MergeInfoValue → Answer
+mergeinfo_answer_of value = with_value value (λ each. ok_answer (mergeinfo_lines each))
+
 -- a star follows a revision that is not inheritable
 abbrev pub merged_line : MergedRevision → List ℕ
 merged_line revision = codes "r" ++ decimal revision.rev ++ (if revision.inheritable then [] else codes "*")

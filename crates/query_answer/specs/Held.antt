@@ -34,10 +34,11 @@ held_ranges_in names held segment = option_and_then (held_ranges_at names held) 
 
 -- ---- of a target
 
--- what a path has below so many of its components; nothing, if it has no mergeinfo
-abbrev pub rest_after : Option Nearest → List NameId → List NameId
-rest_after None path = []
-rest_after (Some found) path = drop found.depth path
+-- how many components of a path the one with the nearest mergeinfo has: all of them, without mergeinfo
+abbrev pub depth_in : List NameId → Option Nearest → ℕ
+depth_in path None = length path
+depth_in path (Some found) = found.depth
 
+-- what the path has below that one
 abbrev pub rest_of : Target → List NameId
-rest_of target = rest_after target.nearest target.path
+rest_of target = drop (depth_in target.at.path target.nearest) target.at.path

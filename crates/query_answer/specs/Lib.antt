@@ -3,10 +3,12 @@ pub mod Effective
 pub mod Held
 pub mod HeldValue
 pub mod Merged
+pub mod NearestValue
 pub mod Peg
 pub mod PrintedMergeinfo
 pub mod Query
 pub mod Range
 pub mod Repo
 pub mod SourceHits
+pub mod Unanswered
 pub mod Worker

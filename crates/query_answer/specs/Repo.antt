@@ -1,5 +1,5 @@
 -- A repository: a dump of a lawful history, and the answers to queries about it.
-use Rattle.std.specs.Prelude.{◌≡◌, ℕ, ◌<◌, ◌≤◌, List, Option, Some, None, IfSome, IsFalse, Result, Ok, Err, All, bytes_eq, filter, length, map, option_map}
+use Rattle.std.specs.Prelude.{◌≡◌, ℕ, ◌<◌, ◌≤◌, List, Option, Some, None, IsFalse, All, ⊤, bytes_eq, filter, length, map, option_map}
 use Rattle.path_index.specs.History.{history_to, trees_to}
 use Rattle.path_index.specs.Index.{AreMaximal, AreSegmentsOf, IndexValue, IsThere, segment_view}
 use Rattle.path_index.specs.Operative.{operative_of}
@@ -27,14 +27,16 @@ use Rattle.merge_info.specs.Value.{MergeInfoValue}
 use Rattle.query_answer.specs.declared.effective_mergeinfo.Effective.{Effective}
 use Rattle.query_answer.specs.declared.effective_mergeinfo.Effective.TheVariants.{Malformed, Value}
 use Rattle.query_answer.specs.declared.merged_revision.MergedRevision.{MergedRevision}
-use Rattle.query_answer.specs.Held.{held_value}
+use Rattle.query_answer.specs.Held.{depth_in, held_value}
 use Rattle.query_answer.specs.declared.held_mergeinfo.HeldMergeinfo.{HeldMergeinfo}
+use Rattle.query_answer.specs.declared.path_rev.PathRev.{PathRev}
 use Rattle.query_answer.specs.declared.target.Target.{Target}
+use Rattle.query_answer.specs.declared.unanswered.Unanswered.{Unanswered}
+use Rattle.query_answer.specs.declared.unanswered.Unanswered.TheVariants.{Memory, Refused}
 use Rattle.query_answer.specs.declared.verbs.pair.Pair.{Pair}
 use Rattle.query_answer.specs.declared.verbs.pair.PairVerb.{PairVerb}
 use Rattle.query_answer.specs.declared.verbs.pair.PairVerb.TheVariants as verb
 use Rattle.query_answer.specs.declared.verbs.pair.Wanted.{Wanted}
-use Rattle.query_answer.specs.declared.status.Status.{Status}
 
 -- the index of a dump's records
 abbrev pub index_of : DumpValue → IndexValue
@@ -96,51 +98,44 @@ abbrev pub nearest_view : Nearest → NearestMergeinfo ValueId
 nearest_view found = record { mergeinfo = found.mi; depth = found.depth }
 
 -- the peg of a path of the dump
-abbrev pub peg_found : DumpValue → PegValue → List NameId → Peg
-peg_found dump peg path = record { path = components_of dump.names path; rev = peg.rev }
+abbrev pub peg_in_bytes : DumpValue → PathRev → Peg
+peg_in_bytes dump at = record { path = components_of dump.names at.path; rev = at.rev }
 
--- the path spells the bytes of a peg, and the revision of the peg ends at the tick
-pub record IsPegKnown (dump : DumpValue) (peg : PegValue) (path : List NameId) (tick : ℕ) : Type 0 where
-  pub of_names : IsPathOf dump.names path
-  pub spells : components_of dump.names path ≡ parts_of peg.path
-  pub ends : IsEndIn dump peg.rev tick
+-- the path is that of a peg, and its revision ends at the tick
+pub record IsPegKnown (dump : DumpValue) (peg : PegValue) (at : PathRev) (tick : ℕ) : Type 0 where
+  pub of_names : IsPathOf dump.names at.path
+  pub spells : peg_in_bytes dump at ≡ peg_view peg
+  pub ends : IsEndIn dump at.rev tick
 
--- the path of a peg and the end of its revision; or there are none, and this is the status of each answer about the peg
-abbrev pub IsPegLookedUp : DumpValue → PegValue → Result (List NameId × ℕ) Status → Type 0
-IsPegLookedUp dump peg (Ok found) = IsPegKnown dump peg found.0 found.1
-IsPegLookedUp dump peg (Err status) =
-    (answer : Answer) → if_peg_exists (trees_in_bytes dump) (peg_view peg) answer ≡ refused_answer status
-
--- the path of a peg is in the tree of its revision, so each answer about the peg has its result lines
-pub record IsPathFound (dump : DumpValue) (peg : PegValue) (path : List NameId) : Type 0 where
+-- the path is in the tree of its revision
+pub record IsPathIn (dump : DumpValue) (at : PathRev) : Type 0 where
   pub kept : IsDump dump
-  pub of_names : IsPathOf dump.names path
-  pub spells : components_of dump.names path ≡ parts_of peg.path
-  pub within : peg.rev < length dump.counts
-  pub there : IsThere dump.records path peg.rev
-  pub answered : (answer : Peg → Answer) →
-      with_peg_in dump peg answer ≡ answer (peg_found dump peg path)
+  pub of_names : IsPathOf dump.names at.path
+  pub within : at.rev < length dump.counts
+  pub there : IsThere dump.records at.path at.rev
 
--- the path of a peg; or there is none, and this is the status of each answer about the peg
-abbrev pub IsPegFound : DumpValue → PegValue → Result (List NameId) Status → Type 0
-IsPegFound dump peg (Ok path) = IsPathFound dump peg path
-IsPegFound dump peg (Err status) =
-    (answer : Answer) → if_peg_exists (trees_in_bytes dump) (peg_view peg) answer ≡ refused_answer status
+-- it is that of a peg too, so each answer about the peg has its result lines
+pub record IsPegFound (dump : DumpValue) (peg : PegValue) (at : PathRev) : Type 0 where
+  pub is_in : IsPathIn dump at
+  pub spells : peg_in_bytes dump at ≡ peg_view peg
+  pub answered : (answer : Peg → Answer) → with_peg_in dump peg answer ≡ answer (peg_in_bytes dump at)
+
+-- each answer about the peg has this status, and looks at no mergeinfo
+abbrev pub IsPegRefused : DumpValue → PegValue → Unanswered → Type 0
+IsPegRefused dump peg (Refused status) =
+    ((answer : Answer) → if_peg_exists (trees_in_bytes dump) (peg_view peg) answer ≡ refused_answer status)
+    × IsFalse (needs_mergeinfo status)
+IsPegRefused dump peg Memory = ⊤
 
 -- the nearest mergeinfo of a path is found, and is that of so many of its components at most
 pub record IsNearestIn (dump : DumpValue) (path : List NameId) (rev : ℕ) (found : Option Nearest) : Type 0 where
   pub nearest_is : option_map nearest_view found ≡ nearest same_name (revision_in dump rev) path
-  pub depth : IfSome found (λ each. each.depth ≤ length path)
+  pub depth : depth_in path found ≤ length path
 
 -- the path of a peg is found, and its nearest mergeinfo
 pub record IsTargetFound (dump : DumpValue) (peg : PegValue) (target : Target) : Type 0 where
-  pub path : IsPathFound dump peg target.path
-  pub nearest : IsNearestIn dump target.path peg.rev target.nearest
-
-abbrev pub IsTargetOrNone : DumpValue → PegValue → Result Target Status → Type 0
-IsTargetOrNone dump peg (Ok target) = IsTargetFound dump peg target
-IsTargetOrNone dump peg (Err status) =
-    (answer : Answer) → if_peg_exists (trees_in_bytes dump) (peg_view peg) answer ≡ refused_answer status
+  pub peg_is : IsPegFound dump peg target.at
+  pub nearest : IsNearestIn dump target.at.path target.at.rev target.nearest
 
 -- these are the segments of a path of the dump in a revision
 pub record AreSegmentsIn (dump : DumpValue) (path : List NameId) (rev : ℕ) (segments : List KeptSegment) : Type 0 where
@@ -190,46 +185,44 @@ text_read_for dump (query.eligible source target range) = nearest_text_at dump t
 
 -- both paths are found, so each answer about the two has its result lines, unless the mergeinfo is malformed
 pub record IsPair (dump : DumpValue) (source target : PegValue) (pair : Pair) : Type 0 where
-  pub source_is : IsPathFound dump source pair.source
+  pub source_is : IsPegFound dump source pair.source
   pub target_is : IsTargetFound dump target pair.target
   pub answered : (answer : Peg → Peg → MergeInfoValue → Answer) → with_pair_in dump source target answer
-      ≡ with_value (effective_in dump pair.target.path target.rev) (answer (peg_found dump source pair.source) (peg_found dump target pair.target.path))
+      ≡ with_value (effective_in dump pair.target.at.path pair.target.at.rev) (answer (peg_in_bytes dump pair.source) (peg_in_bytes dump pair.target.at))
 
--- the pair of two pegs; or there is none, and this is the status of each answer about them
-abbrev pub IsPairFound : DumpValue → PegValue → PegValue → Result Pair Status → Type 0
-IsPairFound dump source target (Ok pair) = IsPair dump source target pair
-IsPairFound dump source target (Err status) =
-    ((answer : MergeInfoValue → Answer)
-    → if_both_exist (trees_in_bytes dump) (peg_view source) (peg_view target) answer ≡ refused_answer status)
+-- each answer about two pegs has this status, and looks at no mergeinfo
+abbrev pub IsPairRefused : DumpValue → PegValue → PegValue → Unanswered → Type 0
+IsPairRefused dump source target (Refused status) =
+    ((answer : Peg → Peg → MergeInfoValue → Answer) → with_pair_in dump source target answer ≡ refused_answer status)
     × IsFalse (needs_mergeinfo status)
+IsPairRefused dump source target Memory = ⊤
 
--- the revisions that a verb asks for
+-- the revisions that are asked for
 abbrev pub verb_answer : DumpValue → PairVerb → PegValue → PegValue → Option (ℕ × ℕ) → Answer
 verb_answer dump verb.Merged source target range = merged_answer dump source target range
 verb_answer dump verb.Eligible source target range = eligible_answer dump source target range
 
-abbrev pub pair_answer : DumpValue → Wanted → PegValue → PegValue → Answer
-pair_answer dump wanted source target = verb_answer dump wanted.verb source target wanted.range
+abbrev pub pair_answer : DumpValue → Wanted → Answer
+pair_answer dump wanted = verb_answer dump wanted.verb wanted.source.now wanted.target.now wanted.range
 
-abbrev pub merged_by : DumpValue → List NameId → ℕ → MergeInfoValue → List MergedRevision
-merged_by dump path rev value =
-    merged_revisions bytes_eq (history_in_bytes dump) (trees_in_bytes dump) (components_of dump.names path) rev (value_has value)
+-- of a source in all revisions, given the mergeinfo of the target
+abbrev pub merged_by : DumpValue → PathRev → MergeInfoValue → List MergedRevision
+merged_by dump source value =
+    merged_revisions bytes_eq (history_in_bytes dump) (trees_in_bytes dump) (components_of dump.names source.path) source.rev (value_has value)
 
 -- where a path of the dump was in another revision
-abbrev pub location_by : DumpValue → List NameId → ℕ → ℕ → Option (List (List ℕ))
-location_by dump path rev other = location bytes_eq (trees_in_bytes dump) (components_of dump.names path) rev other
+abbrev pub location_by : DumpValue → PathRev → ℕ → Option (List (List ℕ))
+location_by dump at rev = location bytes_eq (trees_in_bytes dump) (components_of dump.names at.path) at.rev rev
 
-abbrev pub eligible_by : DumpValue → List NameId → ℕ → List NameId → ℕ → MergeInfoValue → List ℕ
-eligible_by dump path rev target target_rev value =
-    eligible_revisions bytes_eq (history_in_bytes dump) (trees_in_bytes dump) (components_of dump.names path) rev (value_has value) (location_by dump target target_rev)
+abbrev pub eligible_by : DumpValue → PathRev → PathRev → MergeInfoValue → List ℕ
+eligible_by dump source target value =
+    eligible_revisions bytes_eq (history_in_bytes dump) (trees_in_bytes dump) (components_of dump.names source.path) source.rev (value_has value) (location_by dump target)
 
 -- the merged revisions of a pair in the range, and those that are eligible
-abbrev pub merged_in : DumpValue → PegValue → Pair → Option (ℕ × ℕ) → HeldMergeinfo → List MergedRevision
-merged_in dump source pair range held =
-    filter (λ revision. is_in_range range revision.rev)
-    (merged_by dump pair.source source.rev (held_value dump.names held))
+abbrev pub merged_in : DumpValue → Pair → Option (ℕ × ℕ) → HeldMergeinfo → List MergedRevision
+merged_in dump pair range held =
+    filter (λ revision. is_in_range range revision.rev) (merged_by dump pair.source (held_value dump.names held))
 
-abbrev pub eligible_in : DumpValue → PegValue → PegValue → Pair → Option (ℕ × ℕ) → HeldMergeinfo → List ℕ
-eligible_in dump source target pair range held =
-    filter (is_in_range range)
-    (eligible_by dump pair.source source.rev pair.target.path target.rev (held_value dump.names held))
+abbrev pub eligible_in : DumpValue → Pair → Option (ℕ × ℕ) → HeldMergeinfo → List ℕ
+eligible_in dump pair range held =
+    filter (is_in_range range) (eligible_by dump pair.source pair.target.at (held_value dump.names held))

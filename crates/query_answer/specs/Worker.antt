@@ -1,8 +1,11 @@
 -- What a worker may know of the mergeinfo texts of a dump, and what it learns by an answer.
-use Rattle.std.specs.Prelude.{◌≡◌, ℕ, ◌≤◌, List, Option, Some, IfSome, IsFalse, IsTrue, Result, Ok, Err, ◌⊎◌, length, slice_get}
+use Rattle.std.specs.Prelude.{◌≡◌, ℕ, ◌≤◌, List, Option, Some, IfOk, IfSome, IsFalse, IsTrue, Result, Ok, Err, ◌⊎◌, length, slice_get}
 use Rattle.std.specs.declared.alloc.AllocError.{AllocError}
+use Rattle.svn_dump.specs.Dump.{DumpValue}
 use Rattle.query_answer.specs.Answer.{kept_status, needs_mergeinfo}
+use Rattle.query_answer.specs.Unanswered.{given}
 use Rattle.query_answer.specs.declared.answers.Answer.{Answer as KeptAnswer}
+use Rattle.query_answer.specs.declared.unanswered.Unanswered.{Unanswered}
 use Rattle.value_memo.specs.SeenValue.{AsksOnly, IsAnswered, SeenValue, text_at}
 
 -- the memo has a cell for each text, and the worker was answered for these texts alone
@@ -23,6 +26,11 @@ pub record HasLearnt (texts : List (List ℕ)) (read : Option (List ℕ)) (old n
 abbrev pub Learns : List (List ℕ) → Option (List ℕ) → SeenValue → SeenValue → Type 0
 Learns texts read old new = (new ≡ old) ⊎ HasLearnt texts read old new
 
+-- the worker has learnt no more than the text to read
+pub record MayLearn (texts : List (List ℕ)) (memo : List ℕ) (read : Option (List ℕ)) (old new : SeenValue) : Type 0 where
+  pub seen : IsSeenOf texts memo new
+  pub learns : Learns texts read old new
+
 -- the worker was answered for the text to read, if there is one, now or before
 abbrev pub Knows : Option (List ℕ) → SeenValue → Type 0
 Knows read seen = IfSome read (λ text. (id : ℕ) × (text_at seen id ≡ Some text))
@@ -36,3 +44,15 @@ KnowsWhatWasRead (Err e) read seen = Unit {0}
 abbrev pub IsUnreadWhereRefused : Result KeptAnswer AllocError → SeenValue → SeenValue → Type 0
 IsUnreadWhereRefused (Ok answer) old new = IsFalse (needs_mergeinfo (kept_status answer)) → new ≡ old
 IsUnreadWhereRefused (Err e) old new = Unit {0}
+
+-- ---- where a verb has an answer or none
+
+-- the query is not refused for a peg
+abbrev pub LooksAtMergeinfo : Result KeptAnswer Unanswered → Type 0
+LooksAtMergeinfo result = IfOk (given result) (λ answer. IsTrue (needs_mergeinfo (kept_status answer)))
+
+-- all of this of a verb that may read one text of the dump
+pub record Reads (dump : DumpValue) (memo : List ℕ) (read : Option (List ℕ)) (result : Result KeptAnswer Unanswered) (old new : SeenValue) : Type 0 where
+  pub learnt : MayLearn dump.values memo read old new
+  pub knows : KnowsWhatWasRead (given result) read new
+  pub unread : IsUnreadWhereRefused (given result) old new

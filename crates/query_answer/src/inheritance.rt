@@ -10,7 +10,9 @@ ghost use Rattle.query_answer.specs.Repo.{effective_in, effective_view, nearest_
 ghost use Rattle.query_answer.specs.Worker.{IsSeenOf, Knows, Learns};
 
 use crate::effective_mergeinfo::Effective;
+use crate::nearest_value::nearest_value;
 use crate::repo::Repo;
+use crate::target::depth_in;
 use merge_info::MergeInfo;
 use std::alloc::{AllocError, Global};
 use svn_path::Path;
@@ -38,15 +40,14 @@ pub fn effective<'r>(
     ensures learns { Learns repo.now.values (nearest_text_in repo.now path.now rev) seen.old seen.new }
     ensures knows { OnOk result (Knows (nearest_text_in repo.now path.now rev) seen.new) }
 {
-    let Some(found) = repo.nearest(path, rev)? else {
-        return Ok(Effective::Value(MergeInfo::empty(alloc)));
-    };
-    let parsed = seen.value(memo, found.mi, repo.mergeinfo_text(found.mi))?;
-    effective_by(alloc, repo, path, found.depth, parsed)
+    let nearest = repo.nearest(path, rev)?;
+    let empty = MergeInfo::empty(alloc);
+    let parsed = nearest_value(seen, memo, repo, nearest, &empty)?;
+    own_or_inherited(alloc, repo, path, depth_in(path, nearest), parsed)
 }
 
 /// The mergeinfo that holds for a path, given what the text says that its first `depth` components have.
-fn effective_by(
+fn own_or_inherited(
     alloc: Global,
     repo: &Repo,
     path: &Path,

@@ -7,6 +7,8 @@ mod held_mergeinfo;
 pub mod inheritance;
 mod locations;
 mod merged_revision;
+mod nearest_value;
+mod path_rev;
 mod peg;
 mod printed_mergeinfo;
 mod query;
@@ -15,6 +17,7 @@ mod repo;
 mod result_lines;
 mod status;
 mod target;
+mod unanswered;
 mod verbs;
 
 pub use answers::Answer;

@@ -1,5 +1,5 @@
 //! What queries are answered from.
-ghost use Rattle.std.specs.Prelude.{◌≡◌, ◌<◌, length, slice_get, None, Some, IfOk};
+ghost use Rattle.std.specs.Prelude.{◌≡◌, ◌<◌, length, slice_get, None, Some, IfErr, IfOk};
 ghost use Rattle.svn_path.specs.Path.{same_name};
 ghost use Rattle.svn_dump.specs.Dump.{IsDump, history_view};
 ghost use Rattle.svn_dump.specs.Fault.{first_fault};
@@ -7,9 +7,11 @@ ghost use Rattle.block_map.specs.Ends.{ends_of};
 ghost use Rattle.block_map.specs.Map.{IsMapOf};
 ghost use Rattle.path_index.specs.Index.{location_in};
 
+use crate::path_rev::PathRev;
 use crate::peg::Peg;
 use crate::status::Status;
 use crate::target::Target;
+use crate::unanswered::Unanswered;
 use block_map::{Ends, Map, Nearest};
 use path_index::{Hit, Index, Segment};
 use std::alloc::{AllocError, Global};
@@ -40,7 +42,7 @@ impl Model for Repo {
 }
 
 impl Repo {
-    ghost use Rattle.query_answer.specs.Repo.{AreHitsIn, AreSegmentsIn, IsNearestIn, IsPathFound, IsPegFound, IsPegLookedUp, IsTargetOrNone};
+    ghost use Rattle.query_answer.specs.Repo.{AreHitsIn, AreSegmentsIn, IsNearestIn, IsPathIn, IsPegFound, IsPegKnown, IsPegRefused, IsTargetFound};
 
     /// The repository of a dump. The index, the map and the ends are those of the dump.
     pub fn new(dump: Dump, index: Index, map: Map, ends: Ends) -> Self
@@ -76,58 +78,43 @@ impl Repo {
         Memo::new(alloc, self.dump.values())
     }
 
-    /// The path of a peg and the end of its revision, or the status of each query that asks about the peg.
-    fn look_up(
-        &self,
-        alloc: Global,
-        peg: &Peg<'_>,
-    ) -> Result<Result<(Path, u32), Status>, AllocError>
-        ensures { IfOk result (IsPegLookedUp self.now peg.now) }
+    /// The path of a peg, and the end of its revision.
+    fn look_up(&self, alloc: Global, peg: &Peg<'_>) -> Result<(PathRev, u32), Unanswered>
+        ensures known { IfOk result (λ found. IsPegKnown self.now peg.now found.0 found.1) }
+        ensures refused { IfErr result (IsPegRefused self.now peg.now) }
     {
         let lookup = Path::look_up(alloc, self.dump.names(), peg.path())?;
         let rev = peg.rev();
         if rev as usize >= self.dump.counts().len() {
-            return Ok(Err(Status::NoSuchRevision));
+            return Err(Unanswered::Refused(Status::NoSuchRevision));
         }
         match lookup {
-            Lookup::Known(path) => Ok(Ok((path, self.ends.at(rev)))),
-            Lookup::Unknown => Ok(Err(Status::NoSuchPath)),
+            Lookup::Known(path) => Ok((PathRev { path, rev }, self.ends.at(rev))),
+            Lookup::Unknown => Err(Unanswered::Refused(Status::NoSuchPath)),
         }
     }
 
-    /// The path of a peg, or the status of each query that asks about it.
-    pub(crate) fn find(
-        &self,
-        alloc: Global,
-        peg: &Peg<'_>,
-    ) -> Result<Result<Path, Status>, AllocError>
-        ensures { IfOk result (IsPegFound self.now peg.now) }
+    /// The path of a peg in its revision.
+    pub(crate) fn find(&self, alloc: Global, peg: &Peg<'_>) -> Result<PathRev, Unanswered>
+        ensures found { IfOk result (IsPegFound self.now peg.now) }
+        ensures refused { IfErr result (IsPegRefused self.now peg.now) }
     {
-        let (path, end) = match self.look_up(alloc, peg)? {
-            Ok(found) => found,
-            Err(status) => return Ok(Err(status)),
-        };
-        match self.map.entry(end, &path)? {
-            Some(_) => Ok(Ok(path)),
-            None => Ok(Err(Status::NoSuchPath)),
+        let (at, end) = self.look_up(alloc, peg)?;
+        match self.map.entry(end, &at.path)? {
+            Some(_) => Ok(at),
+            None => Err(Unanswered::Refused(Status::NoSuchPath)),
         }
     }
 
-    /// The same with the nearest mergeinfo of the path.
-    pub(crate) fn find_target(
-        &self,
-        alloc: Global,
-        peg: &Peg<'_>,
-    ) -> Result<Result<Target, Status>, AllocError>
-        ensures { IfOk result (IsTargetOrNone self.now peg.now) }
+    /// The path of a peg in its revision, with the nearest mergeinfo.
+    pub(crate) fn find_target(&self, alloc: Global, peg: &Peg<'_>) -> Result<Target, Unanswered>
+        ensures found { IfOk result (IsTargetFound self.now peg.now) }
+        ensures refused { IfErr result (IsPegRefused self.now peg.now) }
     {
-        let (path, end) = match self.look_up(alloc, peg)? {
-            Ok(found) => found,
-            Err(status) => return Ok(Err(status)),
-        };
-        match self.map.entry_and_nearest(end, &path)? {
-            (Some(_), nearest) => Ok(Ok(Target { path, nearest })),
-            (None, _) => Ok(Err(Status::NoSuchPath)),
+        let (at, end) = self.look_up(alloc, peg)?;
+        match self.map.entry_and_nearest(end, &at.path)? {
+            (Some(_), nearest) => Ok(Target { at, nearest }),
+            (None, _) => Err(Unanswered::Refused(Status::NoSuchPath)),
         }
     }
 
@@ -151,25 +138,20 @@ impl Repo {
         self.dump.value(id)
     }
 
-    /// Where the path of a peg was located in a revision: nowhere in one above the peg revision.
-    pub(crate) fn locate(
-        &self,
-        peg: &Peg<'_>,
-        path: &Path,
-        rev: u32,
-    ) -> Result<Option<Path>, AllocError>
-        requires { IsPathFound self.now peg.now path.now }
-        ensures { IfOk result (λ found. found ≡ location_in self.now.records path.now peg.now.rev rev) }
+    /// Where a path was located in a revision: nowhere in one above its own.
+    pub(crate) fn locate(&self, at: &PathRev, rev: u32) -> Result<Option<Path>, AllocError>
+        requires { IsPathIn self.now at.now }
+        ensures { IfOk result (λ found. found ≡ location_in self.now.records at.now.path at.now.rev rev) }
     {
-        self.index.locate(path, peg.rev(), rev)
+        self.index.locate(&at.path, at.rev, rev)
     }
 
-    /// The location segments of the path of a peg.
-    pub(crate) fn segments(&self, peg: &Peg<'_>, path: &Path) -> Result<Vec<Segment>, AllocError>
-        requires { IsPathFound self.now peg.now path.now }
-        ensures { IfOk result (λ segments. AreSegmentsIn self.now path.now peg.now.rev segments.items) }
+    /// The location segments of a path.
+    pub(crate) fn segments(&self, at: &PathRev) -> Result<Vec<Segment>, AllocError>
+        requires { IsPathIn self.now at.now }
+        ensures { IfOk result (λ segments. AreSegmentsIn self.now at.now.path at.now.rev segments.items) }
     {
-        self.index.segments(path, peg.rev())
+        self.index.segments(&at.path, at.rev)
     }
 
     /// The operative revisions of the segments of a path in a range, each in its segment; without a range, all of them.

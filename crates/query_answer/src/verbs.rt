@@ -3,7 +3,8 @@ ghost use Rattle.std.specs.Prelude.{IfOk};
 ghost use Rattle.query_answer.specs.Answer.{IsAnswer};
 ghost use Rattle.query_answer.specs.Query.{query_view};
 ghost use Rattle.query_answer.specs.Repo.{answer_in, text_read_for};
-ghost use Rattle.query_answer.specs.Worker.{IsSeenOf, IsUnreadWhereRefused, KnowsWhatWasRead, Learns};
+ghost use Rattle.query_answer.specs.Unanswered.{IsAnswered};
+ghost use Rattle.query_answer.specs.Worker.{IsSeenOf, IsUnreadWhereRefused, KnowsWhatWasRead, Learns, Reads};
 
 mod eligible;
 mod locate;
@@ -18,6 +19,7 @@ use crate::answers::Answer;
 use crate::query::Query;
 use crate::repo::Repo;
 use crate::status::Status;
+use crate::unanswered::Unanswered;
 use pair::{PairVerb, Wanted, answer_pair};
 use std::alloc::{AllocError, Global};
 use value_memo::{Memo, Seen};
@@ -42,8 +44,26 @@ pub fn answer<'r>(
     ensures knows { KnowsWhatWasRead result (text_read_for repo.now (query_view query.now)) seen.new }
     ensures unread { IsUnreadWhereRefused result seen.old seen.new }
 {
+    match answer_verb(alloc, repo, query, memo, seen) {
+        Ok(answer) => Ok(answer),
+        Err(unanswered) => unanswered.answer(),
+    }
+}
+
+/// The answer to a query, if it has result lines.
+fn answer_verb<'r>(
+    alloc: Global,
+    repo: &'r Repo,
+    query: &Query<'_>,
+    memo: &Memo<'r>,
+    seen: &mut Seen<'r>,
+) -> Result<Answer, Unanswered>
+    requires seen { IsSeenOf repo.now.values memo.now seen.old }
+    ensures answer { IsAnswered repo.now.names (answer_in repo.now (query_view query.now)) result }
+    ensures worker { Reads repo.now memo.now (text_read_for repo.now (query_view query.now)) result seen.old seen.new }
+{
     match query {
-        Query::Bad => Ok(Answer::Refused(Status::BadQuery)),
+        Query::Bad => Err(Unanswered::Refused(Status::BadQuery)),
         Query::Locate { of, rev } => locate::answer_locate(alloc, repo, of, *rev),
         Query::Segments { of } => segments::answer_segments(alloc, repo, of),
         Query::Log { of, range } => log::answer_log(alloc, repo, of, *range),
@@ -51,16 +71,20 @@ pub fn answer<'r>(
         Query::Merged { of, target, range } => {
             let wanted = Wanted {
                 verb: PairVerb::Merged,
+                source: of,
+                target,
                 range: *range,
             };
-            answer_pair(alloc, repo, wanted, of, target, memo, seen)
+            answer_pair(alloc, repo, &wanted, memo, seen)
         }
         Query::Eligible { of, target, range } => {
             let wanted = Wanted {
                 verb: PairVerb::Eligible,
+                source: of,
+                target,
                 range: *range,
             };
-            answer_pair(alloc, repo, wanted, of, target, memo, seen)
+            answer_pair(alloc, repo, &wanted, memo, seen)
         }
     }
 }

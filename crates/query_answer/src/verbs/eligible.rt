@@ -1,14 +1,13 @@
 //! `eligible`: the operative revisions of a source that are still to be merged into a target.
 ghost use Rattle.std.specs.Prelude.{◌≡◌, IfOk};
 ghost use Rattle.query_answer.specs.SourceHits.{TellsLocations, eligible_of_hits, has_in, is_eligible_hit};
-ghost use Rattle.query_answer.specs.Repo.{IsPathFound, eligible_in};
+ghost use Rattle.query_answer.specs.Repo.{IsPathIn, eligible_in};
 ghost use Rattle.query_answer.specs.Held.{IsHeldIn};
 
 use super::pair::Pair;
 use super::source::SourceRanges;
 use crate::held_mergeinfo::HeldMergeinfo;
 use crate::locations::{is_at, path_at, path_in};
-use crate::peg::Peg;
 use crate::repo::Repo;
 use path_index::{Hit, Segment};
 use std::alloc::{AllocError, Global};
@@ -18,20 +17,18 @@ use std::alloc::{AllocError, Global};
 pub(crate) fn eligible_of(
     alloc: Global,
     repo: &Repo,
-    source: &Peg<'_>,
-    target: &Peg<'_>,
     pair: &Pair,
     range: Option<(u32, u32)>,
     held: &HeldMergeinfo<'_, '_>,
 ) -> Result<Vec<u32>, AllocError>
-    requires source { IsPathFound repo.now source.now pair.now.source }
-    requires target { IsPathFound repo.now target.now pair.now.target.path }
+    requires source { IsPathIn repo.now pair.now.source }
+    requires target { IsPathIn repo.now pair.now.target.at }
     requires held { IsHeldIn repo.now.names held.now }
-    ensures { IfOk result (λ found. found.items ≡ eligible_in repo.now source.now target.now pair.now range held.now) }
+    ensures { IfOk result (λ found. found.items ≡ eligible_in repo.now pair.now range held.now) }
 {
-    let segments = repo.segments(source, &pair.source)?;
+    let segments = repo.segments(&pair.source)?;
     let hits = repo.operative(segments.as_slice(), range)?;
-    let own = repo.segments(target, &pair.target.path)?;
+    let own = repo.segments(&pair.target.at)?;
     let ranges = SourceRanges::of(alloc, repo.names(), held, segments.as_slice())?;
     eligible_hits(
         alloc,

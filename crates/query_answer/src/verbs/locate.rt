@@ -1,12 +1,12 @@
 //! `locate`: where a path was located in a revision.
-ghost use Rattle.std.specs.Prelude.{IfOk};
-ghost use Rattle.query_answer.specs.Answer.{IsAnswer};
 ghost use Rattle.query_answer.specs.Repo.{locate_answer};
+ghost use Rattle.query_answer.specs.Unanswered.{IsAnswered};
 
 use crate::answers::Answer;
 use crate::peg::Peg;
 use crate::repo::Repo;
-use std::alloc::{AllocError, Global};
+use crate::unanswered::Unanswered;
+use std::alloc::Global;
 
 /// The location of a peg in a revision.
 pub(crate) fn answer_locate(
@@ -14,11 +14,9 @@ pub(crate) fn answer_locate(
     repo: &Repo,
     peg: &Peg<'_>,
     rev: u32,
-) -> Result<Answer, AllocError>
-    ensures { IfOk result (IsAnswer repo.now.names (locate_answer repo.now peg.now rev)) }
+) -> Result<Answer, Unanswered>
+    ensures { IsAnswered repo.now.names (locate_answer repo.now peg.now rev) result }
 {
-    match repo.find(alloc, peg)? {
-        Err(status) => Ok(Answer::Refused(status)),
-        Ok(path) => Ok(Answer::Location(repo.locate(peg, &path, rev)?)),
-    }
+    let at = repo.find(alloc, peg)?;
+    Ok(Answer::Location(repo.locate(&at, rev)?))
 }

@@ -1,12 +1,12 @@
 //! `log`: the operative revisions of a path.
-ghost use Rattle.std.specs.Prelude.{IfOk};
-ghost use Rattle.query_answer.specs.Answer.{IsAnswer};
 ghost use Rattle.query_answer.specs.Repo.{log_answer};
+ghost use Rattle.query_answer.specs.Unanswered.{IsAnswered};
 
 use crate::answers::Answer;
 use crate::peg::Peg;
 use crate::repo::Repo;
-use std::alloc::{AllocError, Global};
+use crate::unanswered::Unanswered;
+use std::alloc::Global;
 
 /// The operative revisions of a peg, in this range if there is one.
 pub(crate) fn answer_log(
@@ -14,15 +14,11 @@ pub(crate) fn answer_log(
     repo: &Repo,
     peg: &Peg<'_>,
     range: Option<(u32, u32)>,
-) -> Result<Answer, AllocError>
-    ensures { IfOk result (IsAnswer repo.now.names (log_answer repo.now peg.now range)) }
+) -> Result<Answer, Unanswered>
+    ensures { IsAnswered repo.now.names (log_answer repo.now peg.now range) result }
 {
-    match repo.find(alloc, peg)? {
-        Err(status) => Ok(Answer::Refused(status)),
-        Ok(path) => {
-            let segments = repo.segments(peg, &path)?;
-            let hits = repo.operative(segments.as_slice(), range)?;
-            Ok(Answer::Log { segments, hits })
-        }
-    }
+    let at = repo.find(alloc, peg)?;
+    let segments = repo.segments(&at)?;
+    let hits = repo.operative(segments.as_slice(), range)?;
+    Ok(Answer::Log { segments, hits })
 }

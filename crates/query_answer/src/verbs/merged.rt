@@ -1,14 +1,13 @@
 //! `merged`: the operative revisions of a source that the mergeinfo of a target has.
 ghost use Rattle.std.specs.Prelude.{◌≡◌, IfOk};
 ghost use Rattle.query_answer.specs.SourceHits.{has_in, merged_of_hits};
-ghost use Rattle.query_answer.specs.Repo.{IsPathFound, merged_in};
+ghost use Rattle.query_answer.specs.Repo.{IsPathIn, merged_in};
 ghost use Rattle.query_answer.specs.Held.{IsHeldIn};
 
 use super::pair::Pair;
 use super::source::SourceRanges;
 use crate::held_mergeinfo::HeldMergeinfo;
 use crate::merged_revision::MergedRevision;
-use crate::peg::Peg;
 use crate::repo::Repo;
 use path_index::Hit;
 use std::alloc::{AllocError, Global};
@@ -18,19 +17,18 @@ use std::alloc::{AllocError, Global};
 pub(crate) fn merged_of(
     alloc: Global,
     repo: &Repo,
-    source: &Peg<'_>,
     pair: &Pair,
     range: Option<(u32, u32)>,
     held: &HeldMergeinfo<'_, '_>,
 ) -> Result<Vec<MergedRevision>, AllocError>
-    requires source { IsPathFound repo.now source.now pair.now.source }
+    requires source { IsPathIn repo.now pair.now.source }
     requires held { IsHeldIn repo.now.names held.now }
-    ensures { IfOk result (λ found. found.items ≡ merged_in repo.now source.now pair.now range held.now) }
+    ensures { IfOk result (λ found. found.items ≡ merged_in repo.now pair.now range held.now) }
 {
     if held.value.is_empty() {
         return Ok(Vec::new(alloc));
     }
-    let segments = repo.segments(source, &pair.source)?;
+    let segments = repo.segments(&pair.source)?;
     let hits = repo.operative(segments.as_slice(), range)?;
     let ranges = SourceRanges::of(alloc, repo.names(), held, segments.as_slice())?;
     merged_hits(alloc, &ranges, hits.as_slice())

@@ -1,31 +1,33 @@
 //! A source and a target.
-ghost use Rattle.std.specs.Prelude.{◌≡◌, IfOk, IsTrue, option_map};
-ghost use Rattle.query_answer.specs.Answer.{IsAnswer, kept_status, needs_mergeinfo};
-ghost use Rattle.query_answer.specs.Peg.{peg_view};
-ghost use Rattle.query_answer.specs.Repo.{IsPair, IsPairFound, effective_in, nearest_text_at, pair_answer};
-ghost use Rattle.query_answer.specs.Held.{rest_of};
-ghost use Rattle.query_answer.specs.HeldValue.{own_or_below};
+ghost use Rattle.std.specs.Prelude.{◌≡◌, IfErr, IfOk, option_map};
 ghost use Rattle.svn_path.specs.Path.{components_of};
 ghost use Rattle.value_memo.specs.Parsed.{parsed_view};
-ghost use Rattle.query_answer.specs.Worker.{IsSeenOf, IsUnreadWhereRefused, KnowsWhatWasRead, Learns};
+ghost use Rattle.query_answer.specs.Held.{rest_of};
+ghost use Rattle.query_answer.specs.HeldValue.{own_or_below};
+ghost use Rattle.query_answer.specs.Peg.{peg_view};
+ghost use Rattle.query_answer.specs.Repo.{IsPair, IsPairRefused, effective_in, nearest_text_at, pair_answer};
+ghost use Rattle.query_answer.specs.Unanswered.{IsAnswered};
+ghost use Rattle.query_answer.specs.Worker.{IsSeenOf, LooksAtMergeinfo, Reads};
 
 use super::eligible::eligible_of;
 use super::merged::merged_of;
 use crate::answers::Answer;
 use crate::held_mergeinfo::HeldMergeinfo;
+use crate::nearest_value::nearest_value;
+use crate::path_rev::PathRev;
 use crate::peg::Peg;
 use crate::repo::Repo;
 use crate::status::Status;
 use crate::target::Target;
+use crate::unanswered::Unanswered;
 use merge_info::MergeInfo;
-use std::alloc::{AllocError, Global};
-use svn_path::Path;
+use std::alloc::Global;
 use value_memo::{Memo, Parsed, Seen};
 
 /// What two pegs name.
 #[derive(Drop)]
 pub(crate) struct Pair {
-    pub(crate) source: Path,
+    pub(crate) source: PathRev,
     pub(crate) target: Target,
 }
 
@@ -36,31 +38,29 @@ pub(crate) enum PairVerb {
     Eligible,
 }
 
-/// Which revisions of a source are asked for: those of the verb, in the range if there is one.
-#[derive(Clone, Copy, Debug, PartialEq, Eq)]
-pub(crate) struct Wanted {
+/// What is asked: the revisions of the source that the verb names, in the range if there is one.
+#[derive(Drop)]
+pub(crate) struct Wanted<'q, 'a> {
     pub(crate) verb: PairVerb,
+    pub(crate) source: &'q Peg<'a>,
+    pub(crate) target: &'q Peg<'a>,
     pub(crate) range: Option<(u32, u32)>,
 }
 
 impl Pair {
-    /// The pair of two pegs, or the status of each query that asks about them.
-    pub(crate) fn find(
+    /// The pair of two pegs.
+    fn find(
         alloc: Global,
         repo: &Repo,
         source: &Peg<'_>,
         target: &Peg<'_>,
-    ) -> Result<Result<Self, Status>, AllocError>
-        ensures { IfOk result (IsPairFound repo.now source.now target.now) }
+    ) -> Result<Self, Unanswered>
+        ensures found { IfOk result (IsPair repo.now source.now target.now) }
+        ensures refused { IfErr result (IsPairRefused repo.now source.now target.now) }
     {
-        let source = match repo.find(alloc, source)? {
-            Ok(path) => path,
-            Err(status) => return Ok(Err(status)),
-        };
-        match repo.find_target(alloc, target)? {
-            Ok(target) => Ok(Ok(Pair { source, target })),
-            Err(status) => Ok(Err(status)),
-        }
+        let source = repo.find(alloc, source)?;
+        let target = repo.find_target(alloc, target)?;
+        Ok(Pair { source, target })
     }
 }
 
@@ -68,64 +68,41 @@ impl Pair {
 pub(crate) fn answer_pair<'r>(
     alloc: Global,
     repo: &'r Repo,
-    wanted: Wanted,
-    source: &Peg<'_>,
-    target: &Peg<'_>,
+    wanted: &Wanted<'_, '_>,
     memo: &Memo<'r>,
     seen: &mut Seen<'r>,
-) -> Result<Answer, AllocError>
+) -> Result<Answer, Unanswered>
     requires seen { IsSeenOf repo.now.values memo.now seen.old }
-    ensures answer { IfOk result (IsAnswer repo.now.names (pair_answer repo.now wanted source.now target.now)) }
-    ensures seen { IsSeenOf repo.now.values memo.now seen.new }
-    ensures learns { Learns repo.now.values (nearest_text_at repo.now (peg_view target.now)) seen.old seen.new }
-    ensures knows { KnowsWhatWasRead result (nearest_text_at repo.now (peg_view target.now)) seen.new }
-    ensures unread { IsUnreadWhereRefused result seen.old seen.new }
+    ensures answer { IsAnswered repo.now.names (pair_answer repo.now wanted.now) result }
+    ensures worker { Reads repo.now memo.now (nearest_text_at repo.now (peg_view wanted.now.target.now)) result seen.old seen.new }
 {
-    let pair = match Pair::find(alloc, repo, source, target)? {
-        Ok(pair) => pair,
-        Err(status) => return Ok(Answer::Refused(status)),
-    };
-    let Some(found) = pair.target.nearest else {
-        let empty = MergeInfo::empty(alloc);
-        return revisions(
-            alloc,
-            repo,
-            wanted,
-            source,
-            target,
-            &pair,
-            Parsed::Good(&empty),
-        );
-    };
-    let parsed = seen.value(memo, found.mi, repo.mergeinfo_text(found.mi))?;
-    revisions(alloc, repo, wanted, source, target, &pair, parsed)
+    let pair = Pair::find(alloc, repo, wanted.source, wanted.target)?;
+    let empty = MergeInfo::empty(alloc);
+    let parsed = nearest_value(seen, memo, repo, pair.target.nearest, &empty)?;
+    revisions(alloc, repo, wanted, &pair, parsed)
 }
 
 /// The revisions of a pair that are asked for, given what the text says that the nearest path with mergeinfo has.
 fn revisions(
     alloc: Global,
     repo: &Repo,
-    wanted: Wanted,
-    source: &Peg<'_>,
-    target: &Peg<'_>,
+    wanted: &Wanted<'_, '_>,
     pair: &Pair,
     parsed: Parsed<'_>,
-) -> Result<Answer, AllocError>
-    requires pair { IsPair repo.now source.now target.now pair.now }
-    requires value { effective_in repo.now pair.now.target.path target.now.rev
+) -> Result<Answer, Unanswered>
+    requires pair { IsPair repo.now wanted.now.source.now wanted.now.target.now pair.now }
+    requires value { effective_in repo.now pair.now.target.at.path pair.now.target.at.rev
         ≡ option_map (own_or_below (components_of repo.now.names (rest_of pair.now.target))) (parsed_view parsed) }
-    ensures answer { IfOk result (IsAnswer repo.now.names (pair_answer repo.now wanted source.now target.now)) }
-    ensures found { IfOk result (λ answer. IsTrue (needs_mergeinfo (kept_status answer))) }
+    ensures answer { IsAnswered repo.now.names (pair_answer repo.now wanted.now) result }
+    ensures found { LooksAtMergeinfo result }
 {
     let Parsed::Good(value) = parsed else {
-        return Ok(Answer::Refused(Status::MalformedMergeinfo));
+        return Err(Unanswered::Refused(Status::MalformedMergeinfo));
     };
     let held = HeldMergeinfo::new(value, pair.target.rest());
-    let Wanted { verb, range } = wanted;
-    match verb {
-        PairVerb::Merged => Ok(Answer::Merged(merged_of(alloc, repo, source, pair, range, &held)?)),
-        PairVerb::Eligible => Ok(Answer::Eligible(eligible_of(
-            alloc, repo, source, target, pair, range, &held,
-        )?)),
+    let range = wanted.range;
+    match wanted.verb {
+        PairVerb::Merged => Ok(Answer::Merged(merged_of(alloc, repo, pair, range, &held)?)),
+        PairVerb::Eligible => Ok(Answer::Eligible(eligible_of(alloc, repo, pair, range, &held)?)),
     }
 }

@@ -1,55 +1,37 @@
-use Rattle.std.proofs.Common.{None, Some, ap, sym, subst, ◌∙◌, option_map}
+use Rattle.std.proofs.Common.{sym, ◌∙◌, option_map}
 use Rattle.std.proofs.lemmas.Result.{IfOk-weaker}
 use Rattle.svn_path.specs.Path.{components_of}
 use Rattle.query_answer.specs.Effective.{own_or_inherited}
-use Rattle.query_answer.specs.Repo.{IsNearestIn, nearest_text_in}
-use Rattle.query_answer.proofs.EffectiveValues.{effective_in-none, effective_in-text, mergeinfo-found, nearest_text-found, nearest_text-none}
-use Rattle.query_answer.proofs.WorkersSeen.{IsSeenOf-after, Knows-after, Learns-after, OnOk-from}
+use Rattle.query_answer.proofs.EffectiveValues.{effective_in-found, mergeinfo-found, nearest_text-found}
+use Rattle.query_answer.proofs.WorkersSeen.{OnOk-from}
 use Rattle.query_answer.proofs.inheritance.effective.Goals as goal
 
-pub returns-in_default-clause-value : goal.returns-in_default-clause-value
-returns-in_default-clause-value c =
-    let near : IsNearestIn c.args.repo.now c.args.path.now c.args.rev None = subst (IsNearestIn c.args.repo.now c.args.path.now c.args.rev) c.in_default.is c.in_ok-found.ensures.found in
-    ap Some c.empty.ensures ∙ sym (effective_in-none c.args.repo.now c.in_ok-found.ensures.kept c.args.path.now c.args.rev near)
+pub nearest_value-requires-clause-nearest : goal.nearest_value-requires-clause-nearest
+nearest_value-requires-clause-nearest c =
+    mergeinfo-found c.args.repo.now c.in_ok-nearest.ensures.kept c.args.path.now c.args.rev c.in_ok-nearest.nearest c.in_ok-nearest.ensures.found
 
-pub mergeinfo_text-requires : goal.mergeinfo_text-requires
-mergeinfo_text-requires c =
-    let near : IsNearestIn c.args.repo.now c.args.path.now c.args.rev (Some c.in-Some.found) = subst (IsNearestIn c.args.repo.now c.args.path.now c.args.rev) c.in-Some.is c.in_ok-found.ensures.found in
-    mergeinfo-found c.args.repo.now c.in_ok-found.ensures.kept c.args.path.now c.args.rev c.in-Some.found near
+pub own_or_inherited-requires-clause-depth : goal.own_or_inherited-requires-clause-depth
+own_or_inherited-requires-clause-depth c = rw c.depth_in.ensures c.in_ok-nearest.ensures.found.depth
 
-pub returns-clause-value : goal.returns-clause-value
-returns-clause-value c =
-    let near : IsNearestIn c.args.repo.now c.args.path.now c.args.rev (Some c.in-Some.found) = subst (IsNearestIn c.args.repo.now c.args.path.now c.args.rev) c.in-Some.is c.in_ok-found.ensures.found in
-    IfOk-weaker c.effective_by.result _ _
-    (λ value by_text.
-    by_text
-    ∙ ap (option_map (own_or_inherited (components_of c.args.repo.now.names c.args.path.now) c.in-Some.found.depth)) c.in_ok-parsed.ensures.reading
-    ∙ sym (effective_in-text c.args.repo.now c.in_ok-found.ensures.kept c.args.path.now c.args.rev c.in-Some.found near c.mergeinfo_text.result.now c.mergeinfo_text.ensures))
-    c.effective_by.ensures
+pub returns-in_err-parsed-clause-learns : goal.returns-in_err-parsed-clause-learns
+returns-in_err-parsed-clause-learns c =
+    rw (nearest_text-found c.args.repo.now c.in_ok-nearest.ensures.kept c.args.path.now c.args.rev c.in_ok-nearest.nearest c.in_ok-nearest.ensures.found)
+    c.nearest_value.follows.holds-at-none.0.learns
 
-pub returns-clause-seen : goal.returns-clause-seen
-returns-clause-seen c =
-    IsSeenOf-after c.args.repo.now.values c.args.memo.now c.args.seen.now c.requires.seen c.in-Some.found.mi.0 c.mergeinfo_text.result.now c.mergeinfo_text.ensures
-    c.value.result c.value.follows.lender-at-none c.value.follows.holds-at-none
-
-pub returns-clause-learns : goal.returns-clause-learns
-returns-clause-learns c =
-    let near : IsNearestIn c.args.repo.now c.args.path.now c.args.rev (Some c.in-Some.found) = subst (IsNearestIn c.args.repo.now c.args.path.now c.args.rev) c.in-Some.is c.in_ok-found.ensures.found in
-    Learns-after c.args.repo.now.values c.args.memo.now c.args.seen.now c.requires.seen c.in-Some.found.mi.0 c.mergeinfo_text.result.now c.mergeinfo_text.ensures
-    (nearest_text_in c.args.repo.now c.args.path.now c.args.rev)
-    (nearest_text-found c.args.repo.now c.in_ok-found.ensures.kept c.args.path.now c.args.rev c.in-Some.found near c.mergeinfo_text.result.now c.mergeinfo_text.ensures)
-    c.value.result c.value.follows.lender-at-none c.value.follows.holds-at-none
-
-pub returns-in_default-clause-knows : goal.returns-in_default-clause-knows
-returns-in_default-clause-knows c =
-    let near : IsNearestIn c.args.repo.now c.args.path.now c.args.rev None = subst (IsNearestIn c.args.repo.now c.args.path.now c.args.rev) c.in_default.is c.in_ok-found.ensures.found in
-    rw (nearest_text-none c.args.repo.now c.in_ok-found.ensures.kept c.args.path.now c.args.rev near) tt
-
-pub returns-clause-knows : goal.returns-clause-knows
-returns-clause-knows c =
-    let near : IsNearestIn c.args.repo.now c.args.path.now c.args.rev (Some c.in-Some.found) = subst (IsNearestIn c.args.repo.now c.args.path.now c.args.rev) c.in-Some.is c.in_ok-found.ensures.found in
-    OnOk-from c.effective_by.result
-    (Knows-after c.args.repo.now.values c.args.memo.now c.args.seen.now c.requires.seen c.in-Some.found.mi.0 c.mergeinfo_text.result.now c.mergeinfo_text.ensures
-    (nearest_text_in c.args.repo.now c.args.path.now c.args.rev)
-    (nearest_text-found c.args.repo.now c.in_ok-found.ensures.kept c.args.path.now c.args.rev c.in-Some.found near c.mergeinfo_text.result.now c.mergeinfo_text.ensures)
-    c.value.result c.in_ok-parsed.parsed c.value.follows.lender-at-none c.in_ok-parsed.was c.value.follows.holds-at-none)
+pub returns : goal.returns
+returns c =
+    let dump = c.args.repo.now in
+    let path = c.args.path.now in
+    let kept = c.in_ok-nearest.ensures.kept in
+    let near = c.in_ok-nearest.ensures.found in
+    let told = c.nearest_value.follows.holds-at-none in
+    let text = nearest_text-found dump kept path c.args.rev c.in_ok-nearest.nearest near in
+    record {
+      value = IfOk-weaker c.own_or_inherited.result _ _
+          (λ value by_text. by_text
+          ∙ (λ i. option_map (own_or_inherited (components_of dump.names path) (c.depth_in.ensures i)) (c.in_ok-parsed.ensures.value i))
+          ∙ sym (effective_in-found dump kept path c.args.rev c.in_ok-nearest.nearest near)) c.own_or_inherited.ensures;
+      seen = told.0.seen;
+      learns = rw text told.0.learns;
+      knows = OnOk-from c.own_or_inherited.result (rw text (rw c.in_ok-parsed.was at told.1));
+    }

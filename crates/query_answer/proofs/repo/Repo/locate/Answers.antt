@@ -1,5 +1,5 @@
-use Rattle.std.proofs.Common.{◌≡◌, IfOk, subst, sym}
-use Rattle.path_index.specs.Index.{IsThere, location_in}
+use Rattle.std.proofs.Common.{◌≡◌, IfOk}
+use Rattle.path_index.specs.Index.{location_in}
 use Rattle.query_answer.proofs.AnswerTexts.{IsRepo-view, IsThere-IsRepo, IsWhole-IsRepo, index-IsRepo}
 use Rattle.query_answer.proofs.repo.Repo.locate.Goals as goal
 
@@ -9,12 +9,11 @@ locate-requires-clause-whole c = IsWhole-IsRepo c.self.inside.dump c.self.inside
 pub locate-requires-clause-there : goal.locate-requires-clause-there
 locate-requires-clause-there c =
     let repo = IsRepo-view c.self.inside.dump c.args.self.now c.self.inside.index c.self.inside.map c.self.inside.ends c.self.view_is c.self.invariant in
-    subst (IsThere c.self.inside.index.records c.args.path.now) (sym c.rev.ensures)
-    (IsThere-IsRepo c.args.self.now c.self.inside.index c.self.inside.map c.self.inside.ends repo c.args.path.now c.args.peg.now.rev c.requires.there)
+    IsThere-IsRepo c.args.self.now c.self.inside.index c.self.inside.map c.self.inside.ends repo c.args.at.now.path c.args.at.now.rev c.requires.there
 
 pub returns : goal.returns
 returns c =
     let repo = IsRepo-view c.self.inside.dump c.args.self.now c.self.inside.index c.self.inside.map c.self.inside.ends c.self.view_is c.self.invariant in
     index-IsRepo c.args.self.now c.self.inside.index c.self.inside.map c.self.inside.ends repo
-    (λ records. IfOk c.locate.result (λ located. located ≡ location_in records c.args.path.now c.args.peg.now.rev c.args.rev))
-    (subst (λ peg. IfOk c.locate.result (λ located. located ≡ location_in c.self.inside.index.records c.args.path.now peg c.args.rev)) c.rev.ensures c.locate.ensures.exact)
+    (λ records. IfOk c.locate.result (λ located. located ≡ location_in records c.args.at.now.path c.args.at.now.rev c.args.rev))
+    c.locate.ensures.exact

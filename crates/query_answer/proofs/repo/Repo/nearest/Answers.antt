@@ -23,7 +23,7 @@ returns-then-rev-counts-clause-found c =
     record {
       nearest_is = sym (ap (λ tree. nearest same_name tree c.args.path.now) (tree_of_past (trees_of same_name (history_view dump)) c.args.rev past)
           ∙ nearest-no_entries c.args.path.now);
-      depth = tt;
+      depth = omega arith;
     }
 
 pub at-requires : goal.at-requires

@@ -1,5 +1,3 @@
-use Rattle.std.proofs.Common.{IfOk, subst, sym}
-use Rattle.path_index.specs.Index.{AreMaximal, AreSegmentsOf, IsThere}
 use Rattle.query_answer.proofs.AnswerTexts.{IsRepo-view, IsThere-IsRepo, IsWhole-IsRepo}
 use Rattle.query_answer.proofs.PathSegments.{AreSegmentsIn-result}
 use Rattle.query_answer.proofs.repo.Repo.segments.Goals as goal
@@ -10,12 +8,10 @@ segments-requires-clause-whole c = IsWhole-IsRepo c.self.inside.dump c.self.insi
 pub segments-requires-clause-there : goal.segments-requires-clause-there
 segments-requires-clause-there c =
     let repo = IsRepo-view c.self.inside.dump c.args.self.now c.self.inside.index c.self.inside.map c.self.inside.ends c.self.view_is c.self.invariant in
-    subst (IsThere c.self.inside.index.records c.args.path.now) (sym c.rev.ensures)
-    (IsThere-IsRepo c.args.self.now c.self.inside.index c.self.inside.map c.self.inside.ends repo c.args.path.now c.args.peg.now.rev c.requires.there)
+    IsThere-IsRepo c.args.self.now c.self.inside.index c.self.inside.map c.self.inside.ends repo c.args.at.now.path c.args.at.now.rev c.requires.there
 
 pub returns : goal.returns
 returns c =
     let repo = IsRepo-view c.self.inside.dump c.args.self.now c.self.inside.index c.self.inside.map c.self.inside.ends c.self.view_is c.self.invariant in
-    AreSegmentsIn-result c.args.self.now c.self.inside.index c.self.inside.map c.self.inside.ends repo c.args.path.now c.args.peg.now.rev c.requires.of_names c.requires.within c.segments.result
-    (subst (λ peg. IfOk c.segments.result (λ segments. AreSegmentsOf c.self.inside.index c.args.path.now peg segments.items)) c.rev.ensures c.segments.ensures.exact)
-    (subst (λ peg. IfOk c.segments.result (λ segments. AreMaximal c.self.inside.index c.args.path.now peg segments.items)) c.rev.ensures c.segments.ensures.maximal)
+    AreSegmentsIn-result c.args.self.now c.self.inside.index c.self.inside.map c.self.inside.ends repo c.args.at.now.path c.args.at.now.rev c.requires.of_names c.requires.within c.segments.result
+    c.segments.ensures.exact c.segments.ensures.maximal

@@ -14,27 +14,25 @@ returns c =
     let dump = c.args.repo.now in
     let held = c.args.held.now in
     let source = c.args.pair.now.source in
-    let rev = c.args.source.now.rev in
-    let target = c.args.pair.now.target.path in
-    let target_rev = c.args.target.now.rev in
+    let target = c.args.pair.now.target.at in
     let segments = c.in_ok-segments.segments.items in
     let range = c.args.range in
     let hits = c.in_ok-hits.hits.items in
     let so = c.in_ok-segments.ensures in
     let has = has_in c.in_ok-ranges.ranges in
-    let located = location_in dump.records target target_rev in
+    let located = location_in dump.records target.path target.rev in
     let hits_in : AreHitsIn dump segments range hits = rw c.as_slice.ensures.value at c.in_ok-hits.ensures in
     let ranges : map lent_ranges c.in_ok-ranges.ranges.by_segment.items ≡ map (held_ranges_in dump.names held) segments =
     rw (← c.as_slice-2.ensures.value, ← c.names.ensures.value) c.in_ok-ranges.ensures.ranges in
     let has_is = has_in-held dump.names c.requires.source.kept.names held c.requires.held c.in_ok-ranges.ranges segments ranges c.in_ok-ranges.ensures.inherited so.of_names in
-    let tells : TellsLocations located c.as_slice-4.result.now = rw c.as_slice-4.ensures.value (TellsLocations-AreSegmentsIn dump target target_rev c.in_ok-own.own.items c.in_ok-own.ensures) in
+    let tells : TellsLocations located c.as_slice-4.result.now = rw c.as_slice-4.ensures.value (TellsLocations-AreSegmentsIn dump target.path target.rev c.in_ok-own.own.items c.in_ok-own.ensures) in
     let are : eligible_of_hits has c.as_slice-3.result.now located c.as_slice-5.result.now
-    ≡ eligible_in dump c.args.source.now c.args.target.now c.args.pair.now range held =
+    ≡ eligible_in dump c.args.pair.now range held =
     rw (c.as_slice-3.ensures.value, c.as_slice-5.ensures.value)
-    (eligible-eligible_by dump c.requires.source.kept source rev c.requires.source.within segments so.exact so.maximal
-    range hits (hits_in source rev c.requires.source.there so) (held_value dump.names held) has has_is target target_rev
-    c.requires.target.within) in
+    (eligible-eligible_by dump source c.requires.source segments so.exact so.maximal
+    range hits (hits_in source.path source.rev c.requires.source.there so) (held_value dump.names held) has has_is target
+    c.requires.target) in
     IfOk-weaker c.eligible_hits.result
     (λ found. (each : ℕ → Option (List NameId)) → TellsLocations each c.as_slice-4.result.now → found.items ≡ eligible_of_hits has c.as_slice-3.result.now each c.as_slice-5.result.now)
-    (λ found. found.items ≡ eligible_in dump c.args.source.now c.args.target.now c.args.pair.now range held)
+    (λ found. found.items ≡ eligible_in dump c.args.pair.now range held)
     (λ found is. is located tells ∙ are) c.eligible_hits.ensures

@@ -1,18 +1,13 @@
-use Rattle.std.proofs.Common.{Ok, Err}
-use Rattle.query_answer.specs.Repo.{IsPegFound}
-use Rattle.query_answer.proofs.AnswerTexts.{IsAnswer-Location, IsAnswer-Refused}
+use Rattle.std.proofs.lemmas.Result.{err_from_is_err_and}
+use Rattle.query_answer.specs.Answer.{locate_lines, ok_answer}
+use Rattle.query_answer.specs.Repo.{trees_in_bytes}
+use Rattle.query_answer.proofs.AnswerTexts.{IsAnswer-Location, IsAnswered-peg_refused}
 use Rattle.query_answer.proofs.verbs.locate.answer_locate.Goals as goal
 
-pub locate-requires : goal.locate-requires
-locate-requires c =
-    let found : IsPegFound c.args.repo.now c.args.peg.now (Ok c.in-Ok.path) = rw c.in-Ok.is at c.in_ok-status.ensures in found
+pub returns-in_err-at : goal.returns-in_err-at
+returns-in_err-at c =
+    let (error, errs, same) = err_from_is_err_and c.from_residual.result c.from_residual.ensures.1 in
+    rw (errs, same) (IsAnswered-peg_refused c.args.repo.now c.args.peg.now c.in_err-at.field-0.0 c.in_err-at.ensures.refused (λ found. ok_answer (locate_lines (trees_in_bytes c.args.repo.now) c.args.rev found)))
 
-pub returns-in-Err : goal.returns-in-Err
-returns-in-Err c =
-    let found : IsPegFound c.args.repo.now c.args.peg.now (Err c.in-Err.status) = rw c.in-Err.is at c.in_ok-status.ensures in
-    IsAnswer-Refused c.args.repo.now.names _ c.in-Err.status (found _)
-
-pub returns-in_ok-locate-in-Ok : goal.returns-in_ok-locate-in-Ok
-returns-in_ok-locate-in-Ok c =
-    let found : IsPegFound c.args.repo.now c.args.peg.now (Ok c.in-Ok.path) = rw c.in-Ok.is at c.in_ok-status.ensures in
-    IsAnswer-Location c.args.repo.now c.args.peg.now c.in-Ok.path found c.args.rev c.in_ok-locate-in-Ok.field-0 c.in_ok-locate-in-Ok.ensures
+pub returns : goal.returns
+returns c = IsAnswer-Location c.args.repo.now c.args.peg.now c.in_ok-at.at c.in_ok-at.ensures.found c.args.rev c.in_ok-locate.field-0 c.in_ok-locate.ensures

@@ -14,10 +14,9 @@ pub returns-then-is_empty : goal.returns-then-is_empty
 returns-then-is_empty c =
     let dump = c.args.repo.now in
     let source = c.args.pair.now.source in
-    let rev = c.args.source.now.rev in
     let rest = components_of dump.names c.args.held.now.rest.now in
     let empty = ap (own_or_below rest) (c.is_empty.ensures.empty.0 c.if-is_empty.true) ∙ own_or_below-empty rest in
-    let none = ap (merged_by dump source rev) empty ∙ merged_by-empty dump source rev in
+    let none = ap (merged_by dump source) empty ∙ merged_by-empty dump source in
     c.new.ensures.items ∙ sym (ap (filter (λ revision. is_in_range c.args.range revision.rev)) none)
 
 pub returns : goal.returns
@@ -25,7 +24,6 @@ returns c =
     let dump = c.args.repo.now in
     let held = c.args.held.now in
     let source = c.args.pair.now.source in
-    let rev = c.args.source.now.rev in
     let segments = c.in_ok-segments.segments.items in
     let range = c.args.range in
     let hits = c.in_ok-hits.hits.items in
@@ -35,10 +33,10 @@ returns c =
     let ranges : map lent_ranges c.in_ok-ranges.ranges.by_segment.items ≡ map (held_ranges_in dump.names held) segments =
     rw (← c.as_slice-2.ensures.value, ← c.names.ensures.value) c.in_ok-ranges.ensures.ranges in
     let has_is = has_in-held dump.names c.requires.source.kept.names held c.requires.held c.in_ok-ranges.ranges segments ranges c.in_ok-ranges.ensures.inherited so.of_names in
-    let are : merged_of_hits has c.as_slice-3.result.now ≡ merged_in dump c.args.source.now c.args.pair.now range held =
+    let are : merged_of_hits has c.as_slice-3.result.now ≡ merged_in dump c.args.pair.now range held =
     rw c.as_slice-3.ensures.value
-    (merged-merged_by dump c.requires.source.kept source rev c.requires.source.within segments so.exact so.maximal range
-    hits (hits_in source rev c.requires.source.there so) (held_value dump.names held) has has_is) in
+    (merged-merged_by dump source c.requires.source segments so.exact so.maximal range
+    hits (hits_in source.path source.rev c.requires.source.there so) (held_value dump.names held) has has_is) in
     IfOk-weaker c.merged_hits.result (λ found. found.items ≡ merged_of_hits has c.as_slice-3.result.now)
-    (λ found. found.items ≡ merged_in dump c.args.source.now c.args.pair.now range held) (λ found is. is ∙ are)
+    (λ found. found.items ≡ merged_in dump c.args.pair.now range held) (λ found is. is ∙ are)
     c.merged_hits.ensures

@@ -1,35 +1,52 @@
-use Rattle.std.proofs.Common.{Ok, Err, inl, refl}
-use Rattle.std.proofs.lemmas.Bool.{both_ways}
-use Rattle.query_answer.specs.Repo.{IsTargetOrNone}
-use Rattle.query_answer.proofs.AnswerTexts.{IsAnswer-Malformed, IsAnswer-Mergeinfo, IsAnswer-Refused, refused_peg}
-use Rattle.query_answer.proofs.EffectiveValues.{nearest_text_at-peg}
+use Rattle.std.proofs.Common.{sym, ap, subst, ◌∙◌, option_map}
+use Rattle.std.proofs.lemmas.Result.{err_from_is_err_and}
+use Rattle.svn_path.specs.Path.{components_of}
+use Rattle.query_answer.specs.Answer.{mergeinfo_answer_of, mergeinfo_lines, ok_answer, with_effective_mergeinfo}
+use Rattle.query_answer.specs.Effective.{own_or_inherited}
+use Rattle.query_answer.specs.Repo.{trees_in_bytes}
+use Rattle.query_answer.specs.Unanswered.{IsAnswered}
+use Rattle.query_answer.proofs.AnswerTexts.{IsAnswered-peg_refused, mergeinfo_answer-found}
+use Rattle.query_answer.proofs.EffectiveValues.{effective_in-found, mergeinfo-found, nearest_text-target}
+use Rattle.query_answer.proofs.WorkersSeen.{Reads-known, Reads-memory, Reads-peg_refused}
 use Rattle.query_answer.proofs.verbs.mergeinfo.answer_mergeinfo.Goals as goal
 
-pub returns-in-Err : goal.returns-in-Err
-returns-in-Err c =
-    let found : IsTargetOrNone c.args.repo.now c.args.peg.now (Err c.in-Err.status) = rw c.in-Err.is at c.in_ok-target.ensures in
-    record { answer = IsAnswer-Refused c.args.repo.now.names _ c.in-Err.status (found _); seen = c.requires.seen; learns = inl refl; knows = λ needed. absurd (both_ways _ (refused_peg _ _ c.in-Err.status found) needed); unread = λ _. refl }
+pub returns-in_err-target : goal.returns-in_err-target
+returns-in_err-target c =
+    let dump = c.args.repo.now in
+    let refused = c.in_err-target.ensures.refused in
+    let (error, errs, same) = err_from_is_err_and c.from_residual.result c.from_residual.ensures.1 in
+    record {
+      answer = rw (errs, same) (IsAnswered-peg_refused dump c.args.peg.now c.in_err-target.field-0.0 refused (λ found. with_effective_mergeinfo (trees_in_bytes dump) found (λ value. ok_answer (mergeinfo_lines value))));
+      worker = rw (errs, same) (Reads-peg_refused dump c.args.memo.now _ c.args.seen.now c.requires.seen c.args.peg.now c.in_err-target.field-0.0 refused);
+    }
 
-pub printed-requires-clause-target : goal.printed-requires-clause-target
-printed-requires-clause-target c =
-    let found : IsTargetOrNone c.args.repo.now c.args.peg.now (Ok c.in-Ok.target) = rw c.in-Ok.is at c.in_ok-target.ensures in found
+pub nearest_value-requires-clause-nearest : goal.nearest_value-requires-clause-nearest
+nearest_value-requires-clause-nearest c =
+    let found = c.in_ok-target.ensures.found in
+    mergeinfo-found c.args.repo.now found.peg_is.is_in.kept c.in_ok-target.target.at.path c.in_ok-target.target.at.rev c.in_ok-target.target.nearest found.nearest
 
-pub returns-in-Some-clause-answer : goal.returns-in-Some-clause-answer
-returns-in-Some-clause-answer c =
-    let found : IsTargetOrNone c.args.repo.now c.args.peg.now (Ok c.in-Ok.target) = rw c.in-Ok.is at c.in_ok-target.ensures in
-    IsAnswer-Mergeinfo c.args.repo.now c.args.peg.now c.in-Ok.target.path found.path c.in_ok-value.field-0 c.in_ok-value.ensures.value c.in-Some.value c.in-Some.is
+pub own_or_inherited_lines-requires-clause-depth : goal.own_or_inherited_lines-requires-clause-depth
+own_or_inherited_lines-requires-clause-depth c = rw c.depth_in.ensures c.in_ok-target.ensures.found.nearest.depth
 
-pub returns-clause-answer : goal.returns-clause-answer
-returns-clause-answer c =
-    let found : IsTargetOrNone c.args.repo.now c.args.peg.now (Ok c.in-Ok.target) = rw c.in-Ok.is at c.in_ok-target.ensures in
-    IsAnswer-Malformed c.args.repo.now c.args.peg.now c.in-Ok.target.path found.path c.in_ok-value.field-0 c.in_ok-value.ensures.value c.in-None.is
+pub returns-in_err-parsed-clause-worker : goal.returns-in_err-parsed-clause-worker
+returns-in_err-parsed-clause-worker c =
+    let (error, errs, same) = err_from_is_err_and c.from_residual-in_err-parsed.result c.from_residual-in_err-parsed.ensures.1 in
+    rw (nearest_text-target c.args.repo.now c.args.peg.now c.in_ok-target.target c.in_ok-target.ensures.found, errs, same)
+    (Reads-memory c.args.repo.now c.args.memo.now _ c.args.seen.now _ c.nearest_value.follows.holds-at-none.0)
 
-pub returns-in-Some-clause-knows : goal.returns-in-Some-clause-knows
-returns-in-Some-clause-knows c =
-    let found : IsTargetOrNone c.args.repo.now c.args.peg.now (Ok c.in-Ok.target) = rw c.in-Ok.is at c.in_ok-target.ensures in
-    λ needed. rw (nearest_text_at-peg c.args.repo.now c.args.peg.now c.in-Ok.target.path found.path.spells) c.in_ok-value.ensures.knows
-
-pub returns-clause-knows : goal.returns-clause-knows
-returns-clause-knows c =
-    let found : IsTargetOrNone c.args.repo.now c.args.peg.now (Ok c.in-Ok.target) = rw c.in-Ok.is at c.in_ok-target.ensures in
-    λ needed. rw (nearest_text_at-peg c.args.repo.now c.args.peg.now c.in-Ok.target.path found.path.spells) c.in_ok-value.ensures.knows
+pub returns : goal.returns
+returns c =
+    let dump = c.args.repo.now in
+    let target = c.in_ok-target.target in
+    let found = c.in_ok-target.ensures.found in
+    let told = c.nearest_value.follows.holds-at-none in
+    let lines = c.own_or_inherited_lines in
+    record {
+      answer = subst (λ answer. IsAnswered dump.names answer lines.result)
+          (sym (mergeinfo_answer-found dump c.args.peg.now target.at found.peg_is
+          ∙ ap mergeinfo_answer_of (effective_in-found dump found.peg_is.is_in.kept target.at.path target.at.rev target.nearest found.nearest
+          ∙ (λ i. option_map (own_or_inherited (components_of dump.names target.at.path) (sym c.depth_in.ensures i)) (sym c.in_ok-parsed.ensures.value i)))))
+          lines.ensures.answer;
+      worker = rw (nearest_text-target dump c.args.peg.now target found)
+          (Reads-known dump c.args.memo.now _ c.args.seen.now _ told.0 lines.result lines.ensures.found (rw c.in_ok-parsed.was at told.1));
+    }
