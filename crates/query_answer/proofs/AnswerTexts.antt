@@ -28,7 +28,7 @@ use Rattle.query_answer.specs.Answer.{Answer, IsAnswer, IsLocationOf, HasPathOf,
 use Rattle.query_answer.specs.Peg.{Peg, PegValue, peg_view}
 use Rattle.query_answer.specs.Query.{bad, eligible, locate, log, merged, mergeinfo, segments}
 use Rattle.query_answer.specs.Held.{held_value}
-use Rattle.query_answer.specs.Repo.{IsPair, IsPairRefused, IsPegFound, IsPegRefused, IsRepo, with_peg_in, with_pair_in, effective_in, eligible_answer, eligible_in, index_of, locate_answer, log_answer, merged_answer, merged_in, mergeinfo_answer, pair_answer, peg_in_bytes, segments_answer, trees_in_bytes, verb_answer}
+use Rattle.query_answer.specs.Repo.{IsPair, IsPairRefused, IsPegFound, IsPegRefused, IsRepo, with_peg_in, with_pair_in, effective_in, eligible_answer, eligible_in, index_of_dump, locate_answer, log_answer, merged_answer, merged_in, mergeinfo_answer, pair_answer, peg_in_bytes, segments_answer, trees_in_bytes, verb_answer}
 use Rattle.query_answer.specs.declared.answers.Answer.TheVariants as kept
 use Rattle.query_answer.specs.declared.merged_revision.MergedRevision.{MergedRevision}
 use Rattle.query_answer.specs.declared.held_mergeinfo.HeldMergeinfo.{HeldMergeinfo}
@@ -46,7 +46,7 @@ use Rattle.query_answer.specs.declared.status.Status.TheVariants as status
 use Rattle.query_answer.proofs.OperativeLocations.{HasLocation, operative_of-located}
 use Rattle.query_answer.proofs.RangeFilters.{filter-reverse, map-filter_map}
 use Rattle.query_answer.proofs.SourceRevisions.{KeepsRevision, found-in_range, found_by, found_by_name}
-use Rattle.query_answer.proofs.InBytes.{IsWhole-index_of, location-in_bytes, location-of_names, segments-in_bytes, segments-of_names}
+use Rattle.query_answer.proofs.InBytes.{IsWhole-index_of_dump, location-in_bytes, location-of_names, segments-in_bytes, segments-of_names}
 
 -- ---- by what was found of the peg
 
@@ -174,7 +174,7 @@ module _ (dump : DumpValue) (peg : PegValue) (at : PathRev) (found : IsPegFound 
     }
 
     -- a line for each operative revision in the range
-    module _ (maximal : AreMaximal (index_of dump) at.path at.rev kept_segments.items)
+    module _ (maximal : AreMaximal (index_of_dump dump) at.path at.rev kept_segments.items)
         (range : Option (ℕ × ℕ)) (hits : Vec Hit Global)
         (hits_are : hits.items ≡ filter (λ hit. is_in_range range hit.rev)
         (operative_of same_name (history_to dump.records at.rev) (trees_to dump.records at.rev)
@@ -335,7 +335,7 @@ location_line-lent names found located is = ap location_line (components_of-lent
 -- ---- by the kept repository
 
 -- an index of a dump's records
-pub index_is : (index : IndexValue) (dump : DumpValue) → index.records ≡ dump.records → index.first ≡ 0 → index ≡ index_of dump
+pub index_is : (index : IndexValue) (dump : DumpValue) → index.records ≡ dump.records → index.first ≡ 0 → index ≡ index_of_dump dump
 index_is index dump records first = ap₂ (λ all n. let one : IndexValue = record { records = all; first = n } in one) records first
 
 pub IsRepo-view : (dump value : DumpValue) (index : IndexValue) (kept : MapValue) (ends : List ℕ) → dump ≡ value → IsRepo dump index kept ends → IsRepo value index kept ends
@@ -343,7 +343,7 @@ IsRepo-view dump value index kept ends same is = subst (λ each. IsRepo each ind
 
 module _ (dump : DumpValue) (index : IndexValue) (kept : MapValue) (ends : List ℕ) (is : IsRepo dump index kept ends) where
   pub IsWhole-IsRepo : IsWhole index
-  IsWhole-IsRepo = subst IsWhole (sym is.index_is) (IsWhole-index_of dump is.dump_is)
+  IsWhole-IsRepo = subst IsWhole (sym is.index_is) (IsWhole-index_of_dump dump is.dump_is)
 
   pub IsThere-IsRepo : (path : List NameId) (rev : ℕ) → IsThere dump.records path rev → IsThere index.records path rev
   IsThere-IsRepo path rev there = subst (λ each. IsThere each.records path rev) (sym is.index_is) there

@@ -16,7 +16,7 @@ use Rattle.query_answer.specs.HeldValue.{own_or_below}
 use Rattle.query_answer.specs.Held.{depth_in}
 use Rattle.query_answer.specs.NearestValue.{text_found, value_said}
 use Rattle.query_answer.specs.Peg.{PegValue, peg_view}
-use Rattle.query_answer.specs.Repo.{IsNearestIn, IsTargetFound, effective_in, nearest_text_at, nearest_text_in, nearest_view, trees_in_bytes}
+use Rattle.query_answer.specs.Repo.{IsNearestIn, IsTargetFound, effective_in, nearest_text_at, nearest_text_in, nearest_by_number, trees_in_bytes}
 use Rattle.query_answer.specs.declared.target.Target.{Target}
 use Rattle.block_map.specs.Map.{revision_in}
 use Rattle.block_map.specs.declared.nearest.Nearest.{Nearest}
@@ -54,7 +54,7 @@ module _ (names : List (List ℕ)) (path : List NameId) (depth : ℕ) (value : M
 module _ (dump : DumpValue) (kept : IsDump dump) (path : List NameId) (rev : ℕ) (found : Option Nearest) (is : IsNearestIn dump path rev found) where
   -- the nearest mergeinfo in bytes
   abbrev found_text : Option (NearestMergeinfo (List ℕ))
-  found_text = option_map (with_mergeinfo_by (λ id. text_of dump.values id.0)) (option_map nearest_view found)
+  found_text = option_map (with_mergeinfo_by (λ id. text_of dump.values id.0)) (option_map nearest_by_number found)
 
   nearest-found : nearest bytes_eq (tree_of (trees_in_bytes dump) rev) (components_of dump.names path) ≡ found_text
   nearest-found =
@@ -64,7 +64,7 @@ module _ (dump : DumpValue) (kept : IsDump dump) (path : List NameId) (rev : ℕ
   pub mergeinfo-found : IfSome found (λ each. each.mi.0 < length dump.values)
   mergeinfo-found = by found is.nearest_is
     where
-      by : (each : Option Nearest) → option_map nearest_view each ≡ nearest same_name (revision_in dump rev) path → IfSome each (λ one. one.mi.0 < length dump.values)
+      by : (each : Option Nearest) → option_map nearest_by_number each ≡ nearest same_name (revision_in dump rev) path → IfSome each (λ one. one.mi.0 < length dump.values)
       by None none = tt
       by (Some one) some =
           mergeinfo-within dump kept (take one.depth path) rev one.mi
@@ -74,7 +74,7 @@ module _ (dump : DumpValue) (kept : IsDump dump) (path : List NameId) (rev : ℕ
   pub nearest_text-found : nearest_text_in dump path rev ≡ text_found dump found
   nearest_text-found = ap (option_map (λ each. each.mergeinfo)) nearest-found ∙ by found
     where
-      by : (each : Option Nearest) → option_map (λ one. one.mergeinfo) (option_map (with_mergeinfo_by (λ id. text_of dump.values id.0)) (option_map nearest_view each)) ≡ text_found dump each
+      by : (each : Option Nearest) → option_map (λ one. one.mergeinfo) (option_map (with_mergeinfo_by (λ id. text_of dump.values id.0)) (option_map nearest_by_number each)) ≡ text_found dump each
       by None = refl
       by (Some one) = refl
 
@@ -82,7 +82,7 @@ module _ (dump : DumpValue) (kept : IsDump dump) (path : List NameId) (rev : ℕ
   pub effective_in-found : effective_in dump path rev ≡ option_map (own_or_inherited (components_of dump.names path) (depth_in path found)) (value_said (text_found dump found))
   effective_in-found = ap (effective_of (components_of dump.names path)) nearest-found ∙ by found
     where
-      by : (each : Option Nearest) → effective_of (components_of dump.names path) (option_map (with_mergeinfo_by (λ id. text_of dump.values id.0)) (option_map nearest_view each))
+      by : (each : Option Nearest) → effective_of (components_of dump.names path) (option_map (with_mergeinfo_by (λ id. text_of dump.values id.0)) (option_map nearest_by_number each))
           ≡ option_map (own_or_inherited (components_of dump.names path) (depth_in path each)) (value_said (text_found dump each))
       by None = ap Some (sym (own_or_inherited-own dump.names path (length path) [] refl))
       by (Some one) = refl

@@ -26,7 +26,7 @@ use Rattle.svn_dump.proofs.Renaming.Faults.{first_fault-rename}
 use Rattle.svn_dump.proofs.Renaming.Locations.{location-rename}
 use Rattle.query_answer.specs.Answer.{IsLocationOf}
 use Rattle.query_answer.specs.Effective.{nearest, nearest_from}
-use Rattle.query_answer.specs.Repo.{index_of, trees_in_bytes}
+use Rattle.query_answer.specs.Repo.{index_of_dump, trees_in_bytes}
 use Rattle.query_answer.proofs.NearestMergeinfo.{nearest_from-rename, with_mergeinfo_by}
 use Rattle.query_answer.proofs.TreePaths.{IsOf-location}
 
@@ -78,8 +78,8 @@ module _ (dump : DumpValue) (kept : IsDump dump) where
   length-trees_in_bytes = ap length trees-renamed ∙ length-map trees_by_number (rename_tree name text) ∙ length-trees
 
   -- the index is of a whole history
-  pub IsWhole-index_of : IsWhole (index_of dump)
-  IsWhole-index_of = record { first = refl; rising = AreRising-from_revisions dump.records dump.counts kept.revisions }
+  pub IsWhole-index_of_dump : IsWhole (index_of_dump dump)
+  IsWhole-index_of_dump = record { first = refl; rising = AreRising-from_revisions dump.records dump.counts kept.revisions }
 
   module _ (peg : ℕ) (within : peg < length dump.counts) where
     in_history : peg < length (history_view dump)

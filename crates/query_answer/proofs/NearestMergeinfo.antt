@@ -12,7 +12,7 @@ use Rattle.svn_dump.proofs.Renaming.Paths.{KeepsSame}
 use Rattle.svn_dump.proofs.Renaming.Trees.{rename_entry, rename_tree, entry_at-rename}
 use Rattle.query_answer.specs.Effective.{NearestMergeinfo, nearest, nearest_from, own_mergeinfo, own_or}
 use Rattle.query_answer.specs.Held.{depth_in}
-use Rattle.query_answer.specs.Repo.{IsNearestIn, nearest_view}
+use Rattle.query_answer.specs.Repo.{IsNearestIn, nearest_by_number}
 use Rattle.svn_dump.specs.declared.record.ValueId.{ValueId}
 use Rattle.block_map.specs.Map.{HasNoneFrom, IsNearest, IsNearestOrNone, revision_in}
 use Rattle.block_map.specs.Standing.{Standing, own_mergeinfo_at}
@@ -116,7 +116,7 @@ module _ (tree : Tree NameId ValueId) (path : List NameId) where
   module _ (found : Nearest) (is : IsNearest (own_mergeinfo same_name tree) path found)
       (none : HasNoneFrom (own_mergeinfo same_name tree) path (found.depth + 1)) where
     -- where no path below what is found has any it is the nearest
-    nearest_from-found : (n : ℕ) → found.depth ≤ n → n ≤ length path → nearest_from same_name tree path n ≡ Some (nearest_view found)
+    nearest_from-found : (n : ℕ) → found.depth ≤ n → n ≤ length path → nearest_from same_name tree path n ≡ Some (nearest_by_number found)
     nearest_from-found zero more few =
         let here : found.depth ≡ 0 = omega (arith, more) in
         nearest_from-some_at_root same_name tree path found.mi (ap (λ depth. own_mergeinfo same_name tree (take depth path)) (sym here) ∙ is.1)
@@ -131,7 +131,7 @@ module _ (tree : Tree NameId ValueId) (path : List NameId) where
     ]
 
   nearest-found : (found : Option Nearest) → IsNearestOrNone (own_mergeinfo same_name tree) path found
-      → option_map nearest_view found ≡ nearest same_name tree path
+      → option_map nearest_by_number found ≡ nearest same_name tree path
   nearest-found None none = sym (nearest_from-none_above (length path) (omega arith) none)
   nearest-found (Some found) (is, none) = sym (nearest_from-found found is none (length path) is.0 (omega arith))
 

@@ -18,15 +18,15 @@ use Rattle.svn_dump.specs.Dump.{DumpValue, IsDump, history_in_bytes, history_vie
 use Rattle.svn_dump.specs.Location.{location}
 use Rattle.merge_info.specs.Inherited.{inherited_revision}
 use Rattle.merge_info.specs.Value.{MergeInfoValue}
-use Rattle.query_answer.specs.Answer.{HasPathOf}
+use Rattle.query_answer.specs.Answer.{HasPathOf, eligible_in_range, merged_in_range}
 use Rattle.query_answer.specs.Held.{IsHeldIn, held_ranges_at, held_ranges_in, held_value, is_inherited}
 use Rattle.query_answer.specs.Merged.{RevisionsByPath, eligible_at, found_in, is_eligible, merged_at, merged_revision}
 use Rattle.query_answer.specs.Merged.{operative_location, value_has}
-use Rattle.query_answer.specs.SourceHits.{eligible_hit, eligible_of_hits, has_in, has_revision, is_eligible_from, lent_ranges, merged_hit, merged_of_hits, segment_path}
+use Rattle.query_answer.specs.SourceHits.{eligible_by_hit, eligible_by_hits, has_in, has_revision, is_eligible_at, lent_ranges, merged_by_hit, merged_by_hits, segment_path}
 use Rattle.query_answer.specs.declared.held_mergeinfo.HeldMergeinfo.{HeldMergeinfo}
 use Rattle.query_answer.specs.declared.path_rev.PathRev.{PathRev}
 use Rattle.query_answer.specs.declared.verbs.source.SourceRanges.{SourceRanges}
-use Rattle.query_answer.specs.Repo.{IsPathIn, eligible_by, merged_by, location_by, trees_in_bytes}
+use Rattle.query_answer.specs.Repo.{IsPathIn, peg_in_bytes, trees_in_bytes}
 use Rattle.query_answer.proofs.HeldRevisions.{held-has, some_have}
 use Rattle.query_answer.proofs.InBytes.{alike, hits-index, location-in_bytes, location-index, name, segments-index, text, trees-renamed, trees_by_number}
 use Rattle.query_answer.proofs.OperativeLocations.{found-operative_of, found_in-rename, found_of_hit}
@@ -35,6 +35,10 @@ use Rattle.query_answer.proofs.RangeFilters.{filter-filter_map, filter-reverse}
 -- what is found at the locations of a path of the dump in its operative revisions
 abbrev pub found_by : {X : Type 0} → DumpValue → List NameId → ℕ → (List (List ℕ) → ℕ → Option X) → List X
 found_by dump path rev find = found_in bytes_eq (history_in_bytes dump) (trees_in_bytes dump) (components_of dump.names path) rev find
+
+-- where a path of the dump was in another revision
+abbrev location_by : DumpValue → PathRev → ℕ → Option (List (List ℕ))
+location_by dump at rev = location bytes_eq (trees_in_bytes dump) (components_of dump.names at.path) at.rev rev
 
 -- ---- by what mergeinfo has of each operative revision
 
@@ -46,8 +50,8 @@ segment_path-view (segment ∷ all) (suc n) = segment_path-view all n
 
 module _ (names : List (List ℕ)) (value : MergeInfoValue) (all : List KeptSegment) (has : Hit → Option Bool)
     (has_is : (hit : Hit) → has hit ≡ option_and_then (λ located. value_has value (components_of names located) hit.rev) (segment_path all hit.segment)) where
-  merged_in : (hit : Hit) → merged_hit has hit ≡ found_of_hit (λ located. merged_at (value_has value) (components_of names located)) (map segment_view all) hit
-  merged_in hit =
+  merged_by_hit-found : (hit : Hit) → merged_by_hit has hit ≡ found_of_hit (λ located. merged_at (value_has value) (components_of names located)) (map segment_view all) hit
+  merged_by_hit-found hit =
       ap (option_map (merged_revision hit.rev)) (has_is hit) ∙ by_path (segment_path all hit.segment)
       ∙ ap (option_and_then (λ located. merged_at (value_has value) (components_of names located) hit.rev)) (sym (segment_path-view all hit.segment))
     where
@@ -59,13 +63,13 @@ module _ (names : List (List ℕ)) (value : MergeInfoValue) (all : List KeptSegm
 
   module _ (target : ℕ → Option (List NameId)) (other : ℕ → Option (List (List ℕ)))
       (alike_at : (located : List NameId) (rev : ℕ) → same_location bytes_eq (other rev) (Some (components_of names located)) ≡ same_location same_name (target rev) (Some located)) where
-    eligible_in : (hit : Hit) → eligible_hit has all target hit ≡ found_of_hit (λ located. eligible_at bytes_eq (value_has value) other (components_of names located)) (map segment_view all) hit
-    eligible_in hit =
+    eligible_by_hit-found : (hit : Hit) → eligible_by_hit has all target hit ≡ found_of_hit (λ located. eligible_at bytes_eq (value_has value) other (components_of names located)) (map segment_view all) hit
+    eligible_by_hit-found hit =
         by_path (segment_path all hit.segment) (has_is hit)
         ∙ ap (option_and_then (λ located. eligible_at bytes_eq (value_has value) other (components_of names located) hit.rev)) (sym (segment_path-view all hit.segment))
       where
         by_path : (path : Option (List NameId)) → has hit ≡ option_and_then (λ located. value_has value (components_of names located) hit.rev) path
-            → (if is_eligible_from has target hit path then Some hit.rev else None)
+            → (if is_eligible_at has target hit path then Some hit.rev else None)
             ≡ option_and_then (λ located. eligible_at bytes_eq (value_has value) other (components_of names located) hit.rev) path
         by_path None is = refl
         by_path (Some located) is = λ i. if is_none (is i) && not (sym (alike_at located hit.rev) i) then Some hit.rev else None
@@ -196,10 +200,10 @@ module _ (dump : DumpValue) (at : PathRev) (is_in : IsPathIn dump at) where
         (value : MergeInfoValue) (has : Hit → Option Bool)
         (has_is : (hit : Hit) → has hit ≡ option_and_then (λ located. value_has value (components_of dump.names located) hit.rev) (segment_path segments hit.segment)) where
       -- the merged revisions in the range
-      pub merged-merged_by : merged_of_hits has hits
-          ≡ filter (λ revision. is_in_range range revision.rev) (merged_by dump at value)
-      merged-merged_by =
-          (λ i. reverse (filter_map (λ hit. merged_in dump.names value segments has has_is hit i) hits))
+      pub merged_by_hits-in_range : merged_by_hits has hits
+          ≡ merged_in_range (history_in_bytes dump) (trees_in_bytes dump) (peg_in_bytes dump at) range value
+      merged_by_hits-in_range =
+          (λ i. reverse (filter_map (λ hit. merged_by_hit-found dump.names value segments has has_is hit i) hits))
           ∙ found-in_range (merged_at (value_has value)) (λ revision. revision.rev) (merged_at-keeps (value_has value))
           range hits hits_are
 
@@ -211,11 +215,11 @@ module _ (dump : DumpValue) (at : PathRev) (is_in : IsPathIn dump at) where
             ap (λ found. same_location bytes_eq found (Some (components_of dump.names located))) (location-in_bytes dump is_in.kept target.rev target_in.within target.path number)
             ∙ same_location-rename (name dump is_in.kept) same_name bytes_eq (alike dump is_in.kept) (location_in dump.records target.path target.rev number) (Some located)
 
-        pub eligible-eligible_by : eligible_of_hits has segments (location_in dump.records target.path target.rev) hits
-            ≡ filter (is_in_range range) (eligible_by dump at target value)
-        eligible-eligible_by =
+        pub eligible_by_hits-in_range : eligible_by_hits has segments (location_in dump.records target.path target.rev) hits
+            ≡ eligible_in_range (history_in_bytes dump) (trees_in_bytes dump) (peg_in_bytes dump at) (peg_in_bytes dump target) range value
+        eligible_by_hits-in_range =
             let located = location_by dump target in
-            (λ i. reverse (filter_map (λ hit. eligible_in dump.names value segments has has_is (location_in dump.records target.path target.rev) (location_by dump target) location_alike hit i) hits))
+            (λ i. reverse (filter_map (λ hit. eligible_by_hit-found dump.names value segments has has_is (location_in dump.records target.path target.rev) (location_by dump target) location_alike hit i) hits))
             ∙ found-in_range (eligible_at bytes_eq (value_has value) located) (λ each. each)
             (eligible_at-keeps (value_has value) located) range hits hits_are
 
@@ -226,11 +230,12 @@ filter_map-none f [] none = refl
 filter_map-none f (x ∷ xs) none = rw (none x) (filter_map-none f xs none)
 
 -- it has no revisions
-pub merged_by-empty : (dump : DumpValue) (at : PathRev) → merged_by dump at [] ≡ []
-merged_by-empty dump at =
-    filter_map-none (λ each. option_and_then (λ located. merged_at (value_has []) located each) (operative_location bytes_eq (history_in_bytes dump) (trees_in_bytes dump) (components_of dump.names at.path) at.rev each))
+pub merged_in_range-empty : (dump : DumpValue) (at : PathRev) (range : Option (ℕ × ℕ)) → merged_in_range (history_in_bytes dump) (trees_in_bytes dump) (peg_in_bytes dump at) range [] ≡ []
+merged_in_range-empty dump at range =
+    ap (filter (λ revision. is_in_range range revision.rev))
+    (filter_map-none (λ each. option_and_then (λ located. merged_at (value_has []) located each) (operative_location bytes_eq (history_in_bytes dump) (trees_in_bytes dump) (components_of dump.names at.path) at.rev each))
     (range_with_len 0 (at.rev + 1))
-    (λ each. by_location each (operative_location bytes_eq (history_in_bytes dump) (trees_in_bytes dump) (components_of dump.names at.path) at.rev each))
+    (λ each. by_location each (operative_location bytes_eq (history_in_bytes dump) (trees_in_bytes dump) (components_of dump.names at.path) at.rev each)))
   where
     by_location : (each : ℕ) (located : Option (List (List ℕ))) → option_and_then (λ one. merged_at (value_has []) one each) located ≡ None
     by_location each None = refl

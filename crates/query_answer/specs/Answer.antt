@@ -121,21 +121,22 @@ merged_line revision = codes "r" ++ decimal revision.rev ++ (if revision.inherit
 abbrev pub eligible_line : ℕ → List ℕ
 eligible_line rev = codes "r" ++ decimal rev
 
--- the operative revisions of the source in the range that the mergeinfo of the target has for the path that the source
--- had then
-abbrev pub merged_lines : HistoryOfBytes → TreesOfBytes → Peg → Option (ℕ × ℕ) → MergeInfoValue → List (List ℕ)
-merged_lines history trees source range value =
-    map merged_line
-    (filter (λ revision. is_in_range range revision.rev)
-    (merged_revisions bytes_eq history trees source.path source.rev (value_has value)))
+-- the merged revisions of a source in the range, given the mergeinfo of the target
+abbrev pub merged_in_range : HistoryOfBytes → TreesOfBytes → Peg → Option (ℕ × ℕ) → MergeInfoValue → List MergedRevision
+merged_in_range history trees source range value =
+    filter (λ revision. is_in_range range revision.rev) (merged_revisions bytes_eq history trees source.path source.rev (value_has value))
 
--- those that it lacks, where the target had another path then, or none
+abbrev pub merged_lines : HistoryOfBytes → TreesOfBytes → Peg → Option (ℕ × ℕ) → MergeInfoValue → List (List ℕ)
+merged_lines history trees source range value = map merged_line (merged_in_range history trees source range value)
+
+-- the eligible revisions of a source in the range, given the target and its mergeinfo
+abbrev pub eligible_in_range : HistoryOfBytes → TreesOfBytes → Peg → Peg → Option (ℕ × ℕ) → MergeInfoValue → List ℕ
+eligible_in_range history trees source target range value =
+    filter (is_in_range range)
+    (eligible_revisions bytes_eq history trees source.path source.rev (value_has value) (location bytes_eq trees target.path target.rev))
+
 abbrev pub eligible_lines : HistoryOfBytes → TreesOfBytes → Peg → Peg → Option (ℕ × ℕ) → MergeInfoValue → List (List ℕ)
-eligible_lines history trees source target range value =
-    map eligible_line
-    (filter (is_in_range range)
-    (eligible_revisions bytes_eq history trees source.path source.rev (value_has value)
-    (location bytes_eq trees target.path target.rev)))
+eligible_lines history trees source target range value = map eligible_line (eligible_in_range history trees source target range value)
 
 -- ---- the answer
 
@@ -228,8 +229,8 @@ abbrev pub eligible_text : List ℕ → List ℕ
 eligible_text revisions = flat_map line_text (map eligible_line revisions)
 
 -- the whole text of the answer to the query of this place in the list
-abbrev pub text_at : List (List ℕ) → ℕ → KeptAnswer → List ℕ
-text_at names place answer = answer_text (place + 1) (answer_in_bytes names answer)
+abbrev pub answer_text_at : List (List ℕ) → ℕ → KeptAnswer → List ℕ
+answer_text_at names place answer = answer_text (place + 1) (answer_in_bytes names answer)
 
 -- each path of the answer is of the table
 abbrev pub HasPathsOf : List (List ℕ) → KeptAnswer → Type 0

@@ -1,5 +1,7 @@
--- The revisions of a source that were merged into a target, and those that are still to be merged (Subversion book,
--- "Branching and Merging", "Mergeinfo and Previews").
+-- Which operative revisions of a source were merged into a target, and which are eligible, that is, still to be merged.
+-- A revision is merged where the mergeinfo of the target has it for the path that the source had then. It is eligible
+-- where the mergeinfo lacks it, and the target had another path then, or none: what a target shares with the source
+-- before it was copied is its own history (Subversion book, "Branching and Merging", "Mergeinfo and Previews").
 use Rattle.std.specs.Prelude.{ℕ, ◌+◌, Bool, not, ◌&&◌, List, Option, None, Some, filter_map, is_none, option_and_then, option_map, if◌then◌else◌}
 use Rattle.std.specs.List.{range_with_len}
 use Rattle.svn_path.specs.Components.{path_text}
@@ -26,12 +28,20 @@ found_in same history trees path peg_rev find =
 abbrev pub RevisionsByPath : Type 0 → Type 0
 RevisionsByPath C = List C → ℕ → Option Bool
 
+-- ---- merged
+
 abbrev pub merged_revision : ℕ → Bool → MergedRevision
 merged_revision rev inheritable = record { rev = rev; inheritable = inheritable }
 
 -- the revision, if the mergeinfo of the target has it for the location of the source
 abbrev pub merged_at : {C : Type 0} → RevisionsByPath C → List C → ℕ → Option MergedRevision
 merged_at has here rev = option_map (merged_revision rev) (has here rev)
+
+-- the merged revisions of a source, given the mergeinfo of the target
+abbrev pub merged_revisions : {C M : Type 0} → (C → C → Bool) → History C M → List (Tree C M) → List C → ℕ → RevisionsByPath C → List MergedRevision
+merged_revisions same history trees path peg_rev has = found_in same history trees path peg_rev (merged_at has)
+
+-- ---- eligible
 
 -- the mergeinfo of the target lacks the revision for the location of the source, and the target had another location then,
 -- or none
@@ -40,10 +50,6 @@ is_eligible same has target here rev = is_none (has here rev) && not (same_locat
 
 abbrev pub eligible_at : {C : Type 0} → (C → C → Bool) → RevisionsByPath C → (ℕ → Option (List C)) → List C → ℕ → Option ℕ
 eligible_at same has target here rev = if is_eligible same has target here rev then Some rev else None
-
--- the merged revisions of a source, given the mergeinfo of the target
-abbrev pub merged_revisions : {C M : Type 0} → (C → C → Bool) → History C M → List (Tree C M) → List C → ℕ → RevisionsByPath C → List MergedRevision
-merged_revisions same history trees path peg_rev has = found_in same history trees path peg_rev (merged_at has)
 
 -- the eligible revisions of a source, given the mergeinfo and the locations of the target
 abbrev pub eligible_revisions : {C M : Type 0} → (C → C → Bool) → History C M → List (Tree C M) → List C → ℕ → RevisionsByPath C → (ℕ → Option (List C)) → List ℕ

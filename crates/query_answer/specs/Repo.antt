@@ -11,15 +11,13 @@ use Rattle.svn_path.specs.Path.{same_name, components_of, IsPathOf}
 use Rattle.svn_path.specs.declared.names.NameId.{NameId}
 use Rattle.svn_dump.specs.Dump.{DumpValue, IsDump, history_in_bytes, history_view}
 use Rattle.svn_dump.specs.Fault.{first_fault}
-use Rattle.svn_dump.specs.Location.{location}
 use Rattle.svn_dump.specs.Tree.{tree_of, trees_of}
 use Rattle.svn_dump.specs.declared.record.ValueId.{ValueId}
 use Rattle.block_map.specs.Ends.{ends_of}
 use Rattle.block_map.specs.Map.{IsEndIn, IsMapOf, MapValue, revision_in}
 use Rattle.block_map.specs.declared.nearest.Nearest.{Nearest}
-use Rattle.query_answer.specs.Answer.{Answer, HasPathOf, TreesOfBytes, if_both_exist, if_peg_exists, with_effective_mergeinfo, with_value, answer_of, eligible_lines, locate_lines, log_lines, merged_lines, mergeinfo_lines, needs_mergeinfo, ok_answer, refused_answer, segments_lines}
+use Rattle.query_answer.specs.Answer.{Answer, HasPathOf, TreesOfBytes, if_both_exist, if_peg_exists, with_effective_mergeinfo, with_value, answer_of, eligible_in_range, eligible_lines, locate_lines, log_lines, merged_in_range, merged_lines, mergeinfo_lines, needs_mergeinfo, ok_answer, refused_answer, segments_lines}
 use Rattle.query_answer.specs.Effective.{NearestMergeinfo, effective_value, nearest, nearest_text}
-use Rattle.query_answer.specs.Merged.{eligible_revisions, merged_revisions, value_has}
 use Rattle.query_answer.specs.Peg.{Peg, PegValue, peg_view}
 use Rattle.query_answer.specs.Query as query
 use Rattle.query_answer.specs.Query.{Query}
@@ -39,13 +37,13 @@ use Rattle.query_answer.specs.declared.verbs.pair.PairVerb.TheVariants as verb
 use Rattle.query_answer.specs.declared.verbs.pair.Wanted.{Wanted}
 
 -- the index of a dump's records
-abbrev pub index_of : DumpValue → IndexValue
-index_of dump = record { records = dump.records; first = 0 }
+abbrev pub index_of_dump : DumpValue → IndexValue
+index_of_dump dump = record { records = dump.records; first = 0 }
 
 -- the index, the map and the ends of the revisions are those of the dump, and its history is lawful
 pub record IsRepo (dump : DumpValue) (index : IndexValue) (map : MapValue) (ends : List ℕ) : Type 0 where
   pub dump_is : IsDump dump
-  pub index_is : index ≡ index_of dump
+  pub index_is : index ≡ index_of_dump dump
   pub map_is : IsMapOf dump map
   pub ends_are : ends ≡ ends_of dump.counts
   pub lawful : first_fault same_name (history_view dump) ≡ None
@@ -94,8 +92,8 @@ eligible_answer dump source target range =
 
 -- ---- its paths
 
-abbrev pub nearest_view : Nearest → NearestMergeinfo ValueId
-nearest_view found = record { mergeinfo = found.mi; depth = found.depth }
+abbrev pub nearest_by_number : Nearest → NearestMergeinfo ValueId
+nearest_by_number found = record { mergeinfo = found.mi; depth = found.depth }
 
 -- the peg of a path of the dump
 abbrev pub peg_in_bytes : DumpValue → PathRev → Peg
@@ -129,7 +127,7 @@ IsPegRefused dump peg Memory = ⊤
 
 -- the nearest mergeinfo of a path is found, and is that of so many of its components at most
 pub record IsNearestIn (dump : DumpValue) (path : List NameId) (rev : ℕ) (found : Option Nearest) : Type 0 where
-  pub nearest_is : option_map nearest_view found ≡ nearest same_name (revision_in dump rev) path
+  pub nearest_is : option_map nearest_by_number found ≡ nearest same_name (revision_in dump rev) path
   pub depth : depth_in path found ≤ length path
 
 -- the path of a peg is found, and its nearest mergeinfo
@@ -140,8 +138,8 @@ pub record IsTargetFound (dump : DumpValue) (peg : PegValue) (target : Target) :
 -- these are the segments of a path of the dump in a revision
 pub record AreSegmentsIn (dump : DumpValue) (path : List NameId) (rev : ℕ) (segments : List KeptSegment) : Type 0 where
   pub of_names : All (HasPathOf dump.names) segments
-  pub exact : AreSegmentsOf (index_of dump) path rev segments
-  pub maximal : AreMaximal (index_of dump) path rev segments
+  pub exact : AreSegmentsOf (index_of_dump dump) path rev segments
+  pub maximal : AreMaximal (index_of_dump dump) path rev segments
 
 -- these are the operative revisions of the segments in the range, if the segments are those of a path of the dump
 abbrev pub AreHitsIn : DumpValue → List KeptSegment → Option (ℕ × ℕ) → List Hit → Type 0
@@ -205,24 +203,11 @@ verb_answer dump verb.Eligible source target range = eligible_answer dump source
 abbrev pub pair_answer : DumpValue → Wanted → Answer
 pair_answer dump wanted = verb_answer dump wanted.verb wanted.source.now wanted.target.now wanted.range
 
--- of a source in all revisions, given the mergeinfo of the target
-abbrev pub merged_by : DumpValue → PathRev → MergeInfoValue → List MergedRevision
-merged_by dump source value =
-    merged_revisions bytes_eq (history_in_bytes dump) (trees_in_bytes dump) (components_of dump.names source.path) source.rev (value_has value)
-
--- where a path of the dump was in another revision
-abbrev pub location_by : DumpValue → PathRev → ℕ → Option (List (List ℕ))
-location_by dump at rev = location bytes_eq (trees_in_bytes dump) (components_of dump.names at.path) at.rev rev
-
-abbrev pub eligible_by : DumpValue → PathRev → PathRev → MergeInfoValue → List ℕ
-eligible_by dump source target value =
-    eligible_revisions bytes_eq (history_in_bytes dump) (trees_in_bytes dump) (components_of dump.names source.path) source.rev (value_has value) (location_by dump target)
-
--- the merged revisions of a pair in the range, and those that are eligible
+-- the merged revisions of a pair in the range, and those that are eligible, given what the target holds
 abbrev pub merged_in : DumpValue → Pair → Option (ℕ × ℕ) → HeldMergeinfo → List MergedRevision
 merged_in dump pair range held =
-    filter (λ revision. is_in_range range revision.rev) (merged_by dump pair.source (held_value dump.names held))
+    merged_in_range (history_in_bytes dump) (trees_in_bytes dump) (peg_in_bytes dump pair.source) range (held_value dump.names held)
 
 abbrev pub eligible_in : DumpValue → Pair → Option (ℕ × ℕ) → HeldMergeinfo → List ℕ
 eligible_in dump pair range held =
-    filter (is_in_range range) (eligible_by dump pair.source pair.target.at (held_value dump.names held))
+    eligible_in_range (history_in_bytes dump) (trees_in_bytes dump) (peg_in_bytes dump pair.source) (peg_in_bytes dump pair.target.at) range (held_value dump.names held)

@@ -33,27 +33,27 @@ has_revision are_inherited ranges hit = if are_inherited then inherited_revision
 abbrev pub has_in : SourceRanges → Hit → Option Bool
 has_in ranges hit = has_revision ranges.are_inherited (map lent_ranges ranges.by_segment.items) hit
 
-abbrev pub merged_hit : (Hit → Option Bool) → Hit → Option MergedRevision
-merged_hit has hit = option_map (merged_revision hit.rev) (has hit)
+abbrev pub merged_by_hit : (Hit → Option Bool) → Hit → Option MergedRevision
+merged_by_hit has hit = option_map (merged_revision hit.rev) (has hit)
 
 -- the merged revisions in rising order, where the hits fall
-abbrev pub merged_of_hits : (Hit → Option Bool) → List Hit → List MergedRevision
-merged_of_hits has hits = reverse (filter_map (merged_hit has) hits)
+abbrev pub merged_by_hits : (Hit → Option Bool) → List Hit → List MergedRevision
+merged_by_hits has hits = reverse (filter_map (merged_by_hit has) hits)
 
 -- the mergeinfo lacks it, and the target was not at the path of the segment
-abbrev pub is_eligible_from : (Hit → Option Bool) → (ℕ → Option (List NameId)) → Hit → Option (List NameId) → Bool
-is_eligible_from has target hit None = false
-is_eligible_from has target hit (Some here) = is_eligible same_name (λ path rev. has hit) target here hit.rev
+abbrev pub is_eligible_at : (Hit → Option Bool) → (ℕ → Option (List NameId)) → Hit → Option (List NameId) → Bool
+is_eligible_at has target hit None = false
+is_eligible_at has target hit (Some here) = is_eligible same_name (λ path rev. has hit) target here hit.rev
 
-abbrev pub is_eligible_hit : (Hit → Option Bool) → List KeptSegment → (ℕ → Option (List NameId)) → Hit → Bool
-is_eligible_hit has segments target hit = is_eligible_from has target hit (segment_path segments hit.segment)
+abbrev pub is_eligible_by_hit : (Hit → Option Bool) → List KeptSegment → (ℕ → Option (List NameId)) → Hit → Bool
+is_eligible_by_hit has segments target hit = is_eligible_at has target hit (segment_path segments hit.segment)
 
-abbrev pub eligible_hit : (Hit → Option Bool) → List KeptSegment → (ℕ → Option (List NameId)) → Hit → Option ℕ
-eligible_hit has segments target hit = if is_eligible_hit has segments target hit then Some hit.rev else None
+abbrev pub eligible_by_hit : (Hit → Option Bool) → List KeptSegment → (ℕ → Option (List NameId)) → Hit → Option ℕ
+eligible_by_hit has segments target hit = if is_eligible_by_hit has segments target hit then Some hit.rev else None
 
 -- the eligible revisions in rising order, where the hits fall
-abbrev pub eligible_of_hits : (Hit → Option Bool) → List KeptSegment → (ℕ → Option (List NameId)) → List Hit → List ℕ
-eligible_of_hits has segments target hits = reverse (filter_map (eligible_hit has segments target) hits)
+abbrev pub eligible_by_hits : (Hit → Option Bool) → List KeptSegment → (ℕ → Option (List NameId)) → List Hit → List ℕ
+eligible_by_hits has segments target hits = reverse (filter_map (eligible_by_hit has segments target) hits)
 
 -- the segments tell where a path was in each revision: nowhere above them
 pub record TellsLocations (located : ℕ → Option (List NameId)) (segments : List KeptSegment) : Type 0 where

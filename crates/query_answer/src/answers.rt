@@ -1,7 +1,7 @@
 //! The answer to a query, and its text.
 ghost use Rattle.std.specs.Prelude.{◌≡◌, ◌+◌, ◌++◌, OnErr, OnOk};
 ghost use Rattle.svn_text.specs.Appended.{BeginsWith};
-ghost use Rattle.query_answer.specs.Answer.{HasPathsOf, answer_head, answer_in_bytes, text_at};
+ghost use Rattle.query_answer.specs.Answer.{HasPathsOf, answer_head, answer_in_bytes, answer_text_at};
 
 use crate::merged_revision::MergedRevision;
 use crate::printed_mergeinfo::PrintedMergeinfo;
@@ -42,7 +42,7 @@ impl Answer {
     /// Appends the answer to the query of a place. Places begin at 0, and the printed numbers at 1.
     pub fn write(&self, repo: &Repo, place: u32, out: &mut Vec<u8>) -> Result<(), AllocError>
         requires { HasPathsOf repo.now.names self.now }
-        ensures ok { OnOk result (out.new.items ≡ out.old.items ++ text_at repo.now.names place self.now) }
+        ensures ok { OnOk result (out.new.items ≡ out.old.items ++ answer_text_at repo.now.names place self.now) }
         ensures err { OnErr result (out.new.items ≡ out.old.items) }
     {
         let before = out.len();
@@ -57,7 +57,7 @@ impl Answer {
     #[tactic(auto, using(svn_text::proofs::Appended::appended))]
     fn append(&self, names: &Names, place: u32, out: &mut Vec<u8>) -> Result<(), AllocError>
         requires { HasPathsOf names.now self.now }
-        ensures ok { OnOk result (out.new.items ≡ out.old.items ++ text_at names.now place self.now) }
+        ensures ok { OnOk result (out.new.items ≡ out.old.items ++ answer_text_at names.now place self.now) }
         ensures begins { BeginsWith out.old.items out.new.items }
     {
         append_head(place, self.status(), out)?;

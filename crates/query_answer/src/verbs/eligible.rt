@@ -1,6 +1,6 @@
 //! `eligible`: the operative revisions of a source that are still to be merged into a target.
 ghost use Rattle.std.specs.Prelude.{◌≡◌, IfOk};
-ghost use Rattle.query_answer.specs.SourceHits.{TellsLocations, eligible_of_hits, has_in, is_eligible_hit};
+ghost use Rattle.query_answer.specs.SourceHits.{TellsLocations, eligible_by_hits, has_in, is_eligible_by_hit};
 ghost use Rattle.query_answer.specs.Repo.{IsPathIn, eligible_in};
 ghost use Rattle.query_answer.specs.Held.{IsHeldIn};
 
@@ -14,7 +14,7 @@ use std::alloc::{AllocError, Global};
 
 /// The eligible revisions of a pair, given the mergeinfo that the target holds, in rising order, and in this range if
 /// there is one.
-pub(crate) fn eligible_of(
+pub(crate) fn eligible_revisions(
     alloc: Global,
     repo: &Repo,
     pair: &Pair,
@@ -30,7 +30,7 @@ pub(crate) fn eligible_of(
     let hits = repo.operative(segments.as_slice(), range)?;
     let own = repo.segments(&pair.target.at)?;
     let ranges = SourceRanges::of(alloc, repo.names(), held, segments.as_slice())?;
-    eligible_hits(
+    eligible_by_hits(
         alloc,
         &ranges,
         segments.as_slice(),
@@ -41,7 +41,7 @@ pub(crate) fn eligible_of(
 
 /// The operative revisions that mergeinfo lacks, in rising order, but for those in which the target had the path of the
 /// segment itself.
-fn eligible_hits(
+fn eligible_by_hits(
     alloc: Global,
     ranges: &SourceRanges<'_>,
     segments: &[Segment],
@@ -49,7 +49,7 @@ fn eligible_hits(
     hits: &[Hit],
 ) -> Result<Vec<u32>, AllocError>
     ensures { IfOk result (λ found. (located : _) → TellsLocations located target.now
-        → found.items ≡ eligible_of_hits (has_in ranges.now) segments.now located hits.now) }
+        → found.items ≡ eligible_by_hits (has_in ranges.now) segments.now located hits.now) }
 {
     let mut found = Vec::new(alloc);
     for hit in hits {
@@ -69,7 +69,7 @@ fn is_eligible(
     hit: Hit,
 ) -> bool
     ensures { (located : _) → TellsLocations located target.now
-        → result ≡ is_eligible_hit (has_in ranges.now) segments.now located hit }
+        → result ≡ is_eligible_by_hit (has_in ranges.now) segments.now located hit }
 {
     match path_at(segments, hit.segment) {
         Some(source) => ranges.has(hit).is_none() && !is_at(path_in(target, hit.rev), source),

@@ -1,6 +1,6 @@
 //! `merged`: the operative revisions of a source that the mergeinfo of a target has.
 ghost use Rattle.std.specs.Prelude.{◌≡◌, IfOk};
-ghost use Rattle.query_answer.specs.SourceHits.{has_in, merged_of_hits};
+ghost use Rattle.query_answer.specs.SourceHits.{has_in, merged_by_hits};
 ghost use Rattle.query_answer.specs.Repo.{IsPathIn, merged_in};
 ghost use Rattle.query_answer.specs.Held.{IsHeldIn};
 
@@ -14,7 +14,7 @@ use std::alloc::{AllocError, Global};
 
 /// The merged revisions of a pair, given the mergeinfo that the target holds, in rising order, and in this range if
 /// there is one.
-pub(crate) fn merged_of(
+pub(crate) fn merged_revisions(
     alloc: Global,
     repo: &Repo,
     pair: &Pair,
@@ -31,16 +31,16 @@ pub(crate) fn merged_of(
     let segments = repo.segments(&pair.source)?;
     let hits = repo.operative(segments.as_slice(), range)?;
     let ranges = SourceRanges::of(alloc, repo.names(), held, segments.as_slice())?;
-    merged_hits(alloc, &ranges, hits.as_slice())
+    merged_by_hits(alloc, &ranges, hits.as_slice())
 }
 
 /// The operative revisions that mergeinfo has, in rising order.
-fn merged_hits(
+fn merged_by_hits(
     alloc: Global,
     ranges: &SourceRanges<'_>,
     hits: &[Hit],
 ) -> Result<Vec<MergedRevision>, AllocError>
-    ensures { IfOk result (λ found. found.items ≡ merged_of_hits (has_in ranges.now) hits.now) }
+    ensures { IfOk result (λ found. found.items ≡ merged_by_hits (has_in ranges.now) hits.now) }
 {
     let mut found = Vec::new(alloc);
     for hit in hits {

@@ -9,8 +9,8 @@ ghost use Rattle.query_answer.specs.Repo.{IsPair, IsPairRefused, effective_in, n
 ghost use Rattle.query_answer.specs.Unanswered.{IsAnswered};
 ghost use Rattle.query_answer.specs.Worker.{IsSeenOf, LooksAtMergeinfo, Reads};
 
-use super::eligible::eligible_of;
-use super::merged::merged_of;
+use super::eligible::eligible_revisions;
+use super::merged::merged_revisions;
 use crate::answers::Answer;
 use crate::held_mergeinfo::HeldMergeinfo;
 use crate::nearest_value::nearest_value;
@@ -102,7 +102,9 @@ fn revisions(
     let held = HeldMergeinfo::new(value, pair.target.rest());
     let range = wanted.range;
     match wanted.verb {
-        PairVerb::Merged => Ok(Answer::Merged(merged_of(alloc, repo, pair, range, &held)?)),
-        PairVerb::Eligible => Ok(Answer::Eligible(eligible_of(alloc, repo, pair, range, &held)?)),
+        PairVerb::Merged => Ok(Answer::Merged(merged_revisions(alloc, repo, pair, range, &held)?)),
+        PairVerb::Eligible => Ok(Answer::Eligible(eligible_revisions(
+            alloc, repo, pair, range, &held,
+        )?)),
     }
 }

@@ -2,7 +2,7 @@ use Rattle.std.proofs.Common.{◌≡◌, Some, true, not, ◌&&◌, is_none, ap,
 use Rattle.path_index.specs.Segment.{same_location}
 use Rattle.svn_path.specs.Path.{same_name}
 use Rattle.query_answer.specs.Answer.{lent_path}
-use Rattle.query_answer.specs.SourceHits.{has_in, is_eligible_from, segment_path}
+use Rattle.query_answer.specs.SourceHits.{has_in, is_eligible_at, segment_path}
 use Rattle.query_answer.proofs.verbs.eligible.is_eligible.Goals as goal
 
 pub returns-then-is_none : goal.returns-then-is_none
@@ -13,5 +13,5 @@ returns-then-is_none c = λ located tells.
     let at : segment_path c.args.segments.now hit.segment ≡ Some source = sym c.path_at.ensures ∙ ap lent_path c.in-Some.is in
     let none : is_none c.has.result ≡ true = ap not (c.is_none.ensures ∙ ap not c.if-is_none.true) in
     ap not (c.is_at.ensures ∙ ap (λ found. same_location same_name found (Some source)) (c.path_in.ensures located tells))
-    ∙ sym (ap (is_eligible_from (has_in c.args.ranges.now) located hit) at
+    ∙ sym (ap (is_eligible_at (has_in c.args.ranges.now) located hit) at
     ∙ ap (λ has. is_none has && elsewhere) (sym c.has.ensures) ∙ ap (λ b. b && elsewhere) none)

@@ -9,35 +9,35 @@ use Rattle.query_answer.proofs.AnswerTexts.{IsAnswer-Eligible, IsAnswer-Merged, 
 use Rattle.query_answer.proofs.PegsFound.{IsPathOf-rest}
 use Rattle.query_answer.proofs.verbs.pair.revisions.Goals as goal
 
-pub merged_of-requires-clause-held : goal.merged_of-requires-clause-held
-merged_of-requires-clause-held c =
+pub merged_revisions-requires-clause-held : goal.merged_revisions-requires-clause-held
+merged_revisions-requires-clause-held c =
     let names = c.args.repo.now.names in
     c.new-held.ensures.held names (subst (IsPathOf names) (sym c.rest.ensures) (IsPathOf-rest names c.args.pair.now.target c.requires.pair.target_is.peg_is.is_in.of_names))
 
-pub eligible_of-requires-clause-held : goal.eligible_of-requires-clause-held
-eligible_of-requires-clause-held c =
+pub eligible_revisions-requires-clause-held : goal.eligible_revisions-requires-clause-held
+eligible_revisions-requires-clause-held c =
     let names = c.args.repo.now.names in
     c.new-held.ensures.held names (subst (IsPathOf names) (sym c.rest.ensures) (IsPathOf-rest names c.args.pair.now.target c.requires.pair.target_is.peg_is.is_in.of_names))
 
-pub returns-in_ok-merged_of-in-Merged-clause-answer : goal.returns-in_ok-merged_of-in-Merged-clause-answer
-returns-in_ok-merged_of-in-Merged-clause-answer c =
+pub returns-in_ok-merged_revisions-in-Merged-clause-answer : goal.returns-in_ok-merged_revisions-in-Merged-clause-answer
+returns-in_ok-merged_revisions-in-Merged-clause-answer c =
     let dump = c.args.repo.now in
     let is : effective_in dump c.args.pair.now.target.at.path c.args.pair.now.target.at.rev ≡ Some (held_value dump.names c.new-held.result) =
     c.requires.value ∙ ap (λ read. option_map (own_or_below (components_of dump.names (rest_of c.args.pair.now.target))) (parsed_view read)) c.in-Good.is
     ∙ ap (λ rest. Some (own_or_below (components_of dump.names rest) c.in-Good.value.now)) (sym c.rest.ensures) ∙ ap Some (sym (c.new-held.ensures.value dump.names)) in
     rw c.in-Merged.is
     (IsAnswer-Merged dump c.args.wanted.now.source.now c.args.wanted.now.target.now c.args.pair.now c.requires.pair c.new-held.result is
-    c.args.wanted.now.range c.in_ok-merged_of-in-Merged.field-0 c.in_ok-merged_of-in-Merged.ensures)
+    c.args.wanted.now.range c.in_ok-merged_revisions-in-Merged.field-0 c.in_ok-merged_revisions-in-Merged.ensures)
 
-pub returns-in_ok-eligible_of-in-Eligible-clause-answer : goal.returns-in_ok-eligible_of-in-Eligible-clause-answer
-returns-in_ok-eligible_of-in-Eligible-clause-answer c =
+pub returns-in_ok-eligible_revisions-in-Eligible-clause-answer : goal.returns-in_ok-eligible_revisions-in-Eligible-clause-answer
+returns-in_ok-eligible_revisions-in-Eligible-clause-answer c =
     let dump = c.args.repo.now in
     let is : effective_in dump c.args.pair.now.target.at.path c.args.pair.now.target.at.rev ≡ Some (held_value dump.names c.new-held.result) =
     c.requires.value ∙ ap (λ read. option_map (own_or_below (components_of dump.names (rest_of c.args.pair.now.target))) (parsed_view read)) c.in-Good.is
     ∙ ap (λ rest. Some (own_or_below (components_of dump.names rest) c.in-Good.value.now)) (sym c.rest.ensures) ∙ ap Some (sym (c.new-held.ensures.value dump.names)) in
     rw c.in-Eligible.is
     (IsAnswer-Eligible dump c.args.wanted.now.source.now c.args.wanted.now.target.now c.args.pair.now c.requires.pair c.new-held.result is
-    c.args.wanted.now.range c.in_ok-eligible_of-in-Eligible.field-0 c.in_ok-eligible_of-in-Eligible.ensures)
+    c.args.wanted.now.range c.in_ok-eligible_revisions-in-Eligible.field-0 c.in_ok-eligible_revisions-in-Eligible.ensures)
 
 pub returns-in_default-clause-answer : goal.returns-in_default-clause-answer
 returns-in_default-clause-answer c =

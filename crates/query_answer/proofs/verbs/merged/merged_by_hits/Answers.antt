@@ -3,11 +3,11 @@ use Rattle.std.specs.List.{cons_option}
 use Rattle.std.specs.Prelude.{option_map}
 use Rattle.path_index.specs.declared.hit.Hit.{Hit}
 use Rattle.query_answer.specs.Merged.{merged_revision}
-use Rattle.query_answer.specs.SourceHits.{has_in, merged_hit}
+use Rattle.query_answer.specs.SourceHits.{has_in, merged_by_hit}
 use Rattle.query_answer.specs.declared.merged_revision.MergedRevision.{MergedRevision}
 use Rattle.query_answer.proofs.OperativeLocations.{filter_map_more}
-use Rattle.query_answer.proofs.verbs.merged.merged_hits.Goals as goal
-use Rattle.query_answer.proofs.verbs.merged.merged_hits.Goals.{in-Some+in_ok-push, in_default}
+use Rattle.query_answer.proofs.verbs.merged.merged_by_hits.Goals as goal
+use Rattle.query_answer.proofs.verbs.merged.merged_by_hits.Goals.{in-Some+in_ok-push, in_default}
 
 pub loop-hit-preserved : goal.loop-hit-preserved
 loop-hit-preserved c =
@@ -17,7 +17,7 @@ loop-hit-preserved c =
     let rev = hit.rev in
     let shown = λ (v : Vec MergedRevision Global). v.items in
     let before = c.loop-hit.found.items in
-    let more = filter_map_more (merged_hit ranges) hits c.loop-hit.hit-index (record { rev = 0; segment = 0 }) c.loop-hit-test.true before c.match-has.found.items c.loop-hit.invariant in
+    let more = filter_map_more (merged_by_hit ranges) hits c.loop-hit.hit-index (record { rev = 0; segment = 0 }) c.loop-hit-test.true before c.match-has.found.items c.loop-hit.invariant in
     elim c.match-has.branch [
       | in-Some+in_ok-push w ↦
           more (ap shown w.found-is ∙ w.in_ok-push.ensures.items

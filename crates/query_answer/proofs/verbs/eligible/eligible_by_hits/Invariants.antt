@@ -1,10 +1,10 @@
 use Rattle.std.proofs.Common.{◌≡◌, ℕ, List, Option, take}
 use Rattle.std.specs.Prelude.{filter_map}
 use Rattle.svn_path.specs.declared.names.NameId.{NameId}
-use Rattle.query_answer.specs.SourceHits.{TellsLocations, eligible_hit, has_in}
-use Rattle.query_answer.proofs.verbs.eligible.eligible_hits.Given as goal
+use Rattle.query_answer.specs.SourceHits.{TellsLocations, eligible_by_hit, has_in}
+use Rattle.query_answer.proofs.verbs.eligible.eligible_by_hits.Given as goal
 
 abbrev pub invariant-loop-hit : goal.invariant-loop-hit
 invariant-loop-hit l =
     (located : ℕ → Option (List NameId)) → TellsLocations located l.target
-    → l.found.items ≡ filter_map (eligible_hit (has_in l.ranges) l.segments located) (take l.hit-index l.hits)
+    → l.found.items ≡ filter_map (eligible_by_hit (has_in l.ranges) l.segments located) (take l.hit-index l.hits)

@@ -1,10 +1,10 @@
 use Rattle.std.proofs.Common.{ℕ, [], ◌++◌, Global, Some, None, Vec, append-nil, ap, get_or, if◌then◌else◌, sym, ◌∙◌}
 use Rattle.std.specs.List.{cons_option}
 use Rattle.path_index.specs.declared.hit.Hit.{Hit}
-use Rattle.query_answer.specs.SourceHits.{eligible_hit, has_in}
+use Rattle.query_answer.specs.SourceHits.{eligible_by_hit, has_in}
 use Rattle.query_answer.proofs.OperativeLocations.{filter_map_more}
-use Rattle.query_answer.proofs.verbs.eligible.eligible_hits.Goals as goal
-use Rattle.query_answer.proofs.verbs.eligible.eligible_hits.Goals.{then-is_eligible+in_ok-push, else-is_eligible}
+use Rattle.query_answer.proofs.verbs.eligible.eligible_by_hits.Goals as goal
+use Rattle.query_answer.proofs.verbs.eligible.eligible_by_hits.Goals.{then-is_eligible+in_ok-push, else-is_eligible}
 
 pub loop-hit-preserved : goal.loop-hit-preserved
 loop-hit-preserved c = λ located tells.
@@ -15,7 +15,7 @@ loop-hit-preserved c = λ located tells.
     let shown = λ (v : Vec ℕ Global). v.items in
     let before = c.loop-hit.found.items in
     let so = c.is_eligible.ensures located tells in
-    let more = filter_map_more (eligible_hit ranges c.args.segments.now located) hits c.loop-hit.hit-index (record { rev = 0; segment = 0 }) c.loop-hit-test.true before c.if-is_eligible.found.items
+    let more = filter_map_more (eligible_by_hit ranges c.args.segments.now located) hits c.loop-hit.hit-index (record { rev = 0; segment = 0 }) c.loop-hit-test.true before c.if-is_eligible.found.items
     (c.loop-hit.invariant located tells) in
     elim c.if-is_eligible.branch [
       | then-is_eligible+in_ok-push w ↦

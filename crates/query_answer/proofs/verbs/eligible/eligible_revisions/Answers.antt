@@ -4,10 +4,10 @@ use Rattle.path_index.specs.Index.{location_in}
 use Rattle.svn_path.specs.declared.names.NameId.{NameId}
 use Rattle.query_answer.specs.Held.{held_ranges_in, held_value}
 use Rattle.query_answer.specs.Repo.{AreHitsIn, eligible_in}
-use Rattle.query_answer.specs.SourceHits.{TellsLocations, eligible_of_hits, has_in, lent_ranges}
+use Rattle.query_answer.specs.SourceHits.{TellsLocations, eligible_by_hits, has_in, lent_ranges}
 use Rattle.query_answer.proofs.PathSegments.{TellsLocations-AreSegmentsIn}
-use Rattle.query_answer.proofs.SourceRevisions.{eligible-eligible_by, has_in-held}
-use Rattle.query_answer.proofs.verbs.eligible.eligible_of.Goals as goal
+use Rattle.query_answer.proofs.SourceRevisions.{eligible_by_hits-in_range, has_in-held}
+use Rattle.query_answer.proofs.verbs.eligible.eligible_revisions.Goals as goal
 
 pub returns : goal.returns
 returns c =
@@ -26,13 +26,13 @@ returns c =
     rw (← c.as_slice-2.ensures.value, ← c.names.ensures.value) c.in_ok-ranges.ensures.ranges in
     let has_is = has_in-held dump.names c.requires.source.kept.names held c.requires.held c.in_ok-ranges.ranges segments ranges c.in_ok-ranges.ensures.inherited so.of_names in
     let tells : TellsLocations located c.as_slice-4.result.now = rw c.as_slice-4.ensures.value (TellsLocations-AreSegmentsIn dump target.path target.rev c.in_ok-own.own.items c.in_ok-own.ensures) in
-    let are : eligible_of_hits has c.as_slice-3.result.now located c.as_slice-5.result.now
+    let are : eligible_by_hits has c.as_slice-3.result.now located c.as_slice-5.result.now
     ≡ eligible_in dump c.args.pair.now range held =
     rw (c.as_slice-3.ensures.value, c.as_slice-5.ensures.value)
-    (eligible-eligible_by dump source c.requires.source segments so.exact so.maximal
+    (eligible_by_hits-in_range dump source c.requires.source segments so.exact so.maximal
     range hits (hits_in source.path source.rev c.requires.source.there so) (held_value dump.names held) has has_is target
     c.requires.target) in
-    IfOk-weaker c.eligible_hits.result
-    (λ found. (each : ℕ → Option (List NameId)) → TellsLocations each c.as_slice-4.result.now → found.items ≡ eligible_of_hits has c.as_slice-3.result.now each c.as_slice-5.result.now)
+    IfOk-weaker c.eligible_by_hits.result
+    (λ found. (each : ℕ → Option (List NameId)) → TellsLocations each c.as_slice-4.result.now → found.items ≡ eligible_by_hits has c.as_slice-3.result.now each c.as_slice-5.result.now)
     (λ found. found.items ≡ eligible_in dump c.args.pair.now range held)
-    (λ found is. is located tells ∙ are) c.eligible_hits.ensures
+    (λ found is. is located tells ∙ are) c.eligible_by_hits.ensures

@@ -1,7 +1,0 @@
-use Rattle.std.proofs.Common.{◌≡◌, take}
-use Rattle.std.specs.Prelude.{filter_map}
-use Rattle.query_answer.specs.SourceHits.{has_in, merged_hit}
-use Rattle.query_answer.proofs.verbs.merged.merged_hits.Given as goal
-
-abbrev pub invariant-loop-hit : goal.invariant-loop-hit
-invariant-loop-hit l = l.found.items ≡ filter_map (merged_hit (has_in l.ranges)) (take l.hit-index l.hits)
