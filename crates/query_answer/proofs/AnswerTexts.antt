@@ -25,10 +25,11 @@ use Rattle.svn_dump.specs.Record.{HistoryOfBytes}
 use Rattle.svn_dump.specs.Tree.{is_there, tree_of}
 use Rattle.svn_dump.specs.declared.record.NodeRecord.{NodeRecord}
 use Rattle.query_answer.specs.Answer.{Answer, IsAnswer, IsLocationOf, HasPathOf, TreesOfBytes, if_both_exist, if_peg_exists, with_effective_mergeinfo, with_value, answer_of, eligible_line, eligible_lines, hit_line, locate_lines, location_line, log_line, log_lines, merged_line, merged_lines, mergeinfo_answer_of, mergeinfo_lines, ok_answer, refused_answer, segment_in_bytes, segment_line, segments_in_bytes, segments_lines}
+use Rattle.query_answer.specs.Effective.{effective_value}
 use Rattle.query_answer.specs.Peg.{Peg, PegValue, peg_view}
 use Rattle.query_answer.specs.Query.{bad, eligible, locate, log, merged, mergeinfo, segments}
 use Rattle.query_answer.specs.Held.{held_value}
-use Rattle.query_answer.specs.Repo.{IsPair, IsPairRefused, IsPegFound, IsPegRefused, IsRepo, with_peg_in, with_pair_in, effective_in, eligible_answer, eligible_in, index_of_dump, locate_answer, log_answer, merged_answer, merged_in, mergeinfo_answer, pair_answer, peg_in_bytes, segments_answer, trees_in_bytes, verb_answer}
+use Rattle.query_answer.specs.Repo.{IsPair, IsPairRefused, IsPegFound, IsPegRefused, IsRepo, with_peg_in, with_pair_in, effective_in, eligible_in, index_of_dump, locate_answer, log_answer, merged_in, mergeinfo_answer, pair_answer, peg_in_bytes, segments_answer, trees_in_bytes, verb_answer}
 use Rattle.query_answer.specs.declared.answers.Answer.TheVariants as kept
 use Rattle.query_answer.specs.declared.merged_revision.MergedRevision.{MergedRevision}
 use Rattle.query_answer.specs.declared.held_mergeinfo.HeldMergeinfo.{HeldMergeinfo}
@@ -81,7 +82,7 @@ module _ (history : HistoryOfBytes) (trees : TreesOfBytes) where
   unfolding answer_of
   answer_of-log peg range = refl
 
-  pub answer_of-mergeinfo : (peg : Peg) → answer_of history trees (mergeinfo peg) ≡ if_peg_exists trees peg (with_effective_mergeinfo trees peg (λ value. ok_answer (mergeinfo_lines value)))
+  pub answer_of-mergeinfo : (peg : Peg) → answer_of history trees (mergeinfo peg) ≡ if_peg_exists trees peg (mergeinfo_answer_of (effective_value (tree_of trees peg.rev) peg.path))
   unfolding answer_of
   answer_of-mergeinfo peg = refl
 
@@ -224,7 +225,7 @@ module _ (dump : DumpValue) (peg : PegValue) (at : PathRev) (found : IsPegFound 
 pub mergeinfo_answer-found : (dump : DumpValue) (peg : PegValue) (at : PathRev) → IsPegFound dump peg at
     → mergeinfo_answer dump peg ≡ mergeinfo_answer_of (effective_in dump at.path at.rev)
 mergeinfo_answer-found dump peg at found =
-    found.answered (λ each. with_effective_mergeinfo (trees_in_bytes dump) each (λ value. ok_answer (mergeinfo_lines value)))
+    found.answered (λ each. mergeinfo_answer_of (effective_value (tree_of (trees_in_bytes dump) each.rev) each.path))
 
 -- ---- a refused peg
 
@@ -296,7 +297,7 @@ module _ (dump : DumpValue) (source target : PegValue) (pair : Pair) (found : Is
     module _ (range : Option (ℕ × ℕ)) where
       pub IsAnswer-Merged : (revisions : Vec MergedRevision Global)
           → revisions.items ≡ merged_in dump pair range held
-          → IsAnswer dump.names (merged_answer dump source target range) (kept.Merged revisions)
+          → IsAnswer dump.names (verb_answer dump verb.Merged source target range) (kept.Merged revisions)
       IsAnswer-Merged revisions are = record {
         names_of = tt;
         same =
@@ -307,7 +308,7 @@ module _ (dump : DumpValue) (source target : PegValue) (pair : Pair) (found : Is
 
       pub IsAnswer-Eligible : (revisions : Vec ℕ Global)
           → revisions.items ≡ eligible_in dump pair range held
-          → IsAnswer dump.names (eligible_answer dump source target range) (kept.Eligible revisions)
+          → IsAnswer dump.names (verb_answer dump verb.Eligible source target range) (kept.Eligible revisions)
       IsAnswer-Eligible revisions are = record {
         names_of = tt;
         same =

@@ -49,23 +49,11 @@ ok_answer lines = record { status = status.Ok; lines = lines }
 
 -- ---- the peg
 
--- the peg revision has to exist, and the path in it
-abbrev pub peg_status : TreesOfBytes → Peg → Status
-peg_status trees peg =
-    if nat_le (length trees) peg.rev then status.NoSuchRevision
-    else (if is_there bytes_eq (tree_of trees peg.rev) peg.path then status.Ok else status.NoSuchPath)
-
--- the refusal, if there is one; otherwise this answer
-abbrev pub refuse_or : Status → Answer → Answer
-refuse_or status.Ok answer = answer
-refuse_or status.BadQuery answer = refused_answer status.BadQuery
-refuse_or status.NoSuchRevision answer = refused_answer status.NoSuchRevision
-refuse_or status.NoSuchPath answer = refused_answer status.NoSuchPath
-refuse_or status.MalformedMergeinfo answer = refused_answer status.MalformedMergeinfo
-
--- `no-such-revision` or `no-such-path`, if the peg does not exist; otherwise this answer
+-- the peg revision has to exist, and the path in it; otherwise this answer is refused
 abbrev pub if_peg_exists : TreesOfBytes → Peg → Answer → Answer
-if_peg_exists trees peg answer = refuse_or (peg_status trees peg) answer
+if_peg_exists trees peg answer =
+    if nat_le (length trees) peg.rev then refused_answer status.NoSuchRevision
+    else (if is_there bytes_eq (tree_of trees peg.rev) peg.path then answer else refused_answer status.NoSuchPath)
 
 -- ---- result lines
 
@@ -152,7 +140,7 @@ answer_of history trees (query.locate peg rev) = if_peg_exists trees peg (ok_ans
 answer_of history trees (query.segments peg) = if_peg_exists trees peg (ok_answer (segments_lines trees peg))
 answer_of history trees (query.log peg range) = if_peg_exists trees peg (ok_answer (log_lines history trees peg range))
 answer_of history trees (query.mergeinfo peg) =
-    if_peg_exists trees peg (with_effective_mergeinfo trees peg (λ value. ok_answer (mergeinfo_lines value)))
+    if_peg_exists trees peg (mergeinfo_answer_of (effective_value (tree_of trees peg.rev) peg.path))
 answer_of history trees (query.merged source target range) =
     if_both_exist trees source target (λ value. ok_answer (merged_lines history trees source range value))
 answer_of history trees (query.eligible source target range) =
@@ -219,15 +207,6 @@ hit_text names segments hit = line_text (hit_line (segments_in_bytes names segme
 abbrev pub log_text : List (List ℕ) → List KeptSegment → List Hit → List ℕ
 log_text names segments hits = flat_map line_text (map (hit_line (segments_in_bytes names segments)) hits)
 
-abbrev pub mergeinfo_text : MergeInfoValue → List ℕ
-mergeinfo_text value = flat_map line_text (mergeinfo_lines value)
-
-abbrev pub merged_text : List MergedRevision → List ℕ
-merged_text revisions = flat_map line_text (map merged_line revisions)
-
-abbrev pub eligible_text : List ℕ → List ℕ
-eligible_text revisions = flat_map line_text (map eligible_line revisions)
-
 -- the whole text of the answer to the query of this place in the list
 abbrev pub answer_text_at : List (List ℕ) → ℕ → KeptAnswer → List ℕ
 answer_text_at names place answer = answer_text (place + 1) (answer_in_bytes names answer)
@@ -249,13 +228,7 @@ pub record IsAnswer (names : List (List ℕ)) (answer : Answer) (each : KeptAnsw
 
 -- its status, whatever the names are
 abbrev pub kept_status : KeptAnswer → Status
-kept_status (kept.Refused why) = why
-kept_status (kept.Location path) = status.Ok
-kept_status (kept.Segments segments) = status.Ok
-kept_status (kept.Log segments hits) = status.Ok
-kept_status (kept.Mergeinfo value) = status.Ok
-kept_status (kept.Merged revisions) = status.Ok
-kept_status (kept.Eligible revisions) = status.Ok
+kept_status answer = (answer_in_bytes [] answer).status
 
 -- where a query asks about mergeinfo, an answer of this status looks at it
 abbrev pub needs_mergeinfo : Status → Bool

@@ -16,7 +16,7 @@ use Rattle.svn_dump.specs.declared.record.ValueId.{ValueId}
 use Rattle.block_map.specs.Ends.{ends_of}
 use Rattle.block_map.specs.Map.{IsEndIn, IsMapOf, MapValue, revision_in}
 use Rattle.block_map.specs.declared.nearest.Nearest.{Nearest}
-use Rattle.query_answer.specs.Answer.{Answer, HasPathOf, TreesOfBytes, if_both_exist, if_peg_exists, with_effective_mergeinfo, with_value, answer_of, eligible_in_range, eligible_lines, locate_lines, log_lines, merged_in_range, merged_lines, mergeinfo_lines, needs_mergeinfo, ok_answer, refused_answer, segments_lines}
+use Rattle.query_answer.specs.Answer.{Answer, HasPathOf, TreesOfBytes, if_both_exist, if_peg_exists, with_value, answer_of, eligible_in_range, eligible_lines, locate_lines, log_lines, merged_in_range, merged_lines, mergeinfo_answer_of, needs_mergeinfo, ok_answer, refused_answer, segments_lines}
 use Rattle.query_answer.specs.Effective.{NearestMergeinfo, effective_value, nearest, nearest_text}
 use Rattle.query_answer.specs.Peg.{Peg, PegValue, peg_view}
 use Rattle.query_answer.specs.Query as query
@@ -73,22 +73,12 @@ log_answer dump peg range =
 
 abbrev pub mergeinfo_answer : DumpValue → PegValue → Answer
 mergeinfo_answer dump peg =
-    with_peg_in dump peg (λ found. with_effective_mergeinfo (trees_in_bytes dump) found (λ value. ok_answer (mergeinfo_lines value)))
+    with_peg_in dump peg (λ found. mergeinfo_answer_of (effective_value (tree_of (trees_in_bytes dump) found.rev) found.path))
 
 -- the same for a source, a target and the mergeinfo of the target
 abbrev pub with_pair_in : DumpValue → PegValue → PegValue → (Peg → Peg → MergeInfoValue → Answer) → Answer
 with_pair_in dump source target answer =
     if_both_exist (trees_in_bytes dump) (peg_view source) (peg_view target) (answer (peg_view source) (peg_view target))
-
-abbrev pub merged_answer : DumpValue → PegValue → PegValue → Option (ℕ × ℕ) → Answer
-merged_answer dump source target range =
-    with_pair_in dump source target
-    (λ from to value. ok_answer (merged_lines (history_in_bytes dump) (trees_in_bytes dump) from range value))
-
-abbrev pub eligible_answer : DumpValue → PegValue → PegValue → Option (ℕ × ℕ) → Answer
-eligible_answer dump source target range =
-    with_pair_in dump source target
-    (λ from to value. ok_answer (eligible_lines (history_in_bytes dump) (trees_in_bytes dump) from to range value))
 
 -- ---- its paths
 
@@ -197,8 +187,12 @@ IsPairRefused dump source target Memory = ⊤
 
 -- the revisions that are asked for
 abbrev pub verb_answer : DumpValue → PairVerb → PegValue → PegValue → Option (ℕ × ℕ) → Answer
-verb_answer dump verb.Merged source target range = merged_answer dump source target range
-verb_answer dump verb.Eligible source target range = eligible_answer dump source target range
+verb_answer dump verb.Merged source target range =
+    with_pair_in dump source target
+    (λ from to value. ok_answer (merged_lines (history_in_bytes dump) (trees_in_bytes dump) from range value))
+verb_answer dump verb.Eligible source target range =
+    with_pair_in dump source target
+    (λ from to value. ok_answer (eligible_lines (history_in_bytes dump) (trees_in_bytes dump) from to range value))
 
 abbrev pub pair_answer : DumpValue → Wanted → Answer
 pair_answer dump wanted = verb_answer dump wanted.verb wanted.source.now wanted.target.now wanted.range

@@ -1,4 +1,4 @@
--- Why a query has no result lines, and what is answered instead.
+-- What is answered where a query has no result lines.
 use Rattle.std.specs.Prelude.{ℕ, List, IfOk, Result, Ok, Err, alloc_error}
 use Rattle.std.specs.declared.alloc.AllocError.{AllocError}
 use Rattle.query_answer.specs.Answer.{Answer, IsAnswer}
@@ -7,15 +7,11 @@ use Rattle.query_answer.specs.declared.answers.Answer.TheVariants as kept
 use Rattle.query_answer.specs.declared.unanswered.Unanswered.{Unanswered}
 use Rattle.query_answer.specs.declared.unanswered.Unanswered.TheVariants.{Memory, Refused}
 
--- the status alone, unless memory ran out
-abbrev pub answer_instead : Unanswered → Result KeptAnswer AllocError
-answer_instead (Refused status) = Ok (kept.Refused status)
-answer_instead Memory = Err alloc_error
-
--- what the caller of a query gets
+-- what the caller gets: the status alone, where the query is refused
 abbrev pub given : Result KeptAnswer Unanswered → Result KeptAnswer AllocError
 given (Ok answer) = Ok answer
-given (Err e) = answer_instead e
+given (Err (Refused status)) = Ok (kept.Refused status)
+given (Err Memory) = Err alloc_error
 
 -- the caller gets this answer, with paths of the table, unless memory runs out
 abbrev pub IsAnswered : List (List ℕ) → Answer → Result KeptAnswer Unanswered → Type 0

@@ -1,4 +1,3 @@
-//! The answer to a query, and its text.
 ghost use Rattle.std.specs.Prelude.{◌≡◌, ◌+◌, ◌++◌, OnErr, OnOk};
 ghost use Rattle.svn_text.specs.Appended.{BeginsWith};
 ghost use Rattle.query_answer.specs.Answer.{HasPathsOf, answer_head, answer_in_bytes, answer_text_at};

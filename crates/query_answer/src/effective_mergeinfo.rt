@@ -1,5 +1,3 @@
-//! What holds for a path.
-
 use merge_info::MergeInfo;
 
 /// The mergeinfo that holds for a path: its own, or what it inherits.

@@ -1,4 +1,3 @@
-//! The mergeinfo that holds for a path, lent.
 ghost use Rattle.std.specs.Prelude.{◌≡◌, IfOk};
 ghost use Rattle.svn_path.specs.Path.{IsPathOf, components_of};
 ghost use Rattle.query_answer.specs.Held.{IsHeldIn, held_ranges_at, held_value};

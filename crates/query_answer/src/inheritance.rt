@@ -1,6 +1,5 @@
 //! The mergeinfo that a path has or inherits.
 ghost use Rattle.std.specs.Prelude.{◌≡◌, ◌≤◌, IfOk, OnOk, drop, length, option_map};
-ghost use Rattle.merge_info.specs.CanonicalValue.{inherited_value};
 ghost use Rattle.merge_info.specs.Line.{IsPrintedPath};
 ghost use Rattle.svn_path.specs.Components.{path_text};
 ghost use Rattle.svn_path.specs.Path.{IsPathOf, components_of};
@@ -63,26 +62,10 @@ fn own_or_inherited(
         Parsed::Malformed => Ok(Effective::Malformed),
         Parsed::Good(value) if depth == path.len() => Ok(Effective::Value(value.dup()?)),
         Parsed::Good(value) => {
-            Ok(Effective::Value(inherited_by(alloc, repo, path, depth, value)?))
+            let rest = rest_below(alloc, repo, path, depth)?;
+            Ok(Effective::Value(value.inherited(&rest)?))
         }
     }
-}
-
-/// What a path inherits of the value of its first `depth` components.
-pub(crate) fn inherited_by(
-    alloc: Global,
-    repo: &Repo,
-    path: &Path,
-    depth: usize,
-    value: &MergeInfo,
-) -> Result<MergeInfo, AllocError>
-    requires names { IsPathOf repo.now.names path.now }
-    requires depth { depth ≤ length path.now }
-    ensures { IfOk result (λ below. below
-        ≡ inherited_value (path_text (drop depth (components_of repo.now.names path.now))) value.now) }
-{
-    let rest = rest_below(alloc, repo, path, depth)?;
-    value.inherited(&rest)
 }
 
 /// What a path has below its first `depth` components.

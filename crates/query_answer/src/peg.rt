@@ -1,4 +1,3 @@
-//! The pegs of queries.
 ghost use Rattle.std.specs.Prelude.{◌≡◌};
 ghost use Rattle.svn_path.specs.Components.{HasDot};
 ghost use Rattle.query_answer.specs.Peg.{peg_value_of};

@@ -1,7 +1,8 @@
 //! The result lines of answers. What appends them appends as much as there is memory for.
-ghost use Rattle.std.specs.Prelude.{◌≡◌, ◌++◌, All, OnErr, OnOk};
+ghost use Rattle.std.specs.Prelude.{◌≡◌, ◌++◌, All, OnErr, OnOk, flat_map, map};
 ghost use Rattle.svn_text.specs.Appended.{BeginsWith};
-ghost use Rattle.query_answer.specs.Answer.{HasPathOf, IsLocationOf, eligible_text, hit_text, lent_path, locate_text, log_text, merged_text, mergeinfo_text, location_text, segment_text, segments_text};
+ghost use Rattle.svn_text.specs.Line.{line_text};
+ghost use Rattle.query_answer.specs.Answer.{HasPathOf, IsLocationOf, eligible_line, hit_text, lent_path, locate_text, location_text, log_text, merged_line, mergeinfo_lines, segment_text, segments_text};
 
 use crate::locations::path_at;
 use crate::merged_revision::MergedRevision;
@@ -104,7 +105,7 @@ pub(crate) fn append_mergeinfo(
     value: &PrintedMergeinfo,
     out: &mut Vec<u8>,
 ) -> Result<(), AllocError>
-    ensures ok { OnOk result (out.new.items ≡ out.old.items ++ mergeinfo_text value.now) }
+    ensures ok { OnOk result (out.new.items ≡ out.old.items ++ flat_map line_text (mergeinfo_lines value.now)) }
     ensures begins { BeginsWith out.old.items out.new.items }
 {
     value.write(out)
@@ -116,7 +117,7 @@ pub(crate) fn append_merged(
     revisions: &[MergedRevision],
     out: &mut Vec<u8>,
 ) -> Result<(), AllocError>
-    ensures ok { OnOk result (out.new.items ≡ out.old.items ++ merged_text revisions.now) }
+    ensures ok { OnOk result (out.new.items ≡ out.old.items ++ flat_map line_text (map merged_line revisions.now)) }
     ensures begins { BeginsWith out.old.items out.new.items }
 {
     for revision in revisions {
@@ -133,7 +134,7 @@ pub(crate) fn append_merged(
 /// Appends the lines of `eligible`.
 #[tactic(auto, using(svn_text::proofs::Appended::appended))]
 pub(crate) fn append_eligible(revisions: &[u32], out: &mut Vec<u8>) -> Result<(), AllocError>
-    ensures ok { OnOk result (out.new.items ≡ out.old.items ++ eligible_text revisions.now) }
+    ensures ok { OnOk result (out.new.items ≡ out.old.items ++ flat_map line_text (map eligible_line revisions.now)) }
     ensures begins { BeginsWith out.old.items out.new.items }
 {
     for rev in revisions {

@@ -1,4 +1,3 @@
-//! The status of an answer.
 ghost use Rattle.std.specs.Prelude.{◌≡◌};
 ghost use Rattle.query_answer.specs.Answer.{status_text};
 

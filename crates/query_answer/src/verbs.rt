@@ -46,7 +46,8 @@ pub fn answer<'r>(
 {
     match answer_verb(alloc, repo, query, memo, seen) {
         Ok(answer) => Ok(answer),
-        Err(unanswered) => unanswered.answer(),
+        Err(Unanswered::Refused(status)) => Ok(Answer::Refused(status)),
+        Err(Unanswered::Memory) => Err(AllocError),
     }
 }
 

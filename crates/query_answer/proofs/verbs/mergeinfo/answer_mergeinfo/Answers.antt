@@ -1,8 +1,9 @@
 use Rattle.std.proofs.Common.{sym, ap, subst, ◌∙◌, option_map}
 use Rattle.std.proofs.lemmas.Result.{err_from_is_err_and}
 use Rattle.svn_path.specs.Path.{components_of}
-use Rattle.query_answer.specs.Answer.{mergeinfo_answer_of, mergeinfo_lines, ok_answer, with_effective_mergeinfo}
-use Rattle.query_answer.specs.Effective.{own_or_inherited}
+use Rattle.svn_dump.specs.Tree.{tree_of}
+use Rattle.query_answer.specs.Answer.{mergeinfo_answer_of}
+use Rattle.query_answer.specs.Effective.{effective_value, own_or_inherited}
 use Rattle.query_answer.specs.Repo.{trees_in_bytes}
 use Rattle.query_answer.specs.Unanswered.{IsAnswered}
 use Rattle.query_answer.proofs.AnswerTexts.{IsAnswered-peg_refused, mergeinfo_answer-found}
@@ -16,7 +17,7 @@ returns-in_err-target c =
     let refused = c.in_err-target.ensures.refused in
     let (error, errs, same) = err_from_is_err_and c.from_residual.result c.from_residual.ensures.1 in
     record {
-      answer = rw (errs, same) (IsAnswered-peg_refused dump c.args.peg.now c.in_err-target.field-0.0 refused (λ found. with_effective_mergeinfo (trees_in_bytes dump) found (λ value. ok_answer (mergeinfo_lines value))));
+      answer = rw (errs, same) (IsAnswered-peg_refused dump c.args.peg.now c.in_err-target.field-0.0 refused (λ found. mergeinfo_answer_of (effective_value (tree_of (trees_in_bytes dump) found.rev) found.path)));
       worker = rw (errs, same) (Reads-peg_refused dump c.args.memo.now _ c.args.seen.now c.requires.seen c.args.peg.now c.in_err-target.field-0.0 refused);
     }
 
