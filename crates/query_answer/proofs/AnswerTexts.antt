@@ -24,7 +24,7 @@ use Rattle.svn_dump.specs.Location.{location}
 use Rattle.svn_dump.specs.Record.{HistoryOfBytes}
 use Rattle.svn_dump.specs.Tree.{is_there, tree_of}
 use Rattle.svn_dump.specs.declared.record.NodeRecord.{NodeRecord}
-use Rattle.query_answer.specs.Answer.{Answer, IsAnswer, IsLocationOf, HasPathOf, TreesOfBytes, if_both_exist, if_peg_exists, with_effective_mergeinfo, with_value, answer_of, eligible_line, eligible_lines, hit_line, locate_lines, location_line, log_line, log_lines, merged_line, merged_lines, mergeinfo_answer_of, mergeinfo_lines, ok_answer, refused_answer, segment_in_bytes, segment_line, segments_in_bytes, segments_lines}
+use Rattle.query_answer.specs.Answer.{Answer, IsAnswer, IsLocationOf, HasPathOf, TreesOfBytes, if_both_exist, if_peg_exists, with_effective_mergeinfo, with_value, answer_of, eligible_line, eligible_lines, hit_line, locate_lines, location_line, log_line, log_lines, merged_line, merged_lines, value_answer, mergeinfo_lines, ok_answer, refused_answer, segment_in_bytes, segment_line, segments_in_bytes, segments_lines}
 use Rattle.query_answer.specs.Effective.{effective_value}
 use Rattle.query_answer.specs.Peg.{Peg, PegValue, peg_view}
 use Rattle.query_answer.specs.Query.{bad, eligible, locate, log, merged, mergeinfo, segments}
@@ -82,7 +82,7 @@ module _ (history : HistoryOfBytes) (trees : TreesOfBytes) where
   unfolding answer_of
   answer_of-log peg range = refl
 
-  pub answer_of-mergeinfo : (peg : Peg) → answer_of history trees (mergeinfo peg) ≡ if_peg_exists trees peg (mergeinfo_answer_of (effective_value (tree_of trees peg.rev) peg.path))
+  pub answer_of-mergeinfo : (peg : Peg) → answer_of history trees (mergeinfo peg) ≡ if_peg_exists trees peg (value_answer (effective_value (tree_of trees peg.rev) peg.path))
   unfolding answer_of
   answer_of-mergeinfo peg = refl
 
@@ -223,14 +223,14 @@ module _ (dump : DumpValue) (peg : PegValue) (at : PathRev) (found : IsPegFound 
 
 -- the mergeinfo that holds for the path
 pub mergeinfo_answer-found : (dump : DumpValue) (peg : PegValue) (at : PathRev) → IsPegFound dump peg at
-    → mergeinfo_answer dump peg ≡ mergeinfo_answer_of (effective_in dump at.path at.rev)
+    → mergeinfo_answer dump peg ≡ value_answer (effective_in dump at.path at.rev)
 mergeinfo_answer-found dump peg at found =
-    found.answered (λ each. mergeinfo_answer_of (effective_value (tree_of (trees_in_bytes dump) each.rev) each.path))
+    found.answered (λ each. value_answer (effective_value (tree_of (trees_in_bytes dump) each.rev) each.path))
 
 -- ---- a refused peg
 
 pub IsAnswered-peg_refused : (dump : DumpValue) (peg : PegValue) (e : Unanswered) → IsPegRefused dump peg e
-    → (answer : Peg → Answer) → IsAnswered dump.names (with_peg_in dump peg answer) (Err e)
+    → (answer : Peg → Answer) → IsAnswered dump (with_peg_in dump peg answer) (Err e)
 IsAnswered-peg_refused dump peg (Refused status) refused answer = IsAnswer-Refused dump.names _ status (refused.0 (answer (peg_view peg)))
 IsAnswered-peg_refused dump peg Memory refused answer = tt
 
@@ -277,7 +277,7 @@ IsAnswer-pair_refused dump wanted status refused = by wanted.verb
         IsAnswer-Refused dump.names _ status (refused (λ from to value. ok_answer (lines from to wanted.range value)))
 
 pub IsAnswered-pair_refused : (dump : DumpValue) (wanted : Wanted) (e : Unanswered)
-    → IsPairRefused dump wanted.source.now wanted.target.now e → IsAnswered dump.names (pair_answer dump wanted) (Err e)
+    → IsPairRefused dump wanted.source.now wanted.target.now e → IsAnswered dump (pair_answer dump wanted) (Err e)
 IsAnswered-pair_refused dump wanted (Refused status) refused = IsAnswer-pair_refused dump wanted status refused.0
 IsAnswered-pair_refused dump wanted Memory refused = tt
 

@@ -99,8 +99,8 @@ abbrev pub mergeinfo_lines : MergeInfoValue → List (List ℕ)
 mergeinfo_lines value = map printed_entry value
 
 -- the answer to `mergeinfo`, by the effective mergeinfo
-abbrev pub mergeinfo_answer_of : Option MergeInfoValue → Answer
-mergeinfo_answer_of value = with_value value (λ each. ok_answer (mergeinfo_lines each))
+abbrev pub value_answer : Option MergeInfoValue → Answer
+value_answer value = with_value value (λ each. ok_answer (mergeinfo_lines each))
 
 -- a star follows a revision that is not inheritable
 abbrev pub merged_line : MergedRevision → List ℕ
@@ -140,7 +140,7 @@ answer_of history trees (query.locate peg rev) = if_peg_exists trees peg (ok_ans
 answer_of history trees (query.segments peg) = if_peg_exists trees peg (ok_answer (segments_lines trees peg))
 answer_of history trees (query.log peg range) = if_peg_exists trees peg (ok_answer (log_lines history trees peg range))
 answer_of history trees (query.mergeinfo peg) =
-    if_peg_exists trees peg (mergeinfo_answer_of (effective_value (tree_of trees peg.rev) peg.path))
+    if_peg_exists trees peg (value_answer (effective_value (tree_of trees peg.rev) peg.path))
 answer_of history trees (query.merged source target range) =
     if_both_exist trees source target (λ value. ok_answer (merged_lines history trees source range value))
 answer_of history trees (query.eligible source target range) =

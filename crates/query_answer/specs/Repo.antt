@@ -16,12 +16,14 @@ use Rattle.svn_dump.specs.declared.record.ValueId.{ValueId}
 use Rattle.block_map.specs.Ends.{ends_of}
 use Rattle.block_map.specs.Map.{IsEndIn, IsMapOf, MapValue, revision_in}
 use Rattle.block_map.specs.declared.nearest.Nearest.{Nearest}
-use Rattle.query_answer.specs.Answer.{Answer, HasPathOf, TreesOfBytes, if_both_exist, if_peg_exists, with_value, answer_of, eligible_in_range, eligible_lines, locate_lines, log_lines, merged_in_range, merged_lines, mergeinfo_answer_of, needs_mergeinfo, ok_answer, refused_answer, segments_lines}
-use Rattle.query_answer.specs.Effective.{NearestMergeinfo, effective_value, nearest, nearest_text}
+use Rattle.query_answer.specs.Answer.{Answer, HasPathOf, TreesOfBytes, if_both_exist, if_peg_exists, with_value, answer_of, eligible_in_range, eligible_lines, locate_lines, log_lines, merged_in_range, merged_lines, value_answer, needs_mergeinfo, ok_answer, refused_answer, segments_lines}
+use Rattle.query_answer.specs.Effective.{NearestMergeinfo, effective_value, nearest, nearest_text, own_or_inherited}
 use Rattle.query_answer.specs.Peg.{Peg, PegValue, peg_view}
 use Rattle.query_answer.specs.Query as query
 use Rattle.query_answer.specs.Query.{Query}
 use Rattle.merge_info.specs.Value.{MergeInfoValue}
+use Rattle.value_memo.specs.Parsed.{parsed_view}
+use Rattle.value_memo.specs.declared.parsed.Parsed.{Parsed}
 use Rattle.query_answer.specs.declared.effective_mergeinfo.Effective.{Effective}
 use Rattle.query_answer.specs.declared.effective_mergeinfo.Effective.TheVariants.{Malformed, Value}
 use Rattle.query_answer.specs.declared.merged_revision.MergedRevision.{MergedRevision}
@@ -73,7 +75,7 @@ log_answer dump peg range =
 
 abbrev pub mergeinfo_answer : DumpValue → PegValue → Answer
 mergeinfo_answer dump peg =
-    with_peg_in dump peg (λ found. mergeinfo_answer_of (effective_value (tree_of (trees_in_bytes dump) found.rev) found.path))
+    with_peg_in dump peg (λ found. value_answer (effective_value (tree_of (trees_in_bytes dump) found.rev) found.path))
 
 -- the same for a source, a target and the mergeinfo of the target
 abbrev pub with_pair_in : DumpValue → PegValue → PegValue → (Peg → Peg → MergeInfoValue → Answer) → Answer
@@ -150,6 +152,10 @@ effective_view Malformed = None
 abbrev pub effective_in : DumpValue → List NameId → ℕ → Option MergeInfoValue
 effective_in dump path rev = effective_value (tree_of (trees_in_bytes dump) rev) (components_of dump.names path)
 
+-- what holds for a path, by what the text says that its first `depth` components have
+abbrev pub effective_said : DumpValue → List NameId → ℕ → Parsed → Option MergeInfoValue
+effective_said dump path depth parsed = option_map (own_or_inherited (components_of dump.names path) depth) (parsed_view parsed)
+
 -- ---- the text that is read
 
 -- that of the nearest mergeinfo of a path of the dump in a revision
@@ -158,6 +164,9 @@ nearest_text_in dump path rev = nearest_text (tree_of (trees_in_bytes dump) rev)
 
 abbrev pub nearest_text_at : DumpValue → Peg → Option (List ℕ)
 nearest_text_at dump peg = nearest_text (tree_of (trees_in_bytes dump) peg.rev) peg.path
+
+abbrev pub peg_text : DumpValue → PegValue → Option (List ℕ)
+peg_text dump peg = nearest_text_at dump (peg_view peg)
 
 -- for a query, if its pegs are there: that of the path whose mergeinfo is asked for, or of the target
 abbrev pub text_read_for : DumpValue → Query → Option (List ℕ)

@@ -1,6 +1,7 @@
 -- What is answered where a query has no result lines.
-use Rattle.std.specs.Prelude.{ℕ, List, IfOk, Result, Ok, Err, alloc_error}
+use Rattle.std.specs.Prelude.{IfOk, Result, Ok, Err, alloc_error}
 use Rattle.std.specs.declared.alloc.AllocError.{AllocError}
+use Rattle.svn_dump.specs.Dump.{DumpValue}
 use Rattle.query_answer.specs.Answer.{Answer, IsAnswer}
 use Rattle.query_answer.specs.declared.answers.Answer.{Answer as KeptAnswer}
 use Rattle.query_answer.specs.declared.answers.Answer.TheVariants as kept
@@ -13,6 +14,6 @@ given (Ok answer) = Ok answer
 given (Err (Refused status)) = Ok (kept.Refused status)
 given (Err Memory) = Err alloc_error
 
--- the caller gets this answer, with paths of the table, unless memory runs out
-abbrev pub IsAnswered : List (List ℕ) → Answer → Result KeptAnswer Unanswered → Type 0
-IsAnswered names answer result = IfOk (given result) (IsAnswer names answer)
+-- the caller gets this answer, with paths of the dump, unless memory runs out
+abbrev pub IsAnswered : DumpValue → Answer → Result KeptAnswer Unanswered → Type 0
+IsAnswered dump answer result = IfOk (given result) (IsAnswer dump.names answer)

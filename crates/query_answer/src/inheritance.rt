@@ -1,11 +1,9 @@
 //! The mergeinfo that a path has or inherits.
-ghost use Rattle.std.specs.Prelude.{◌≡◌, ◌≤◌, IfOk, OnOk, drop, length, option_map};
+ghost use Rattle.std.specs.Prelude.{◌≡◌, ◌≤◌, IfOk, OnOk, drop, length};
 ghost use Rattle.merge_info.specs.Line.{IsPrintedPath};
 ghost use Rattle.svn_path.specs.Components.{path_text};
 ghost use Rattle.svn_path.specs.Path.{IsPathOf, components_of};
-ghost use Rattle.value_memo.specs.Parsed.{parsed_view};
-ghost use Rattle.query_answer.specs.Effective.{own_or_inherited};
-ghost use Rattle.query_answer.specs.Repo.{effective_in, effective_view, nearest_text_in};
+ghost use Rattle.query_answer.specs.Repo.{effective_in, effective_said, effective_view, nearest_text_in};
 ghost use Rattle.query_answer.specs.Worker.{IsSeenOf, Knows, Learns};
 
 use crate::effective_mergeinfo::Effective;
@@ -55,8 +53,7 @@ fn own_or_inherited(
 ) -> Result<Effective, AllocError>
     requires path { IsPathOf repo.now.names path.now }
     requires depth { depth ≤ length path.now }
-    ensures { IfOk result (λ value. effective_view value
-        ≡ option_map (own_or_inherited (components_of repo.now.names path.now) depth) (parsed_view parsed.entry)) }
+    ensures { IfOk result (λ value. effective_view value ≡ effective_said repo.now path.now depth parsed.entry) }
 {
     match parsed {
         Parsed::Malformed => Ok(Effective::Malformed),

@@ -1,4 +1,13 @@
 //! Queries about the history of a dump, and their answers.
+//!
+//! A line is answered by a worker, and its answer is written with its place among the lines:
+//!
+//! ```
+//! let answer = answer(alloc, repo, &Query::read(line.as_bytes()), memo, seen)?;
+//! let written = answer.write(repo, place, out);
+//! ```
+//!
+//! All workers share one `memo`, which is `repo.memo(alloc)?`, and each has its own `seen`.
 #![tactic(auto)]
 
 mod answers;

@@ -63,7 +63,7 @@ impl PrintedMergeinfo {
         })
     }
 
-    /// Appends them.
+    /// Appends the lines.
     pub(crate) fn write(&self, out: &mut Vec<u8>) -> Result<(), AllocError>
         ensures ok { OnOk result (out.new.items ≡ out.old.items ++ value_text self.now) }
         ensures err { OnErr result (out.new.items ≡ out.old.items) }

@@ -60,7 +60,7 @@ fn answer_verb<'r>(
     seen: &mut Seen<'r>,
 ) -> Result<Answer, Unanswered>
     requires seen { IsSeenOf repo.now.values memo.now seen.old }
-    ensures answer { IsAnswered repo.now.names (answer_in repo.now (query_view query.now)) result }
+    ensures answer { IsAnswered repo.now (answer_in repo.now (query_view query.now)) result }
     ensures worker { Reads repo.now memo.now (text_read_for repo.now (query_view query.now)) result seen.old seen.new }
 {
     match query {

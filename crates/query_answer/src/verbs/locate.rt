@@ -15,7 +15,7 @@ pub(crate) fn answer_locate(
     peg: &Peg<'_>,
     rev: u32,
 ) -> Result<Answer, Unanswered>
-    ensures { IsAnswered repo.now.names (locate_answer repo.now peg.now rev) result }
+    ensures { IsAnswered repo.now (locate_answer repo.now peg.now rev) result }
 {
     let at = repo.find(alloc, peg)?;
     Ok(Answer::Location(repo.locate(&at, rev)?))

@@ -15,7 +15,7 @@ pub(crate) fn answer_log(
     peg: &Peg<'_>,
     range: Option<(u32, u32)>,
 ) -> Result<Answer, Unanswered>
-    ensures { IsAnswered repo.now.names (log_answer repo.now peg.now range) result }
+    ensures { IsAnswered repo.now (log_answer repo.now peg.now range) result }
 {
     let at = repo.find(alloc, peg)?;
     let segments = repo.segments(&at)?;

@@ -1,11 +1,8 @@
 //! `mergeinfo`: the effective mergeinfo of a path.
-ghost use Rattle.std.specs.Prelude.{◌≤◌, length, option_map};
-ghost use Rattle.svn_path.specs.Path.{IsPathOf, components_of};
-ghost use Rattle.value_memo.specs.Parsed.{parsed_view};
-ghost use Rattle.query_answer.specs.Answer.{mergeinfo_answer_of};
-ghost use Rattle.query_answer.specs.Effective.{own_or_inherited};
-ghost use Rattle.query_answer.specs.Peg.{peg_view};
-ghost use Rattle.query_answer.specs.Repo.{mergeinfo_answer, nearest_text_at};
+ghost use Rattle.std.specs.Prelude.{◌≤◌, length};
+ghost use Rattle.svn_path.specs.Path.{IsPathOf};
+ghost use Rattle.query_answer.specs.Answer.{value_answer};
+ghost use Rattle.query_answer.specs.Repo.{effective_said, mergeinfo_answer, peg_text};
 ghost use Rattle.query_answer.specs.Unanswered.{IsAnswered};
 ghost use Rattle.query_answer.specs.Worker.{IsSeenOf, LooksAtMergeinfo, Reads};
 
@@ -32,8 +29,8 @@ pub(crate) fn answer_mergeinfo<'r>(
     seen: &mut Seen<'r>,
 ) -> Result<Answer, Unanswered>
     requires seen { IsSeenOf repo.now.values memo.now seen.old }
-    ensures answer { IsAnswered repo.now.names (mergeinfo_answer repo.now peg.now) result }
-    ensures worker { Reads repo.now memo.now (nearest_text_at repo.now (peg_view peg.now)) result seen.old seen.new }
+    ensures answer { IsAnswered repo.now (mergeinfo_answer repo.now peg.now) result }
+    ensures worker { Reads repo.now memo.now (peg_text repo.now peg.now) result seen.old seen.new }
 {
     let target = repo.find_target(alloc, peg)?;
     let empty = MergeInfo::empty(alloc);
@@ -52,8 +49,7 @@ fn own_or_inherited_lines(
 ) -> Result<Answer, Unanswered>
     requires path { IsPathOf repo.now.names path.now }
     requires depth { depth ≤ length path.now }
-    ensures answer { IsAnswered repo.now.names
-        (mergeinfo_answer_of (option_map (own_or_inherited (components_of repo.now.names path.now) depth) (parsed_view parsed.entry))) result }
+    ensures answer { IsAnswered repo.now (value_answer (effective_said repo.now path.now depth parsed.entry)) result }
     ensures found { LooksAtMergeinfo result }
 {
     match parsed {

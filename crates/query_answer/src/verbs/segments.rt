@@ -14,7 +14,7 @@ pub(crate) fn answer_segments(
     repo: &Repo,
     peg: &Peg<'_>,
 ) -> Result<Answer, Unanswered>
-    ensures { IsAnswered repo.now.names (segments_answer repo.now peg.now) result }
+    ensures { IsAnswered repo.now (segments_answer repo.now peg.now) result }
 {
     let at = repo.find(alloc, peg)?;
     Ok(Answer::Segments(repo.segments(&at)?))

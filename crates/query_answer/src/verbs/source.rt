@@ -46,7 +46,7 @@ impl<'a> SourceRanges<'a> {
         })
     }
 
-    /// Whether they have an operative revision, and if so whether it is inheritable.
+    /// Whether the ranges have an operative revision, and if so whether it is inheritable.
     pub(crate) fn has(&self, hit: Hit) -> Option<bool>
         ensures { result ≡ has_in self.now hit }
     {
