@@ -1,5 +1,5 @@
 -- The nearest mergeinfo of a path: in a renamed tree, step by step from the root, and as a map finds it.
-use Rattle.std.proofs.Common.{◌≡◌, ℕ, zero, suc, ◌+◌, Bool, List, [], Option, None, Some, map, option_map, option_and_then, take, refl, ap, ◌∙◌, ◌≤◌, length, sym, arith, ◌⊎◌, inl, inr, subst, IfSome}
+use Rattle.std.proofs.Common.{◌≡◌, ℕ, zero, suc, ◌+◌, Bool, List, [], Option, None, Some, map, option_map, option_and_then, take, refl, ap, ◌∙◌, ◌≤◌, length, sym, arith, ◌⊎◌, inl, inr, subst}
 use Rattle.std.proofs.lemmas.List.{take-map}
 use Rattle.std.proofs.lemmas.Option.{same_Some}
 use Rattle.std.proofs.lemmas.Bool.{cases_lt}

@@ -13,7 +13,7 @@ use Rattle.block_map.specs.declared.entry.Entry as kept
 use Rattle.query_answer.specs.Held.{depth_in, rest_of}
 use Rattle.query_answer.specs.declared.path_rev.PathRev.{PathRev}
 use Rattle.query_answer.specs.declared.target.Target.{Target}
-use Rattle.query_answer.specs.Answer.{Answer, if_peg_exists, refused_answer}
+use Rattle.query_answer.specs.Answer.{if_peg_exists, refused_answer}
 use Rattle.query_answer.specs.Peg.{PegValue}
 use Rattle.query_answer.specs.Repo.{IsPegFound, IsPegKnown, IsPegRefused, IsRepo, peg_in_bytes, trees_in_bytes}
 use Rattle.query_answer.specs.declared.status.Status.TheVariants as status

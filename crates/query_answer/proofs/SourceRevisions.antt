@@ -1,5 +1,5 @@
 -- What is found at the operative revisions of a source, by its kept segments.
-use Rattle.std.proofs.Common.{◌≡◌, ℕ, zero, suc, ◌+◌, ◌<◌, Bool, true, false, not, ◌&&◌, if◌then◌else◌, List, [], ◌∷◌, Option, Some, None, IfSome, All, filter, option_map, is_none, length, map, reverse, slice_get, bytes_eq, refl, sym, ap, subst, ◌∙◌}
+use Rattle.std.proofs.Common.{◌≡◌, ℕ, zero, suc, ◌+◌, Bool, true, false, not, ◌&&◌, if◌then◌else◌, List, [], ◌∷◌, Option, Some, None, IfSome, All, filter, option_map, is_none, map, reverse, slice_get, bytes_eq, refl, sym, ap, subst, ◌∙◌}
 use Rattle.std.proofs.lemmas.List.Elements.{All-head, All-tail}
 use Rattle.std.specs.List.{range_with_len}
 use Rattle.std.specs.Prelude.{filter_map, option_and_then}
@@ -14,7 +14,7 @@ use Rattle.path_index.proofs.Renaming.{same_location-rename}
 use Rattle.svn_path.specs.Names.{IsTable}
 use Rattle.svn_path.specs.Path.{IsPathOf, components_of, same_name}
 use Rattle.svn_path.specs.declared.names.NameId.{NameId}
-use Rattle.svn_dump.specs.Dump.{DumpValue, IsDump, history_in_bytes, history_view}
+use Rattle.svn_dump.specs.Dump.{DumpValue, history_in_bytes, history_view}
 use Rattle.svn_dump.specs.Location.{location}
 use Rattle.merge_info.specs.Inherited.{inherited_revision}
 use Rattle.merge_info.specs.Value.{MergeInfoValue}

@@ -1,10 +1,10 @@
 -- What a worker knows at first, and once a reading that borrows from it has ended.
-use Rattle.std.proofs.Common.{◌≡◌, ℕ, ◌≤◌, true, List, Option, Some, None, IsFalse, length, slice_get, inl, inr, refl, sym, subst, ◌∙◌}
+use Rattle.std.proofs.Common.{◌≡◌, ℕ, ◌≤◌, List, Option, Some, None, IsFalse, length, slice_get, inl, inr, refl, sym, subst, ◌∙◌}
 use Rattle.std.proofs.lemmas.Bool.{both_ways}
 use Rattle.std.specs.Prelude.{Result, Ok, Err, MatchResult, OnOk}
 use Rattle.value_memo.specs.SeenValue.{IsAnswered, SeenValue, nothing_seen}
 use Rattle.value_memo.proofs.Callers.{AsksOnly-answered, AsksOnly-nothing_seen}
-use Rattle.query_answer.specs.Answer.{kept_status, needs_mergeinfo}
+use Rattle.query_answer.specs.Answer.{needs_mergeinfo}
 use Rattle.query_answer.specs.Peg.{PegValue}
 use Rattle.query_answer.specs.Repo.{IsPairRefused, IsPegRefused}
 use Rattle.query_answer.specs.Unanswered.{given}

@@ -1,6 +1,6 @@
 -- The mergeinfo that holds for a path, where it is lent: the value of the nearest path that has some, and what the path
 -- has below that one.
-use Rattle.std.specs.Prelude.{ℕ, ◌==◌, Bool, not, List, [], Option, Some, None, drop, length, option_and_then}
+use Rattle.std.specs.Prelude.{ℕ, ◌==◌, Bool, not, List, Option, Some, None, drop, length, option_and_then}
 use Rattle.svn_path.specs.Path.{IsPathOf, components_of}
 use Rattle.svn_path.specs.declared.names.NameId.{NameId}
 use Rattle.range_list.specs.declared.run.Run.{Run}

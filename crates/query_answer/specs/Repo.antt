@@ -6,7 +6,6 @@ use Rattle.path_index.specs.Operative.{operative_of}
 use Rattle.path_index.specs.Range.{is_in_range}
 use Rattle.path_index.specs.declared.hit.Hit.{Hit}
 use Rattle.path_index.specs.declared.segment.Segment.{Segment as KeptSegment}
-use Rattle.svn_path.specs.Components.{parts_of}
 use Rattle.svn_path.specs.Path.{same_name, components_of, IsPathOf}
 use Rattle.svn_path.specs.declared.names.NameId.{NameId}
 use Rattle.svn_dump.specs.Dump.{DumpValue, IsDump, history_in_bytes, history_view}

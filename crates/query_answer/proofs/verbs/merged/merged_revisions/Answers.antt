@@ -1,4 +1,4 @@
-use Rattle.std.proofs.Common.{◌≡◌, filter, map, ap, sym, ◌∙◌}
+use Rattle.std.proofs.Common.{◌≡◌, map, ap, sym, ◌∙◌}
 use Rattle.std.proofs.lemmas.Result.{IfOk-weaker}
 use Rattle.svn_dump.specs.Dump.{history_in_bytes}
 use Rattle.query_answer.specs.Answer.{merged_in_range}
