@@ -51,9 +51,6 @@ module _ (cells : List KnownCellValue) (parses at : ℕ) (cell : KnownCellValue)
   pub text_at-cell : text_at (seen_view cells parses) at ≡ cell.text
   text_at-cell = rw (slice_get-map (λ p. p.text) cells at, there) refl
 
-  pub own-cell : slice_get (seen_view cells parses).own at ≡ Some cell.own
-  own-cell = rw (slice_get-map (λ p. p.own) cells at, there) refl
-
   pub name-cell : slice_get (seen_view cells parses).memo at ≡ Some cell.name
   name-cell = rw (slice_get-map (λ p. p.name) cells at, there) refl
 
