@@ -3,7 +3,7 @@ use Rattle.std.proofs.Common.{◌≡◌, ◌≢◌, ℕ, Bool, true, false, cond
 use Rattle.std.proofs.lemmas.Bool.{both_ways, cases_lt, false_from_ne_true}
 use Rattle.std.proofs.lemmas.Cmp.{nat_list_cmp_total, nat_list_eq_equiv}
 use Rattle.std.proofs.lemmas.List.{get_or-map, length-map}
-use Rattle.std.proofs.lemmas.List.Elements.{All-get_or, All-nil, All-head, All-tail, All-push}
+use Rattle.std.proofs.lemmas.List.Elements.{All-get_or, All-head, All-tail, All-push}
 use Rattle.std.proofs.lemmas.Map.Text.{is_eq-slice_cmp}
 use Rattle.std.proofs.lemmas.Slice.Eq.{bytes_eq-Decides}
 use Rattle.std.specs.Cmp.Lexicographic.{lists_agrees, slice_cmp, slice_partial_cmp}
@@ -14,7 +14,6 @@ use Rattle.range_list.specs.Rangelist.{HasSameNumbers, IsCanonical}
 use Rattle.range_list.specs.declared.run.Run.{Run}
 use Rattle.range_list.proofs.Same.{HasSameNumbers-append, HasSameNumbers-refl}
 use Rattle.merge_info.specs.Line.{IsLine, Line}
-use Rattle.merge_info.specs.RunsByPath.{RunsByPath, AreRunsByPath, lines_in}
 use Rattle.merge_info.specs.Value.{AreRising, HasSameRevisions, IsEntry, IsMergeInfo, entry_view, ranges_of, runs_at, some_runs}
 use Rattle.merge_info.specs.declared.entry.Entry.{Entry}
 use Rattle.merge_info.proofs.RunsAt.{runs_at-append, runs_at-cons, runs_of}
@@ -98,18 +97,6 @@ pub record IsSoFar (lines entries rest : List Line) : Type 0 where
   pub are_lines : All IsLine rest
   pub rising : AreRising (entries ++ rest)
   pub same : HasSameRevisions (entries ++ rest) lines
-
--- at the start
-pub IsSoFar-none : (lines : List Line) (by_path : RunsByPath) → AreRunsByPath lines by_path
-    → IsSoFar lines [] (lines_in by_path)
-IsSoFar-none lines by_path unites = record {
-  are_entries = All-nil IsEntry;
-  are_lines = unites.kept;
-  rising = unites.rising;
-  same =
-      λ path. subst (HasSameNumbers (runs_at (lines_in by_path) path)) (unites.same path)
-      (HasSameNumbers-refl (runs_at (lines_in by_path) path));
-}
 
 -- at the end
 pub IsSoFar-all : (lines entries : List Line) → IsSoFar lines entries []

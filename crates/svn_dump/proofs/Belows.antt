@@ -1,15 +1,8 @@
 -- Paths that are the same, and paths at or under another, under a test that decides equality.
-use Rattle.std.proofs.Common.{◌≡◌, Bool, false, List, [], ◌∷◌, ◌++◌, None, Some, option_and_then, append-nil, refl, sym, ap, ◌∙◌, arith}
+use Rattle.std.proofs.Common.{◌≡◌, Bool, false, List, [], ◌∷◌, ◌++◌, None, Some, append-nil, refl, sym, ap, ◌∙◌, arith}
 use Rattle.std.specs.Option.{option_map_or}
 use Rattle.svn_path.specs.Below.{below, same_path}
 use Rattle.svn_path.proofs.Belows.{IsSame, IsSame-same_path, append-from_below, below-append, same_path-is}
-
--- what is under a path that goes on, in two steps
-pub below-append_front : {C : Type 0} (same : C → C → Bool) (front more path : List C)
-    → below same (front ++ more) path ≡ option_and_then (below same more) (below same front path)
-below-append_front same [] more path = refl
-below-append_front same (f ∷ front) more [] = refl
-below-append_front same (f ∷ front) more (c ∷ path) = grind (arith, below-append_front same front more path)
 
 module _ {C : Type 0} (same : C → C → Bool) (is : IsSame same) where
   -- ---- the same path

@@ -38,10 +38,6 @@ abbrev IsEntryRead : Bool → List ℕ → List ℕ → Option (List ℕ) → Li
 IsEntryRead has_changes bytes name (Some value) rest = (more : List ℕ) × IsPieceRead 75 bytes name more × IsPieceRead 86 more value rest
 IsEntryRead has_changes bytes name None rest = IsTrue has_changes × IsPieceRead 68 bytes name rest
 
--- a property begins with no deletion's letter
-no_deletion : (bytes name more : List ℕ) → IsPieceRead 75 bytes name more → deleted_entry_of bytes ≡ None
-no_deletion bytes name more read = ap deleted_entry_of read.whole
-
 -- and the other way round
 deleted_has_no_value : (bytes name more : List ℕ) → IsPieceRead 68 bytes name more → valued_entry_of bytes ≡ None
 deleted_has_no_value bytes name more read = ap valued_entry_of read.whole

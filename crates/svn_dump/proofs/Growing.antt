@@ -1,5 +1,5 @@
 -- What stays the same while the tables of names and of texts grow.
-use Rattle.std.proofs.Common.{◌≡◌, ℕ, ◌<◌, ◌≤◌, List, [], ◌∷◌, ◌++◌, map, length, get_or, refl, sym, ap, ap₂, subst, ◌∙◌, append_assoc, append-nil, arith, length-append}
+use Rattle.std.proofs.Common.{◌≡◌, ℕ, ◌<◌, ◌≤◌, List, [], ◌∷◌, map, length, get_or, refl, sym, ap, ap₂, subst, ◌∙◌, append-nil, arith, length-append}
 use Rattle.std.specs.Prelude.{All, None, Some}
 use Rattle.std.proofs.lemmas.List.{get_or_append_left}
 use Rattle.std.proofs.lemmas.List.Elements.{All-head, All-tail}
@@ -21,10 +21,6 @@ use Rattle.svn_dump.specs.declared.record.NodeRecord.{NodeRecord}
 -- a table extends itself
 pub Extends-same : (names : List (List ℕ)) → Extends names names
 Extends-same names = ([], sym (append-nil names))
-
--- an extension of an extension is one
-pub Extends-trans : (a b c : List (List ℕ)) → Extends a b → Extends b c → Extends a c
-Extends-trans a b c f g = (f.0 ++ g.0, g.1 ∙ ap (λ names. names ++ g.0) f.1 ∙ append_assoc a f.0 g.0)
 
 -- adding names extends
 pub Extends-with_names : (names added : List (List ℕ)) → Extends names (with_names names added)

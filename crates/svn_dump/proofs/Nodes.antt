@@ -2,7 +2,7 @@
 use Rattle.std.proofs.Common.{◌≡◌, ℕ, pred, ◌<◌, ◌≤◌, Bool, true, false, not, ◌&&◌, ◌||◌, List, [], ◌∷◌, ◌++◌, length, take, drop, refl, sym, ap, ap₂, ◌∙◌, subst, lt-ltb, eq-eqb, arith, inl, inr, take-append-drop}
 use Rattle.std.specs.Prelude.{Some, None, filter, is_none, nat_lt, ◌==◌, ◌⊎◌}
 use Rattle.std.specs.List.{list_all, list_any, slice_split, onto_first}
-use Rattle.std.proofs.lemmas.Bool.{cases_Bool, cond-true, cond-false, le-ltb, ltb-true, ne_eqb, not-false, or_parts, or_right}
+use Rattle.std.proofs.lemmas.Bool.{cases_Bool, cond-true, cond-false, ltb-true, ne_eqb, not-false, or_parts, or_right}
 use Rattle.std.proofs.Math.Bool.{or-true}
 use Rattle.std.proofs.lemmas.Grind.{fold-append}
 use Rattle.svn_text.specs.Bytes.{is_not_empty}
@@ -17,7 +17,7 @@ use Rattle.svn_dump.specs.Dump.{IsChange}
 use Rattle.svn_dump.specs.DumpText.{most_numbered, parts_of_action, parts_of_record, texts_of_action}
 use Rattle.svn_dump.specs.History.{Setting, delete, change, add, copy}
 use Rattle.svn_dump.specs.Node.{Node, NodeAction, node_add, node_change, node_copy, node_delete, is_change}
-use Rattle.svn_dump.specs.Record.{ActionOfBytes, RecordOfBytes, action_of, has_dot, has_late_source, is_long, is_root, is_root_action, most_components, paths_read, record_by, record_of}
+use Rattle.svn_dump.specs.Record.{ActionOfBytes, RecordOfBytes, action_of, has_dot, has_late_source, is_long, is_root, is_root_action, paths_read, record_by, record_of}
 use Rattle.svn_dump.specs.Refusal.{Reason, action_refusals, first_holding, reason, later_refusals, node_refusals, size_refusals}
 use Rattle.svn_dump.specs.ReadError.{read_error_of}
 use Rattle.svn_dump.specs.NumberedRecord.{IsNumberedAct, IsFirstReason, IsNumberedPath, IsNumberedRecord, IsAcceptedNode, IsTooLarge, is_full_with, is_path_large, is_record_large}
@@ -79,10 +79,6 @@ pub path_error : (names new : List (List ℕ)) (bytes : List ℕ) (e : PathError
 path_error names new bytes path.Dot no_dot full n left = absurd (no_dot refl)
 path_error names new bytes path.Full no_dot full n left = (refl, or_right (is_long bytes) _ (lt-ltb _ _ (omega (arith, full refl, ap length left, length-with_names-take names (parts_of bytes) n))))
 path_error names new bytes path.Memory no_dot full n left = tt
-
--- a path of at most so many components isn't long
-pub is_long-short : (bytes : List ℕ) (n : ℕ) → length (parts_of bytes) ≡ n → n ≤ most_components → is_long bytes ≡ false
-is_long-short bytes n long short = le-ltb most_components (length (parts_of bytes)) (omega (arith, long, short))
 
 -- ---- the paths of an action
 

@@ -1,11 +1,11 @@
 -- The header of a block as it comes, line by line.
-use Rattle.std.proofs.Common.{◌≡◌, ℕ, ◌+◌, ◌<◌, ◌≤◌, true, List, [], ◌∷◌, ◌++◌, length, take, drop, map, get_or, ◌⊎◌, ⊎_elim, inl, inr, refl, sym, ap, ap₂, subst, ◌∙◌, append_assoc, append-nil, arith, length-append, length-take, Bor}
+use Rattle.std.proofs.Common.{◌≡◌, ℕ, ◌+◌, ◌<◌, true, List, [], ◌∷◌, ◌++◌, length, take, drop, map, get_or, ◌⊎◌, ⊎_elim, inl, inr, refl, sym, ap, ap₂, subst, ◌∙◌, append_assoc, append-nil, arith, length-append, length-take, Bor}
 use Rattle.std.specs.Prelude.{Option, Some, None, IsFalse, IsTrue, bytes_eq, cond, count_by, flat_map}
 use Rattle.std.specs.List.{list_any, position_or_len}
 use Rattle.std.proofs.Math.Seq.{drop-append-add, drop-append_seam, take-append_seam}
 use Rattle.std.proofs.lemmas.Bool.{or_from}
 use Rattle.std.proofs.lemmas.Grind.{flat_map-append}
-use Rattle.std.proofs.lemmas.List.{get_or_append_left, get_or_at, get_or-take, map-append, nil_from_length}
+use Rattle.std.proofs.lemmas.List.{get_or_append_left, get_or_at, get_or-take, map-append}
 use Rattle.std.proofs.lemmas.List.Elements.{All-nil, All-push}
 use Rattle.std.proofs.lemmas.List.Folds.{list_any-append}
 use Rattle.std.proofs.lemmas.List.Sums.{fails_before_first, position_or_len_is, sum_by-cons}
@@ -135,9 +135,6 @@ IsPartialHeader-none names named = record {
 }
 
 module _ (bytes : List ℕ) (start : ℕ) (names : List (Option (List ℕ))) (is : IsPartialHeader bytes start names) where
-  pub start-within : start ≤ length bytes
-  start-within = omega (arith, is.starts, ap length is.front.whole, length-append (flat_map line_text is.front.lines) is.front.last)
-
   pub last-from : drop start bytes ≡ is.front.last
   last-from = ap₂ drop is.starts is.front.whole ∙ drop-append_seam (flat_map line_text is.front.lines) is.front.last
 
@@ -153,16 +150,6 @@ module _ (bytes : List ℕ) (start : ℕ) (names : List (Option (List ℕ))) (is
         | inl bytes_more ↦ inr bytes_more
         | inr apart ↦ inl (λ none. apart (omega (arith, long, none)))
       ]))
-
-  pub AreHeaderLines-ended : start ≡ length bytes → AreHeaderLines bytes
-  AreHeaderLines-ended ends =
-      let none : is.front.last ≡ [] = nil_from_length is.front.last (omega (arith, ends, is.starts, ap length is.front.whole, length-append (flat_map line_text is.front.lines) is.front.last)) in
-      record {
-        lines = is.front.lines;
-        all = is.front.all;
-        once = is.front.once;
-        whole = is.front.whole ∙ ap (λ last. flat_map line_text is.front.lines ++ last) none ∙ append-nil (flat_map line_text is.front.lines);
-      }
 
   -- ---- the last line ends
 

@@ -149,9 +149,6 @@ first_byte : (rest : List ℕ) → 1 ≤ length rest → rest ≡ get_or rest 0 
 first_byte [] some = absurd (omega arith)
 first_byte (byte ∷ rest) some = ap (λ all. byte ∷ all) (sym (take_rest (byte ∷ rest) 1))
 
-pub piece-behind : (done rest piece : List ℕ) → piece ≡ done ++ rest → 1 ≤ length rest → piece ≡ (done ++ get_or rest 0 0 ∷ []) ++ behind rest
-piece-behind done rest piece whole some = whole ∙ ap (λ all. done ++ all) (first_byte rest some) ∙ sym (push done (behind rest) (get_or rest 0 0))
-
 -- what is decided at a byte of the piece
 pub IsDecidedLine-piece :
     (bytes done rest piece : List ℕ) → piece ≡ done ++ rest → 1 ≤ length rest → (refusal : Refusal) → IsDecidedLine ((bytes ++ done) ++ get_or rest 0 0 ∷ []) refusal → IsDecidedLine (bytes ++ piece) refusal

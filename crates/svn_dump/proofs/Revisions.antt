@@ -1,10 +1,10 @@
 -- The trees of a history, one revision after another.
-use Rattle.std.proofs.Common.{◌≡◌, ℕ, ◌+◌, ◌-◌, ◌<◌, ◌≤◌, inl, inr, Bool, List, [], ◌∷◌, ◌++◌, fold, length, refl, sym, ap, subst, ◌∙◌, append_assoc, arith}
+use Rattle.std.proofs.Common.{◌≡◌, ℕ, ◌+◌, ◌-◌, ◌<◌, ◌≤◌, inl, inr, Bool, List, [], ◌∷◌, ◌++◌, fold, length, refl, sym, ap, subst, ◌∙◌, arith}
 use Rattle.std.proofs.lemmas.Bool.{cases_order}
 use Rattle.std.proofs.lemmas.List.{length_push, get_or_append_left, get_or_push, get_or_past}
 use Rattle.std.proofs.lemmas.List.Sums.{fold_push, fold-append}
 use Rattle.svn_dump.specs.History.{Record, History}
-use Rattle.svn_dump.specs.Tree.{Tree, tree_of, tree_after_record, first_tree, tree_from_revision, start_tree, end_tree, with_revision, trees_of}
+use Rattle.svn_dump.specs.Tree.{Tree, tree_of, first_tree, tree_from_revision, start_tree, end_tree, with_revision, trees_of}
 
 -- ---- the tree of a revision
 
@@ -105,23 +105,6 @@ module _ {C M : Type 0} (same : C → C → Bool) where
   tree_of-front history more rev within =
       ap (λ trees. tree_of trees rev) (trees_of-append history more)
       ∙ tree_of-revisions (trees_of same history) more rev (omega (arith, length-trees_of history))
-
-  -- the tree of a revision is what its records make of the trees before it
-  pub tree_of_next : (history : History C M) (records : List (Record C M)) (more : History C M)
-      → tree_of (trees_of same (history ++ records ∷ more)) (length history) ≡ end_tree same (trees_of same history) records
-  tree_of_next history records more =
-      let trees = trees_of same history in
-      let number = length history in
-      ap (λ h. tree_of (trees_of same h) number) (sym (append_assoc history (records ∷ []) more))
-      ∙ tree_of-front (history ++ records ∷ []) more number (omega (arith, length_push history records))
-      ∙ ap (λ ts. tree_of ts number) (trees_of_push history records)
-      ∙ ap (tree_of (with_revision same trees records)) (sym (length-trees_of history))
-      ∙ tree_of_push trees (end_tree same trees records)
-
-  -- one more record is applied to the tree after the others
-  pub end_tree_push : (trees : List (Tree C M)) (records : List (Record C M)) (each : Record C M)
-      → end_tree same trees (records ++ each ∷ []) ≡ tree_after_record same trees (end_tree same trees records) each
-  end_tree_push trees records each = fold_push (tree_after_record same trees) (start_tree trees) records each
 
   -- after a revision the next begins with its tree, each path come from itself
   pub opening_next : (trees : List (Tree C M)) (records : List (Record C M))

@@ -1,5 +1,5 @@
 -- The form of a property section and its reading: bytes are a section of these entries exactly where they are read as
--- one, and a section has one list of entries.
+-- one.
 use Rattle.std.proofs.Common.{◌≡◌, ℕ, zero, suc, ◌<◌, Bool, false, inl, inr, List, [], ◌∷◌, ◌++◌, length, sym, ap, subst, ◌∙◌, arith, length-append, refl}
 use Rattle.std.specs.Prelude.{Option, Some, None, bytes_eq, ◌↔◌}
 use Rattle.std.proofs.lemmas.Bool.{cases_Bool}
@@ -63,10 +63,6 @@ IsSection-section_up_to has_changes (suc most) bytes entries e = by_end has_chan
 -- bytes that are read as these entries are of the form
 pub IsSection-section_of : (has_changes : Bool) (bytes : List ℕ) (entries : List SectionEntry) → section_of has_changes bytes ≡ Some entries → IsSection has_changes bytes entries
 IsSection-section_of has_changes bytes entries e = IsSection-section_up_to has_changes (length bytes) bytes entries e
-
--- a section has one list of entries
-pub IsSection-same : (has_changes : Bool) (bytes : List ℕ) (a b : List SectionEntry) → IsSection has_changes bytes a → IsSection has_changes bytes b → a ≡ b
-IsSection-same has_changes bytes a b is_a is_b = same_Some a b (sym (section_of-IsSection has_changes bytes a is_a) ∙ section_of-IsSection has_changes bytes b is_b)
 
 -- a section is read as its form says
 pub section_of-both : (has_changes : Bool) (bytes : List ℕ) (entries : List SectionEntry) → (section_of has_changes bytes ≡ Some entries) ↔ IsSection has_changes bytes entries

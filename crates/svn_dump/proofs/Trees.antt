@@ -1,5 +1,5 @@
 -- What a tree has at one path, after each operation on trees and after each action of a record.
-use Rattle.std.proofs.Common.{◌≡◌, ℕ, Bool, false, not, if◌then◌else◌, List, [], ◌∷◌, ◌++◌, Option, None, Some, is_some, option_map, option_and_then, filter, filter_map, refl, ap, ◌∙◌, arith}
+use Rattle.std.proofs.Common.{◌≡◌, ℕ, Bool, false, not, if◌then◌else◌, List, [], ◌∷◌, ◌++◌, Option, None, Some, is_some, option_map, filter, filter_map, refl, ap, ◌∙◌, arith}
 use Rattle.std.specs.Option.{option_or, option_map_or}
 use Rattle.svn_path.specs.Below.{below, is_below, same_path}
 use Rattle.svn_dump.specs.History.{Setting, Action, delete, change, add, copy}
@@ -49,12 +49,6 @@ module _ {C M : Type 0} (same : C → C → Bool) where
   pub entry_at-nil : (at : List C) → entry_at {M = M} same [] at ≡ None
   unfolding entry_at
   entry_at-nil at = refl
-
-  -- the first element, or else the others
-  pub entry_at-cons : (path : List C) (e : Entry C M) (tree : Tree C M) (at : List C)
-      → entry_at same ((path, e) ∷ tree) at ≡ (if same_path same path at then Some e else entry_at same tree at)
-  unfolding entry_at
-  entry_at-cons path e tree at = refl
 
   -- the first tree has the root alone
   pub entry_at-first_tree : (at : List C)
@@ -139,13 +133,6 @@ module _ {C M : Type 0} (same : C → C → Bool) (is : IsSame same) where
       let more = entry_at-moved_under from from_rev path tree at rest under in
       let found = (same_path-is is each.0 (from ++ rest)).0 in
       grind (arith, same_path_moved same is from path each.0 at, apart_from_below same is from each.0 rest, found, more)
-
-  -- both, by what is left of the path
-  pub entry_at-entry_of_copy : (from : List C) (from_rev : ℕ) (path : List C) (tree : Tree C M) (at : List C)
-      → entry_at same (filter_map (entry_of_copy same from from_rev path) tree) at
-      ≡ option_and_then (λ rest. option_map (entry_from (from ++ rest) from_rev) (entry_at same tree (from ++ rest))) (below same path at)
-  entry_at-entry_of_copy from from_rev path tree at =
-      grind (arith, entry_at-moved_apart from from_rev path tree at, entry_at-moved_under from from_rev path tree at)
 
   -- ---- actions
 

@@ -1,5 +1,5 @@
--- One path at or under another, where the test of components tells which are equal; and paths whose components are renamed.
-use Rattle.std.proofs.Common.{◌≡◌, ◌≢◌, ◌↔◌, ℕ, ◌≤◌, Bool, ◌&&◌, true, false, cond, List, [], ◌∷◌, ◌++◌, length, drop, map, Option, Some, None, option_map, is_some, IsTrue, bytes_eq, inl, inr, refl, sym, ap, subst, ◌∙◌, arith, length-append}
+-- One path at or under another, where the test of components tells which are equal.
+use Rattle.std.proofs.Common.{◌≡◌, ◌↔◌, ℕ, ◌≤◌, Bool, ◌&&◌, true, false, cond, List, [], ◌∷◌, ◌++◌, length, drop, Option, Some, None, is_some, IsTrue, bytes_eq, inl, inr, refl, sym, ap, subst, ◌∙◌, arith, length-append}
 use Rattle.std.proofs.lemmas.Bool.{cases_Bool}
 use Rattle.std.proofs.lemmas.Bool.Decides.{Decides-eqb}
 use Rattle.std.proofs.lemmas.List.{append-nil}
@@ -15,10 +15,6 @@ use Rattle.svn_path.specs.declared.names.NameId.{NameId}
 pub record IsSame {C : Type 0} (same : C → C → Bool) : Type 0 where
   pub true_is : (a b : C) → same a b ≡ true → a ≡ b
   pub itself : (a : C) → same a a ≡ true
-
--- a renaming of components keeps which are the same
-pub record Renames {C D : Type 0} (same : C → C → Bool) (same_renamed : D → D → Bool) (rename : C → D) : Type 0 where
-  pub agrees : (a b : C) → same_renamed (rename a) (rename b) ≡ same a b
 
 -- ---- a path under another
 
@@ -55,17 +51,6 @@ module _ {C : Type 0} {same : C → C → Bool} (laws : IsSame same) where
   -- so what is left is told by `++`
   pub below-Some : (front path rest : List C) → (below same front path ≡ Some rest) ↔ (path ≡ front ++ rest)
   below-Some front path rest = (append-from_below front path rest, λ is. ap (below same front) is ∙ below-append front rest)
-
-  -- and nothing is left exactly where no components fit
-  pub below-None : (front path : List C) → (below same front path ≡ None) ↔ ((rest : List C) → path ≢ front ++ rest)
-  below-None front path = (
-    λ none rest is. let both : None ≡ Some rest = sym none ∙ (below-Some front path rest).1 is in cc,
-    λ never. by never (below same front path) refl,
-  )
-    where
-      by : ((rest : List C) → path ≢ front ++ rest) → (o : Option (List C)) → below same front path ≡ o → o ≡ None
-      by never None left = refl
-      by never (Some rest) left = absurd (never rest ((below-Some front path rest).0 left))
 
   -- a path is under another exactly where it has more components
   pub is_below-append : (front path : List C) → IsTrue (is_below same front path) ↔ ((rest : List C) × (path ≡ front ++ rest))
@@ -151,56 +136,3 @@ push-from_parent_of (c ∷ d ∷ path) above is =
 -- the path above lacks the last component alone
 pub parent_of-Some : {C : Type 0} (path above : List C) → (parent_of path ≡ Some above) ↔ ((last : C) × (path ≡ above ++ last ∷ []))
 parent_of-Some path above = (push-from_parent_of path above, λ (last, at). ap parent_of at ∙ parent_of-push above last)
-
--- all but the root have a path above
-pub parent_of-cons : {C : Type 0} (c : C) (path : List C) → (above : List C) × (parent_of (c ∷ path) ≡ Some above)
-parent_of-cons c [] = ([], refl)
-parent_of-cons c (d ∷ path) = let (above, at) = parent_of-cons d path in (c ∷ above, rw at)
-
--- and the root has none
-pub parent_of-None : {C : Type 0} (path : List C) → (parent_of path ≡ None) ↔ (path ≡ [])
-parent_of-None [] = (λ is. refl, λ is. refl)
-parent_of-None (c ∷ path) = let (above, at) = parent_of-cons c path in (λ is. cc, λ is. cc)
-
--- ---- renamed components
-
-module _ {C D : Type 0} {same : C → C → Bool} {same_renamed : D → D → Bool} {rename : C → D} (renames : Renames same same_renamed rename) where
-  -- what is left is renamed
-  pub below-map : (front path : List C) → below same_renamed (map rename front) (map rename path) ≡ option_map (map rename) (below same front path)
-  below-map [] path = refl
-  below-map (a ∷ front) [] = refl
-  below-map (a ∷ front) (b ∷ path) =
-      rw (renames.agrees a b)
-      (elim (same a b) as (λ t. cond t (below same_renamed (map rename front) (map rename path)) None ≡ option_map (map rename) (cond t (below same front path) None)) [
-        | true ↦ below-map front path
-        | false ↦ refl
-      ])
-
-  -- and paths stand under one another as before
-  pub is_below-map : (front path : List C) → is_below same_renamed (map rename front) (map rename path) ≡ is_below same front path
-  is_below-map front path = ap is_some (below-map front path) ∙ is_some-option_map (below same front path)
-    where
-      is_some-option_map : (o : Option (List C)) → is_some (option_map (map rename) o) ≡ is_some o
-      is_some-option_map None = refl
-      is_some-option_map (Some rest) = refl
-
-  -- the same paths stay the same, and no others
-  pub same_path-map : (p q : List C) → same_path same_renamed (map rename p) (map rename q) ≡ same_path same p q
-  same_path-map [] [] = refl
-  same_path-map [] (b ∷ q) = refl
-  same_path-map (a ∷ p) [] = refl
-  same_path-map (a ∷ p) (b ∷ q) = rw (renames.agrees a b, same_path-map p q)
-
-  -- so a renaming of components renames paths
-  pub Renames-map : Renames (same_path same) (same_path same_renamed) (map rename)
-  Renames-map = record { agrees = same_path-map }
-
--- and the path above is renamed with it
-pub parent_of-map : {C D : Type 0} (rename : C → D) (path : List C) → parent_of (map rename path) ≡ option_map (map rename) (parent_of path)
-parent_of-map rename [] = refl
-parent_of-map rename (c ∷ []) = refl
-parent_of-map {C} {D} rename (c ∷ d ∷ path) = rw (parent_of-map rename (d ∷ path)) (pushed (parent_of (d ∷ path)))
-  where
-    pushed : (o : Option (List C)) → option_map (λ above. rename c ∷ above) (option_map (map rename) o) ≡ option_map (map rename) (option_map (λ above. c ∷ above) o)
-    pushed None = refl
-    pushed (Some above) = refl

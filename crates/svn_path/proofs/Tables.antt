@@ -1,18 +1,16 @@
 -- A table of names: what more names change, and what numbers stand for.
 use Rattle.std.proofs.Common.{◌≡◌, ◌≢◌, ℕ, ◌+◌, ◌<◌, ◌≤◌, ◌==◌, true, false, inl, inr, List, [], ◌∷◌, ◌++◌, length, get_or, replicate, All, bytes_eq, refl, sym, ap, subst, ◌∙◌, add-one, arith, length-append}
-use Rattle.std.proofs.lemmas.Bool.{cases_Bool, cases_lt, cases_order, both_ways, or_left, or_right, cond-true, cond-false, false_from_ne_true}
+use Rattle.std.proofs.lemmas.Bool.{cases_Bool, cases_lt, cases_order, both_ways, cond-true, cond-false, false_from_ne_true}
 use Rattle.std.proofs.lemmas.Bool.Decides.{same_from_decides, Decides-eqb}
-use Rattle.std.proofs.lemmas.Cmp.{nat_list_eq_equiv}
-use Rattle.std.proofs.lemmas.List.{append-nil, append_assoc, get_or_append_left, get_or_default, get_or_past, length-map, get_or-map, length-replicate}
+use Rattle.std.proofs.lemmas.List.{append-nil, append_assoc, get_or_append_left, get_or_default, get_or_past, length-replicate}
 use Rattle.std.proofs.lemmas.List.Elements.{All-nil, All-head, All-tail, All-weaker, All-get_or, All-map, All-push}
-use Rattle.std.proofs.lemmas.List.Folds.{list_any_at, list_any-append, Any-from_list_any}
+use Rattle.std.proofs.lemmas.List.Folds.{list_any_at}
 use Rattle.std.proofs.lemmas.Map.Keys.{apart_from_distinct}
 use Rattle.std.proofs.lemmas.Slice.Eq.{bytes_eq-Decides}
-use Rattle.std.specs.List.{list_any, IsDistinct}
-use Rattle.svn_path.proofs.Belows.{Renames}
+use Rattle.std.specs.List.{IsDistinct}
 use Rattle.svn_path.specs.Components.{IsComponent}
 use Rattle.svn_path.specs.Names.{has_name, with_name, with_names, name_of, IsTable}
-use Rattle.svn_path.specs.Path.{same_name, IsPathOf, components_of, HasUnknown}
+use Rattle.svn_path.specs.Path.{IsPathOf, components_of}
 use Rattle.svn_path.specs.declared.names.NameId.{NameId}
 
 -- ---- the names of numbers
@@ -25,12 +23,6 @@ name_of-append names more number below = get_or_append_left names more _ number 
 pub has_name-name_of : (names : List (List ℕ)) (number : ℕ) → number < length names → has_name names (name_of names number) ≡ true
 has_name-name_of names number below =
     list_any_at (λ each. bytes_eq each (name_of names number)) names number (replicate (number + 1) 47) below ((bytes_eq-Decides (name_of names number) (name_of names number)).1 refl)
-
--- a name of the table is that of some number
-pub number-from_has_name : (names : List (List ℕ)) (name : List ℕ) → has_name names name ≡ true → (number : ℕ) × (number < length names) × (name_of names number ≡ name)
-number-from_has_name names name known =
-    let found = Any-from_list_any (λ each. bytes_eq each name) names known in
-    (found.0, found.2, get_or_default names found.0 _ found.1 found.2 ∙ found.3 ∙ (bytes_eq-Decides found.1 name).0 found.4)
 
 slashes_no_component : (n : ℕ) → IsComponent (replicate (n + 1) 47) → ⊥
 slashes_no_component n component = both_ways true (rw add-one at component.no_slash) refl
@@ -89,10 +81,6 @@ bytes_eq-name_of {names} table a b =
     let numbers = Decides-eqb a b in
     same_from_decides {P = a ≡ b} _ _ (λ e. name_of-same table a b (texts.0 e), λ e. texts.1 (ap (name_of names) e)) numbers
 
--- so the numbers' names rename them
-pub Renames-name_of : {names : List (List ℕ)} → IsTable names → Renames same_name bytes_eq (λ name. name_of names name.0)
-Renames-name_of table = record { agrees = λ a b. bytes_eq-name_of table a.0 b.0 }
-
 -- a component that the table lacks differs from each number's name
 pub bytes_eq-unknown : (names : List (List ℕ)) (name : List ℕ) → IsComponent name → has_name names name ≡ false → (number : ℕ) → bytes_eq (name_of names number) name ≡ false
 bytes_eq-unknown names name component unknown number =
@@ -122,17 +110,6 @@ components_of-same {names} table (a ∷ p) (b ∷ q) same =
     let number : a ≡ b = ap (λ n. let id : NameId = record { 0 = n } in id) (name_of-same table a.0 b.0 head) in
     let rest : p ≡ q = components_of-same table p q tail in
     cc
-
--- no path spells parts of which the table lacks one
-pub components_of-unknown : (names parts : List (List ℕ)) → All IsComponent parts → HasUnknown names parts → (path : List NameId) → components_of names path ≢ parts
-components_of-unknown names parts components unknown path same =
-    let (k, part, below, at, missing) = unknown in
-    let first : NameId = record { 0 = 0 } in
-    let component = subst IsComponent at (components k part below) in
-    let long : length (components_of names path) ≡ length parts = ap length same in
-    let read : get_or (components_of names path) k part ≡ part = ap (λ all. get_or all k part) same ∙ at in
-    let named = get_or-map (λ name. name_of names name.0) path k first part (omega (arith, length-map path (λ name. name_of names name.0))) in
-    name_of-unknown names part component missing (get_or path k first).0 (sym named ∙ read)
 
 -- ---- one name more, or several
 
@@ -167,37 +144,6 @@ with_names-append names (name ∷ added) =
     let first = with_name-append names name in
     let rest = with_names-append (with_name names name) added in
     (first.0 ++ rest.0, rest.1 ∙ ap (λ front. front ++ rest.0) first.1 ∙ append_assoc names first.0 rest.0)
-
--- each path keeps what it spells
-pub components_of-with_names : (names added : List (List ℕ)) (path : List NameId) → IsPathOf names path → components_of (with_names names added) path ≡ components_of names path
-components_of-with_names names added path known =
-    let grown = with_names-append names added in
-    ap (λ all. components_of all path) grown.1 ∙ components_of-append names grown.0 path known
-
--- and its numbers stay numbers of the table
-pub IsPathOf-with_names : (names added : List (List ℕ)) (path : List NameId) → IsPathOf names path → IsPathOf (with_names names added) path
-IsPathOf-with_names names added path known =
-    let grown = with_names-append names added in
-    subst (λ all. IsPathOf all path) (sym grown.1) (IsPathOf-append names grown.0 path known)
-
--- a name that was added is in the table
-pub has_name-with_name : (names : List (List ℕ)) (name : List ℕ) → has_name (with_name names name) name ≡ true
-has_name-with_name names name =
-    elim (cases_Bool (has_name names name)) [
-      | inl known ↦ subst (λ all. has_name all name ≡ true) (sym (with_name-known names name known)) known
-      | inr unknown ↦
-          subst (λ all. has_name all name ≡ true) (sym (with_name-new names name unknown))
-          (list_any-append (λ each. bytes_eq each name) names (name ∷ []) ∙ or_right _ _ (or_left _ _ ((bytes_eq-Decides name name).1 refl)))
-    ]
-
--- a name that the table has stays
-pub has_name-append : (names more : List (List ℕ)) (name : List ℕ) → has_name names name ≡ true → has_name (names ++ more) name ≡ true
-has_name-append names more name known = list_any-append (λ each. bytes_eq each name) names more ∙ or_left _ _ known
-
--- the look-up from the other side
-pub has_name-flipped : (names : List (List ℕ)) (name : List ℕ) → list_any (bytes_eq name) names ≡ has_name names name
-has_name-flipped [] name = refl
-has_name-flipped (each ∷ names) name = rw (nat_list_eq_equiv.symm name each, has_name-flipped names name)
 
 -- what holds of every table holds of the empty one
 pub IsTable-nil : IsTable []

@@ -1,7 +1,6 @@
 -- What the maps of a table of texts find, and what a new text leaves of it.
 use Rattle.std.proofs.Common.{◌≡◌, ℕ, zero, suc, ◌<◌, ◌⊎◌, true, false, List, [], ◌∷◌, ◌++◌, None, Some, length, slice_get, bytes_eq, IfSome, IsSome, Option, refl, sym, ap, subst, ◌∙◌, inl, inr, arith, Ordering}
 use Rattle.std.proofs.lemmas.Bool.{both_ways, cond-false, false_from_ne_true}
-use Rattle.std.proofs.lemmas.Bool.Decides.{Decides-eqb}
 use Rattle.std.proofs.lemmas.Cmp.{nat_list_eq_equiv}
 use Rattle.std.proofs.lemmas.List.{length_push, length-map}
 use Rattle.std.proofs.lemmas.List.Folds.{Any-from_list_any}
@@ -9,14 +8,13 @@ use Rattle.std.proofs.lemmas.Map.Keys.{IsDistinct-push, any_passes_from_place}
 use Rattle.std.proofs.lemmas.Map.Text.{is_eq-slice_cmp}
 use Rattle.std.proofs.lemmas.Option.{same_Some, slice_get_cases, slice_get-get_or, slice_get-map}
 use Rattle.std.proofs.lemmas.Slice.Eq.{bytes_eq-Decides}
-use Rattle.std.specs.BTreeMap.{BTreeMap, is_at, Updates}
-use Rattle.std.specs.Cmp.{unsigned_tied}
+use Rattle.std.specs.BTreeMap.{BTreeMap, Updates}
 use Rattle.std.specs.Cmp.Lexicographic.{slice_cmp}
 use Rattle.std.specs.Global.{Vec}
 use Rattle.std.specs.List.{list_any, IsDistinct}
 use Rattle.std.specs.Option.{option_map}
 use Rattle.std.specs.Ordering.{nat_cmp}
-use Rattle.svn_text.specs.TextTable.{hash_of, first_of, items_of, has_text, most_texts, IsFoundAt, AreFound, IsTextTable}
+use Rattle.svn_text.specs.TextTable.{items_of, has_text, most_texts, IsFoundAt, AreFound, IsTextTable}
 use Rattle.svn_text.specs.declared.text_numbers.TextNumbers.{TextNumbers}
 
 -- the order of the keys of the second map
@@ -74,24 +72,6 @@ bytes_eq-lacking texts text kept number lacks at =
     (has_text-at (items_of texts) kept.items number (slice_get-items_of texts kept number at))))
 
 -- ---- a text is put into the maps
-
--- the first of its hash
-pub AreFound-first : (texts : List (Vec ℕ)) (old : TextNumbers) (firsts : BTreeMap ℕ ℕ) (hash number : ℕ)
-    → AreFound texts old → first_of old hash ≡ None → Updates nat_cmp old.firsts firsts hash (Some number)
-    → AreFound texts (record old { firsts = firsts })
-AreFound-first texts old firsts hash number found absent updates = record {
-  found = λ at text is. elim (found.found at text is) [
-    | inl first ↦ inl (updates.0 (hash_of text.items) ∙ cond-false _ _ _ (other_hash text at first) ∙ first)
-    | inr other ↦ inr other
-  ];
-}
-  where
-    other_hash : (text : Vec ℕ) (at : ℕ) → first_of old (hash_of text.items) ≡ Some at → is_at (nat_cmp hash) (hash_of text.items) ≡ false
-    other_hash text at first =
-        false_from_ne_true _ (λ same.
-        let equal : hash ≡ hash_of text.items = (Decides-eqb hash (hash_of text.items)).0 (sym (unsigned_tied hash (hash_of text.items)) ∙ same) in
-        let never : None ≡ Some at = sym absent ∙ ap (first_of old) equal ∙ first in
-        cc)
 
 -- another one of its hash
 pub AreFound-other : (texts : List (Vec ℕ)) (old : TextNumbers) (others : BTreeMap (Vec ℕ) ℕ) (key : Vec ℕ) (number : ℕ)

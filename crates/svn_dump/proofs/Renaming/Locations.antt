@@ -1,10 +1,10 @@
 -- The origins and locations in a renamed history.
-use Rattle.std.proofs.Common.{◌≡◌, ℕ, zero, suc, ◌==◌, nat_lt, Bool, true, false, if◌then◌else◌, List, Option, None, Some, Contains, option_map, option_and_then, map, refl, ap, ◌∙◌, arith}
+use Rattle.std.proofs.Common.{◌≡◌, ℕ, zero, suc, ◌==◌, nat_lt, Bool, true, false, if◌then◌else◌, List, Option, None, Some, option_map, option_and_then, map, refl, ap, ◌∙◌, arith}
 use Rattle.svn_dump.specs.Location.{origin_of, location_within, location}
 use Rattle.svn_dump.specs.Tree.{Tree, Entry, entry_at, tree_of}
 use Rattle.svn_dump.proofs.Locations.{step_back}
 use Rattle.svn_dump.proofs.Renaming.Paths.{KeepsSame}
-use Rattle.svn_dump.proofs.Renaming.Trees.{rename_entry, rename_tree, rename_origin, tree_of-rename, entry_at-rename, tree_of_unnamed}
+use Rattle.svn_dump.proofs.Renaming.Trees.{rename_entry, rename_tree, rename_origin, tree_of-rename, entry_at-rename}
 
 if_map : {A B : Type 0} (f : A → B) (b : Bool) (x y : Option A) → (if b then option_map f x else option_map f y) ≡ option_map f (if b then x else y)
 if_map f true x y = refl
@@ -50,10 +50,3 @@ module _ {C D M N : Type 0} (name : C → D) (text : M → N) (sameC : C → C �
   pub location-rename : (trees : List (Tree C M)) (path : List C) (rev wanted : ℕ)
       → location sameD (map (rename_tree name text) trees) (map name path) rev wanted ≡ option_map (map name) (location sameC trees path rev wanted)
   location-rename trees path rev wanted = traced-rename trees rev path rev wanted
-
-module _ {C D M N : Type 0} (name : C → D) (text : M → N) (sameD : D → D → Bool) (d : D) (unnamed : (c : C) → sameD (name c) d ≡ false) where
-  -- a path with a component that is no name's came from nowhere
-  pub origin_of_unnamed : (trees : List (Tree C M)) (path : List D) (rev : ℕ) → Contains path d
-      → origin_of sameD (map (rename_tree name text) trees) path rev ≡ None
-  origin_of_unnamed trees path rev within =
-      ap (option_and_then (λ entry. entry.origin)) (tree_of_unnamed name text sameD d unnamed trees path rev within)
