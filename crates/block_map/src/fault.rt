@@ -24,14 +24,14 @@ impl FaultKind {
     }
 
     /// The name that is printed.
-    pub fn name(self) -> &'static [u8]
+    pub fn name(self) -> &'static str
         ensures { result.now ≡ fault_name_of self }
     {
         match self {
-            FaultKind::NoParent => b"NoParent",
-            FaultKind::Exists => b"Exists",
-            FaultKind::Missing => b"Missing",
-            FaultKind::NoSource => b"NoSource",
+            FaultKind::NoParent => "NoParent",
+            FaultKind::Exists => "Exists",
+            FaultKind::Missing => "Missing",
+            FaultKind::NoSource => "NoSource",
         }
     }
 }

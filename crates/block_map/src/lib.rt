@@ -1,7 +1,8 @@
 //! What stands at each path after each record of a history, in a map that shares what revisions have in common.
 //!
+//! The map of all records of a dump, by the `Ends` of its revisions, and what stands at a path after them:
+//!
 //! ```
-//! let ends = revision_ends(alloc, dump)?;
 //! let map = Map::build(alloc, dump.records(), 0, &ends)?;
 //! let entry = map.entry(map.hi(), path)?;
 //! ```

@@ -1,5 +1,7 @@
 //! Joining neighbours in parallel: elements that act on points, all of them up to each index joined in order.
 //!
+//! Sums are such elements:
+//!
 //! ```
 //! let items = Vec::from_slice(rt.alloc(), &[Sum(1), Sum(2), Sum(3)])?;
 //! let scanned = scan(&rt, rt.alloc(), items, 2)?;

@@ -8,8 +8,8 @@ use std::alloc::{AllocError, Global};
 use std::marker::Model;
 use svn_path::NameId;
 
-/// Maps from the names of children to their nodes. A map with one name more shares with the one before all maps that it
-/// is made of but those on the way to the name.
+/// Maps from the names of children to their nodes, which share what they have in common: a map with one name more needs
+/// new ones only on the way to the name.
 #[derive(Drop)]
 pub(crate) struct ChildMaps {
     maps: Vec<ChildMap>,
