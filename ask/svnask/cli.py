@@ -1,0 +1,119 @@
+"""The command `svnask`."""
+import argparse
+import json
+import os
+import signal
+import sys
+import time
+from typing import BinaryIO, Iterator, List, NoReturn, Optional
+
+from .errors import Error, Failed, Refused, Usage
+from .history import History
+from .refusals import about_record, explained
+from .verbs import VERBS
+
+FRONT = 4096
+
+
+class Parser(argparse.ArgumentParser):
+    """A parser that tells of wrong arguments in one line."""
+
+    def error(self, message: str) -> NoReturn:
+        raise Usage(message)
+
+
+def parser() -> Parser:
+    words = Parser(prog="svnask", description="Answers a question about the history of a Subversion repository from its "
+                   "dump, as 'svn' would print it.")
+    words.add_argument("dump", metavar="DUMP", help="a dump, or - for the standard input")
+    words.add_argument("--json", action="store_true", help="print one object a line, for scripts")
+    words.add_argument("--no-cache", action="store_true", help="read the dump anew, and keep nothing of it")
+    verbs = words.add_subparsers(dest="verb", metavar="VERB", required=True, parser_class=Parser)
+    for verb in VERBS:
+        below = verbs.add_parser(verb.name, help=verb.help, description=verb.help)
+        below.add_argument("--json", action="store_true", default=argparse.SUPPRESS, help=argparse.SUPPRESS)
+        verb.arguments(below)
+    return words
+
+
+class Progress:
+    """One line on a terminal where reading takes more than a second: how much was read, and how fast."""
+
+    def __init__(self, size: Optional[int]) -> None:
+        self._size = size
+        self._begun = self._shown = time.monotonic()
+        self._is_open = False
+
+    def __call__(self, read: int) -> None:
+        now = time.monotonic()
+        if now - self._begun < 1 or now - self._shown < 0.1 or not sys.stderr.isatty():
+            return
+        self._shown, self._is_open = now, True
+        share = "%3d %%, " % (100 * read // self._size) if self._size else ""
+        sys.stderr.write("\rreading the dump: %s%d MB, %d MB/s " % (share, read >> 20, read / (now - self._begun) / (1 << 20)))
+        sys.stderr.flush()
+
+    def close(self) -> None:
+        if self._is_open:
+            sys.stderr.write("\r\x1b[K")
+            sys.stderr.flush()
+
+
+def opened(name: str) -> BinaryIO:
+    try:
+        return sys.stdin.buffer if name == "-" else open(name, "rb")
+    except OSError as error:
+        raise Failed("cannot read %s: %s" % (name, error.strerror)) from error
+
+
+def lines_of(history: History, words: argparse.Namespace) -> Iterator[bytes]:
+    verb = next(verb for verb in VERBS if verb.name == words.verb)
+    if words.json:
+        return (json.dumps(each, ensure_ascii=False).encode("utf-8", "surrogateescape") + b"\n"
+                for each in verb.objects(history, words))
+    return verb.text(history, words)
+
+
+def answer(words: argparse.Namespace, file: BinaryIO) -> None:
+    progress = Progress(os.fstat(file.fileno()).st_size)
+    try:
+        history = History.open(file, not words.no_cache, progress)
+    finally:
+        progress.close()
+    with history:
+        try:
+            if not history.is_whole:
+                history.check()
+            for line in lines_of(history, words):
+                sys.stdout.buffer.write(line)
+            sys.stdout.buffer.flush()
+        except Refused as refused:
+            raise Failed("\n".join([str(refused)] + advice(refused, history, words.dump)), refused.status) from refused
+
+
+def advice(refused: Refused, history: History, dump: str) -> List[str]:
+    if refused.unit == "record":
+        return [about_record(each) for each in history.records() if each.number == refused.place]
+    return explained(refused, dump, history.front())
+
+
+def main(arguments: Optional[List[str]] = None) -> int:
+    signal.signal(signal.SIGPIPE, signal.SIG_DFL)
+    try:
+        words = parser().parse_args(arguments)
+        with opened(words.dump) as file:
+            answer(words, file)
+    except Error as error:
+        sys.stdout.buffer.flush()
+        print("svnask: %s" % error, file=sys.stderr)
+        return error.status
+    except KeyboardInterrupt:
+        signal.signal(signal.SIGINT, signal.SIG_DFL)
+        os.kill(os.getpid(), signal.SIGINT)
+    except OSError as error:
+        print("svnask: cannot write: %s" % error.strerror, file=sys.stderr)
+        return 3
+    except MemoryError:
+        print("svnask: out of memory", file=sys.stderr)
+        return 4
+    return 0

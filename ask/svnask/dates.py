@@ -1,0 +1,131 @@
+"""Dates of revisions: how `svn` prints them, and which revision a date names.
+
+>>> read(b"2026-01-02T03:04:05.678901Z")
+(1767323045, 678901)
+>>> shown(b"2026-01-02T03:04:05.678901Z", "UTC")
+'2026-01-02 03:04:05 +0000 (Fri, 02 Jan 2026)'
+"""
+import calendar
+import re
+import time
+from typing import Callable, Optional, Tuple
+
+from .errors import Denied
+
+# Seconds since 1970, and microseconds.
+Moment = Tuple[int, int]
+
+WEEKDAYS = ("Mon", "Tue", "Wed", "Thu", "Fri", "Sat", "Sun")
+MONTHS = ("Jan", "Feb", "Mar", "Apr", "May", "Jun", "Jul", "Aug", "Sep", "Oct", "Nov", "Dec")
+STORED = re.compile(rb"(\d+)-(\d+)-(\d+)T(\d+):(\d+):(\d+)\.(\d+)Z")
+OLD = re.compile(rb"\w{3} (\d+) (\w{3}) (\d+) (\d+):(\d+):(\d+)\.(\d+) \(day \d+, dst \d+, gmt_off (-?\d+)\)")
+
+
+def moment(year: int, month: int, day: int, hour: int, minute: int, second: int, micros: int) -> Optional[Moment]:
+    """A moment by UTC. A day or a second too many is one of the next month or minute."""
+    if year < 1970 or not 1 <= month <= 12:
+        return None
+    return calendar.timegm((year, month, day, hour, minute, second)), micros
+
+
+def read(date: bytes) -> Optional[Moment]:
+    """The moment of a value of `svn:date`."""
+    found = STORED.match(date)
+    if found:
+        year, month, day, hour, minute, second, micros = map(int, found.groups())
+        return moment(year, month, day, hour, minute, second, micros)
+    found = OLD.match(date)
+    if found and found[2].decode("ascii") in MONTHS:
+        day, year, hour, minute, second, micros, offset = (int(found[each]) for each in (1, 3, 4, 5, 6, 7, 8))
+        when = moment(year, MONTHS.index(found[2].decode("ascii")) + 1, day, hour, minute, second, micros)
+        return when and (when[0] - offset, micros)
+    return None
+
+
+def shown(date: Optional[bytes], zone: Optional[str] = None) -> str:
+    """A value of `svn:date` as `svn log` prints it, in the local time zone or in UTC."""
+    if not date:
+        return "(no date)"
+    when = read(date)
+    if when is None:
+        return "(invalid date)"
+    local = time.gmtime(when[0]) if zone == "UTC" else time.localtime(when[0])
+    minutes = local.tm_gmtoff // 60
+    sign = "-" if minutes < 0 else "+"
+    return "%04d-%02d-%02d %02d:%02d:%02d %s%02d%02d (%s, %02d %s %04d)" % (
+        local[:6] + (sign, abs(minutes) // 60, abs(minutes) % 60, WEEKDAYS[local.tm_wday], local.tm_mday,
+                     MONTHS[local.tm_mon - 1], local.tm_year))
+
+
+TIME = r"(\d{1,2}):(\d\d)(?::(\d\d)(?:[.,](\d+))?)?"
+ZONE = r"(?:(Z)|([+-])(\d\d)(?::?(\d\d))?)?"
+FORMS = [re.compile(form) for form in (
+    r"(\d{4})-(\d{1,2})-(\d{1,2})(?:T" + TIME + ZONE + r")?\Z",
+    r"(\d{4})-(\d{1,2})-(\d{1,2}) " + TIME + r"(?: ?" + ZONE + r")?\Z",
+    r"(\d{4})(\d\d)(\d\d)(?:T(\d\d)(\d\d)(?:(\d\d)(?:[.,](\d+))?)?" + ZONE + r")?\Z")]
+TODAY = re.compile(TIME + r"\Z")
+
+
+def given(text: str, now: Callable[[], float] = time.time) -> Moment:
+    """The moment of a date that a user gives, in braces for `svn`. Without a zone it is local time."""
+    found = next((form.match(text) for form in FORMS if form.match(text)), None)
+    today = TODAY.match(text)
+    if found:
+        year, month, day = (int(found[each]) for each in (1, 2, 3))
+        clock, zone = found.groups()[3:7], found.groups()[7:]
+    elif today:
+        year, month, day = time.localtime(now())[:3]
+        clock, zone = today.groups(), (None, None, None, None)
+    else:
+        raise unreadable(text)
+    hour, minute, second = (int(part or 0) for part in clock[:3])
+    micros = int(((clock[3] or "") + "000000")[:6])
+    if year < 1970 or not 1 <= month <= 12 or not 1 <= day <= calendar.monthrange(year, month)[1]:
+        raise unreadable(text)
+    if hour > 23 or minute > 59 or second > 60:
+        raise unreadable(text)
+    return when_of((year, month, day, hour, minute, second), zone), micros
+
+
+def when_of(fields: Tuple[int, int, int, int, int, int], zone: Tuple[Optional[str], ...]) -> int:
+    utc, sign, hours, minutes = zone
+    if utc:
+        return calendar.timegm(fields)
+    if sign:
+        offset = int(hours or 0) * 3600 + int(minutes or 0) * 60
+        return calendar.timegm(fields) - (offset if sign == "+" else -offset)
+    return int(time.mktime(fields + (0, 0, -1)))
+
+
+def unreadable(text: str) -> Denied:
+    return Denied("E205000", "Syntax error in revision argument '{%s}'" % text)
+
+
+def moment_of(rev: int, date_of: Callable[[int], Optional[bytes]]) -> Moment:
+    date = date_of(rev)
+    if date is None:
+        raise Denied("E160000", "Failed to find time on revision %d" % rev)
+    found = read(date)
+    if found is None:
+        raise Denied("E125003", "Bogus date")
+    return found
+
+
+def revision_at(when: Moment, head: int, date_of: Callable[[int], Optional[bytes]]) -> int:
+    """The last revision with a date at or before a moment, found by halving as Subversion does it. Where dates do not
+    rise, only the same halving finds the same revision."""
+    bottom, top = 0, head
+    while bottom <= top:
+        middle = (top + bottom) // 2
+        found = moment_of(middle, date_of)
+        if found == when:
+            return middle
+        if found > when:
+            if middle == 0 or moment_of(middle - 1, date_of) <= when:
+                return max(middle - 1, 0)
+            top = middle - 1
+        else:
+            if middle == head or moment_of(middle + 1, date_of) > when:
+                return middle
+            bottom = middle + 1
+    return max(top, 0)

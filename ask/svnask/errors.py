@@ -1,0 +1,42 @@
+"""Why there is no answer."""
+
+
+class Error(Exception):
+    """Why there is no answer, with the status with which the command ends."""
+
+    def __init__(self, text: str, status: int) -> None:
+        super().__init__(text)
+        self.status = status
+
+
+class Failed(Error):
+    """Something could not be read, run or written."""
+
+    def __init__(self, text: str, status: int = 3) -> None:
+        super().__init__(text, status)
+
+
+class Usage(Error):
+    """The arguments are wrong."""
+
+    def __init__(self, text: str) -> None:
+        super().__init__(text, 2)
+
+
+class Denied(Error):
+    """The question has no answer, as `svn` says it: an error code and a text."""
+
+    def __init__(self, code: str, text: str) -> None:
+        super().__init__("%s: %s" % (code, text), 1)
+        self.code = code
+
+
+class Refused(Error):
+    """The dump is refused: the number and the name of the reason, and the byte or the record at which it is found."""
+
+    def __init__(self, number: int, name: str, unit: str, place: int) -> None:
+        super().__init__("dump refused: %d %s at %s %d" % (number, name, unit, place), 1)
+        self.number = number
+        self.name = name
+        self.unit = unit
+        self.place = place

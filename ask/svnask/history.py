@@ -1,0 +1,135 @@
+"""The history that a dump has: what svnhist answers about it, and who committed what."""
+import os
+import sys
+from types import TracebackType
+from typing import BinaryIO, Callable, Dict, Iterable, Iterator, List, Optional, Type, TypeVar, Union
+
+from . import dates, engine
+from .answers import Answer, Line, Locate, Located, Log, Logged, Query, Segment, Segments, Where
+from .changes import Change, changes_of
+from .errors import Denied, Failed, Refused
+from .store import Index, Record, Revision, Store, opened
+
+Asked = TypeVar("Asked", bound=Answer)
+
+
+class History:
+    """A dump, read once. What is asked of it is answered by svnhist; revisions have what the dump says of them.
+
+    >>> with History.open("interop/branches.dump") as history:
+    ...     history.head, history.log(b"trunk", 13).revisions
+    (13, [5, 2, 1])
+    """
+
+    def __init__(self, store: Store) -> None:
+        self._store = store
+        self._revisions: Dict[int, Revision] = {}
+        self._changes: Dict[int, List[Change]] = {}
+
+    @classmethod
+    def open(cls, dump: Union[str, BinaryIO], is_cached: bool = True,
+             seen: Callable[[int], object] = lambda read: None) -> "History":
+        """The history of a file, by its name or opened. `-` is the standard input. `seen` is told how far reading is."""
+        if not isinstance(dump, str):
+            return cls(opened(dump, is_cached, seen))
+        try:
+            with sys.stdin.buffer if dump == "-" else open(dump, "rb") as file:
+                return cls(opened(file, is_cached, seen))
+        except OSError as error:
+            raise Failed("cannot read %s: %s" % (dump, error.strerror)) from error
+
+    @property
+    def is_whole(self) -> bool:
+        """Whether the dump has its form from its first byte to its last one, and a revision."""
+        return self.index.is_whole and self.head >= 0
+
+    def __enter__(self) -> "History":
+        return self
+
+    def __exit__(self, kind: Optional[Type[BaseException]], value: Optional[BaseException],
+                 trace: Optional[TracebackType]) -> None:
+        self.close()
+
+    def close(self) -> None:
+        self._store.close()
+
+    @property
+    def index(self) -> Index:
+        return self._store.index
+
+    @property
+    def head(self) -> int:
+        """The youngest revision."""
+        return self._store.head
+
+    def ask(self, queries: Iterable[Query]) -> Iterator[Answer]:
+        """The answers to queries, in their order, while svnhist gives them. `Refused` where it refuses the dump."""
+        asked = list(queries)
+        try:
+            yield from engine.run(self._store.dump, asked)
+        except Refused as refused:
+            raise self._placed(refused) from refused
+
+    def front(self) -> bytes:
+        """The first bytes of the dump, without texts."""
+        return self._store.data[:1 << 12] if os.path.getsize(self._store.dump) else b""
+
+    def check(self) -> None:
+        """Raises `Refused` where svnhist refuses the dump."""
+        for _ in self.ask([]):
+            pass
+
+    def _placed(self, refused: Refused) -> Refused:
+        """The refusal with the offset of the given dump, which is longer than the copy that svnhist read."""
+        if refused.unit != "byte":
+            return refused
+        return Refused(refused.number, refused.name, refused.unit, self._store.block_at(refused.place))
+
+    def locate(self, path: bytes, rev: int, at: int) -> Located:
+        """Where a path of one revision was in another one."""
+        return one(self.ask([Locate(path, rev, at)]), Located)
+
+    def segments(self, path: bytes, rev: int) -> Segments:
+        """The location segments of a path, the newest first."""
+        return one(self.ask([Where(path, rev)]), Segments)
+
+    def log(self, path: bytes, rev: int) -> Logged:
+        """The operative revisions of a path, the newest first."""
+        return one(self.ask([Log(path, rev)]), Logged)
+
+    def kind(self, path: bytes, rev: int) -> Optional[str]:
+        """Whether a path of a revision is a `file` or a `dir`, as the record says that added it first."""
+        if path == b"/":
+            return "dir"
+        located = [each for each in self.segments(path, rev).segments if each.path is not None]
+        if not located:
+            return None
+        first = located[-1]
+        kinds = [each.kind for each in self.records(first.lo, first.lo)
+                 if each.path == first.path and each.action in ("add", "replace")]
+        return kinds[-1] if kinds else None
+
+    def revision(self, rev: int) -> Revision:
+        if rev not in self._revisions:
+            self._revisions[rev] = self._store.revision(rev)
+        return self._revisions[rev]
+
+    def records(self, first: int = 0, last: Optional[int] = None) -> Iterator[Record]:
+        """The records of these revisions, in the order of the dump."""
+        return self._store.records(first, last)
+
+    def changes(self, rev: int) -> List[Change]:
+        """The changed paths of a revision, as `svn log -v` lists them."""
+        if rev not in self._changes:
+            self._changes[rev] = changes_of(self.records(rev, rev))
+        return self._changes[rev]
+
+    def revision_at(self, date: str) -> int:
+        """The youngest revision at a date, in one of the forms that `svn` takes in braces."""
+        return dates.revision_at(dates.given(date), self.head, lambda rev: self.revision(rev).date)
+
+
+def one(answers: Iterator[Answer], kind: Type[Asked]) -> Asked:
+    found = list(answers)
+    assert len(found) == 1 and isinstance(found[0], kind)
+    return found[0]

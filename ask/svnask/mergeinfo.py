@@ -1,0 +1,203 @@
+"""`mergeinfo --show-revs`: what `svn mergeinfo` prints of a source and a target."""
+from typing import Dict, Iterable, Iterator, List, NamedTuple, Optional, Set, Tuple
+
+from . import log
+from .changes import Change, is_at_or_below, parents_of
+from .errors import Denied
+from .history import History
+from .targets import Target, known
+from .values import Explicit, Run, Value, joined, rest_below, value_of
+
+# For each path the revisions of a history.
+Located = Dict[bytes, Set[int]]
+
+
+class Lines(NamedTuple):
+    """For each source path its revisions that are inheritable, and those that are not."""
+
+    inheritable: Dict[bytes, Set[int]]
+    other: Dict[bytes, Set[int]]
+
+
+class Question(NamedTuple):
+    """What is asked: `merged` or `eligible`, whether below the target, too, and for which revisions."""
+
+    verb: str
+    is_recursive: bool = False
+    range: Optional[Tuple[int, int]] = None
+
+
+def revisions_in(runs: Iterable[Run], most: int, inheritable: bool) -> Set[int]:
+    found: Set[int] = set()
+    for run in runs:
+        if run.inheritable == inheritable:
+            found.update(range(run.lo, min(run.hi, most) + 1))
+    return found
+
+
+def lines_of(value: Value, most: int) -> Lines:
+    return Lines({path: revisions_in(runs, most, True) for path, runs in value.items()},
+                 {path: revisions_in(runs, most, False) for path, runs in value.items()})
+
+
+def inherited(lines: Lines, rest: bytes) -> Lines:
+    return Lines({joined(path, rest): revs for path, revs in lines.inheritable.items()}, {})
+
+
+class Catalog:
+    """The mergeinfo of a target, its own or inherited, and, if asked, that of each path below it that has its own."""
+
+    def __init__(self, history: History, explicit: Explicit, target: Target, is_recursive: bool) -> None:
+        self.target = target
+        self._explicit = explicit
+        self._head = history.head
+        self.entries: Dict[bytes, Lines] = {}
+        top = self._of_target()
+        if top is not None:
+            self.entries[target.path] = top
+        if is_recursive:
+            for path, text in explicit.below(*target):
+                value = value_of(text)
+                if path != target.path and value is not None:
+                    self.entries[path] = lines_of(value, self._head)
+
+    def _of_target(self) -> Optional[Lines]:
+        path, rev = self.target
+        for above in [path, *parents_of(path)]:
+            text = self._explicit.text(above, rev)
+            if text is not None:
+                value = value_of(text)
+                if value is None:
+                    return None
+                lines = lines_of(value, self._head)
+                return lines if above == path else inherited(lines, rest_below(path, above))
+        return None
+
+    def nearest(self, path: bytes) -> Optional[bytes]:
+        """The nearest entry at or above a path."""
+        return next((each for each in [path, *parents_of(path)] if each in self.entries), None)
+
+
+def located(history: History, target: Target, bounds: Tuple[int, int]) -> Located:
+    """Where a path was, from revision 1 on and between the bounds."""
+    found: Located = {}
+    answer = history.segments(*target)
+    if not answer.ok:
+        raise log.not_reached(history, target)
+    for segment in answer.segments:
+        if segment.path is not None:
+            revs = range(max(segment.lo, bounds[0], 1), min(segment.hi, bounds[1]) + 1)
+            found.setdefault(segment.path, set()).update(revs)
+    return found
+
+
+def shifted(history: Located, rest: bytes) -> Located:
+    return {joined(path, rest): revs for path, revs in history.items()}
+
+
+def common(lines: Dict[bytes, Set[int]], source: Located) -> Set[int]:
+    """The revisions that some line has at the place where the source was then."""
+    return set().union(*(revs & source[path] for path, revs in lines.items() if path in source)) if lines else set()
+
+
+class Sorted(NamedTuple):
+    """The revisions of a source that all entries have, and those that only some have, or not for what is below."""
+
+    whole: Set[int]
+    partial: Set[int]
+
+
+def sort_out(catalog: Catalog, source: Located) -> Sorted:
+    wholes: List[Set[int]] = []
+    partial: Set[int] = set()
+    for path, lines in catalog.entries.items():
+        there = shifted(source, rest_below(path, catalog.target.path))
+        wholes.append(common(lines.inheritable, there))
+        partial |= common(lines.other, there)
+    whole = set().union(*wholes) if wholes else set()
+    lacking = {rev for rev in whole if any(rev not in each for each in wholes)}
+    return Sorted(whole - lacking, partial | lacking)
+
+
+def add_own_history(catalog: Catalog, own: Located, source: Located) -> None:
+    """What the target has of the source because it was there itself counts as merged."""
+    for path, lines in catalog.entries.items():
+        rest = rest_below(path, catalog.target.path)
+        mine, there = shifted(own, rest), shifted(source, rest)
+        for place, revs in mine.items():
+            if place in there and revs & there[place]:
+                lines.inheritable[place] = lines.inheritable.get(place, set()) | (revs & there[place])
+
+
+class Coverage:
+    """Whether all that a revision changed of a source is merged, path by path."""
+
+    def __init__(self, history: History, catalog: Catalog, source: Located) -> None:
+        self._history = history
+        self._catalog = catalog
+        # Where one path of the source is below another one, the longer one counts.
+        self._tops = sorted(source, key=len, reverse=True)
+
+    def is_covered(self, rev: int) -> bool:
+        changes = self._history.changes(rev)
+        return bool(changes) and all(self._is_change_covered(change, rev) for change in changes)
+
+    def _is_change_covered(self, change: Change, rev: int) -> bool:
+        top = next((top for top in self._tops if is_at_or_below(change.path, top)), None)
+        if top is None or (change.path == top and change.letter != "M"):
+            return True
+        place = joined(self._catalog.target.path, rest_below(change.path, top))
+        entry = self._catalog.nearest(place)
+        if entry is None:
+            return False
+        lines = self._catalog.entries[entry]
+        if entry == place and change.letter != "M":
+            exact = lines.inheritable.get(change.path, set()) | lines.other.get(change.path, set())
+            if exact and max(exact) > rev:
+                return True
+        parts = [lines.inheritable] + ([lines.other] if entry == place else [])
+        return any(rev in revs for part in parts for path, revs in part.items() if is_at_or_below(path, top))
+
+
+def bounds_of(history: History, source: Target, question: Question) -> Tuple[int, int]:
+    if question.range is None:
+        return 1, source.rev
+    for rev in question.range:
+        if rev > source.rev:
+            raise Denied("E160006", "No such revision %d" % rev)
+    return min(question.range), max(question.range)
+
+
+def show_revs(history: History, explicit: Explicit, source: Target, target: Target,
+              question: Question) -> List[Tuple[int, bool]]:
+    """The revisions of a source, with whether a star follows."""
+    is_merged = question.verb == "merged"
+    if question.is_recursive and target.path == b"/":
+        raise Denied("E195002", "-R is not taken for the root, where 'svn' fails itself")
+    own = located(history, target, (1, target.rev))
+    catalog = Catalog(history, explicit, target, question.is_recursive)
+    if not catalog.entries:
+        if is_merged:
+            return []
+        catalog.entries[target.path] = Lines({}, {})
+    bounds = bounds_of(history, source, question)
+    there = located(history, source, bounds)
+    if not is_merged:
+        add_own_history(catalog, own, there)
+    found = sort_out(catalog, there)
+    chosen = found.whole | found.partial if is_merged else set().union(*there.values()) - found.whole if there else set()
+    listed = set(log.revisions_of(history, log.trace(history, source), source.path == b"/"))
+    coverage = Coverage(history, catalog, there)
+    shown = []
+    for rev in sorted(chosen & listed):
+        starred = rev in found.partial
+        covered = (starred or not is_merged) and coverage.is_covered(rev)
+        if covered and not is_merged:
+            continue
+        shown.append((rev, starred and not covered))
+    return shown[::-1] if question.range and question.range[0] > question.range[1] else shown
+
+
+def show_revs_text(shown: List[Tuple[int, bool]]) -> Iterator[bytes]:
+    for rev, starred in shown:
+        yield b"r%d%s\n" % (rev, b"*" if starred else b"")

@@ -1,0 +1,323 @@
+"""Reads a dump once and copies of it what questions need: its records, the values of `svn:mergeinfo` and, if asked, who
+committed a revision, when, and with which message. Texts are skipped by their length.
+
+The copy is a dump of the same format, about which svnhist answers the same. Where the dump is not well formed, the copy
+ends with the block that is at fault, so that svnhist refuses it there, for its reason.
+"""
+import re
+from dataclasses import dataclass, field
+from typing import Callable, Dict, List, Optional, Tuple
+
+from .source import Buffer, Source
+
+Write = Callable[[bytes], object]
+Headers = Dict[bytes, bytes]
+
+MAGIC = b"SVN-fs-dump-format-version: "
+FORMATS = {MAGIC + b"2\n": 2, MAGIC + b"3\n": 3}
+LAST_LINE = b"PROPS-END\n"
+NO_PROPERTIES = b"Prop-content-length: 10\nContent-length: 10\n\n" + LAST_LINE
+MERGEINFO = b"svn:mergeinfo"
+OF_REVISIONS = (b"svn:author", b"svn:date", b"svn:log")
+# The headers by which a block is a revision, a record or the identity of the repository; the first one decides.
+KINDS = (b"Revision-number", b"Node-path", b"UUID")
+OF_RECORDS = (b"Node-path", b"Node-kind", b"Node-action", b"Node-copyfrom-rev", b"Node-copyfrom-path", b"Prop-delta",
+              b"Text-delta")
+LENGTHS = (b"Prop-content-length", b"Text-content-length", b"Content-length")
+READ = frozenset(KINDS + OF_RECORDS + LENGTHS)
+LONGEST = (1 << 63) - 1
+COPIED = b"\nNode-copyfrom-path: "
+COPY = re.compile(rb"Node-path: ([^\n]*)\n(?s:.*)Node-copyfrom-rev: ([0-9]+)\nNode-copyfrom-path: ([^\n]*)\n")
+# How many pieces of a copy are written at once.
+MANY = 4096
+NUMBER = re.compile(rb"[0-9]+\Z")
+# The headers of a record in the orders in which Subversion writes them. Those of another one are read line by line.
+SKIPPED = rb"(?:Text-(?:copy-source|content|delta-base)-(?:md5|sha1): [^\n]*\n)*"
+RECORD = re.compile(
+    rb"\n*(Node-path: [^\n]*\n(?:Node-kind: [^\n]*\n)?Node-action: [^\n]*\n"
+    rb"(?:Node-copyfrom-rev: [^\n]*\nNode-copyfrom-path: [^\n]*\n)?)" + SKIPPED +
+    rb"(Prop-delta: true\n)?(Text-delta: true\n)?" + SKIPPED +
+    rb"(?:Prop-content-length: ([0-9]{1,18})\n)?(Text-delta: true\n)?(?:Text-content-length: ([0-9]{1,18})\n)?" +
+    SKIPPED + rb"(?:Content-length: ([0-9]{1,18})\n)?\n")
+
+
+class Malformed(Exception):
+    """A block does not have its form, or the dump ends in it."""
+
+
+@dataclass
+class Copy:
+    """What is known of a copy beside its bytes."""
+
+    format: int = 0
+    uuid: Optional[bytes] = None
+    records: int = 0
+    # The offset in the copy of each revision.
+    revisions: List[int] = field(default_factory=list)
+    # The revision and the path of each copy of a path of the revision before to itself.
+    renewals: List[Tuple[int, bytes]] = field(default_factory=list)
+    # How many bytes the copy has, and the given dump, where it is whole.
+    length: int = 0
+    read: int = 0
+    is_whole: bool = False
+
+
+def clean(path: bytes) -> bytes:
+    """A path as svnhist prints it."""
+    return b"/" + b"/".join(filter(None, path.split(b"/")))
+
+
+def number_of(digits: bytes) -> int:
+    if not NUMBER.match(digits):
+        raise Malformed("a length is not a number")
+    return int(digits)
+
+
+def text_at(section: bytes, at: int, letter: bytes) -> Tuple[bytes, int]:
+    """The name or the value at a place of a property section, and the place after it."""
+    end = section.find(b"\n", at)
+    if end < 0 or not section.startswith(letter, at):
+        raise Malformed("a property does not have its form")
+    stop = end + 1 + number_of(section[at + len(letter):end])
+    if not section.startswith(b"\n", stop):
+        raise Malformed("a property does not have its length")
+    return section[end + 1:stop], stop + 1
+
+
+def entries_of(section: bytes, is_delta: bool) -> List[Tuple[bytes, Optional[bytes]]]:
+    """The names and the values of a property section; without a value where the property is deleted."""
+    entries: List[Tuple[bytes, Optional[bytes]]] = []
+    at = 0
+    while at + len(LAST_LINE) != len(section) or not section.endswith(LAST_LINE):
+        value: Optional[bytes] = None
+        if is_delta and section.startswith(b"D ", at):
+            name, at = text_at(section, at, b"D ")
+        else:
+            name, at = text_at(section, at, b"K ")
+            value, at = text_at(section, at, b"V ")
+        entries.append((name, value))
+    return entries
+
+
+def entry(name: bytes, value: Optional[bytes]) -> bytes:
+    if value is None:
+        return b"D %d\n%s\n" % (len(name), name)
+    return b"K %d\n%s\nV %d\n%s\n" % (len(name), name, len(value), value)
+
+
+def body_of(section: bytes) -> bytes:
+    """The last headers of a block that has this property section alone, and the section."""
+    return b"Prop-content-length: %d\nContent-length: %d\n\n%s" % (len(section), len(section), section)
+
+
+def mergeinfo_alone(section: bytes, is_delta: bool) -> bytes:
+    """A property section with `svn:mergeinfo` alone: its last entry, or each of them where the section has changes. A
+    list without it says something, too: that there is none."""
+    if section == LAST_LINE:
+        return section
+    kept = [entry(name, value) for name, value in entries_of(section, is_delta) if name == MERGEINFO]
+    return b"".join(kept if is_delta else kept[-1:]) + LAST_LINE
+
+
+def of_revision(section: bytes) -> bytes:
+    """The property section of a revision with author, date and message alone. svnhist does not judge its form."""
+    try:
+        entries = dict(entries_of(section, False))
+    except Malformed:
+        return LAST_LINE
+    return b"".join(entry(name, entries[name]) for name in OF_REVISIONS if name in entries) + LAST_LINE
+
+
+class Stripper:
+    """Copies a dump, block after block.
+
+    With `places` each block of the copy has a header `At`, the offset of the block in the given dump, which svnhist
+    ignores; with `people` the revisions keep author, date and message.
+    """
+
+    def __init__(self, source: Source, write: Write, places: bool = False, people: bool = False) -> None:
+        self.source = source
+        self.copy = Copy()
+        self._write = write
+        self._places = places
+        self._people = people
+
+    def run(self, seen: Callable[[int], object] = lambda read: None) -> Copy:
+        """Copies the whole dump. `seen` is told now and then how many bytes were read."""
+        at = self._first_line()
+        try:
+            turn = 0
+            while at >= 0:
+                at = self._block(at)
+                turn += 1
+                if turn & 0xfff == 0:
+                    seen(self.source.base + at)
+            self.copy.is_whole = True
+        except Malformed:
+            pass
+        self.copy.read = self.source.base + len(self.source.data)
+        return self.copy
+
+    def _put(self, piece: bytes) -> None:
+        self.copy.length += len(piece)
+        self._write(piece)
+
+    def _place(self, at: int) -> bytes:
+        return b"At: %d\n" % (self.source.base + at) if self._places else b""
+
+    def _first_line(self) -> int:
+        source = self.source
+        source.want(0, len(MAGIC) + 2)
+        line = bytes(source.data[:len(MAGIC) + 2])
+        self.copy.format = FORMATS.get(line, 0)
+        if self.copy.format == 0:
+            self._put(bytes(source.data[:1 << 16]))
+            return -1
+        self._put(line + b"\n")
+        return len(line)
+
+    def _block(self, at: int) -> int:
+        """Copies the block that begins at this place or after some newlines. The place after it, or -1 at the end."""
+        at = self.source.next_block(at)
+        if at < 0:
+            return at
+        after = self._records(at)
+        return self._any_block(at) if after == at else after
+
+    def _records(self, at: int) -> int:
+        """Copies records from this place on as long as their headers are in an order of Subversion, their properties have
+        their form and they are whole in the window; nearly all are. The place after them."""
+        data, base, end = self.source.data, self.source.base, len(self.source.data)
+        has_deltas, places = self.copy.format == 3, self._places
+        pieces: List[bytes] = []
+        for found in iter(lambda: RECORD.match(data, at), None):
+            front, delta, text_delta, properties, later_delta, text, body = found.groups()
+            section, rest = int(properties or 0), int(text or 0)
+            whole = section + rest if body is None else int(body)
+            begin = found.end()
+            if whole < section + rest or begin + whole > end:
+                break
+            try:
+                kept = self._kept_body(data, begin, section, properties is not None, has_deltas and delta is not None)
+            except Malformed:
+                break
+            deltas = (delta or b"") + (text_delta or later_delta or b"") if delta or text_delta or later_delta else b""
+            pieces += front, deltas, b"At: %d\n" % (base + at) if places else b"", kept
+            if COPIED in front:
+                self._note_copy(front)
+            at = begin + whole
+            self.copy.records += 1
+            if len(pieces) > MANY:
+                self._put(b"".join(pieces))
+                pieces = []
+        self._put(b"".join(pieces))
+        return at
+
+    def _note_copy(self, front: bytes) -> None:
+        found = COPY.search(front)
+        rev = len(self.copy.revisions) - 1
+        if found and int(found[2]) == rev - 1 and clean(found[1]) == clean(found[3]):
+            self.copy.renewals.append((rev, clean(found[1])))
+
+    @staticmethod
+    def _kept_body(data: Buffer, at: int, length: int, is_given: bool, is_delta: bool) -> bytes:
+        """What is kept of a body whose property section begins at this place, if there is one."""
+        if length == len(LAST_LINE) and data[at:at + length] == LAST_LINE:
+            return NO_PROPERTIES
+        if not is_given:
+            return b"\n"
+        return body_of(mergeinfo_alone(data[at:at + length], is_delta))
+
+    def _any_block(self, at: int) -> int:
+        """Copies a block whose headers come in any order."""
+        source = self.source
+        end = source.data.find(b"\n\n", at)
+        lines = bytes(source.data[at:end + 2] if end >= 0 else source.data[at:])
+        place = self._place(at)
+        # What the copy has of a block that is not well formed or not whole.
+        raw = place + lines
+        try:
+            if end < 0:
+                raise Malformed("the dump ends within the headers of a block")
+            headers = headers_of(lines[:-1])
+            section, rest = lengths_of(headers)
+        except Malformed:
+            self._put(raw)
+            raise
+        kind = next((name for name in KINDS if name in headers), None)
+        kept = OF_RECORDS if kind == b"Node-path" else (kind,)
+        head = b"".join(b"%s: %s\n" % (name, headers[name]) for name in kept if name and name in headers) + place
+        if kind == b"Revision-number":
+            return self._revision(head, raw, end + 2, section, rest)
+        if kind == b"Node-path":
+            self._note_copy(head)
+            self.copy.records += 1
+            is_delta = self.copy.format == 3 and headers.get(b"Prop-delta") == b"true"
+            given = section if b"Prop-content-length" in headers else -1
+            return self._record(head, raw, end + 2, given, rest, is_delta)
+        if kind == b"UUID" and self.copy.uuid is None:
+            self.copy.uuid = headers[kind]
+        # A block of no kind is refused, so its first line is kept.
+        self._put((head if kind else place + lines[:lines.index(b"\n") + 1]) + b"\n")
+        return self._after(raw, b"", end + 2, section + rest)
+
+    def _section(self, raw: bytes, at: int, length: int) -> Tuple[bytes, int]:
+        """The next bytes of the dump, which are a property section, and the place after them."""
+        at = self.source.want(at, length)
+        section = bytes(self.source.data[at:at + length])
+        if len(section) < length:
+            self._put(raw + section)
+            raise Malformed("the dump ends within a property section")
+        return section, at + length
+
+    def _after(self, raw: bytes, section: bytes, at: int, rest: int) -> int:
+        """The place after the rest of a body, of which nothing is kept."""
+        at = self.source.skip(at, rest)
+        if at > len(self.source.data):
+            self._put(raw + section)
+            raise Malformed("the dump ends within a body")
+        return at
+
+    def _record(self, head: bytes, raw: bytes, at: int, length: int, rest: int, is_delta: bool) -> int:
+        if length < 0:
+            at = self._after(raw, b"", at, rest)
+            self._put(head + b"\n")
+            return at
+        section, at = self._section(raw, at, length)
+        at = self._after(raw, section, at, rest)
+        kept = section
+        try:
+            kept = mergeinfo_alone(section, is_delta) if length > 0 else section
+        finally:
+            # A section that is not well formed is kept as it is.
+            self._put(head + body_of(kept))
+        return at
+
+    def _revision(self, head: bytes, raw: bytes, at: int, length: int, rest: int) -> int:
+        section, at = self._section(raw, at, length)
+        at = self._after(raw, section, at, rest)
+        self.copy.revisions.append(self.copy.length)
+        kept = of_revision(section) if self._people and length > 0 else b""
+        self._put(head + (body_of(kept) if kept else b"\n"))
+        return at
+
+
+def headers_of(lines: bytes) -> Headers:
+    """The headers of a block, each line ended by a newline."""
+    headers: Headers = {}
+    for line in lines.split(b"\n")[:-1]:
+        name, colon, value = line.partition(b":")
+        if not name or not colon or (name in headers and name in READ):
+            raise Malformed("a line is no header, or one that the block has already")
+        headers[name] = value[1:] if value.startswith(b" ") else value
+    return headers
+
+
+def lengths_of(headers: Headers) -> Tuple[int, int]:
+    """The length of the property section of a block, and of the rest of its body."""
+    properties, text, body = [number_of(headers.get(name, b"0")) for name in LENGTHS]
+    if b"Content-length" not in headers:
+        body = properties + text
+    if body < properties + text or body > LONGEST:
+        raise Malformed("the lengths of a block do not fit")
+    return properties, body - properties

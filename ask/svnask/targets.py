@@ -1,0 +1,115 @@
+"""What a user names: a path with a peg revision, and revisions by number, `HEAD` or a date."""
+import re
+from typing import List, NamedTuple, Optional, Tuple
+
+from .errors import Denied
+from .history import History
+
+NUMBER = re.compile(r"r?(\d+)\Z")
+DATE = re.compile(r"\{(.*)\}\Z", re.DOTALL)
+WORDS = re.compile(r"(?:BASE|PREV|COMMITTED)\Z", re.IGNORECASE)
+GREATEST = 2147483647
+
+
+class Target(NamedTuple):
+    """A path, as svnhist prints it, and its peg revision."""
+
+    path: bytes
+    rev: int
+
+
+def encoded(text: str) -> bytes:
+    return text.encode("utf-8", "surrogateescape")
+
+
+def decoded(text: bytes) -> str:
+    return text.decode("utf-8", "surrogateescape")
+
+
+def split_peg(text: str) -> Tuple[str, str]:
+    """The path and the peg. The peg is after the last `@` of the last component; an `@` at the end says that there is
+    none, and lets a path have one."""
+    folder, slash, name = text.rpartition("/")
+    front, sign, peg = name.rpartition("@")
+    return (folder + slash + front, peg) if sign else (text, "")
+
+
+def path_of(text: str) -> bytes:
+    """A path of the repository, with or without `^/` or a slash at its front."""
+    if text.startswith("^/") or text == "^":
+        text = text[1:]
+    parts = [part for part in encoded(text).split(b"/") if part not in (b"", b".")]
+    if b".." in parts:
+        raise Denied("E195002", "a path may not have '..': '%s'" % text)
+    return b"/" + b"/".join(parts)
+
+
+def revision_of(history: History, text: str) -> int:
+    """A revision by its number, `HEAD` or `{DATE}`. It may be above the youngest one."""
+    found = NUMBER.match(text)
+    if found and int(found[1]) <= GREATEST:
+        return int(found[1])
+    if text.upper() == "HEAD":
+        return history.head
+    date = DATE.match(text)
+    if date:
+        return history.revision_at(date[1])
+    if WORDS.match(text):
+        raise Denied("E195002", "PREV, BASE, or COMMITTED revision keywords are invalid for URL")
+    raise syntax_error(text)
+
+
+def syntax_error(text: str) -> Denied:
+    return Denied("E205000", "Syntax error in revision argument '%s'" % text)
+
+
+def known(history: History, rev: int) -> int:
+    if rev > history.head:
+        raise Denied("E160006", "No such revision %d" % rev)
+    return rev
+
+
+def target_of(history: History, text: str) -> Target:
+    """The target that a user names. Without a peg it is of the youngest revision."""
+    path, peg = split_peg(text)
+    return Target(path_of(path), known(history, revision_of(history, peg) if peg else history.head))
+
+
+def range_of(history: History, text: str) -> Tuple[int, int]:
+    """`LO:HI`, in either order, or one revision."""
+    lo, colon, hi = split_range(text)
+    first = revision_of(history, lo)
+    return first, revision_of(history, hi) if colon else first
+
+
+def split_range(text: str) -> Tuple[str, str, str]:
+    """The two sides of a range. A date in braces may have colons."""
+    depth = 0
+    for at, letter in enumerate(text):
+        depth += (letter == "{") - (letter == "}")
+        if letter == ":" and depth == 0:
+            if at == len(text) - 1 or at == 0:
+                raise syntax_error(text)
+            return text[:at], ":", text[at + 1:]
+    return text, "", ""
+
+
+def changes_of_option(history: History, texts: List[str]) -> List[Tuple[int, int]]:
+    """The ranges of `-c`: numbers joined by commas, ranges `N-M`, and a minus for the way back."""
+    found = []
+    for text in ",".join(texts).split(","):
+        back = text.startswith("-")
+        lo, dash, hi = text[back:].partition("-")
+        first = revision_of(history, lo)
+        last = revision_of(history, hi) if dash else first
+        found.append((last, first) if back else (first, last))
+    return found
+
+
+def ranges_of(history: History, ranges: List[str], changes: List[str]) -> Optional[List[Tuple[int, int]]]:
+    """The ranges of `-r` and `-c`, or none where neither is given."""
+    if ranges and changes:
+        raise Denied("E195002", "-c and -r are mutually exclusive")
+    if changes:
+        return changes_of_option(history, changes)
+    return [range_of(history, text) for text in ranges] or None

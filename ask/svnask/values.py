@@ -1,0 +1,132 @@
+"""Values of `svn:mergeinfo`: what a text says, and which paths have one through the revisions."""
+import bisect
+import re
+from typing import Dict, Iterable, Iterator, List, NamedTuple, Optional, Tuple
+
+from .changes import is_at_or_below
+from .store import Record
+
+RANGE = re.compile(rb"([0-9]+)(?:-([0-9]+))?(\*?)\Z")
+GREATEST = 2147483647
+
+
+class Run(NamedTuple):
+    """Neighbouring revisions that are alike inheritable."""
+
+    lo: int
+    hi: int
+    inheritable: bool
+
+
+Value = Dict[bytes, List[Run]]
+
+
+def runs_of(text: bytes) -> List[Run]:
+    runs = []
+    for element in text.split(b","):
+        found = RANGE.match(element)
+        if found is None:
+            raise ValueError("no range of revisions")
+        lo = int(found[1])
+        hi = int(found[2] or lo)
+        if lo < 1 or hi > GREATEST or (found[2] is not None and lo >= hi):
+            raise ValueError("no range of revisions")
+        runs.append(Run(lo, hi, not found[3]))
+    clashes = [(one, other) for one in runs for other in runs
+               if one.inheritable and not other.inheritable and one.lo <= other.hi and other.lo <= one.hi]
+    if clashes:
+        raise ValueError("a revision is given with and without '*'")
+    return runs
+
+
+def value_of(text: bytes) -> Optional[Value]:
+    """What a text says, or None where Subversion can't read it."""
+    value: Value = {}
+    lines = text.split(b"\n")
+    if lines[-1] == b"" and len(lines) > 1:
+        lines.pop()
+        if lines == [b""]:
+            return None
+    try:
+        for line in lines if text else []:
+            path, colon, ranges = line.rpartition(b":")
+            if not colon:
+                return None
+            source = b"/" + b"/".join(part for part in path.split(b"/") if part not in (b"", b"."))
+            value.setdefault(source, []).extend(runs_of(ranges.strip(b" \t").rstrip(b",")))
+    except ValueError:
+        return None
+    return value
+
+
+class Explicit:
+    """The texts of `svn:mergeinfo` that paths have themselves, revision by revision."""
+
+    def __init__(self, records: Iterable[Record]) -> None:
+        self._paths: List[bytes] = []
+        # For each path that ever had a text, the revisions in which that changed, and what it had from then on.
+        self._revs: Dict[bytes, List[int]] = {}
+        self._texts: Dict[bytes, List[Optional[bytes]]] = {}
+        for record in records:
+            self._apply(record)
+
+    def text(self, path: bytes, rev: int) -> Optional[bytes]:
+        """The text of a path in a revision."""
+        revs = self._revs.get(path)
+        if revs is None:
+            return None
+        at = bisect.bisect_right(revs, rev)
+        return self._texts[path][at - 1] if at else None
+
+    def below(self, top: bytes, rev: int) -> Iterator[Tuple[bytes, bytes]]:
+        """The paths at or below one that have a text in a revision, and these."""
+        for path in self._known(top):
+            text = self.text(path, rev)
+            if text is not None:
+                yield path, text
+
+    def _known(self, top: bytes) -> List[bytes]:
+        """The paths at or below one that ever had a text."""
+        front = top if top.endswith(b"/") else top + b"/"
+        first, last = bisect.bisect_left(self._paths, front), bisect.bisect_left(self._paths, front[:-1] + b"0")
+        if top == b"/":
+            return list(self._paths)
+        return ([top] if top in self._revs else []) + self._paths[first:last]
+
+    def _put(self, path: bytes, rev: int, text: Optional[bytes]) -> None:
+        if path not in self._revs:
+            if text is None:
+                return
+            bisect.insort(self._paths, path)
+            self._revs[path], self._texts[path] = [], []
+        if self._revs[path] and self._revs[path][-1] == rev:
+            self._texts[path][-1] = text
+        else:
+            self._revs[path].append(rev)
+            self._texts[path].append(text)
+
+    def _apply(self, record: Record) -> None:
+        if record.action != "change":
+            for path, _ in list(self.below(record.path, record.rev)):
+                self._put(path, record.rev, None)
+        if record.source is not None and record.action in ("add", "replace"):
+            source, rev = record.source
+            top = record.path
+            for path, text in list(self.below(source, rev)):
+                rest = path[len(source):].lstrip(b"/")
+                self._put(joined(top, rest), record.rev, text)
+        if record.mergeinfo is not None and record.action != "delete":
+            self._put(record.path, record.rev, record.mergeinfo.text)
+
+
+def joined(top: bytes, rest: bytes) -> bytes:
+    """The path of what is below another one."""
+    if not rest:
+        return top
+    return top + rest if top.endswith(b"/") else top + b"/" + rest
+
+
+def rest_below(path: bytes, top: bytes) -> bytes:
+    assert is_at_or_below(path, top)
+    return path[len(top):].lstrip(b"/")
+

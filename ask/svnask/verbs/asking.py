@@ -1,0 +1,45 @@
+"""`ask`."""
+from argparse import ArgumentParser, Namespace
+from typing import Iterator, Tuple
+
+from ..answers import Answer, Line
+from ..errors import Failed
+from ..history import History
+from ..refusals import bad_query
+from ..targets import decoded
+from .base import Object, Verb
+
+
+class AskVerb(Verb):
+    name = "ask"
+    help = "the answers to a list of queries, each line with its query"
+
+    def arguments(self, parser: ArgumentParser) -> None:
+        parser.add_argument("queries", metavar="QUERIES", help="a file of queries as svnhist takes them")
+
+    def answers(self, history: History, words: Namespace) -> Iterator[Tuple[bytes, Answer]]:
+        try:
+            with open(words.queries, "rb") as file:
+                lines = file.read().split(b"\n")
+        except OSError as error:
+            raise Failed("cannot read %s: %s" % (words.queries, error.strerror)) from error
+        if lines[-1] == b"":
+            lines.pop()
+        return zip(lines, history.ask([Line(b"/", 0, line) for line in lines]))
+
+    def text(self, history: History, words: Namespace) -> Iterator[bytes]:
+        for line, answer in self.answers(history, words):
+            status = answer.status
+            if status == "bad-query":
+                status += ": " + bad_query(line)
+            if not answer.ok or not answer.lines:
+                yield line + b"\t" + status.encode("utf-8") + b"\n"
+            yield from (line + b"\t" + result + b"\n" for result in answer.lines)
+
+    def objects(self, history: History, words: Namespace) -> Iterator[Object]:
+        for line, answer in self.answers(history, words):
+            found: Object = {"query": decoded(line), "status": answer.status,
+                             "lines": [decoded(result) for result in answer.lines]}
+            if answer.status == "bad-query":
+                found["reason"] = bad_query(line)
+            yield found

@@ -1,0 +1,63 @@
+"""What all verbs of the command have in common."""
+from argparse import ArgumentParser, Namespace
+from typing import Any, Dict, Iterator, Optional
+
+from ..changes import Change
+from ..errors import Denied
+from ..history import History
+from ..store import Record
+from ..targets import decoded, revision_of
+
+Object = Dict[str, Any]
+
+
+class Verb:
+    """A verb of the command."""
+
+    name = ""
+    help = ""
+
+    def arguments(self, parser: ArgumentParser) -> None:
+        """Tells the parser what follows the verb."""
+
+    def text(self, history: History, words: Namespace) -> Iterator[bytes]:
+        """What is printed, piece after piece."""
+        raise NotImplementedError
+
+    def objects(self, history: History, words: Namespace) -> Iterator[Object]:
+        """The same for a script, one object a line."""
+        raise NotImplementedError
+
+
+def shown(text: Optional[bytes]) -> Optional[str]:
+    return None if text is None else decoded(text)
+
+
+def object_of_change(change: Change) -> Object:
+    found: Object = {"path": decoded(change.path), "action": change.letter}
+    if change.source:
+        found["from"] = {"path": decoded(change.source[0]), "revision": change.source[1]}
+    return found
+
+
+def object_of_revision(history: History, rev: int) -> Object:
+    revision = history.revision(rev)
+    return {"revision": rev, "author": shown(revision.author), "date": shown(revision.date),
+            "message": shown(revision.message), "changes": [object_of_change(each) for each in history.changes(rev)]}
+
+
+def existing(history: History, text: str) -> int:
+    rev = revision_of(history, text)
+    if rev > history.head:
+        raise Denied("E160006", "No such revision %d" % rev)
+    return rev
+
+
+def object_of_record(record: Record) -> Object:
+    found: Object = {"record": record.number, "revision": record.rev, "path": decoded(record.path), "action": record.action,
+                     "kind": record.kind, "byte": record.at}
+    if record.source:
+        found["from"] = {"path": decoded(record.source[0]), "revision": record.source[1]}
+    if record.mergeinfo:
+        found["mergeinfo"] = shown(record.mergeinfo.text)
+    return found

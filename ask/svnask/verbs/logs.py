@@ -1,0 +1,58 @@
+"""`log` and `show`."""
+from argparse import ArgumentParser, Namespace
+from typing import Iterator
+
+from .. import log
+from ..errors import Denied
+from ..history import History
+from ..targets import ranges_of, target_of
+from .base import Object, Verb, existing, object_of_revision
+
+
+class LogVerb(Verb):
+    name = "log"
+    help = "the log of a path, as 'svn log' prints it"
+
+    def arguments(self, parser: ArgumentParser) -> None:
+        parser.add_argument("target", metavar="PATH[@PEG]", nargs="?", default="/")
+        parser.add_argument("-r", "--revision", dest="ranges", metavar="LO:HI", action="append", default=[])
+        parser.add_argument("-c", "--change", dest="changes", metavar="N", action="append", default=[])
+        parser.add_argument("-l", "--limit", metavar="N")
+        parser.add_argument("-q", "--quiet", action="store_true")
+        parser.add_argument("-v", "--verbose", action="store_true")
+        parser.add_argument("--stop-on-copy", action="store_true")
+
+    def options(self, history: History, words: Namespace) -> log.Options:
+        limit = None
+        if words.limit is not None:
+            if not words.limit.lstrip("-").isdigit():
+                raise Denied("E205000", "Non-numeric limit argument given")
+            limit = int(words.limit)
+        return log.Options(ranges_of(history, words.ranges, words.changes), limit, words.quiet, words.verbose,
+                           words.stop_on_copy)
+
+    def text(self, history: History, words: Namespace) -> Iterator[bytes]:
+        return log.log_text(history, target_of(history, words.target), self.options(history, words))
+
+    def objects(self, history: History, words: Namespace) -> Iterator[Object]:
+        options = self.options(history, words)
+        for count, rev in enumerate(log.entries(history, target_of(history, words.target), options)):
+            if count == options.limit:
+                return
+            if log.is_shown(history, rev, options):
+                yield object_of_revision(history, rev)
+
+
+class ShowVerb(Verb):
+    name = "show"
+    help = "a revision, as 'svn log -v -c REV' prints it"
+
+    def arguments(self, parser: ArgumentParser) -> None:
+        parser.add_argument("revision", metavar="REV")
+
+    def text(self, history: History, words: Namespace) -> Iterator[bytes]:
+        rev = existing(history, words.revision)
+        yield log.entry_text(history, rev, log.Options(is_verbose=True)) + log.RULE
+
+    def objects(self, history: History, words: Namespace) -> Iterator[Object]:
+        yield object_of_revision(history, existing(history, words.revision))
