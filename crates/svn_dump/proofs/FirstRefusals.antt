@@ -23,7 +23,7 @@ use Rattle.svn_dump.specs.declared.grammar.format.Format.TheVariants.{Two, Three
 use Rattle.svn_dump.specs.declared.refusal.Refusal.{Refusal}
 use Rattle.svn_dump.specs.declared.refusal.Refusal.TheVariants.{Magic, Truncated, Version}
 use Rattle.svn_dump.proofs.Fronts.{block-front, front-block, three_none, without_empty_lines-front, without_empty_lines-other, without_empty_lines-skip}
-use Rattle.svn_dump.proofs.Refusals.{IsSmall-before, first_holding-append, no_refusal, refusal_none}
+use Rattle.svn_dump.proofs.Refusals.{IsSmall-before, first_holding-append, no_refusal, none_holds-append, refusal_none}
 
 -- ---- one refusal or another
 
@@ -33,10 +33,6 @@ no_first o at later e = ap (λ first. refusal_or first at later) e
 neither : (o : Option Refusal) (at : ℕ) (later : Option RefusalAt) → refusal_or o at later ≡ None → (o ≡ None) × (later ≡ None)
 neither None at later e = (refl, e)
 neither (Some refusal) at later e = absurd (none-some _ (sym e))
-
-neither_holds : (first later : Option Refusal) → option_or first later ≡ None → (first ≡ None) × (later ≡ None)
-neither_holds None later e = (refl, e)
-neither_holds (Some refusal) later e = absurd (none-some refusal (sym e))
 
 and_true : (x y : Bool) → x ≡ true → (x && y) ≡ false → y ≡ false
 and_true true y e none = none
@@ -214,7 +210,7 @@ module _ (format : Format) where
   module _ (history : HistoryOfBytes) (small : IsSmall history) (rest bytes : List ℕ) (at : without_empty_lines rest ≡ bytes) where
     block_parts : block_refusal format history bytes ≡ None → (first_holding (front_refusals bytes) ≡ None) × (first_holding (content_refusals history (content_of format (block_at bytes))) ≡ None)
     unfolding block_refusal
-    block_parts none = neither_holds _ _ (sym (first_holding-append (front_refusals bytes) (content_refusals history (content_of format (block_at bytes)))) ∙ none)
+    block_parts none = none_holds-append (front_refusals bytes) (content_refusals history (content_of format (block_at bytes))) none
 
     skipped : (empty : ℕ) × (rest ≡ replicate empty 10 ++ bytes)
     skipped =

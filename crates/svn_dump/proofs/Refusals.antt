@@ -58,7 +58,8 @@ unfolding first_holding
 none_holds-parts refusal true more none = absurd (cc)
 none_holds-parts refusal false more none = (refl, none)
 
-none_holds-append : (a b : List Reason) → first_holding (a ++ b) ≡ None → (first_holding a ≡ None) × (first_holding b ≡ None)
+-- where nothing of two lists holds, nothing of either does
+pub none_holds-append : (a b : List Reason) → first_holding (a ++ b) ≡ None → (first_holding a ≡ None) × (first_holding b ≡ None)
 none_holds-append a b none = by (first_holding a) (first_holding b) (sym (first_holding-append a b) ∙ none)
   where
     by : (first later : Option Refusal) → option_or first later ≡ None → (first ≡ None) × (later ≡ None)
