@@ -76,7 +76,7 @@ abbrev pub mergeinfo_answer : DumpValue → PegValue → Answer
 mergeinfo_answer dump peg =
     with_peg_in dump peg (λ found. value_answer (effective_value (tree_of (trees_in_bytes dump) found.rev) found.path))
 
--- the same for a source, a target and the mergeinfo of the target
+-- the refusal, if a peg is not there or the mergeinfo of the target is malformed; otherwise the answer about both pegs
 abbrev pub with_pair_in : DumpValue → PegValue → PegValue → (Peg → Peg → MergeInfoValue → Answer) → Answer
 with_pair_in dump source target answer =
     if_both_exist (trees_in_bytes dump) (peg_view source) (peg_view target) (answer (peg_view source) (peg_view target))

@@ -26,7 +26,7 @@ lent_ranges ranges = option_map (λ lent. lent.now) ranges
 abbrev pub hit_has : List (Option (List Run)) → Hit → Option Bool
 hit_has ranges hit = option_and_then (λ some. option_and_then (λ runs. inheritability_of runs hit.rev) some) (slice_get ranges hit.segment)
 
--- the same, where only inheritable revisions may count
+-- of inherited ranges only the inheritable revisions count
 abbrev pub has_revision : Bool → List (Option (List Run)) → Hit → Option Bool
 has_revision are_inherited ranges hit = if are_inherited then inherited_revision (hit_has ranges hit) else hit_has ranges hit
 

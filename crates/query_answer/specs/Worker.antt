@@ -45,13 +45,13 @@ abbrev pub IsUnreadWhereRefused : Result KeptAnswer AllocError → SeenValue →
 IsUnreadWhereRefused (Ok answer) old new = IsFalse (needs_mergeinfo (kept_status answer)) → new ≡ old
 IsUnreadWhereRefused (Err e) old new = Unit {0}
 
--- ---- where a verb has an answer or none
+-- ---- of a verb
 
--- the query is not refused for a peg
+-- the pegs are there, or memory ran out
 abbrev pub LooksAtMergeinfo : Result KeptAnswer Unanswered → Type 0
 LooksAtMergeinfo result = IfOk (given result) (λ answer. IsTrue (needs_mergeinfo (kept_status answer)))
 
--- all of this of a verb that may read one text of the dump
+-- the worker may have learnt one text of the dump, and has read it exactly where the pegs are there
 pub record Reads (dump : DumpValue) (memo : List ℕ) (read : Option (List ℕ)) (result : Result KeptAnswer Unanswered) (old new : SeenValue) : Type 0 where
   pub learnt : MayLearn dump.values memo read old new
   pub knows : KnowsWhatWasRead (given result) read new

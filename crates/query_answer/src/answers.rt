@@ -22,14 +22,14 @@ pub enum Answer {
     Refused(Status),
     /// Where a path was located, if anywhere.
     Location(Option<Path>),
-    /// Where it was located in all revisions, the newest first.
+    /// Where a path was located in all revisions, the newest first.
     Segments(Vec<Segment>),
-    /// Its operative revisions, the newest first, each in one of these segments.
+    /// The operative revisions of a path, the newest first, each in one of these segments.
     Log {
         segments: Vec<Segment>,
         hits: Vec<Hit>,
     },
-    /// The mergeinfo that holds for it.
+    /// The mergeinfo that holds for a path.
     Mergeinfo(PrintedMergeinfo),
     /// The revisions that were merged into a target, in rising order.
     Merged(Vec<MergedRevision>),

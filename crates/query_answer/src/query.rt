@@ -12,33 +12,33 @@ use svn_text::{GREATEST_REVISION, number_up_to, split_at_byte};
 /// of; without one they are of all revisions.
 #[derive(Debug, Drop)]
 pub enum Query<'a> {
-    /// The line has none of the other forms.
+    /// The line is no query.
     Bad,
-    /// Where the path was located in a revision.
+    /// Where a path was located in a revision.
     Locate {
         of: Peg<'a>,
         rev: u32,
     },
-    /// Where it was located in all revisions.
+    /// Where a path was located in all revisions.
     Segments {
         of: Peg<'a>,
     },
-    /// Its operative revisions.
+    /// The operative revisions of a path.
     Log {
         of: Peg<'a>,
         range: Option<(u32, u32)>,
     },
-    /// Its effective mergeinfo.
+    /// The effective mergeinfo of a path.
     Mergeinfo {
         of: Peg<'a>,
     },
-    /// Which of its operative revisions were merged into the target.
+    /// The operative revisions of a path that were merged into a target.
     Merged {
         of: Peg<'a>,
         target: Peg<'a>,
         range: Option<(u32, u32)>,
     },
-    /// Which of its operative revisions are still to be merged into the target.
+    /// The operative revisions of a path that are still to be merged into a target.
     Eligible {
         of: Peg<'a>,
         target: Peg<'a>,
