@@ -3,9 +3,11 @@ from typing import List
 
 from .asking import AskVerb
 from .base import Verb
+from .branches import BranchesVerb, ChangedTagsVerb, ContainsVerb, UnmergedVerb
 from .dumps import InfoVerb, RecordVerb
 from .logs import LogVerb, ShowVerb
 from .merges import MergeinfoVerb
 from .places import SegmentsVerb, WhereVerb
 
-VERBS: List[Verb] = [LogVerb(), ShowVerb(), MergeinfoVerb(), WhereVerb(), SegmentsVerb(), RecordVerb(), InfoVerb(), AskVerb()]
+VERBS: List[Verb] = [LogVerb(), ShowVerb(), MergeinfoVerb(), WhereVerb(), SegmentsVerb(), BranchesVerb(), ContainsVerb(),
+                     UnmergedVerb(), ChangedTagsVerb(), RecordVerb(), InfoVerb(), AskVerb()]

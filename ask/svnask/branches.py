@@ -1,0 +1,113 @@
+"""Questions about all branches and tags at once."""
+from typing import Dict, Iterable, Iterator, List, NamedTuple, Optional, Sequence, Tuple
+
+from . import mergeinfo
+from .answers import Inherited, Log, Logged, Mergeinfo
+from .changes import is_at_or_below
+from .history import History
+from .lives import PATTERNS, Life, all_lives
+from .targets import Target
+from .values import Explicit, runs_of
+
+# How many revisions are looked through at first for the last change of a life; each further look has as many times more.
+FIRST_WINDOW, WINDOW_GROWS = 64, 16
+
+
+def lives_of(history: History, patterns: Sequence[bytes]) -> List[Life]:
+    """The lives of all paths that match a pattern, or of the trunk, the branches and the tags."""
+    return all_lives(history.records(), patterns or PATTERNS, history.head)
+
+
+def last_changes(history: History, lives: Iterable[Life]) -> Dict[Life, int]:
+    """The newest operative revision of each life. The answers for a long one would be long, so its end is asked first."""
+    found: Dict[Life, int] = {}
+    left = list(lives)
+    window = FIRST_WINDOW
+    while left:
+        queries = [Log(life.path, life.last, (max(life.first, life.last - window), life.last)) for life in left]
+        for life, answer in zip(left, history.ask(queries)):
+            assert isinstance(answer, Logged)
+            if answer.text:
+                found[life] = answer.revisions[0]
+            elif life.last - window <= life.first:
+                found[life] = life.first
+        left = [life for life in left if life not in found]
+        window *= WINDOW_GROWS
+    return found
+
+
+class Holder(NamedTuple):
+    """A path that has a revision, in its own history or by a merge, whole or in part."""
+
+    path: bytes
+    how: str
+
+
+def homes_of(history: History, lives: Iterable[Life], rev: int) -> List[bytes]:
+    """The branches that a revision changed."""
+    changed = [change.path for change in history.changes(rev)]
+    return [life.path for life in lives if life.first <= rev <= life.last
+            and any(is_at_or_below(path, life.path) or is_at_or_below(life.path, path) for path in changed)]
+
+
+def holders(history: History, patterns: Sequence[bytes], rev: int) -> Iterator[Holder]:
+    """The branches and tags of today that have a revision of one of them."""
+    lives = lives_of(history, patterns)
+    homes = homes_of(history, lives, rev)
+    alive = [life for life in lives if life.is_alive]
+    logs = history.ask([Log(life.path, history.head, (rev, rev)) for life in alive])
+    values = history.ask([Mergeinfo(life.path, history.head) for life in alive])
+    for life, logged, value in zip(alive, logs, values):
+        if logged.text:
+            yield Holder(life.path, "history")
+        elif isinstance(value, Inherited) and value.ok:
+            how = merged_how(value.value, homes, rev)
+            if how is not None:
+                yield Holder(life.path, how)
+
+
+def merged_how(value: Dict[bytes, str], homes: Iterable[bytes], rev: int) -> Optional[str]:
+    """Whether mergeinfo has a revision of one of these paths, and if so whether as a whole."""
+    found = [run.inheritable for home in homes if home in value for run in runs_of(value[home].encode("ascii"))
+             if run.lo <= rev <= run.hi]
+    return None if not found else "merged" if any(found) else "merged in part"
+
+
+class Left(NamedTuple):
+    """The revisions of a branch that are still to be merged."""
+
+    path: bytes
+    revisions: List[Tuple[int, bool]]
+
+
+def unmerged(history: History, patterns: Sequence[bytes], into: Target) -> Iterator[Left]:
+    """What of each branch of today is still to be merged into a target, as `svn mergeinfo --show-revs eligible` says."""
+    explicit = Explicit(history.records())
+    for life in lives_of(history, patterns or (b"/branches/*",)):
+        if life.is_alive and life.path != into.path:
+            source = Target(life.path, history.head)
+            yield Left(life.path, mergeinfo.show_revs(history, explicit, source, into, mergeinfo.Question("eligible")))
+
+
+class Touched(NamedTuple):
+    """A life that was changed after it was made, or by the revision that made it."""
+
+    life: Life
+    is_changed_when_made: bool
+    revisions: List[int]
+
+
+def touched(history: History, patterns: Sequence[bytes]) -> Iterator[Touched]:
+    """The tags that are not what they were copied from."""
+    lives = lives_of(history, patterns or (b"/tags/*",))
+    later = [life for life in lives if life.last > life.first]
+    answers = history.ask([Log(life.path, life.last, (life.first + 1, life.last)) for life in later])
+    changed: Dict[Life, List[int]] = {}
+    for life, answer in zip(later, answers):
+        assert isinstance(answer, Logged)
+        changed[life] = answer.revisions[::-1]
+    for life in lives:
+        below = any(change.path != life.path and is_at_or_below(change.path, life.path)
+                    for change in history.changes(life.first))
+        if below or changed.get(life):
+            yield Touched(life, below, changed.get(life, []))

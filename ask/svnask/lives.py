@@ -1,0 +1,160 @@
+"""The lives of branches and tags: when a path that matches a pattern came to be, from where, and when it went.
+
+A path that was deleted and made anew has several lives. One also begins or ends where a directory above it is copied,
+moved or deleted, of which no record names the path.
+"""
+import fnmatch
+from typing import Dict, Iterable, Iterator, List, NamedTuple, Optional, Sequence, Set, Tuple
+
+from .changes import components
+from .store import Record
+from .values import joined, rest_below
+
+PATTERNS = (b"/trunk", b"/branches/*", b"/tags/*")
+Place = Tuple[bytes, int]
+
+
+class Life(NamedTuple):
+    """A path from the revision that made it up to the last one that has it."""
+
+    path: bytes
+    first: int
+    last: int
+    # Where it was copied from, if it was.
+    source: Optional[Place]
+    # Whether it is there in the youngest revision.
+    is_alive: bool
+
+    def continues(self, other: "Life") -> bool:
+        """Whether this is the other one under another name: it was moved."""
+        return self.source == (other.path, other.last) and self.first == other.last + 1 and not other.is_alive
+
+
+class Event(NamedTuple):
+    """A record that made or unmade all that is at and below its path."""
+
+    rev: int
+    number: int
+    action: str
+    source: Optional[Place]
+
+
+class Tree:
+    """What was at each path of each revision, by the records that made or unmade it."""
+
+    def __init__(self, records: Iterable[Record]) -> None:
+        self._events: Dict[bytes, List[Event]] = {}
+        self._names: Dict[bytes, Set[bytes]] = {}
+        self._known: Dict[Place, bool] = {}
+        for record in records:
+            if record.action != "change":
+                self._events.setdefault(record.path, []).append(
+                    Event(record.rev, record.number, record.action, record.source))
+                top, _, name = record.path.rpartition(b"/")
+                if name:
+                    self._names.setdefault(top or b"/", set()).add(name)
+
+    def events(self, path: bytes) -> List[Tuple[bytes, Event]]:
+        """The events of a path and of those above it, in the order of the dump, with the path of each."""
+        found = [(top, event) for top in tops_of(path) for event in self._events.get(top, ())]
+        return sorted(found, key=lambda each: each[1].number)
+
+    def exists(self, path: bytes, rev: int) -> bool:
+        """Whether a path is in the tree of a revision."""
+        if path == b"/":
+            return True
+        place = (path, rev)
+        if place not in self._known:
+            self._known[place] = self._is_there(path, rev)
+        return self._known[place]
+
+    def _is_there(self, path: bytes, rev: int) -> bool:
+        newest: Optional[Tuple[bytes, Event]] = None
+        for top in tops_of(path):
+            events = self._events.get(top, [])
+            at = count_up_to(events, rev)
+            if at and (newest is None or newest[1].number < events[at - 1].number):
+                newest = (top, events[at - 1])
+        return newest is not None and self.after(path, *newest)
+
+    def after(self, path: bytes, top: bytes, event: Event) -> bool:
+        """Whether a path is there after an event of it or of a path above it."""
+        if event.action == "delete":
+            return False
+        if event.source is None:
+            return path == top
+        return self.exists(*moved(path, top, event.source))
+
+    def names(self, path: bytes) -> Set[bytes]:
+        """The names of all that was ever directly below a path."""
+        return set(self._all_names(path, None, set()))
+
+    def _all_names(self, path: bytes, rev: Optional[int], seen: Set[Place]) -> Iterator[bytes]:
+        """The names that were below a path, up to a revision if one is given."""
+        yield from self._names.get(path, ())
+        for top in tops_of(path):
+            for event in self._events.get(top, ()):
+                if event.source is not None and (rev is None or event.rev <= rev):
+                    source = moved(path, top, event.source)
+                    if source not in seen:
+                        seen.add(source)
+                        yield from self._all_names(*source, seen)
+
+    def matching(self, pattern: bytes) -> List[bytes]:
+        """The paths that ever were and match a pattern, component by component."""
+        found = [b"/"]
+        for part in components(pattern):
+            if is_plain(part):
+                found = [joined(top, part) for top in found]
+            else:
+                found = [joined(top, name) for top in found for name in sorted(self.names(top))
+                         if fnmatch.fnmatchcase(name.decode("latin-1"), part.decode("latin-1"))]
+        return found
+
+    def lives(self, path: bytes, head: int) -> Iterator[Life]:
+        """The lives of a path, the first one first."""
+        begun: Optional[Tuple[int, Optional[Place]]] = None
+        for top, event in self.events(path):
+            is_there = self.after(path, top, event)
+            if begun is not None and begun[0] < event.rev:
+                yield Life(path, begun[0], event.rev - 1, begun[1], False)
+            source = moved(path, top, event.source) if event.source is not None else None
+            begun = (event.rev, source) if is_there else None
+        if begun is not None:
+            yield Life(path, begun[0], head, begun[1], True)
+
+
+def count_up_to(events: Sequence[Event], rev: int) -> int:
+    """How many of the events are of revisions up to this one."""
+    low, high = 0, len(events)
+    while low < high:
+        middle = (low + high) // 2
+        if events[middle].rev <= rev:
+            low = middle + 1
+        else:
+            high = middle
+    return low
+
+
+def tops_of(path: bytes) -> Iterator[bytes]:
+    """A path and those above it."""
+    yield path
+    while path != b"/":
+        path = path.rpartition(b"/")[0] or b"/"
+        yield path
+
+
+def moved(path: bytes, top: bytes, source: Place) -> Place:
+    """Where a path came from with a copy of a path at or above it."""
+    return joined(source[0], rest_below(path, top)), source[1]
+
+
+def is_plain(part: bytes) -> bool:
+    return not any(letter in part for letter in b"*?[")
+
+
+def all_lives(records: Iterable[Record], patterns: Sequence[bytes], head: int) -> List[Life]:
+    """The lives of all paths that match a pattern, in the order of paths and revisions."""
+    tree = Tree(records)
+    paths = {path for pattern in patterns for path in tree.matching(pattern)}
+    return [life for path in sorted(paths, key=components) for life in tree.lives(path, head)]
