@@ -68,6 +68,8 @@ def opened(name: str) -> BinaryIO:
 
 def lines_of(history: History, words: argparse.Namespace) -> Iterator[bytes]:
     verb = next(verb for verb in VERBS if verb.name == words.verb)
+    if verb.judges and not history.is_whole:
+        history.check()
     if words.json:
         return (json.dumps(each, ensure_ascii=False).encode("utf-8", "surrogateescape") + b"\n"
                 for each in verb.objects(history, words))
@@ -82,8 +84,6 @@ def answer(words: argparse.Namespace, file: BinaryIO) -> None:
         progress.close()
     with history:
         try:
-            if not history.is_whole:
-                history.check()
             for line in lines_of(history, words):
                 sys.stdout.buffer.write(line)
             sys.stdout.buffer.flush()

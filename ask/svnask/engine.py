@@ -3,7 +3,9 @@ import os
 import re
 import shutil
 import subprocess
+import sys
 import tempfile
+import threading
 from typing import IO, Iterable, Iterator, List
 
 from .answers import Answer, Query
@@ -13,6 +15,7 @@ HERE = os.path.dirname(os.path.abspath(__file__))
 PIECE = 1 << 20
 MOST_WORKERS = 64
 MOST_QUERIES = 1000000
+BUILDING = re.compile(r"svnhist: (?:building|\d+ %)")
 REFUSED = re.compile(r"svnhist: dump refused: (\d+) (\w+) at (byte|record) (\d+)")
 
 
@@ -36,24 +39,47 @@ def run(dump: str, queries: List[Query]) -> Iterator[Answer]:
 
 
 def _run(dump: str, queries: List[Query]) -> Iterator[Answer]:
-    with tempfile.TemporaryFile() as lines, tempfile.TemporaryFile() as said:
+    with tempfile.TemporaryFile() as lines:
         lines.writelines(query.line() + b"\n" for query in queries)
         lines.flush()
-        command = [find_engine(), dump, "/dev/fd/%d" % lines.fileno(), "0", str(workers())]
         lines.seek(0)
+        command = [find_engine(), dump, "/dev/fd/%d" % lines.fileno(), "0", str(workers())]
         try:
-            process = subprocess.Popen(command, stdin=subprocess.DEVNULL, stdout=subprocess.PIPE, stderr=said,
+            process = subprocess.Popen(command, stdin=subprocess.DEVNULL, stdout=subprocess.PIPE, stderr=subprocess.PIPE,
                                        pass_fds=[lines.fileno()])
         except OSError as error:
             raise Failed("cannot run %s: %s" % (command[0], error.strerror)) from error
-        assert process.stdout is not None
+        assert process.stdout is not None and process.stderr is not None
+        messages = Messages(process.stderr)
         try:
             yield from answers_of(process.stdout, queries)
         finally:
             process.stdout.close()
             status = process.wait()
+            messages.join()
         if status:
-            raise refusal(status, said)
+            raise refusal(status, messages.last)
+
+
+class Messages(threading.Thread):
+    """Reads what the program prints on standard error. The last line may say why there is no report; others are passed
+    on, such as those of a launcher that has to build the program first."""
+
+    def __init__(self, stream: IO[bytes]) -> None:
+        super().__init__(daemon=True)
+        self.last = ""
+        self._stream = stream
+        self.start()
+
+    def run(self) -> None:
+        for line in self._stream:
+            if self.last:
+                print(self.last, file=sys.stderr, flush=True)
+            self.last = line.decode("utf-8", "replace").rstrip("\n")
+            if BUILDING.match(self.last):
+                print(self.last, file=sys.stderr, flush=True)
+                self.last = ""
+        self._stream.close()
 
 
 def answers_of(report: IO[bytes], queries: Iterable[Query]) -> Iterator[Answer]:
@@ -73,10 +99,8 @@ def answer_of(text: bytes, query: Query) -> Answer:
     return query.answer(head[head.index(b" ") + 1:].decode("ascii"), body)
 
 
-def refusal(status: int, said: IO[bytes]) -> Exception:
+def refusal(status: int, line: str) -> Exception:
     """Why there is no report, by the status and the line of the program."""
-    said.seek(0)
-    line = said.read().decode("utf-8", "replace").strip()
     found = REFUSED.match(line)
     if status == 1 and found:
         number, name, unit, place = found.groups()

@@ -1,8 +1,9 @@
 """The history that a dump has: what svnhist answers about it, and who committed what."""
 import os
+import stat
 import sys
 from types import TracebackType
-from typing import BinaryIO, Callable, Dict, Iterable, Iterator, List, Optional, Type, TypeVar, Union
+from typing import BinaryIO, Callable, Dict, Iterable, Iterator, List, Optional, Tuple, Type, TypeVar, Union
 
 from . import dates, engine
 from .answers import Answer, Line, Locate, Located, Log, Logged, Query, Segment, Segments, Where
@@ -11,6 +12,8 @@ from .errors import Denied, Failed, Refused
 from .store import Index, Record, Revision, Store, opened
 
 Asked = TypeVar("Asked", bound=Answer)
+# The longest header that is looked for in a dump.
+HEADER = 1 << 16
 
 
 class History:
@@ -21,8 +24,10 @@ class History:
     (13, [5, 2, 1])
     """
 
-    def __init__(self, store: Store) -> None:
+    def __init__(self, store: Store, file: Optional[int] = None) -> None:
         self._store = store
+        # The descriptor of the dump, where it is a file.
+        self._file = file
         self._revisions: Dict[int, Revision] = {}
         self._changes: Dict[int, List[Change]] = {}
 
@@ -30,11 +35,11 @@ class History:
     def open(cls, dump: Union[str, BinaryIO], is_cached: bool = True,
              seen: Callable[[int], object] = lambda read: None) -> "History":
         """The history of a file, by its name or opened. `-` is the standard input. `seen` is told how far reading is."""
-        if not isinstance(dump, str):
-            return cls(opened(dump, is_cached, seen))
         try:
+            if not isinstance(dump, str):
+                return cls(opened(dump, is_cached, seen), of_file(dump))
             with sys.stdin.buffer if dump == "-" else open(dump, "rb") as file:
-                return cls(opened(file, is_cached, seen))
+                return cls(opened(file, is_cached, seen), of_file(file))
         except OSError as error:
             raise Failed("cannot read %s: %s" % (dump, error.strerror)) from error
 
@@ -52,6 +57,9 @@ class History:
 
     def close(self) -> None:
         self._store.close()
+        if self._file is not None:
+            os.close(self._file)
+            self._file = None
 
     @property
     def index(self) -> Index:
@@ -118,6 +126,17 @@ class History:
         """The records of these revisions, in the order of the dump."""
         return self._store.records(first, last)
 
+    def blocks(self) -> Iterator[Tuple[int, Optional[Record]]]:
+        """The offset of each block of the dump, and its record, if it has one."""
+        return self._store.blocks()
+
+    def header(self, at: int) -> List[bytes]:
+        """The header lines of the block at an offset of the dump, where that is a file."""
+        if self._file is None:
+            return []
+        text = os.pread(self._file, HEADER, at).lstrip(b"\n")
+        return text.split(b"\n\n", 1)[0].split(b"\n")
+
     def changes(self, rev: int) -> List[Change]:
         """The changed paths of a revision, as `svn log -v` lists them."""
         if rev not in self._changes:
@@ -127,6 +146,11 @@ class History:
     def revision_at(self, date: str) -> int:
         """The youngest revision at a date, in one of the forms that `svn` takes in braces."""
         return dates.revision_at(dates.given(date), self.head, lambda rev: self.revision(rev).date)
+
+
+def of_file(file: BinaryIO) -> Optional[int]:
+    """A descriptor of a file, of which any part can be read again."""
+    return os.dup(file.fileno()) if stat.S_ISREG(os.fstat(file.fileno()).st_mode) else None
 
 
 def one(answers: Iterator[Answer], kind: Type[Asked]) -> Asked:

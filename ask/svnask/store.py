@@ -12,6 +12,7 @@ from .source import Source
 from .strip import MERGEINFO, Stripper, clean, entries_of
 
 VERSION = b"svnask 1"
+FIRST_LINE = b"SVN-fs-dump-format-version: 2\n\n"
 END = 1 << 16
 # A block of the copy. `Stripper` writes the headers in this order.
 BLOCK = re.compile(
@@ -136,6 +137,23 @@ class Store:
             elif found["path"] is not None:
                 number += 1
                 yield record_of(found, number, rev, self.index.format)
+
+    def blocks(self) -> Iterator[Tuple[int, Optional[Record]]]:
+        """The offset in the given dump of each block, and its record, if it has one."""
+        data, rev, number = self.data, -1, 0
+        at = len(FIRST_LINE)
+        for found in iter(lambda: BLOCK.match(data, at), None):
+            at = found.end() + int(found["length"] or 0)
+            record = None
+            if found["rev"] is not None:
+                rev = int(found["rev"])
+            elif found["path"] is not None:
+                number += 1
+                record = record_of(found, number, rev, self.index.format)
+            yield int(found["at"]), record
+        last = MARK.match(data, at)
+        if last:
+            yield int(last[1]), None
 
     def block_at(self, place: int) -> int:
         """The offset in the given dump of what stands at an offset in the copy."""

@@ -4,10 +4,10 @@ from typing import List
 from .asking import AskVerb
 from .base import Verb
 from .branches import BranchesVerb, ChangedTagsVerb, ContainsVerb, UnmergedVerb
-from .dumps import InfoVerb, RecordVerb
+from .dumps import ByteVerb, InfoVerb, RecordVerb
 from .logs import LogVerb, ShowVerb
 from .merges import MergeinfoVerb
 from .places import SegmentsVerb, WhereVerb
 
 VERBS: List[Verb] = [LogVerb(), ShowVerb(), MergeinfoVerb(), WhereVerb(), SegmentsVerb(), BranchesVerb(), ContainsVerb(),
-                     UnmergedVerb(), ChangedTagsVerb(), RecordVerb(), InfoVerb(), AskVerb()]
+                     UnmergedVerb(), ChangedTagsVerb(), RecordVerb(), ByteVerb(), InfoVerb(), AskVerb()]

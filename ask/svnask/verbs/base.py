@@ -16,6 +16,8 @@ class Verb:
 
     name = ""
     help = ""
+    # Whether a dump that is refused has no answer.
+    judges = True
 
     def arguments(self, parser: ArgumentParser) -> None:
         """Tells the parser what follows the verb."""

@@ -1,6 +1,6 @@
 """`record`, `byte` and `info`: what stands in the dump itself."""
 from argparse import ArgumentParser, Namespace
-from typing import Iterator
+from typing import Iterator, Optional, Tuple
 
 from ..errors import Failed
 from ..history import History
@@ -9,24 +9,60 @@ from ..store import Record
 from .base import Object, Verb, object_of_record, shown
 
 
+def described(history: History, record: Record) -> Iterator[bytes]:
+    yield about_record(record).encode("utf-8", "surrogateescape") + b"\n"
+    yield from (b"  " + line + b"\n" for line in history.header(record.at))
+
+
 class RecordVerb(Verb):
     name = "record"
     help = "the record of a number, as in '16 NoParent at record 162'"
+    judges = False
 
     def arguments(self, parser: ArgumentParser) -> None:
         parser.add_argument("number", metavar="K", type=int)
 
     def record(self, history: History, words: Namespace) -> Record:
-        for record in history.records():
-            if record.number == words.number:
+        for _, record in history.blocks():
+            if record is not None and record.number == words.number:
                 return record
         raise Failed("there is no record %d: the dump has %d" % (words.number, history.index.records), 1)
 
     def text(self, history: History, words: Namespace) -> Iterator[bytes]:
-        yield about_record(self.record(history, words)).encode("utf-8", "surrogateescape") + b"\n"
+        return described(history, self.record(history, words))
 
     def objects(self, history: History, words: Namespace) -> Iterator[Object]:
         yield object_of_record(self.record(history, words))
+
+
+class ByteVerb(Verb):
+    name = "byte"
+    help = "what stands at an offset of the dump, as in '4 Length at byte 5930'"
+    judges = False
+
+    def arguments(self, parser: ArgumentParser) -> None:
+        parser.add_argument("offset", metavar="B", type=int)
+
+    def block(self, history: History, words: Namespace) -> Tuple[int, Optional[Record]]:
+        if not 0 <= words.offset <= history.index.size:
+            raise Failed("the dump has %d bytes" % history.index.size, 1)
+        found: Tuple[int, Optional[Record]] = (0, None)
+        for at, record in history.blocks():
+            if at > words.offset:
+                break
+            found = at, record
+        return found
+
+    def text(self, history: History, words: Namespace) -> Iterator[bytes]:
+        at, record = self.block(history, words)
+        if record is not None:
+            return described(history, record)
+        return (b"  " + line + b"\n" if count else b"block at byte %d\n  %s\n" % (at, line)
+                for count, line in enumerate(history.header(at) or [b""]))
+
+    def objects(self, history: History, words: Namespace) -> Iterator[Object]:
+        at, record = self.block(history, words)
+        yield object_of_record(record) if record is not None else {"byte": at}
 
 
 class InfoVerb(Verb):

@@ -10,6 +10,6 @@ invariant-loop g l = record {
   failures : (g.P.Pull.state l.input).failures ≡ (g.P.Pull.state l.fn.input).failures;
   ends : (g.P.Pull.state l.input).ends ≡ (g.P.Pull.state l.fn.input).ends;
   count : l.feed.count ≤ l.counter * most_bytes;
-  going : l.feed.refusal ≡ None;
+  going : l.feed.error ≡ None;
   room : vec_len l.piece ≡ most_bytes;
 }
