@@ -202,7 +202,7 @@ class Stripper:
             except Malformed:
                 break
             deltas = (delta or b"") + (text_delta or later_delta or b"") if delta or text_delta or later_delta else b""
-            pieces += front, deltas, b"At: %d\n" % (base + at) if places else b"", kept
+            pieces += front, deltas, b"At: %d\n" % (base + found.start(1)) if places else b"", kept
             if COPIED in front:
                 self._note_copy(front)
             at = begin + whole

@@ -1,0 +1,125 @@
+"""The command: what it prints, its statuses, and what it says of input that is no dump."""
+import gzip
+import json
+import os
+import signal
+import subprocess
+import sys
+import time
+import unittest
+from typing import List
+
+import base
+
+DUMP = base.dump_of("branches")
+
+
+class Command(base.Case):
+    def test_a_log_is_printed(self) -> None:
+        done = base.run(DUMP, "log", "-q", "trunk@4")
+        self.assertEqual((done.status, done.said), (0, ""))
+        self.assertEqual(done.output.count(b"\nr"), 2)
+
+    def test_a_dump_may_come_by_a_pipe(self) -> None:
+        with open(DUMP, "rb") as file:
+            done = base.run("-", "info", given=file.read())
+        self.assertEqual(done.output.split(b"\n")[2], b"youngest: 13")
+
+    def test_lines_of_json_are_objects(self) -> None:
+        for words in (["log", "/"], ["branches"], ["segments", "branches/two"], ["info"], ["record", "4"], ["show", "9"],
+                      ["contains", "5"], ["unmerged"], ["changed-tags"], ["mergeinfo", "trunk"], ["where", "trunk", "3"],
+                      ["mergeinfo", "--show-revs", "eligible", "trunk", "branches/two"]):
+            done = base.run("--json", DUMP, *words)
+            self.assertEqual((done.status, done.said), (0, ""), words)
+            for line in done.output.splitlines():
+                self.assertIsInstance(json.loads(line), dict)
+
+    def test_wrong_arguments_have_status_2(self) -> None:
+        wrong: List[List[str]] = [[], [DUMP], [DUMP, "blame"], [DUMP, "log", "--bogus"], [DUMP, "where", "trunk"],
+                                  [DUMP, "record", "x"]]
+        for words in wrong:
+            done = base.run(*words)
+            self.assertEqual((done.status, done.output), (2, b""), words)
+            self.assertEqual(done.said.count("\n"), 1)
+
+    def test_a_file_that_is_not_there_has_status_3(self) -> None:
+        self.assertEqual(base.run(os.path.join(self.folder, "none"), "info").status, 3)
+
+    def test_questions_without_an_answer_have_status_1(self) -> None:
+        for words, code in ((["log", "nope"], "E160013"), (["log", "trunk@99"], "E160006"), (["log", "-l", "0"], "E200004"),
+                            (["log", "-l", "x"], "E205000"), (["log", "-r", "3:"], "E205000"), (["log", "-r", "BASE"], "E195002"),
+                            (["log", "-c", "3", "-r", "3"], "E195002"), (["log", "trunk/lib/util.c/x"], "E160013")):
+            done = base.run(DUMP, *words)
+            self.assertEqual((done.status, done.output), (1, b""), words)
+            self.assertTrue(done.said.startswith("svnask: %s: " % code), done.said)
+
+    def test_input_that_is_no_dump_is_named(self) -> None:
+        with open(DUMP, "rb") as file:
+            whole = file.read()
+        for content, word in ((gzip.compress(whole), "gzip"), (b"", "empty"), (b"blob\nmark :1\n", "git"), (b"<?xml", "XML"),
+                              (whole.replace(b"\n", b"\r\n"), "CR LF"), (b"log\ttrunk@3\n", "queries"),
+                              (b"\xef\xbb\xbf" + whole, "byte order"), (b"hello", "no dump")):
+            done = base.run(self.made("other", content), "info")
+            self.assertEqual((done.status, done.output), (1, b""))
+            self.assertIn(word, done.said)
+
+    def test_a_part_of_a_dump_is_named(self) -> None:
+        with open(DUMP, "rb") as file:
+            whole = file.read()
+        part = whole[:whole.index(b"Revision-number: 0")] + whole[whole.index(b"Revision-number: 5"):]
+        self.assertIn("from revision 5 on", base.run(self.made("part", part), "log").said)
+
+    def test_a_faulty_record_is_described(self) -> None:
+        with open(DUMP, "rb") as file:
+            faulty = file.read().replace(b"Node-path: trunk\n", b"Node-path: other\n", 1)
+        done = base.run(self.made("faulty", faulty), "log")
+        self.assertEqual(done.status, 1)
+        self.assertIn("16 NoParent at record", done.said)
+        self.assertIn("add /trunk/", done.said)
+
+    def test_what_stands_at_a_byte_and_at_a_record(self) -> None:
+        record = base.run(DUMP, "record", "3").output
+        self.assertTrue(record.startswith(b"record 3: r1 add /trunk, at byte "))
+        place = record.split(b"\n")[0].rsplit(b" ", 1)[1].decode()
+        self.assertEqual(base.run(DUMP, "byte", str(int(place) + 5)).output, record)
+
+    def test_bad_queries_have_a_reason(self) -> None:
+        queries = self.made("queries", b"log trunk@3\nblame\ttrunk@3\nlog\ttrunk\nlog\ta/../b@3\nlog\ttrunk@3\n")
+        lines = base.run(DUMP, "ask", queries).output.splitlines()
+        self.assertEqual([line.partition(b"bad-query: ")[2][:12] for line in lines[:4]],
+                         [b"the fields a", b"there is no ", b"'trunk' has ", b"'a/../b@3' h"])
+        self.assertEqual(lines[4], b"log\ttrunk@3\tr2 /trunk")
+
+    def test_names_of_any_kind(self) -> None:
+        name = "a b%@\u2028\u0085"
+        record = "Node-path: %s\nNode-kind: file\nNode-action: add\n\n" % name
+        dump = self.made("names", ("SVN-fs-dump-format-version: 2\n\nRevision-number: 0\n\nRevision-number: 1\n\n" + record).encode())
+        done = base.run(dump, "segments", "^/" + name + "@1")
+        self.assertEqual((done.status, done.output.decode()), (0, "1-1 /%s\n" % name))
+
+    def test_a_closed_pipe_ends_it_silently(self) -> None:
+        done = subprocess.run("%s %s %s log -v / | head -n 1" % (sys.executable, base.COMMAND, DUMP), shell=True,
+                              stdout=subprocess.PIPE, stderr=subprocess.PIPE)
+        self.assertEqual((done.returncode, done.stderr), (0, b""))
+
+    def test_a_full_disk_for_the_output_has_status_3(self) -> None:
+        with open("/dev/full", "wb") as full:
+            done = subprocess.run([sys.executable, base.COMMAND, DUMP, "log", "/"], stdout=full, stderr=subprocess.PIPE)
+        self.assertEqual(done.returncode, 3)
+
+    def test_an_interrupt_leaves_no_folder(self) -> None:
+        temporary = os.path.join(self.folder, "temporary")
+        os.mkdir(temporary)
+        process = subprocess.Popen([sys.executable, base.COMMAND, "-", "info"], stdin=subprocess.PIPE, stderr=subprocess.PIPE,
+                                   env=dict(os.environ, TMPDIR=temporary))
+        assert process.stdin is not None
+        process.stdin.write(b"SVN-fs-dump-format-version: 2\n\n" + b"Revision-number: 0\n\n" * 9)
+        process.stdin.flush()
+        time.sleep(0.5)
+        process.send_signal(signal.SIGINT)
+        process.communicate()
+        self.assertEqual((process.returncode, os.listdir(temporary)), (-signal.SIGINT, []))
+
+
+if __name__ == "__main__":
+    unittest.main()

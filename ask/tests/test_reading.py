@@ -1,0 +1,101 @@
+"""Reading a dump once: the copy gives the same answers, and a dump that is refused is refused at its own bytes."""
+import glob
+import os
+import subprocess
+import unittest
+from typing import List
+
+import base
+from svnask import engine
+from svnask.answers import Line
+from svnask.errors import Error, Refused
+from svnask.history import History
+from svnask.source import Source
+from svnask.strip import Stripper
+
+
+def stripped(dump: str, through_pipe: bool) -> bytes:
+    pieces: List[bytes] = []
+    if through_pipe:
+        reading, writing = os.pipe()
+        with subprocess.Popen(["cat", dump], stdout=writing):
+            os.close(writing)
+            with open(reading, "rb") as pipe:
+                Stripper(Source(pipe), pieces.append, places=True, people=True).run()
+    else:
+        with open(dump, "rb") as file:
+            Stripper(Source(file), pieces.append, places=True, people=True).run()
+    return b"".join(pieces)
+
+
+class Reading(base.Case):
+    def test_the_copy_has_the_recorded_answers(self) -> None:
+        for dump in sorted(glob.glob(os.path.join(base.INTEROP, "*.dump"))):
+            name = os.path.basename(dump)[:-5].partition("-")[0]
+            with open(os.path.join(base.INTEROP, name + ".queries"), "rb") as file:
+                lines = file.read().splitlines()
+            answers = self.history(dump).ask([Line(b"/", 0, line) for line in lines])
+            report = b"".join(b"#%d %s\n%s" % (number, answer.status.encode(), b"".join(line + b"\n" for line in answer.lines))
+                              for number, answer in enumerate(answers, 1))
+            with open(os.path.join(base.INTEROP, name + ".answers"), "rb") as file:
+                self.assertEqual(report, file.read(), dump)
+
+    def test_a_pipe_gives_the_copy_of_a_file(self) -> None:
+        for dump in sorted(glob.glob(os.path.join(base.INTEROP, "*.dump"))):
+            self.assertEqual(stripped(dump, True), stripped(dump, False), dump)
+
+    def test_a_dump_that_ends_anywhere_is_refused_as_by_the_engine(self) -> None:
+        for name, step in (("branches", 41), ("merges-svnrdump", 173)):
+            with open(base.dump_of(name), "rb") as file:
+                whole = file.read()
+            for end in range(0, len(whole), step):
+                self.check_refusal(whole[:end])
+
+    def test_a_faulty_block_is_refused_as_by_the_engine(self) -> None:
+        with open(base.dump_of("branches"), "rb") as file:
+            whole = file.read()
+        for old, new in ((b"version: 2", b"version: 1"), (b"version: 2", b"version:2"), (b"Node-kind: dir", b"Node-kind dir"),
+                         (b"Node-path: trunk\n", b"Node-path: trunk\nNode-path: trunk\n"), (b"K 7\nsvn:log", b"K 8\nsvn:log"),
+                         (b"Prop-content-length: 10", b"Prop-content-length: x"), (b"Content-length: 20", b"Content-length: 19"),
+                         (b"PROPS-END\n", b"PROPS-ENDS"), (b"Revision-number: 3", b"Revision-number: 4"),
+                         (b"Node-path: trunk/lib\n", b"Node-path: trunk/./lib\n"), (b"Node-action: add", b"Node-action: put"),
+                         (b"Node-copyfrom-rev: 2", b"Node-copyfrom-rev: 3"), (b"Node-copyfrom-rev: 2", b"Node-copyfrom-rev: x"),
+                         (b"Node-path: trunk\n", b"Node-path: \n"), (b"Node-path: trunk\n", b"Node-pat: trunk\n")):
+            self.assertIn(old, whole)
+            self.check_refusal(whole.replace(old, new, 1))
+
+    def check_refusal(self, content: bytes) -> None:
+        dump = self.made("dump", content)
+        try:
+            with History.open(dump) as history:
+                history.check()
+            found = ""
+        except Refused as refused:
+            found = str(refused)
+        self.assertEqual(found, base.refusal_of_engine(dump))
+
+    def test_the_cache_answers_like_the_dump(self) -> None:
+        dump = base.dump_of("branches")
+        first = self.history(dump)
+        again = self.history(dump)
+        self.assertEqual(first.index, again.index)
+        self.assertEqual(first.log(b"trunk", 13).revisions, again.log(b"trunk", 13).revisions)
+        folder = os.path.join(os.environ["XDG_CACHE_HOME"], "svnhist")
+        self.assertEqual((len(os.listdir(folder)), os.stat(folder).st_mode & 0o777), (1, 0o700))
+
+    def test_a_damaged_cache_is_made_anew(self) -> None:
+        dump = base.dump_of("branches")
+        self.history(dump)
+        folder = os.path.join(os.environ["XDG_CACHE_HOME"], "svnhist")
+        index = os.path.join(folder, os.listdir(folder)[0], "index")
+        with open(index, "wb") as file:
+            file.write(b"svnask 0")
+        self.assertEqual(self.history(dump).head, 13)
+
+    def test_a_cache_that_cannot_be_written_is_done_without(self) -> None:
+        os.environ["XDG_CACHE_HOME"] = "/dev/null"
+        self.assertEqual(self.history(base.dump_of("branches")).head, 13)
+
+
+if __name__ == "__main__":
+    unittest.main()

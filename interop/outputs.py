@@ -1,0 +1,108 @@
+"""What the command `svn` prints about the recorded repositories: `svn log` and `svn mergeinfo --show-revs`.
+
+A file NAME.svn has for each command a line `$ ARGUMENTS`, a line with the exit status and the number of bytes, and what
+was printed on standard output. In the arguments a target is a path with its peg revision. Of a command that failed the
+output is the code of the error, such as E160013.
+"""
+import os
+import random
+import re
+import subprocess
+import urllib.parse
+from typing import Iterator, List, NamedTuple, Sequence, Tuple
+
+BRANCH = re.compile(r"/(?:trunk|(?:b|branches|tags)/[^/]+)\Z")
+LOGS = 40
+PAIRS = 40
+ERROR = re.compile(r"^svn: (E\d+):", re.MULTILINE)
+
+
+class Output(NamedTuple):
+    """The arguments of a command, its exit status, and its output or the code of its error."""
+
+    arguments: List[str]
+    status: int
+    text: bytes
+
+
+def read(path: str) -> Iterator[Output]:
+    """The outputs of a file."""
+    with open(path, "rb") as file:
+        for line in file:
+            status, count = file.readline().split()
+            text = file.read(int(count))
+            file.readline()
+            yield Output(line[2:-1].decode().split("\t"), int(status), text)
+
+
+def write(path: str, outputs: Sequence[Output]) -> None:
+    with open(path, "wb") as file:
+        for output in outputs:
+            file.write(b"$ %s\n%d %d\n%s\n" % ("\t".join(output.arguments).encode(), output.status, len(output.text),
+                                               output.text))
+
+
+def target(path: str, peg: int) -> str:
+    return "%s@%d" % (path, peg)
+
+
+def run(url: str, arguments: List[str]) -> Output:
+    """What `svn` prints, with a URL in place of each target."""
+    words = [as_url(url, word) for word in arguments]
+    done = subprocess.run(["svn"] + words, stdin=subprocess.DEVNULL, stdout=subprocess.PIPE, stderr=subprocess.PIPE,
+                          env=dict(os.environ, LC_ALL="C.UTF-8", TZ="UTC"))
+    if done.returncode:
+        found = ERROR.search(done.stderr.decode("utf-8", "replace"))
+        return Output(arguments, 1, found[1].encode() if found else b"")
+    return Output(arguments, 0, done.stdout)
+
+
+def as_url(url: str, word: str) -> str:
+    if not word.startswith("/"):
+        return word
+    path, _, peg = word.rpartition("@")
+    return "%s%s@%s" % (url, urllib.parse.quote(path), peg)
+
+
+def log_of(lot: random.Random, trees: Sequence[Sequence[str]]) -> List[str]:
+    """The arguments of a `svn log` that is drawn at random."""
+    head = len(trees) - 1
+    paths = sorted({path for tree in trees for path in tree})
+    rev = lot.choice([head, lot.randint(0, head)])
+    path = lot.choice(list(trees[rev]) if lot.random() < 0.9 else paths)
+    words = ["log", target(path, rev)]
+    for option, share in (("-q", 0.3), ("-v", 0.5), ("--stop-on-copy", 0.2)):
+        if lot.random() < share:
+            words.append(option)
+    if lot.random() < 0.25:
+        words += ["-l", str(lot.randint(1, 4))]
+    if lot.random() < 0.4:
+        words += ["-r", "%d:%d" % (lot.randint(0, head), lot.randint(0, head))]
+    return words
+
+
+def pairs_of(lot: random.Random, trees: Sequence[Sequence[str]]) -> List[Tuple[str, str]]:
+    """Pairs of branches of the youngest revision, or of a path below each."""
+    branches = [path for path in trees[-1] if BRANCH.match(path)]
+    pairs = [(one, other) for one in branches for other in branches if one != other]
+    return lot.sample(pairs, min(len(pairs), PAIRS))
+
+
+def arguments_of(name: str, trees: Sequence[Sequence[str]]) -> Iterator[List[str]]:
+    """All commands for a repository, given the paths of each revision."""
+    lot = random.Random(name)
+    head = len(trees) - 1
+    for _ in range(LOGS):
+        yield log_of(lot, trees)
+    for source, sink in pairs_of(lot, trees):
+        for verb in ("merged", "eligible"):
+            words = ["mergeinfo", "--show-revs", verb, target(source, head), target(sink, head)]
+            yield words
+            yield words + ["-R"]
+
+
+def record(name: str, url: str, trees: Sequence[Sequence[str]], path: str) -> int:
+    """Writes what `svn` prints about a repository, and returns the number of commands."""
+    outputs = [run(url, words) for words in arguments_of(name, trees)]
+    write(path, outputs)
+    return len(outputs)
