@@ -35,7 +35,7 @@ target_found standings tick replace path =
 abbrev pub source_found : {C M : Type 0} → Standings C M → List C → ℕ → Option Fault
 source_found standings from from_tick = if is_some (standings from_tick from) then None else Some no_source
 
--- of a record that so many others precede; the source of a copy is at a tick
+-- the first fault of a record that so many others precede; the source of a copy is at a tick
 abbrev pub fault_found : {C M : Type 0} → Standings C M → ℕ → List C → Action C M → Option Fault
 fault_found standings tick path delete = missing_found standings tick path
 fault_found standings tick path (change setting) = missing_found standings tick path

@@ -20,7 +20,7 @@ location_below rest above = record { path = above.path ++ rest; tick = above.tic
 abbrev pub IsLocationBelow : List Location → LocationId → List NameId → Location → Type 0
 IsLocationBelow locations id rest location = option_map (location_below rest) (slice_get locations id.0) ≡ Some location
 
--- that location was added
+-- the location of these components below another one was added
 pub record AddsBelow (old new : List Location) (id : LocationId) (rest : List NameId) : Type 0 where
   pub location : Location
   pub below : IsLocationBelow old id rest location

@@ -23,7 +23,7 @@ with_mergeinfo mergeinfo (at_with path tick old) = at_with path tick mergeinfo
 with_mergeinfo mergeinfo (is kind old) = is kind mergeinfo
 with_mergeinfo mergeinfo absent = absent
 
--- with the mergeinfo that a record leaves
+-- what is found, with the mergeinfo that a record leaves
 abbrev pub with_setting : {C M : Type 0} → Setting M → Found C M → Found C M
 with_setting keep found = found
 with_setting (put mergeinfo) found = with_mergeinfo mergeinfo found

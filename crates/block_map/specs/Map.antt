@@ -67,7 +67,7 @@ found_view found.Absent = absent
 abbrev pub nodes_for : List (Record NameId ValueId) → ℕ
 nodes_for records = sum_by (λ each. length each.path + 1) records
 
--- and what is promised of a map of so many records, whose paths have at most 1,024 components
+-- the most nodes of a map of so many records, whose paths have at most 1,024 components
 abbrev pub most_nodes : ℕ → ℕ
 most_nodes records = 1026 * records
 

@@ -10,7 +10,7 @@ pub record Standing (M : Type 0) : Type 0 where
   pub kind : Kind
   pub mergeinfo : Option M
 
--- in a tree
+-- what stands at a path of a tree
 abbrev pub standing_at : {C M : Type 0} → (C → C → Bool) → Tree C M → List C → Option (Standing M)
 standing_at same tree path =
     option_map (λ entry. record { kind = entry.kind; mergeinfo = entry.mergeinfo }) (entry_at same tree path)
@@ -18,7 +18,7 @@ standing_at same tree path =
 abbrev pub own_mergeinfo_at : {C M : Type 0} → (C → C → Bool) → Tree C M → List C → Option M
 own_mergeinfo_at same tree path = option_and_then (λ standing. standing.mergeinfo) (standing_at same tree path)
 
--- as it was found; nothing, where only what stood before the records says it
+-- what stands there by what was found; nothing, where only what stood before the records says it
 abbrev pub standing_of : {C M : Type 0} → Found C M → Option (Standing M)
 standing_of (at path tick) = None
 standing_of (at_with path tick mergeinfo) = None

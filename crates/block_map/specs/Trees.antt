@@ -23,7 +23,7 @@ end_of_trees trees = trees.start + length trees.records.items
 abbrev pub look_in_trees : Trees → ℕ → LookOfNumbers
 look_in_trees trees tick path = resolved trees.start (look same_name trees.start trees.records.items tick path)
 
--- and what they say of what later records found
+-- what the records of trees say of what later records found
 abbrev pub look_through_trees : Trees → Found NameId ValueId → Found NameId ValueId
 look_through_trees trees each = look_through same_name trees.start trees.records.items each
 
@@ -44,7 +44,7 @@ pub record AreTrees (trees : Trees) : Type 0 where
   pub roots : length trees.roots.items ≡ length trees.records.items
   pub each : (index : ℕ) (id : NodeId) → slice_get trees.roots.items index ≡ Some id → IsRootAt trees (trees.start + index + 1) id
 
--- and few nodes, for the number of the records and for their paths
+-- they are the trees of a map: they have few nodes, for the number of the records and for their paths
 pub record AreMapTrees (trees : Trees) : Type 0 where
   pub is : AreTrees trees
   pub few : length trees.trie.nodes ≤ most_nodes (length trees.records.items)

@@ -57,7 +57,8 @@ fn first_suspect<R: Threads + Sync>(rt: &R, map: &Map, dump: &Dump, ends: &Ends)
     if least < u32::MAX { Some(least) } else { None }
 }
 
-/// The number of the first such record, or the largest number, which no record has.
+/// The number of the first record that has a fault, or that want of memory keeps from being judged; the largest number,
+/// which no record has, where there is none.
 fn least_suspect<R: Threads + Sync>(rt: &R, map: &Map, dump: &Dump, ends: &Ends) -> u32
     requires map { IsMapOf dump.now map.now }
     requires ends { ends.now ≡ ends_of dump.now.counts }

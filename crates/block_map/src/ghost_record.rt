@@ -27,6 +27,7 @@ impl Model for GhostRecord {
 }
 
 impl GhostRecord {
+    /// A record of a history whose revisions end so.
     pub(crate) fn of(each: &NodeRecord, ends: &Ends) -> Self
         ensures { result ≡ record_at_tick ends.now (record_view each.now) }
     {

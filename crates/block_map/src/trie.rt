@@ -250,7 +250,7 @@ impl Trie {
         Ok(Looked::Other(found_at_location(self.location(base, path)?)))
     }
 
-    /// The base of a node that has anywhere what the base of a path has there. It may add a location.
+    /// A base that does not depend on the node above, for what the base of a path has. It may add a location.
     fn node_base(&mut self, base: PathBase, path: &[NameId]) -> Result<Base, AllocError>
         requires { IsPathBaseOf self.old path.now base }
         ensures grown { OnOk result (ExtendsTrie self.old self.new) }
@@ -271,7 +271,7 @@ impl Trie {
         Ok(Base::At(locations.push_below(location, rest)?))
     }
 
-    /// A node that says anywhere what is found at a position and below it. It may add a location.
+    /// A node that says what is found at a position and below it, wherever the node is put. It may add a location.
     pub(crate) fn copied(&mut self, position: Position, path: &[NameId]) -> Result<Node, AllocError>
         requires node { IfSome position.node (IsNodeOf self.old) }
         requires base { IsPathBaseOf self.old path.now position.base }

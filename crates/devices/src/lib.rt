@@ -1,9 +1,14 @@
 //! Where bytes come from and where they go, with what contracts see of it.
 //!
+//! A reader or a writer of std is a device by [`Device::new`]:
+//!
 //! ```
 //! let mut input = Device::new(reader);
 //! report_from(rt, alloc, &mut input, queries, &[], 2, &NoGate)
 //! ```
+//!
+//! A type of a host's own is one by its `impl` of [`Pull`] or [`Push`], and counts its calls by [`GhostCount`]; there is
+//! one in `crates/svn_report_tests/src/hosts.rt`.
 #![tactic(auto)]
 
 mod device;

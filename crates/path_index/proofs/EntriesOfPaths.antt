@@ -13,7 +13,7 @@ use Rattle.svn_dump.specs.declared.record.Act.{Act}
 use Rattle.svn_dump.specs.declared.record.Act.TheVariants as act
 use Rattle.svn_dump.specs.declared.record.Mi.{Mi}
 use Rattle.svn_dump.specs.declared.record.NodeRecord.{NodeRecord}
-use Rattle.path_index.specs.NamedRevisions.{revision_names, named_revisions}
+use Rattle.path_index.specs.NamedRevisions.{is_named_in, named_revisions}
 use Rattle.path_index.specs.Nodes.{node_of, ExtendsNodes}
 use Rattle.path_index.specs.Numbers.{has_number, AddsNumbers, ArePair, HasNumber, HaveSameNumbers}
 use Rattle.path_index.specs.Operative.{down_from}
@@ -212,31 +212,31 @@ HasNumber-HasEntryOf nodes path node number lists found has =
 
 -- ---- the revisions in which a path is named
 
-revision_names-from_index : (path : List NameId) (rev : ℕ) (records : List NodeRecord) (index : ℕ) (each : NodeRecord) → slice_get records index ≡ Some each → each.rev ≡ rev → is_below same_name path each.path ≡ true → revision_names path records rev ≡ true
-revision_names-from_index path rev [] index each at here below = cc
-revision_names-from_index path rev (x ∷ records) zero each at here below =
+is_named_in-from_index : (path : List NameId) (rev : ℕ) (records : List NodeRecord) (index : ℕ) (each : NodeRecord) → slice_get records index ≡ Some each → each.rev ≡ rev → is_below same_name path each.path ≡ true → is_named_in path records rev ≡ true
+is_named_in-from_index path rev [] index each at here below = cc
+is_named_in-from_index path rev (x ∷ records) zero each at here below =
     let same : x ≡ each = same_Some x each at in
     let now : (x.rev == rev) ≡ true = eq-eqb x.rev rev (ap (λ (r : NodeRecord). r.rev) same ∙ here) in
     let named : is_below same_name path x.path ≡ true = ap (λ (r : NodeRecord). is_below same_name path r.path) same ∙ below in
     rw (now, named) refl
-revision_names-from_index path rev (x ∷ records) (suc index) each at here below =
-    let rest = revision_names-from_index path rev records index each at here below in
+is_named_in-from_index path rev (x ∷ records) (suc index) each at here below =
+    let rest = is_named_in-from_index path rev records index each at here below in
     elim (cases_Bool (x.rev == rev)) [
-      | inl now ↦ rw now (or_right (is_below same_name path x.path) (revision_names path records rev) rest)
+      | inl now ↦ rw now (or_right (is_below same_name path x.path) (is_named_in path records rev) rest)
       | inr other ↦ rw other rest
     ]
 
-index-from_is_named : (path : List NameId) (rev : ℕ) (records : List NodeRecord) → revision_names path records rev ≡ true → (index : ℕ) × (each : NodeRecord) × (slice_get records index ≡ Some each) × (each.rev ≡ rev) × (is_below same_name path each.path ≡ true)
-index-from_is_named path rev [] named = cc
-index-from_is_named path rev (x ∷ records) named = elim (cases_Bool (x.rev == rev)) [
+index-from_is_named_in : (path : List NameId) (rev : ℕ) (records : List NodeRecord) → is_named_in path records rev ≡ true → (index : ℕ) × (each : NodeRecord) × (slice_get records index ≡ Some each) × (each.rev ≡ rev) × (is_below same_name path each.path ≡ true)
+index-from_is_named_in path rev [] named = cc
+index-from_is_named_in path rev (x ∷ records) named = elim (cases_Bool (x.rev == rev)) [
   | inl now ↦ elim (cases_Bool (is_below same_name path x.path)) [
     | inl below ↦ (0, x, refl, eqb-true x.rev rev now, below)
     | inr other ↦
-        let (index, each, at, here, below) = index-from_is_named path rev records (rw other at (rw now at named)) in
+        let (index, each, at, here, below) = index-from_is_named_in path rev records (rw other at (rw now at named)) in
         (suc index, each, at, here, below)
   ]
   | inr other ↦
-      let (index, each, at, here, below) = index-from_is_named path rev records (rw other at named) in
+      let (index, each, at, here, below) = index-from_is_named_in path rev records (rw other at named) in
       (suc index, each, at, here, below)
 ]
 
@@ -251,26 +251,26 @@ take-from_is_below whole path below =
     (length path, omega (arith, ap length is, length-append path rest), sym (ap (take (length path)) is ∙ take_at path rest (length path) refl))
 
 -- what is found by the numbers are the revisions whose records name the path
-has_number-revision_names : (records : List NodeRecord) (by_path : RecordsByPath) → AreByPath records by_path → (path : List NameId) (node : ℕ) → node_of by_path.nodes path ≡ Some node → (rev : ℕ)
-    → has_number by_path.named node rev ≡ revision_names path records rev
-has_number-revision_names records by_path are path node found rev = elim (cases_Bool (has_number by_path.named node rev)) [
+has_number-is_named_in : (records : List NodeRecord) (by_path : RecordsByPath) → AreByPath records by_path → (path : List NameId) (node : ℕ) → node_of by_path.nodes path ≡ Some node → (rev : ℕ)
+    → has_number by_path.named node rev ≡ is_named_in path records rev
+has_number-is_named_in records by_path are path node found rev = elim (cases_Bool (has_number by_path.named node rev)) [
   | inl has ↦
       let of = holds-HasEntryOf by_path.nodes (IsOfSome NamesPath records (length records)) by_path.named path rev are.listed.of_named
       (record { node = node; found = found; within = HasNumber-has_number by_path.named node rev has }) in
       let ((n, few, is), at) = of.so in
-      has ∙ sym (revision_names-from_index path rev records of.index of.each of.at (sym at) (is_below-from_take of.each.path path n is))
+      has ∙ sym (is_named_in-from_index path rev records of.index of.each of.at (sym at) (is_below-from_take of.each.path path n is))
   | inr lacks ↦
-      lacks ∙ sym (false_from_ne_true (revision_names path records rev) (λ named.
-      let (index, each, at, here, below) = index-from_is_named path rev records named in
+      lacks ∙ sym (false_from_ne_true (is_named_in path records rev) (λ named.
+      let (index, each, at, here, below) = index-from_is_named_in path rev records named in
       let front = take-from_is_below each.path path below in
       let has = are.listed.of_named.complete path rev (record { index = index; each = each; early = slice_get_within records index each at; at = at; so = (front, sym here) }) in
       true≢false (sym (has_number-HasNumber by_path.named node rev (HasNumber-HasEntryOf by_path.nodes path node rev by_path.named found has)) ∙ lacks)))
 ]
 
 -- a path without a node is named in none
-revision_names-none : (records : List NodeRecord) (by_path : RecordsByPath) → AreByPath records by_path → (path : List NameId) → node_of by_path.nodes path ≡ None → (rev : ℕ) → revision_names path records rev ≡ false
-revision_names-none records by_path are path none rev = false_from_ne_true (revision_names path records rev) (λ named.
-    let (index, each, at, here, below) = index-from_is_named path rev records named in
+is_named_in-none : (records : List NodeRecord) (by_path : RecordsByPath) → AreByPath records by_path → (path : List NameId) → node_of by_path.nodes path ≡ None → (rev : ℕ) → is_named_in path records rev ≡ false
+is_named_in-none records by_path are path none rev = false_from_ne_true (is_named_in path records rev) (λ named.
+    let (index, each, at, here, below) = index-from_is_named_in path rev records named in
     let front = take-from_is_below each.path path below in
     let has = are.listed.of_named.complete path rev (record { index = index; each = each; early = slice_get_within records index each at; at = at; so = (front, sym here) }) in
     let never : None ≡ Some has.node = sym none ∙ has.found in cc)
@@ -279,13 +279,13 @@ revision_names-none records by_path are path none rev = false_from_ne_true (revi
 pub named_revisions-numbers : (records : List NodeRecord) (by_path : RecordsByPath) → AreByPath records by_path → (path : List NameId) (node lo hi : ℕ) → node_of by_path.nodes path ≡ Some node
     → filter (has_number by_path.named node) (down_from (hi - lo) hi) ≡ named_revisions path lo hi records
 named_revisions-numbers records by_path are path node lo hi found =
-    filter_down-same (has_number by_path.named node) (revision_names path records) (hi - lo) hi (omega arith)
-    (λ rev up within. has_number-revision_names records by_path are path node found rev)
+    filter_down-same (has_number by_path.named node) (is_named_in path records) (hi - lo) hi (omega arith)
+    (λ rev up within. has_number-is_named_in records by_path are path node found rev)
 
 pub named_revisions-none : (records : List NodeRecord) (by_path : RecordsByPath) → AreByPath records by_path → (path : List NameId) (lo hi : ℕ) → node_of by_path.nodes path ≡ None
     → named_revisions path lo hi records ≡ []
 named_revisions-none records by_path are path lo hi none =
-    filter_down-none (revision_names path records) (hi - lo) hi (omega arith) (λ rev up within. revision_names-none records by_path are path none rev)
+    filter_down-none (is_named_in path records) (hi - lo) hi (omega arith) (λ rev up within. is_named_in-none records by_path are path none rev)
 
 -- ---- the records that set the origin of a path
 

@@ -22,7 +22,7 @@ use Rattle.path_index.proofs.HistoryTo.{records_in-history_to}
 use Rattle.path_index.proofs.CameFromItself.{came-from_location, location-from_came}
 use Rattle.path_index.proofs.Segments.{AreSegments-segments_of}
 use Rattle.path_index.proofs.DownFrom.{filter_down-same}
-use Rattle.path_index.specs.NamedRevisions.{first_revision, revision_names, named_revisions}
+use Rattle.path_index.specs.NamedRevisions.{first_revision, is_named_in, named_revisions}
 
 -- one number more, at the end
 down_from_more : (n top : ℕ) → down_from (suc n) top ≡ down_from n top ++ (top - n) ∷ []
@@ -127,7 +127,7 @@ module _ (is : IsSame same_name) (history : History NameId ValueId) (trees : Lis
       → hits_in located records segment o ≡ map (hit_at located) (operative_in same_name history trees segment o)
   in_segment located segment so up None at = refl
   in_segment located segment so up (Some q) at =
-      ap (hits_at located) (sym (operative_in-segment same_name is history trees fall origins path rev there segment q so at (revision_names q records)
+      ap (hits_at located) (sym (operative_in-segment same_name is history trees fall origins path rev there segment q so at (is_named_in q records)
       (λ k to. ap (names_below same_name q) (sym (are k (omega arith))))))
 
   from_segments : (located bound : ℕ) (segments : List (Segment NameId)) → AreSegments (λ k. location same_name trees path rev k) bound segments

@@ -6,7 +6,7 @@ use Rattle.std.proofs.lemmas.List.{map-append}
 use Rattle.std.proofs.lemmas.List.Elements.{filter-append}
 use Rattle.svn_path.specs.declared.names.NameId.{NameId}
 use Rattle.svn_dump.specs.declared.record.NodeRecord.{NodeRecord}
-use Rattle.path_index.specs.NamedRevisions.{first_revision, revision_names, named_revisions}
+use Rattle.path_index.specs.NamedRevisions.{first_revision, is_named_in, named_revisions}
 use Rattle.path_index.specs.Operative.{down_from, hit_at}
 use Rattle.path_index.specs.Range.{is_in_range}
 use Rattle.path_index.specs.declared.hit.Hit.{Hit}
@@ -128,7 +128,7 @@ module _ (range : Option (ℕ × ℕ)) (lo hi : ℕ) (bounds : ℕ × ℕ) (is :
       filter-hits_at test index (named ++ first_revision lo)
       ∙ ap (map (hit_at index)) (filter-append test named (first_revision lo)
       ∙ ap₂ (λ later begin. later ++ begin)
-      (filter-filter test (revision_names path records) (down_from (hi - lo) hi) ∙ ap (filter (revision_names path records)) filter-in_range)
+      (filter-filter test (is_named_in path records) (down_from (hi - lo) hi) ∙ ap (filter (is_named_in path records)) filter-in_range)
       (filter-first_revision first so))
       ∙ map-append (hit_at index) (named_revisions path lo_in hi_in records) (if first then lo ∷ [] else [])
       ∙ ap (λ more. map (hit_at index) (named_revisions path lo_in hi_in records) ++ more) (by first)

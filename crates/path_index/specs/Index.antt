@@ -57,7 +57,7 @@ AreHitsOf index segments hits =
     → hits
     ≡ operative_of same_name (history_to index.records rev) (trees_to index.records rev) (map segment_view segments)
 
--- these are those of them that are in the range
+-- the hits are the operative revisions of the segments that are in the range
 abbrev pub AreHitsInRange : IndexValue → List KeptSegment → Option (ℕ × ℕ) → List Hit → Type 0
 AreHitsInRange index segments range hits =
     (path : List NameId) (rev : ℕ) → IsThere index.records path rev → AreSegmentsOf index path rev segments

@@ -10,12 +10,12 @@ use Rattle.path_index.specs.declared.hit.Hit.{Hit}
 use Rattle.path_index.specs.declared.segment.Segment.{Segment}
 
 -- a record of the revision names the path or a path below it
-abbrev pub revision_names : List NameId → List NodeRecord → ℕ → Bool
-revision_names path records rev = names_below same_name path (records_of records rev)
+abbrev pub is_named_in : List NameId → List NodeRecord → ℕ → Bool
+is_named_in path records rev = names_below same_name path (records_of records rev)
 
 -- the revisions after `lo` and up to `hi` that name it, the newest first
 abbrev pub named_revisions : List NameId → ℕ → ℕ → List NodeRecord → List ℕ
-named_revisions path lo hi records = filter (revision_names path records) (down_from (hi - lo) hi)
+named_revisions path lo hi records = filter (is_named_in path records) (down_from (hi - lo) hi)
 
 -- to the hits come the revisions after `lo` and up to `hi`, in the segment of this index, whose records name the path
 -- or one below it

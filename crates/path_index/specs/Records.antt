@@ -25,7 +25,7 @@ pub record IsCopied (records : List NodeRecord) (copied : Copied) : Type 0 where
   pub to : each.path ≡ copied.to
   pub from : CopiesFrom copied.from copied.from_rev each.act
 
--- one of them stands for the record of the index
+-- one of the copies stands for the record of this index
 pub record HasCopied (copies : List Copied) (index : ℕ) : Type 0 where
   pub number : ℕ
   pub within : number < length copies
@@ -52,7 +52,7 @@ pub record SetsPathAt (records : List NodeRecord) (index : ℕ) (path : List Nam
   pub at : slice_get records index ≡ Some each
   pub sets : SetsPath each path
 
--- one of them stands for the record of the index, or the record does not copy
+-- a copy that stands for the record of this index, or none where the record does not copy
 abbrev pub IsCopyAt : List NodeRecord → ℕ → Option Copied → Type 0
 IsCopyAt records index (Some copied) = IsCopied records copied × (copied.index ≡ index)
 IsCopyAt records index None = (each : NodeRecord) → slice_get records index ≡ Some each → IsCopy each.act → ⊥

@@ -27,7 +27,7 @@ pub record AreEntriesOf (children : List Child) (Holds : List NameId → ℕ →
   pub sound : (node number : ℕ) → HasNumber lists node number → IsEntryOf children Holds node number
   pub complete : (path : List NameId) (number : ℕ) → Holds path number → HasEntryOf children path number lists
 
--- those are the numbers that come to the nodes
+-- the nodes keep their numbers, and get all of which this holds with their paths, and no others
 pub record AddsEntries (children : List Child) (Holds : List NameId → ℕ → Type 0) (old new : List (Vec ℕ)) : Type 0
   where
     pub kept : (node number : ℕ) → HasNumber old node number → HasNumber new node number
@@ -67,7 +67,7 @@ pub record AreListed (records : List NodeRecord) (count : ℕ) (nodes : List Chi
   pub of_copied : AreEntriesOf nodes (IsOfSome CopiesPath records count) copied
   pub of_named : AreEntriesOf nodes (IsOfSome NamesPath records count) named
 
--- they are those of the records of a history
+-- the records by path are those of a history
 pub record AreByPath (records : List NodeRecord) (by_path : RecordsByPath) : Type 0 where
   pub few : length records < 2 ^ 32
   pub listed : AreListed records (length records) by_path.nodes by_path.added by_path.copied by_path.named
@@ -78,7 +78,7 @@ SetsAt by_path path index =
     ((n : ℕ) × HasEntryOf by_path.nodes (take n path) index by_path.copied)
     ⊎ HasEntryOf by_path.nodes path index by_path.added
 
--- they are of the records of two neighbouring parts of a history, the first of which has so many records
+-- the records by path are those of two neighbouring parts of a history, the first of which has so many records
 pub record AreNeighbours (one other : RecordsByPath) (count : ℕ) : Type 0 where
   pub records : List NodeRecord
   pub more : List NodeRecord
@@ -93,6 +93,6 @@ IsOfBoth one other count joined =
     (records more : List NodeRecord) → length records ≡ count → length records + length more < 2 ^ 32
     → AreByPath records one → AreByPath more other → AreByPath (records ++ more) joined
 
--- they are of the same records
+-- the copy has by path the records that the other one has
 abbrev pub IsOfSameRecords : RecordsByPath → RecordsByPath → Type 0
 IsOfSameRecords one copy = (records : List NodeRecord) → AreByPath records one → AreByPath records copy

@@ -36,7 +36,7 @@ use Rattle.query_answer.specs.declared.held_mergeinfo.HeldMergeinfo.{HeldMergein
 use Rattle.query_answer.specs.declared.path_rev.PathRev.{PathRev}
 use Rattle.query_answer.specs.declared.unanswered.Unanswered.{Unanswered}
 use Rattle.query_answer.specs.declared.unanswered.Unanswered.TheVariants.{Memory, Refused}
-use Rattle.query_answer.specs.Unanswered.{IsAnswered}
+use Rattle.query_answer.specs.Unanswered.{HasAnswer}
 use Rattle.query_answer.specs.declared.verbs.pair.Pair.{Pair}
 use Rattle.query_answer.specs.declared.verbs.pair.PairVerb.{PairVerb}
 use Rattle.query_answer.specs.declared.verbs.pair.PairVerb.TheVariants as verb
@@ -229,10 +229,10 @@ mergeinfo_answer-found dump peg at found =
 
 -- ---- a refused peg
 
-pub IsAnswered-peg_refused : (dump : DumpValue) (peg : PegValue) (e : Unanswered) → IsPegRefused dump peg e
-    → (answer : Peg → Answer) → IsAnswered dump (with_peg_in dump peg answer) (Err e)
-IsAnswered-peg_refused dump peg (Refused status) refused answer = IsAnswer-Refused dump.names _ status (refused.0 (answer (peg_view peg)))
-IsAnswered-peg_refused dump peg Memory refused answer = tt
+pub HasAnswer-peg_refused : (dump : DumpValue) (peg : PegValue) (e : Unanswered) → IsPegRefused dump peg e
+    → (answer : Peg → Answer) → HasAnswer dump (with_peg_in dump peg answer) (Err e)
+HasAnswer-peg_refused dump peg (Refused status) refused answer = IsAnswer-Refused dump.names _ status (refused.0 (answer (peg_view peg)))
+HasAnswer-peg_refused dump peg Memory refused answer = tt
 
 module _ (dump : DumpValue) (source target : PegValue) where
   pub IsPairRefused-source : (e : Unanswered) → IsPegRefused dump source e → IsPairRefused dump source target e
@@ -276,10 +276,10 @@ IsAnswer-pair_refused dump wanted status refused = by wanted.verb
         let lines = eligible_lines (history_in_bytes dump) (trees_in_bytes dump) in
         IsAnswer-Refused dump.names _ status (refused (λ from to value. ok_answer (lines from to wanted.range value)))
 
-pub IsAnswered-pair_refused : (dump : DumpValue) (wanted : Wanted) (e : Unanswered)
-    → IsPairRefused dump wanted.source.now wanted.target.now e → IsAnswered dump (pair_answer dump wanted) (Err e)
-IsAnswered-pair_refused dump wanted (Refused status) refused = IsAnswer-pair_refused dump wanted status refused.0
-IsAnswered-pair_refused dump wanted Memory refused = tt
+pub HasAnswer-pair_refused : (dump : DumpValue) (wanted : Wanted) (e : Unanswered)
+    → IsPairRefused dump wanted.source.now wanted.target.now e → HasAnswer dump (pair_answer dump wanted) (Err e)
+HasAnswer-pair_refused dump wanted (Refused status) refused = IsAnswer-pair_refused dump wanted status refused.0
+HasAnswer-pair_refused dump wanted Memory refused = tt
 
 -- the revisions of a pair
 module _ (dump : DumpValue) (source target : PegValue) (pair : Pair) (found : IsPair dump source target pair) where

@@ -81,7 +81,7 @@ abbrev pub operative_locations : HistoryOfBytes → TreesOfBytes → Peg → Lis
 operative_locations history trees peg =
     reverse (found_in bytes_eq history trees peg.path peg.rev (λ here rev. Some (here, rev)))
 
--- those in the range
+-- the result lines of `log`, of the operative revisions in the range
 abbrev pub log_lines : HistoryOfBytes → TreesOfBytes → Peg → Option (ℕ × ℕ) → List (List ℕ)
 log_lines history trees peg range =
     map (λ found. log_line found.0 found.1)
@@ -226,7 +226,7 @@ pub record IsAnswer (names : List (List ℕ)) (answer : Answer) (each : KeptAnsw
   pub names_of : HasPathsOf names each
   pub same : answer_in_bytes names each ≡ answer
 
--- its status, whatever the names are
+-- the status of an answer, whatever the names are
 abbrev pub kept_status : KeptAnswer → Status
 kept_status answer = (answer_in_bytes [] answer).status
 

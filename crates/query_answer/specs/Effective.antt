@@ -25,7 +25,7 @@ unfoldable pub nearest_from : {C M : Type 0} → (C → C → Bool) → Tree C M
 nearest_from same tree path zero = own_or (own_mergeinfo same tree (take 0 path)) 0 None
 nearest_from same tree path (suc depth) = own_or (own_mergeinfo same tree (take (suc depth) path)) (suc depth) (nearest_from same tree path depth)
 
--- that of a path
+-- the nearest mergeinfo of a path
 abbrev pub nearest : {C M : Type 0} → (C → C → Bool) → Tree C M → List C → Option (NearestMergeinfo M)
 nearest same tree path = nearest_from same tree path (length path)
 

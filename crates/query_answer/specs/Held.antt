@@ -25,7 +25,7 @@ pub record IsHeldIn (names : List (List ℕ)) (held : HeldMergeinfo) : Type 0 wh
 
 -- ---- its revisions
 
--- those that the value has for what is above the path
+-- the revisions that the value has for the source path without the rest at its end
 abbrev pub held_ranges_at : List (List ℕ) → HeldMergeinfo → List NameId → Option (List Run)
 held_ranges_at names held path = option_and_then (ranges_at names held.value.now) (path_above held.rest.now path)
 

@@ -103,7 +103,7 @@ pub record IsPathIn (dump : DumpValue) (at : PathRev) : Type 0 where
   pub within : at.rev < length dump.counts
   pub there : IsThere dump.records at.path at.rev
 
--- it is that of a peg too, so each answer about the peg has its result lines
+-- a path in a revision is that of a peg, so each answer about the peg has its result lines
 pub record IsPegFound (dump : DumpValue) (peg : PegValue) (at : PathRev) : Type 0 where
   pub is_in : IsPathIn dump at
   pub spells : peg_in_bytes dump at ≡ peg_view peg
@@ -157,7 +157,7 @@ effective_said dump path depth parsed = option_map (own_or_inherited (components
 
 -- ---- the text that is read
 
--- that of the nearest mergeinfo of a path of the dump in a revision
+-- the text of the nearest mergeinfo of a path of the dump in a revision
 abbrev pub nearest_text_in : DumpValue → List NameId → ℕ → Option (List ℕ)
 nearest_text_in dump path rev = nearest_text (tree_of (trees_in_bytes dump) rev) (components_of dump.names path)
 

@@ -36,7 +36,7 @@ has_in ranges hit = has_revision ranges.are_inherited (map lent_ranges ranges.by
 abbrev pub merged_by_hit : (Hit → Option Bool) → Hit → Option MergedRevision
 merged_by_hit has hit = option_map (merged_revision hit.rev) (has hit)
 
--- the merged revisions in rising order, where the hits fall
+-- the merged revisions in rising order, given hits in falling order
 abbrev pub merged_by_hits : (Hit → Option Bool) → List Hit → List MergedRevision
 merged_by_hits has hits = reverse (filter_map (merged_by_hit has) hits)
 
@@ -51,7 +51,7 @@ is_eligible_by_hit has segments target hit = is_eligible_at has target hit (segm
 abbrev pub eligible_by_hit : (Hit → Option Bool) → List KeptSegment → (ℕ → Option (List NameId)) → Hit → Option ℕ
 eligible_by_hit has segments target hit = if is_eligible_by_hit has segments target hit then Some hit.rev else None
 
--- the eligible revisions in rising order, where the hits fall
+-- the eligible revisions in rising order, given hits in falling order
 abbrev pub eligible_by_hits : (Hit → Option Bool) → List KeptSegment → (ℕ → Option (List NameId)) → List Hit → List ℕ
 eligible_by_hits has segments target hits = reverse (filter_map (eligible_by_hit has segments target) hits)
 

@@ -15,5 +15,5 @@ given (Err (Refused status)) = Ok (kept.Refused status)
 given (Err Memory) = Err alloc_error
 
 -- the caller gets this answer, with paths of the dump, unless memory runs out
-abbrev pub IsAnswered : DumpValue → Answer → Result KeptAnswer Unanswered → Type 0
-IsAnswered dump answer result = IfOk (given result) (IsAnswer dump.names answer)
+abbrev pub HasAnswer : DumpValue → Answer → Result KeptAnswer Unanswered → Type 0
+HasAnswer dump answer result = IfOk (given result) (IsAnswer dump.names answer)

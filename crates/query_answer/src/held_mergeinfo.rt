@@ -27,8 +27,8 @@ impl<'v, 'p> HeldMergeinfo<'v, 'p> {
         HeldMergeinfo { value, rest }
     }
 
-    /// The revisions that the value has for a source path: for what is above it by what the path of the value lacks, if
-    /// the path ends with that. The path is printed in place of the text.
+    /// The revisions that the value has for a source path. Where the value is inherited, a path that ends with `rest` has
+    /// those of the path without it, and any other path has none. `text` is for printing, and its content is lost.
     pub(crate) fn ranges(
         &self,
         alloc: Global,

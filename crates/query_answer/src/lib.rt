@@ -7,7 +7,8 @@
 //! let written = answer.write(repo, place, out);
 //! ```
 //!
-//! All workers share one `memo`, which is `repo.memo(alloc)?`, and each has its own `seen`.
+//! `svn_report::load_repo` makes a `repo` of a dump. All workers share one `memo`, which is `repo.memo(alloc)?`, and each
+//! has its own `seen`.
 #![tactic(auto)]
 
 mod answers;

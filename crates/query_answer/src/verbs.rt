@@ -3,7 +3,7 @@ ghost use Rattle.std.specs.Prelude.{IfOk};
 ghost use Rattle.query_answer.specs.Answer.{IsAnswer};
 ghost use Rattle.query_answer.specs.Query.{query_view};
 ghost use Rattle.query_answer.specs.Repo.{answer_in, text_read_for};
-ghost use Rattle.query_answer.specs.Unanswered.{IsAnswered};
+ghost use Rattle.query_answer.specs.Unanswered.{HasAnswer};
 ghost use Rattle.query_answer.specs.Worker.{IsSeenOf, IsUnreadWhereRefused, KnowsWhatWasRead, Learns, Reads};
 
 mod eligible;
@@ -60,7 +60,7 @@ fn answer_verb<'r>(
     seen: &mut Seen<'r>,
 ) -> Result<Answer, Unanswered>
     requires seen { IsSeenOf repo.now.values memo.now seen.old }
-    ensures answer { IsAnswered repo.now (answer_in repo.now (query_view query.now)) result }
+    ensures answer { HasAnswer repo.now (answer_in repo.now (query_view query.now)) result }
     ensures worker { Reads repo.now memo.now (text_read_for repo.now (query_view query.now)) result seen.old seen.new }
 {
     match query {

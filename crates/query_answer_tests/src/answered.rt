@@ -82,7 +82,7 @@ pub(crate) fn check_answers(
     }
 }
 
-/// The same on a dump.
+/// Fails unless queries on a dump have this report.
 pub(crate) fn check_report<R: Threads + Sync>(
     rt: &R,
     alloc: Global,

@@ -37,7 +37,7 @@ fn is_so(alloc: Global, value: &Effective, wanted: Option<&str>) -> Result<bool,
     }
 }
 
-// The same of the effective mergeinfo of a path.
+// Whether the effective mergeinfo of a path is printed so, or is malformed where no text is wanted.
 fn is_effective(
     alloc: Global,
     repo: &Repo,
@@ -66,7 +66,7 @@ fn has(
     is_effective(alloc, repo, &path, rev, wanted)
 }
 
-// The same on a dump.
+// Whether a path of a dump has this mergeinfo.
 fn has_on<R: Threads + Sync>(
     rt: &R,
     alloc: Global,

@@ -43,7 +43,7 @@ fn is_whole_or_nothing(alloc: Global, repo: &Repo, line: &str, wanted: &str) -> 
     Ok(front == BEFORE && text == wanted)
 }
 
-// The same on a dump.
+// Whether the answer to a line on `MERGED` is written whole, or nothing of it.
 fn is_whole_or_nothing_on_merged<R: Threads + Sync>(
     rt: &R,
     alloc: Global,

@@ -25,7 +25,7 @@ fn counts<'r>(
     Ok((seen.parses(), seen.asked()))
 }
 
-// The same of two workers, one after the other.
+// What two workers count that answer a line one after the other.
 fn counts_of_two(alloc: Global, repo: &Repo, line: &str) -> Result<[(u64, u64); 2], Fail> {
     let memo = repo.memo(alloc)?;
     let mut text = Vec::new(alloc);

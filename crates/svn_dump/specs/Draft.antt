@@ -42,7 +42,7 @@ pub record IsDraft (dump : DumpValue) : Type 0 where
 abbrev pub IsNamed : DumpValue → Type 0
 IsNamed dump = dump.names ≡ names_of (history_in_bytes dump)
 
--- and so are the texts
+-- the mergeinfo texts are those of the records so far
 abbrev pub IsValued : DumpValue → Type 0
 IsValued dump = dump.values ≡ values_of (history_in_bytes dump)
 

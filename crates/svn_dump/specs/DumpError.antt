@@ -23,6 +23,6 @@ IsRefusal bytes Memory = Unit {0}
 abbrev pub DumpsAreExact : Type 0
 DumpsAreExact = (bytes : List ℕ) → (first_refusal bytes ≡ None) ↔ ((history : HistoryOfBytes) × IsDumpText bytes history)
 
--- and then of one history
+-- bytes that are a dump are one of one history alone
 abbrev pub DumpsAreOne : Type 0
 DumpsAreOne = (bytes : List ℕ) (a b : HistoryOfBytes) → IsDumpText bytes a → IsDumpText bytes b → a ≡ b

@@ -74,7 +74,7 @@ body_length_at bytes = unwrap_or (body_length (header_lines bytes)) 0
 abbrev pub is_cut : List ℕ → Bool
 is_cut bytes = not (begins_with_newline (after_lines bytes)) || nat_lt (length (drop 1 (after_lines bytes))) (body_length_at bytes)
 
--- against the form of the block: its header is judged by its complete lines
+-- the reasons against the form of a block: its header is judged by its complete lines
 abbrev pub front_refusals : List ℕ → List Reason
 front_refusals bytes =
     reason Header (list_any is_no_header (header_lines bytes) || has_twice (header_lines bytes))
@@ -105,7 +105,7 @@ abbrev pub refusal_or : Option Refusal → ℕ → Option RefusalAt → Option R
 refusal_or None at later = later
 refusal_or (Some refusal) at later = Some (record { refusal = refusal; at = at })
 
--- in the blocks that the rest of so many bytes begins with, after a history; each block takes bytes, so there are fewer
+-- the first refusal in the blocks that the rest of so many bytes begins with, after a history; each block takes bytes, so there are fewer
 -- blocks than bytes
 unfoldable pub refusal_from : Format → ℕ → ℕ → HistoryOfBytes → List ℕ → Option RefusalAt
 refusal_from format zero total history rest = None

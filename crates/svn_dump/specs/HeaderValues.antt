@@ -30,7 +30,7 @@ body_length_from_headers values =
     (length_or_zero (field_value values field.TextLength)))
     (length_or_zero (field_value values field.PropertiesLength))
 
--- those of a node's block
+-- whether the values are those of a node's block
 abbrev pub are_of_node : List (Option (List ℕ)) → Bool
 are_of_node values = is_none (field_value values field.RevisionNumber) && is_some (field_value values field.NodePath)
 
@@ -47,11 +47,11 @@ abbrev pub setting_from_section : Bool → List ℕ → Option (Setting (List �
 setting_from_section has_changes [] = Some keep
 setting_from_section has_changes (byte ∷ bytes) = option_map (setting_by has_changes) (section_of has_changes (byte ∷ bytes))
 
--- an entry of it as it is read
+-- an entry of a section, of one that the reader lends
 abbrev pub section_entry_view : ReadEntry → SectionEntry
 section_entry_view each = record { name = each.name.now; value = option_copied each.value }
 
--- what it says as it is read
+-- what a section says of the mergeinfo, of the text that the reader lends
 abbrev pub mi_text_view : MiText → Setting (List ℕ)
 mi_text_view mi_text.Keep = keep
 mi_text_view (mi_text.Put value) = put (option_copied value)
@@ -68,7 +68,7 @@ node_action_from_headers values =
     (action_named (field_value values field.NodeKind) (field_value values field.CopyfromRevision) (field_value values field.CopyfromPath))
     (field_value values field.NodeAction)
 
--- what it does as it is read
+-- what a node block does, of the path that the reader lends
 abbrev pub node_action_view : ReadAction → NodeAction
 node_action_view action.Delete = node_delete
 node_action_view action.Change = node_change

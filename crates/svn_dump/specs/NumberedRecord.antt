@@ -115,7 +115,7 @@ IsRecordOfNode revisions node old new old_texts new_texts each =
 abbrev pub IsFirstAtAnySize : ℕ → Node → Refusal → Type 0
 IsFirstAtAnySize revisions node refusal = (large : Bool) → first_holding (node_refusals revisions node large) ≡ Some refusal
 
--- against a node block after so many revisions, given the tables
+-- the reasons against a node block after so many revisions, given the tables of names and of texts
 abbrev pub record_refusals : ℕ → Node → List (List ℕ) → List (List ℕ) → List Reason
 record_refusals revisions node names texts =
     node_refusals revisions node (is_record_large names texts (record_of (pred revisions) node))

@@ -11,18 +11,18 @@ use Rattle.svn_text.specs.declared.text_table.TextTableError.TheVariants as text
 use Rattle.svn_path.specs.declared.path.PathError.{PathError}
 use Rattle.svn_path.specs.declared.path.PathError.TheVariants as path
 
--- of a block that begins there
+-- the error that is reported where the block in progress begins at this offset
 abbrev pub dump_error_at : ℕ → ReadError → DumpError
 dump_error_at at (read.Refused refusal) = dump.Refused (number_of_refusal refusal) at
 dump_error_at at read.Memory = dump.Memory
 
--- of a path
+-- the error of the reader for one of a path
 abbrev pub read_error_of : PathError → ReadError
 read_error_of path.Dot = read.Refused BadPath
 read_error_of path.Full = read.Refused TooLarge
 read_error_of path.Memory = read.Memory
 
--- of a table of texts
+-- the error of the reader for one of a table of texts
 abbrev pub read_error_of_table : TextTableError → ReadError
 read_error_of_table texts.Full = read.Refused TooLarge
 read_error_of_table texts.Memory = read.Memory

@@ -93,11 +93,11 @@ ReadsPart new bytes piece (Some rest) =
 abbrev pub ReadsAfter : (List ℕ → Type 0) → Reader → List ℕ → Option (Bor (List ℕ)) → Type 0
 ReadsAfter before new piece left = (bytes : List ℕ) → before bytes → ReadsPart new bytes piece left
 
--- or decides this error
+-- what comes after bytes of which this holds decides this error
 abbrev pub RefusesAfter : (List ℕ → Type 0) → Reader → List ℕ → ReadError → Type 0
 RefusesAfter before new piece e = (bytes : List ℕ) → before bytes → IsDecidedError (bytes ++ piece) (dump_error_at new.at e)
 
--- a piece that ends at this offset is read, or decides this error
+-- a piece that ends at this offset is read
 abbrev pub ReadsUpTo : Reader → Reader → ℕ → List ℕ → Type 0
 ReadsUpTo old new end piece = (bytes : List ℕ) → HasReadAll old bytes → end ≡ length (bytes ++ piece) → HasReadAll new (bytes ++ piece)
 
@@ -105,7 +105,7 @@ abbrev pub RefusesUpTo : Reader → Reader → ℕ → List ℕ → ReadError �
 RefusesUpTo old new end piece e =
     (bytes : List ℕ) → HasReadAll old bytes → end ≡ length (bytes ++ piece) → IsDecidedError (bytes ++ piece) (dump_error_at new.at e)
 
--- of a block that begins after all bytes
+-- the bytes of a block that begins after all bytes so far are read, and what is left follows them
 abbrev pub ReadsBlock : Reader → Reader → List ℕ → Option (Bor (List ℕ)) → Type 0
 ReadsBlock old new block left = (bytes : List ℕ) → IsReadAs old.format bytes old.draft → old.at ≡ length bytes → ReadsPart new bytes block left
 
@@ -113,7 +113,7 @@ abbrev pub RefusesBlock : Reader → Reader → List ℕ → ReadError → Type 
 RefusesBlock old new block e =
     (bytes : List ℕ) → IsReadAs old.format bytes old.draft → old.at ≡ length bytes → IsDecidedError (bytes ++ block) (dump_error_at new.at e)
 
--- of more of a header
+-- more of a header is read, and what is left follows it
 abbrev pub ReadsHeader : Reader → List ℕ → Reader → List ℕ → Option (Bor (List ℕ)) → Type 0
 ReadsHeader old header new piece left =
     (bytes : List ℕ) → IsReadTo old.format bytes old.draft old.at header → BeginsBlock (header ++ piece) → ReadsPart new bytes piece left
@@ -122,7 +122,7 @@ abbrev pub RefusesHeader : Reader → List ℕ → Reader → List ℕ → ReadE
 RefusesHeader old header new piece e =
     (bytes : List ℕ) → IsReadTo old.format bytes old.draft old.at header → BeginsBlock (header ++ piece) → IsDecidedError (bytes ++ piece) (dump_error_at new.at e)
 
--- and of a block whose last byte has come: it is added, or decides this error
+-- a block whose last byte has come is added
 abbrev pub AddsWholeBlock : Reader → List ℕ → PartialBody → Reader → Type 0
 AddsWholeBlock old header body new =
     (come : List ℕ) → IsBodyTo header body come → body.left ≡ 0 → BeginsBlock header → AddsBlockTo old.format old.draft new.draft (header ++ 10 ∷ come) []

@@ -89,13 +89,13 @@ node_refusals revisions node large =
 abbrev pub revision_refusals : Option HistoryOfBytes → List Reason
 revision_refusals after = reason Revision (is_none after) ∷ reason TooLarge (grows_large after) ∷ []
 
--- given what the block makes of the history
+-- the reasons against a whole block after a history, given what the block makes of the history
 unfoldable pub refusals_by : HistoryOfBytes → Option HistoryOfBytes → BlockContent → List Reason
 refusals_by history after (revision_block number) = revision_refusals after
 refusals_by history after (node_block node) = node_refusals (length history) node (grows_large after)
 refusals_by history after uuid_block = []
 refusals_by history after other_block = reason BadRecord true ∷ []
 
--- against a whole block after a history
+-- the reasons against a whole block after a history
 abbrev pub content_refusals : HistoryOfBytes → BlockContent → List Reason
 content_refusals history content = refusals_by history (with_content history content) content

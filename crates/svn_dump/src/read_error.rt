@@ -16,7 +16,7 @@ pub(crate) enum ReadError {
 }
 
 impl ReadError {
-    /// The error to report of a block that begins there.
+    /// The error to report where the block in progress begins at this offset.
     pub(crate) fn at(self, at: u64) -> DumpError
         ensures { result ≡ dump_error_at at self }
     {

@@ -149,7 +149,7 @@ fn put_dump(alloc: Global, dump: &Dump, is_of_copies: bool, out: &mut Vec<u8>) -
     put_texts(dump, out)
 }
 
-// The same lines and one for each name.
+// The lines of a dump, and one for each of its names.
 fn put_all(alloc: Global, dump: &Dump, out: &mut Vec<u8>) -> Result<(), Fail> {
     put_dump(alloc, dump, false, out)?;
     put_names(dump.names(), out)
@@ -227,7 +227,7 @@ pub(crate) fn check_dump(
     check_text(alloc, bytes.as_bytes(), wanted)
 }
 
-// The same of a block of a table.
+// Fails unless the front with a block of a table has these lines.
 fn check_block(
     alloc: Global,
     front: &str,

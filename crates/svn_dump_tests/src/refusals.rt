@@ -76,7 +76,8 @@ fn check_line_at(alloc: Global, front: &str, line: &str) -> Result<(), Fail> {
     check_block(alloc, dump.as_str(), number, number_of(at))
 }
 
-/// The same of blocks that begin at other bytes: a line begins with the number and the byte.
+/// Fails unless the front with each block of the table alone after it is refused so. A line of the table is the number,
+/// the byte and the block.
 pub(crate) fn check_refusals_at(alloc: Global, front: &str, table: &str) -> Result<(), Fail> {
     for line in table.trim_start().lines() {
         check_line_at(alloc, front, line)?;

@@ -31,7 +31,7 @@ fn refused_growths_refuse_no_dump(rt: HostRuntime) -> Result<(), Fail> {
     check_read(rt.alloc(), MERGED, MERGED_TEXT)
 }
 
-// The same of pieces of seven bytes. After want of memory the feed answers that alone.
+// Fails unless a dump is read in pieces of seven bytes, or memory ran out; the feed answers that alone then.
 fn check_fed(alloc: Global, bytes: &[u8], wanted: &str) -> Result<(), Fail> {
     let mut feed = Feed::new(alloc);
     begin(alloc);

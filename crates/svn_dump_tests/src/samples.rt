@@ -7,14 +7,14 @@ pub(crate) const START: &str = "SVN-fs-dump-format-version: 2
 
 ";
 
-/// The same and revision 0, 51 bytes.
+/// The first line and revision 0, 51 bytes.
 pub(crate) const ZERO: &str = "SVN-fs-dump-format-version: 2
 
 Revision-number: 0
 
 ";
 
-/// The same and revision 1, 71 bytes.
+/// The first line and revisions 0 and 1, 71 bytes.
 pub(crate) const ONE: &str = "SVN-fs-dump-format-version: 2
 
 Revision-number: 0

@@ -6,6 +6,8 @@
 //! query.extend_from_slice(peg)?;
 //! report(rt, alloc, dump, query.as_slice(), &[], 8, &NoGate)
 //! ```
+//!
+//! No lengths of blocks (`&[]`) make one block, eight workers answer, and `NoGate` does nothing around each query.
 #![tactic(auto)]
 
 mod answering;

@@ -24,10 +24,7 @@ use thiserror::Error;
 /// Why a dump has no repository.
 #[derive(Debug, Drop, Error)]
 pub enum LoadError {
-    #[error(
-        "dump refused: {number} {name} at record {record}",
-        number = .0.kind.number(), name = .0.kind.name(), record = .0.number
-    )]
+    #[error("dump refused: {number} {name} at record {record}", number = .0.kind.number(), name = .0.kind.name(), record = .0.number)]
     Fault(Fault),
     #[error("out of memory")]
     Memory,

@@ -17,10 +17,7 @@ pub enum RunError {
     TooMany,
     #[error("{0}")]
     Dump(DumpError),
-    #[error(
-        "dump refused: {number} {name} at record {record}",
-        number = .0.kind.number(), name = .0.kind.name(), record = .0.number
-    )]
+    #[error("dump refused: {number} {name} at record {record}", number = .0.kind.number(), name = .0.kind.name(), record = .0.number)]
     Fault(Fault),
     #[error("cannot read {name}", name = source_name(*.0))]
     Read(Source),

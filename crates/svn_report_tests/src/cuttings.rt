@@ -86,7 +86,7 @@ fn more_blocks_than_groups_are_taken_together(rt: HostRuntime) -> Result<(), Fai
     Ok(())
 }
 
-// The same for 3 groups.
+// The sizes of blocks, and the borders of 3 groups of them.
 const THREE_GROUPS: [(&[u8], &[usize]); 5] = [
     (&[1, 1, 90, 1, 1, 1], &[0, 2, 92, 95]),
     (&[90, 1, 1, 1], &[0, 90, 91, 93]),

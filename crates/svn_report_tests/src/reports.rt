@@ -379,7 +379,7 @@ fn was_root_then_first_copy<R: Threads + Wait + Sync>(
     Ok(true)
 }
 
-// The same for the dump of so many copies.
+// Whether the locations in the dump of so many copies are found.
 fn are_copies_located<R: Threads + Wait + Sync>(
     rt: &R,
     alloc: Global,

@@ -8,7 +8,7 @@ use query_pool::MOST_WORKERS;
 use svn_report::MOST_QUERIES;
 use svn_text::{GREATEST_REVISION, number_up_to, split_at_byte};
 
-/// The number before the first such byte, and what follows that byte.
+/// The number before the first byte `end`, and what follows that byte.
 fn number_before(bytes: &[u8], end: u8, most: u64) -> Option<(u64, &[u8])>
     requires before_digits { end < first_digit }
     requires small { most ≤ greatest_length }

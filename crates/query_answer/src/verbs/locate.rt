@@ -1,6 +1,6 @@
 //! `locate`: where a path was located in a revision.
 ghost use Rattle.query_answer.specs.Repo.{locate_answer};
-ghost use Rattle.query_answer.specs.Unanswered.{IsAnswered};
+ghost use Rattle.query_answer.specs.Unanswered.{HasAnswer};
 
 use crate::answers::Answer;
 use crate::peg::Peg;
@@ -15,7 +15,7 @@ pub(crate) fn answer_locate(
     peg: &Peg<'_>,
     rev: u32,
 ) -> Result<Answer, Unanswered>
-    ensures { IsAnswered repo.now (locate_answer repo.now peg.now rev) result }
+    ensures { HasAnswer repo.now (locate_answer repo.now peg.now rev) result }
 {
     let at = repo.find(alloc, peg)?;
     Ok(Answer::Location(repo.locate(&at, rev)?))

@@ -1,6 +1,6 @@
 //! `log`: the operative revisions of a path.
 ghost use Rattle.query_answer.specs.Repo.{log_answer};
-ghost use Rattle.query_answer.specs.Unanswered.{IsAnswered};
+ghost use Rattle.query_answer.specs.Unanswered.{HasAnswer};
 
 use crate::answers::Answer;
 use crate::peg::Peg;
@@ -15,7 +15,7 @@ pub(crate) fn answer_log(
     peg: &Peg<'_>,
     range: Option<(u32, u32)>,
 ) -> Result<Answer, Unanswered>
-    ensures { IsAnswered repo.now (log_answer repo.now peg.now range) result }
+    ensures { HasAnswer repo.now (log_answer repo.now peg.now range) result }
 {
     let at = repo.find(alloc, peg)?;
     let segments = repo.segments(&at)?;

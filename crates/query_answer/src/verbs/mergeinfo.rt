@@ -3,7 +3,7 @@ ghost use Rattle.std.specs.Prelude.{◌≤◌, length};
 ghost use Rattle.svn_path.specs.Path.{IsPathOf};
 ghost use Rattle.query_answer.specs.Answer.{value_answer};
 ghost use Rattle.query_answer.specs.Repo.{effective_said, mergeinfo_answer, peg_text};
-ghost use Rattle.query_answer.specs.Unanswered.{IsAnswered};
+ghost use Rattle.query_answer.specs.Unanswered.{HasAnswer};
 ghost use Rattle.query_answer.specs.Worker.{IsSeenOf, LooksAtMergeinfo, Reads};
 
 use crate::answers::Answer;
@@ -29,7 +29,7 @@ pub(crate) fn answer_mergeinfo<'r>(
     seen: &mut Seen<'r>,
 ) -> Result<Answer, Unanswered>
     requires seen { IsSeenOf repo.now.values memo.now seen.old }
-    ensures answer { IsAnswered repo.now (mergeinfo_answer repo.now peg.now) result }
+    ensures answer { HasAnswer repo.now (mergeinfo_answer repo.now peg.now) result }
     ensures worker { Reads repo.now memo.now (peg_text repo.now peg.now) result seen.old seen.new }
 {
     let target = repo.find_target(alloc, peg)?;
@@ -49,7 +49,7 @@ fn own_or_inherited_lines(
 ) -> Result<Answer, Unanswered>
     requires path { IsPathOf repo.now.names path.now }
     requires depth { depth ≤ length path.now }
-    ensures answer { IsAnswered repo.now (value_answer (effective_said repo.now path.now depth parsed.entry)) result }
+    ensures answer { HasAnswer repo.now (value_answer (effective_said repo.now path.now depth parsed.entry)) result }
     ensures found { LooksAtMergeinfo result }
 {
     match parsed {

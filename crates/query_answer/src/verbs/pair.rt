@@ -5,7 +5,7 @@ ghost use Rattle.value_memo.specs.Parsed.{parsed_view};
 ghost use Rattle.query_answer.specs.Held.{rest_of};
 ghost use Rattle.query_answer.specs.HeldValue.{own_or_below};
 ghost use Rattle.query_answer.specs.Repo.{IsPair, IsPairRefused, effective_in, pair_answer, peg_text};
-ghost use Rattle.query_answer.specs.Unanswered.{IsAnswered};
+ghost use Rattle.query_answer.specs.Unanswered.{HasAnswer};
 ghost use Rattle.query_answer.specs.Worker.{IsSeenOf, LooksAtMergeinfo, Reads};
 
 use super::eligible::eligible_revisions;
@@ -72,7 +72,7 @@ pub(crate) fn answer_pair<'r>(
     seen: &mut Seen<'r>,
 ) -> Result<Answer, Unanswered>
     requires seen { IsSeenOf repo.now.values memo.now seen.old }
-    ensures answer { IsAnswered repo.now (pair_answer repo.now wanted.now) result }
+    ensures answer { HasAnswer repo.now (pair_answer repo.now wanted.now) result }
     ensures worker { Reads repo.now memo.now (peg_text repo.now wanted.now.target.now) result seen.old seen.new }
 {
     let pair = Pair::find(alloc, repo, wanted.source, wanted.target)?;
@@ -92,7 +92,7 @@ fn revisions(
     requires pair { IsPair repo.now wanted.now.source.now wanted.now.target.now pair.now }
     requires value { effective_in repo.now pair.now.target.at.path pair.now.target.at.rev
         ≡ option_map (own_or_below (components_of repo.now.names (rest_of pair.now.target))) (parsed_view parsed) }
-    ensures answer { IsAnswered repo.now (pair_answer repo.now wanted.now) result }
+    ensures answer { HasAnswer repo.now (pair_answer repo.now wanted.now) result }
     ensures found { LooksAtMergeinfo result }
 {
     let Parsed::Good(value) = parsed else {

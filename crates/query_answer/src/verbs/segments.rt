@@ -1,6 +1,6 @@
 //! `segments`: where a path was located in all revisions.
 ghost use Rattle.query_answer.specs.Repo.{segments_answer};
-ghost use Rattle.query_answer.specs.Unanswered.{IsAnswered};
+ghost use Rattle.query_answer.specs.Unanswered.{HasAnswer};
 
 use crate::answers::Answer;
 use crate::peg::Peg;
@@ -14,7 +14,7 @@ pub(crate) fn answer_segments(
     repo: &Repo,
     peg: &Peg<'_>,
 ) -> Result<Answer, Unanswered>
-    ensures { IsAnswered repo.now (segments_answer repo.now peg.now) result }
+    ensures { HasAnswer repo.now (segments_answer repo.now peg.now) result }
 {
     let at = repo.find(alloc, peg)?;
     Ok(Answer::Segments(repo.segments(&at)?))

@@ -18,7 +18,7 @@ pub(crate) enum MiText<'a> {
 }
 
 impl<'a> MiText<'a> {
-    /// What a section says that doesn't name it.
+    /// What a section says that doesn't name `svn:mergeinfo`.
     pub(crate) fn unnamed(has_changes: bool) -> Self
         ensures { mi_text_view result ≡ setting_unnamed has_changes }
     {

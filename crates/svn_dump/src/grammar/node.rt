@@ -33,7 +33,7 @@ fn is_root(path: &[u8]) -> bool
     path.iter().all(|byte| *byte == b'/')
 }
 
-/// Whether the path is the root, and something else than changed.
+/// Whether the path is the root, and the action is no change.
 fn is_root_action(path: &[u8], action: NodeAction) -> bool
     ensures { result ≡ is_root_action path.now (node_action_view action.entry) }
 {

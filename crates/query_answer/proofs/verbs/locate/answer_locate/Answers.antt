@@ -1,13 +1,13 @@
 use Rattle.std.proofs.lemmas.Result.{err_from_is_err_and}
 use Rattle.query_answer.specs.Answer.{locate_lines, ok_answer}
 use Rattle.query_answer.specs.Repo.{trees_in_bytes}
-use Rattle.query_answer.proofs.AnswerTexts.{IsAnswer-Location, IsAnswered-peg_refused}
+use Rattle.query_answer.proofs.AnswerTexts.{IsAnswer-Location, HasAnswer-peg_refused}
 use Rattle.query_answer.proofs.verbs.locate.answer_locate.Goals as goal
 
 pub returns-in_err-at : goal.returns-in_err-at
 returns-in_err-at c =
     let (error, errs, same) = err_from_is_err_and c.from_residual.result c.from_residual.ensures.1 in
-    rw (errs, same) (IsAnswered-peg_refused c.args.repo.now c.args.peg.now c.in_err-at.field-0.0 c.in_err-at.ensures.refused (λ found. ok_answer (locate_lines (trees_in_bytes c.args.repo.now) c.args.rev found)))
+    rw (errs, same) (HasAnswer-peg_refused c.args.repo.now c.args.peg.now c.in_err-at.field-0.0 c.in_err-at.ensures.refused (λ found. ok_answer (locate_lines (trees_in_bytes c.args.repo.now) c.args.rev found)))
 
 pub returns : goal.returns
 returns c = IsAnswer-Location c.args.repo.now c.args.peg.now c.in_ok-at.at c.in_ok-at.ensures.found c.args.rev c.in_ok-locate.field-0 c.in_ok-locate.ensures

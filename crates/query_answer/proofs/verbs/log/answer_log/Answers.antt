@@ -2,14 +2,14 @@ use Rattle.std.proofs.lemmas.Result.{err_from_is_err_and}
 use Rattle.svn_dump.specs.Dump.{history_in_bytes}
 use Rattle.query_answer.specs.Answer.{log_lines, ok_answer}
 use Rattle.query_answer.specs.Repo.{AreHitsIn, trees_in_bytes}
-use Rattle.query_answer.proofs.AnswerTexts.{IsAnswer-Log, IsAnswered-peg_refused}
+use Rattle.query_answer.proofs.AnswerTexts.{IsAnswer-Log, HasAnswer-peg_refused}
 use Rattle.query_answer.proofs.verbs.log.answer_log.Goals as goal
 
 pub returns-in_err-at : goal.returns-in_err-at
 returns-in_err-at c =
     let dump = c.args.repo.now in
     let (error, errs, same) = err_from_is_err_and c.from_residual.result c.from_residual.ensures.1 in
-    rw (errs, same) (IsAnswered-peg_refused dump c.args.peg.now c.in_err-at.field-0.0 c.in_err-at.ensures.refused (λ found. ok_answer (log_lines (history_in_bytes dump) (trees_in_bytes dump) found c.args.range)))
+    rw (errs, same) (HasAnswer-peg_refused dump c.args.peg.now c.in_err-at.field-0.0 c.in_err-at.ensures.refused (λ found. ok_answer (log_lines (history_in_bytes dump) (trees_in_bytes dump) found c.args.range)))
 
 pub returns : goal.returns
 returns c =

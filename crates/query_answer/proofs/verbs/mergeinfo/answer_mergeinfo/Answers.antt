@@ -5,8 +5,8 @@ use Rattle.svn_dump.specs.Tree.{tree_of}
 use Rattle.query_answer.specs.Answer.{value_answer}
 use Rattle.query_answer.specs.Effective.{effective_value, own_or_inherited}
 use Rattle.query_answer.specs.Repo.{trees_in_bytes}
-use Rattle.query_answer.specs.Unanswered.{IsAnswered}
-use Rattle.query_answer.proofs.AnswerTexts.{IsAnswered-peg_refused, mergeinfo_answer-found}
+use Rattle.query_answer.specs.Unanswered.{HasAnswer}
+use Rattle.query_answer.proofs.AnswerTexts.{HasAnswer-peg_refused, mergeinfo_answer-found}
 use Rattle.query_answer.proofs.EffectiveValues.{effective_in-found, mergeinfo-found, nearest_text-target}
 use Rattle.query_answer.proofs.WorkersSeen.{Reads-known, Reads-memory, Reads-peg_refused}
 use Rattle.query_answer.proofs.verbs.mergeinfo.answer_mergeinfo.Goals as goal
@@ -17,7 +17,7 @@ returns-in_err-target c =
     let refused = c.in_err-target.ensures.refused in
     let (error, errs, same) = err_from_is_err_and c.from_residual.result c.from_residual.ensures.1 in
     record {
-      answer = rw (errs, same) (IsAnswered-peg_refused dump c.args.peg.now c.in_err-target.field-0.0 refused (λ found. value_answer (effective_value (tree_of (trees_in_bytes dump) found.rev) found.path)));
+      answer = rw (errs, same) (HasAnswer-peg_refused dump c.args.peg.now c.in_err-target.field-0.0 refused (λ found. value_answer (effective_value (tree_of (trees_in_bytes dump) found.rev) found.path)));
       worker = rw (errs, same) (Reads-peg_refused dump c.args.memo.now _ c.args.seen.now c.requires.seen c.args.peg.now c.in_err-target.field-0.0 refused);
     }
 
@@ -43,7 +43,7 @@ returns c =
     let told = c.nearest_value.follows.holds-at-none in
     let lines = c.own_or_inherited_lines in
     record {
-      answer = subst (λ answer. IsAnswered dump answer lines.result)
+      answer = subst (λ answer. HasAnswer dump answer lines.result)
           (sym (mergeinfo_answer-found dump c.args.peg.now target.at found.peg_is
           ∙ ap value_answer (effective_in-found dump found.peg_is.is_in.kept target.at.path target.at.rev target.nearest found.nearest
           ∙ (λ i. option_map (own_or_inherited (components_of dump.names target.at.path) (sym c.depth_in.ensures i)) (sym c.in_ok-parsed.ensures.value i)))))

@@ -3,7 +3,7 @@ use Rattle.std.proofs.lemmas.Result.{err_from_is_err_and}
 use Rattle.svn_path.specs.Path.{components_of}
 use Rattle.query_answer.specs.Held.{rest_of}
 use Rattle.query_answer.specs.HeldValue.{own_or_below}
-use Rattle.query_answer.proofs.AnswerTexts.{IsAnswered-pair_refused}
+use Rattle.query_answer.proofs.AnswerTexts.{HasAnswer-pair_refused}
 use Rattle.query_answer.proofs.EffectiveValues.{effective_in-below, mergeinfo-found, nearest_text-target}
 use Rattle.query_answer.proofs.WorkersSeen.{Reads-known, Reads-memory, Reads-pair_refused}
 use Rattle.query_answer.proofs.verbs.pair.answer_pair.Goals as goal
@@ -14,7 +14,7 @@ returns-in_err-pair c =
     let refused = c.in_err-pair.ensures.refused in
     let (error, errs, same) = err_from_is_err_and c.from_residual.result c.from_residual.ensures.1 in
     record {
-      answer = rw (errs, same) (IsAnswered-pair_refused dump c.args.wanted.now c.in_err-pair.field-0.0 refused);
+      answer = rw (errs, same) (HasAnswer-pair_refused dump c.args.wanted.now c.in_err-pair.field-0.0 refused);
       worker = rw (errs, same) (Reads-pair_refused dump c.args.memo.now _ c.args.seen.now c.requires.seen c.args.wanted.now.source.now c.args.wanted.now.target.now c.in_err-pair.field-0.0 refused);
     }
 
