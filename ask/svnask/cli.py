@@ -97,19 +97,36 @@ def advice(refused: Refused, history: History, dump: str) -> List[str]:
     return explained(refused, dump, history.front())
 
 
+class Stopped(BaseException):
+    """A signal came that ends the command, which first takes away what it wrote for itself."""
+
+
+def stop(number: int, frame: object) -> NoReturn:
+    raise Stopped(number)
+
+
+def end_by(number: int) -> NoReturn:
+    """Ends the process as the signal would have ended it."""
+    signal.signal(number, signal.SIG_DFL)
+    os.kill(os.getpid(), number)
+    raise SystemExit(128 + number)
+
+
 def main(arguments: Optional[List[str]] = None) -> int:
-    signal.signal(signal.SIGPIPE, signal.SIG_DFL)
+    for number in (signal.SIGINT, signal.SIGTERM, signal.SIGHUP):
+        signal.signal(number, stop)
     try:
         words = parser().parse_args(arguments)
         with opened(words.dump) as file:
             answer(words, file)
     except Error as error:
-        sys.stdout.buffer.flush()
         print("svnask: %s" % error, file=sys.stderr)
         return error.status
-    except KeyboardInterrupt:
-        signal.signal(signal.SIGINT, signal.SIG_DFL)
-        os.kill(os.getpid(), signal.SIGINT)
+    except Stopped as stopped:
+        end_by(stopped.args[0])
+    except BrokenPipeError:
+        # Like other filters it says nothing where nobody reads what it writes.
+        end_by(signal.SIGPIPE)
     except OSError as error:
         print("svnask: cannot write: %s" % error.strerror, file=sys.stderr)
         return 3

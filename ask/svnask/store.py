@@ -1,10 +1,13 @@
 """A dump without its texts, with what is asked of its revisions, in a folder of a cache or of a run."""
+import contextlib
 import hashlib
 import mmap
 import os
 import re
 import shutil
+import stat
 import tempfile
+import time
 from typing import BinaryIO, Callable, Iterator, List, NamedTuple, Optional, Tuple
 
 from .errors import Failed
@@ -14,6 +17,9 @@ from .strip import MERGEINFO, Stripper, clean, entries_of
 VERSION = b"svnask 1"
 FIRST_LINE = b"SVN-fs-dump-format-version: 2\n\n"
 END = 1 << 16
+# How the folders in the making begin. They are given up after a day, and others are where they were not used for 30.
+NEW = "new-"
+UNFINISHED, UNUSED = 86400, 30 * 86400
 # A block of the copy. `Stripper` writes the headers in this order.
 BLOCK = re.compile(
     rb"\n*(?:Revision-number: (?P<rev>[0-9]+)\n|Node-path: (?P<path>[^\n]*)\n(?:Node-kind: (?P<kind>[^\n]*)\n)?"
@@ -213,7 +219,9 @@ def load(folder: str) -> Optional[Store]:
     """The store of a folder of the cache, if it is there and as it was made."""
     try:
         with open(os.path.join(folder, "index"), "rb") as file:
-            return Store(folder, index_of(file.read()), True)
+            store = Store(folder, index_of(file.read()), True)
+        os.utime(folder)
+        return store
     except (OSError, ValueError, IndexError):
         return None
 
@@ -221,7 +229,7 @@ def load(folder: str) -> Optional[Store]:
 def opened(file: BinaryIO, is_cached: bool, seen: Callable[[int], object]) -> Store:
     """The store of a dump. A regular file is looked for in the cache, and kept there."""
     status = os.fstat(file.fileno())
-    if not is_cached or not status.st_size:
+    if not is_cached or not stat.S_ISREG(status.st_mode) or not status.st_size:
         return in_folder(file, tempfile.mkdtemp(prefix="svnask-"), seen)
     top = cache_folder()
     folder = os.path.join(top, key_of(file))
@@ -230,11 +238,24 @@ def opened(file: BinaryIO, is_cached: bool, seen: Callable[[int], object]) -> St
         return kept
     try:
         os.makedirs(top, mode=0o700, exist_ok=True)
-        made = tempfile.mkdtemp(prefix="new-", dir=top)
+        forget(top)
+        made = tempfile.mkdtemp(prefix=NEW, dir=top)
+        store = in_folder(file, made, seen)
     except OSError:
+        # The cache can't be written, perhaps since its disk is full.
+        file.seek(0)
         return in_folder(file, tempfile.mkdtemp(prefix="svnask-"), seen)
-    store = in_folder(file, made, seen)
     return keep(store, made, folder) if store.index.is_whole else store
+
+
+def forget(top: str) -> None:
+    """Takes out of the cache what was not used for long, and what a run that was killed left half made."""
+    now = time.time()
+    for name in os.listdir(top):
+        folder = os.path.join(top, name)
+        with contextlib.suppress(OSError):
+            if now - os.stat(folder).st_mtime > (UNFINISHED if name.startswith(NEW) else UNUSED):
+                shutil.rmtree(folder)
 
 
 def in_folder(file: BinaryIO, folder: str, seen: Callable[[int], object]) -> Store:

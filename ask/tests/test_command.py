@@ -98,17 +98,27 @@ class Command(base.Case):
         self.assertEqual((done.status, done.output.decode()), (0, "1-1 /%s\n" % name))
 
     def test_a_closed_pipe_ends_it_silently(self) -> None:
-        done = subprocess.run("%s %s %s log -v / | head -n 1" % (sys.executable, base.COMMAND, DUMP), shell=True,
-                              stdout=subprocess.PIPE, stderr=subprocess.PIPE)
-        self.assertEqual((done.returncode, done.stderr), (0, b""))
+        temporary = os.path.join(self.folder, "temporary")
+        os.mkdir(temporary)
+        reading, writing = os.pipe()
+        os.close(reading)
+        with open(DUMP, "rb") as dump:
+            done = subprocess.run([sys.executable, base.COMMAND, "-", "log", "/"], stdin=dump, stdout=writing,
+                                  stderr=subprocess.PIPE, env=dict(os.environ, TMPDIR=temporary))
+        os.close(writing)
+        self.assertEqual((done.returncode, done.stderr, os.listdir(temporary)), (-signal.SIGPIPE, b"", []))
 
     def test_a_full_disk_for_the_output_has_status_3(self) -> None:
         with open("/dev/full", "wb") as full:
             done = subprocess.run([sys.executable, base.COMMAND, DUMP, "log", "/"], stdout=full, stderr=subprocess.PIPE)
         self.assertEqual(done.returncode, 3)
 
-    def test_an_interrupt_leaves_no_folder(self) -> None:
-        temporary = os.path.join(self.folder, "temporary")
+    def test_signals_leave_no_folder(self) -> None:
+        for number in (signal.SIGINT, signal.SIGTERM, signal.SIGHUP):
+            self.check_signal(number)
+
+    def check_signal(self, number: int) -> None:
+        temporary = os.path.join(self.folder, "temporary-%d" % number)
         os.mkdir(temporary)
         process = subprocess.Popen([sys.executable, base.COMMAND, "-", "info"], stdin=subprocess.PIPE, stderr=subprocess.PIPE,
                                    env=dict(os.environ, TMPDIR=temporary))
@@ -116,9 +126,9 @@ class Command(base.Case):
         process.stdin.write(b"SVN-fs-dump-format-version: 2\n\n" + b"Revision-number: 0\n\n" * 9)
         process.stdin.flush()
         time.sleep(0.5)
-        process.send_signal(signal.SIGINT)
+        process.send_signal(number)
         process.communicate()
-        self.assertEqual((process.returncode, os.listdir(temporary)), (-signal.SIGINT, []))
+        self.assertEqual((process.returncode, os.listdir(temporary)), (-number, []))
 
 
 if __name__ == "__main__":

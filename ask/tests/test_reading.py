@@ -1,14 +1,17 @@
 """Reading a dump once: the copy gives the same answers, and a dump that is refused is refused at its own bytes."""
+import errno
 import glob
 import os
 import subprocess
+import sys
 import unittest
-from typing import List
+from typing import BinaryIO, Callable, List
+from unittest import mock
 
 import base
-from svnask import engine
+from svnask import store
 from svnask.answers import Line
-from svnask.errors import Error, Refused
+from svnask.errors import Refused
 from svnask.history import History
 from svnask.source import Source
 from svnask.strip import Stripper
@@ -95,6 +98,32 @@ class Reading(base.Case):
     def test_a_cache_that_cannot_be_written_is_done_without(self) -> None:
         os.environ["XDG_CACHE_HOME"] = "/dev/null"
         self.assertEqual(self.history(base.dump_of("branches")).head, 13)
+
+    def test_a_full_disk_of_the_cache_harms_nothing(self) -> None:
+        written = store.make
+
+        def fail_in_cache(file: BinaryIO, folder: str, seen: Callable[[int], object]) -> store.Index:
+            if store.NEW in folder:
+                raise OSError(errno.ENOSPC, "no space")
+            return written(file, folder, seen)
+
+        with mock.patch.object(store, "make", fail_in_cache):
+            self.assertEqual(self.history(base.dump_of("branches")).head, 13)
+        self.assertEqual(os.listdir(os.path.join(os.environ["XDG_CACHE_HOME"], "svnhist")), [])
+
+    def test_two_runs_at_once_make_one_folder(self) -> None:
+        words = [sys.executable, base.COMMAND, base.dump_of("merges"), "info"]
+        runs = [subprocess.Popen(words, stdout=subprocess.PIPE) for _ in range(4)]
+        outputs = {run.communicate()[0] for run in runs}
+        self.assertEqual(len(outputs), 1)
+        self.assertEqual(len(os.listdir(os.path.join(os.environ["XDG_CACHE_HOME"], "svnhist"))), 1)
+
+    def test_what_was_not_used_for_long_is_forgotten(self) -> None:
+        self.history(base.dump_of("branches"))
+        top = os.path.join(os.environ["XDG_CACHE_HOME"], "svnhist")
+        os.utime(os.path.join(top, os.listdir(top)[0]), (0, 0))
+        self.history(base.dump_of("merges"))
+        self.assertEqual(len(os.listdir(top)), 1)
 
 
 if __name__ == "__main__":
