@@ -36,6 +36,16 @@ def last_changes(history: History, lives: Iterable[Life]) -> Dict[Life, int]:
     return found
 
 
+def operative(history: History, lives: Sequence[Life]) -> Dict[Life, List[int]]:
+    """The operative revisions of each life, rising. What it was before, under another path, is no part of it."""
+    answers = history.ask([Log(life.path, life.last, (life.first, life.last)) for life in lives])
+    found: Dict[Life, List[int]] = {}
+    for life, answer in zip(lives, answers):
+        assert isinstance(answer, Logged)
+        found[life] = answer.revisions[::-1]
+    return found
+
+
 class Holder(NamedTuple):
     """A path that has a revision, in its own history or by a merge, whole or in part."""
 

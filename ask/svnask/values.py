@@ -78,6 +78,10 @@ class Explicit:
         at = bisect.bisect_right(revs, rev)
         return self._texts[path][at - 1] if at else None
 
+    def events(self, path: bytes) -> List[int]:
+        """The revisions in which the text of a path was put, changed or taken away, rising."""
+        return self._revs.get(path, [])
+
     def below(self, top: bytes, rev: int) -> Iterator[Tuple[bytes, bytes]]:
         """The paths at or below one that have a text in a revision, and these."""
         for path in self._known(top):

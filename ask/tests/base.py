@@ -5,7 +5,7 @@ import subprocess
 import sys
 import tempfile
 import unittest
-from typing import List, NamedTuple
+from typing import List, NamedTuple, Optional, Tuple
 
 TESTS = os.path.dirname(os.path.abspath(__file__))
 ROOT = os.path.dirname(os.path.dirname(TESTS))
@@ -46,6 +46,31 @@ def refusal_of_engine(dump: str) -> str:
     done = subprocess.run([engine.find_engine(), dump, os.devnull, "0", "1"], stdout=subprocess.PIPE,
                           stderr=subprocess.PIPE)
     return done.stderr.decode().partition("svnhist: ")[2].strip()
+
+
+def properties(**values: str) -> bytes:
+    """The headers and the body of a property section. `svn_log` stands for `svn:log`."""
+    pairs = [(name.replace("_", ":").encode(), value.encode("utf-8", "surrogateescape")) for name, value in values.items()]
+    body = b"".join(b"K %d\n%s\nV %d\n%s\n" % (len(name), name, len(value), value) for name, value in pairs) + b"PROPS-END\n"
+    return b"Prop-content-length: %d\nContent-length: %d\n\n%s\n" % (len(body), len(body), body)
+
+
+def revision(number: int, message: str = "message", author: str = "alice") -> bytes:
+    date = "2024-01-%02dT00:00:00.000000Z" % (1 + number % 28)
+    return b"Revision-number: %d\n" % number + properties(svn_log=message, svn_author=author, svn_date=date)
+
+
+def node(path: str, action: str, kind: str = "dir", source: Optional[Tuple[str, int]] = None,
+         mergeinfo: Optional[str] = None) -> bytes:
+    """The block of a record."""
+    lines = ["Node-path: " + path, "Node-kind: " + kind, "Node-action: " + action]
+    lines += ["Node-copyfrom-rev: %d" % source[1], "Node-copyfrom-path: " + source[0]] if source else []
+    head = "".join(line + "\n" for line in lines).encode("utf-8", "surrogateescape")
+    return head + (b"\n" if mergeinfo is None else properties(svn_mergeinfo=mergeinfo)) + b"\n"
+
+
+def dump(blocks: List[bytes]) -> bytes:
+    return b"SVN-fs-dump-format-version: 2\n\n" + b"".join(blocks)
 
 
 class Case(unittest.TestCase):

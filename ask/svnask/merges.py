@@ -1,0 +1,180 @@
+"""Which revisions each branch gained by merges, and in which of its revisions it gained them.
+
+This is what mergeinfo says, that of the branch itself or what it inherits. It can't tell a merge from a revision that
+was only recorded as merged. What the source of a copy had is not gained by the copy.
+"""
+import bisect
+from typing import Dict, Iterable, Iterator, List, NamedTuple, Optional, Sequence, Tuple
+
+from .answers import Inherited, Mergeinfo, Query, Segments, Where
+from .changes import parents_of
+from .history import History
+from .lives import Life
+from .values import Explicit
+
+Interval = Tuple[int, int]
+# For each source path the revisions of its mergeinfo, as rising intervals.
+Intervals = Dict[bytes, List[Interval]]
+
+
+class Gain(NamedTuple):
+    """The revisions of a source, rising, that one revision of a target gained. `lost` is the revision in which the
+    mergeinfo of the target lost them again, and `is_carried` says that another source which was merged then had them by
+    a merge of its own."""
+
+    source: Life
+    target: Life
+    rev: int
+    revisions: List[int]
+    lost: Optional[int]
+    is_carried: bool
+
+
+class Held(NamedTuple):
+    """A revision of a source, and when the target gained and lost it."""
+
+    source: Life
+    rev: int
+    gained: int
+    lost: Optional[int]
+
+
+class Sources:
+    """The lives that are merged from, by their paths."""
+
+    def __init__(self, operative: Dict[Life, List[int]]) -> None:
+        self._operative = operative
+        self._by_path: Dict[bytes, List[Life]] = {}
+        for life in operative:
+            self._by_path.setdefault(life.path, []).append(life)
+
+    def revisions(self, path: bytes, intervals: Iterable[Interval]) -> Iterator[Tuple[Life, int]]:
+        """The operative revisions of a path that are in some intervals, and the life of each."""
+        lives = self._by_path.get(path, [])
+        for lo, hi in intervals if lives else ():
+            for life in lives:
+                revs = self._operative[life]
+                for rev in revs[bisect.bisect_left(revs, lo):bisect.bisect_right(revs, hi)]:
+                    yield life, rev
+
+
+class Tally:
+    """What one target has gained so far."""
+
+    def __init__(self, sources: Sources, own: Intervals) -> None:
+        self._sources = sources
+        self._own = own
+        self._value: Intervals = {}
+        self._held: Dict[Tuple[Life, int], int] = {}
+        self._lost: List[Held] = []
+
+    def begin(self, value: Intervals) -> None:
+        """Takes what the source of the copy had."""
+        self._value = value
+
+    def turn(self, rev: int, value: Intervals) -> None:
+        """Takes the mergeinfo from a revision on."""
+        for path in self._value.keys() | value.keys():
+            before, after = self._value.get(path, []), value.get(path, [])
+            for source in self._sources.revisions(path, minus(before, after)):
+                if source in self._held:
+                    self._lost.append(Held(*source, self._held.pop(source), rev))
+            for source in self._sources.revisions(path, minus(minus(after, before), self._own.get(path, []))):
+                self._held[source] = rev
+        self._value = value
+
+    def all(self) -> List[Held]:
+        return self._lost + [Held(*source, rev, None) for source, rev in self._held.items()]
+
+
+def minus(these: Sequence[Interval], those: Sequence[Interval]) -> List[Interval]:
+    """What is in some intervals and not in others. Both rise."""
+    left = []
+    at = 0
+    for lo, hi in these:
+        while at < len(those) and those[at][1] < lo:
+            at += 1
+        after = at
+        while after < len(those) and those[after][0] <= hi:
+            if those[after][0] > lo:
+                left.append((lo, those[after][0] - 1))
+            lo = those[after][1] + 1
+            after += 1
+        if lo <= hi:
+            left.append((lo, hi))
+    return left
+
+
+def intervals_of(ranges: str) -> List[Interval]:
+    """The intervals of a rangelist as svnhist prints it."""
+    found = []
+    for each in ranges.split(","):
+        lo, dash, hi = each.rstrip("*").partition("-")
+        found.append((int(lo), int(hi if dash else lo)))
+    return found
+
+
+def own_history(segments: Segments) -> Intervals:
+    """Where a target was itself."""
+    found: Intervals = {}
+    for segment in reversed(segments.segments):
+        if segment.path is not None:
+            found.setdefault(segment.path, []).append((segment.lo, segment.hi))
+    return found
+
+
+def candidates(explicit: Explicit, life: Life) -> List[int]:
+    """The revisions in which the mergeinfo of a life may change: its first one, and those with an event of its path or
+    of one above it."""
+    above = [life.path, *parents_of(life.path)]
+    later = {rev for path in above for rev in explicit.events(path) if life.first < rev <= life.last}
+    return [life.first, *sorted(later)]
+
+
+def queries_of(explicit: Explicit, life: Life) -> List[Query]:
+    """Where a life was, its mergeinfo in each candidate, and before that what its source had."""
+    asked: List[Query] = [Where(life.path, life.last)]
+    if life.source is not None:
+        asked.append(Mergeinfo(*life.source))
+    return asked + [Mergeinfo(life.path, rev) for rev in candidates(explicit, life)]
+
+
+def gains_of(history: History, operative: Dict[Life, List[int]]) -> List[Gain]:
+    """What each of these lives gained from the others, given their operative revisions."""
+    explicit = Explicit(history.records())
+    sources = Sources(operative)
+    asked = [(life, query) for life in operative for query in queries_of(explicit, life)]
+    tallies: Dict[Life, Tally] = {}
+    for (life, query), answer in zip(asked, history.ask([query for _, query in asked])):
+        if isinstance(answer, Segments):
+            tallies[life] = Tally(sources, own_history(answer))
+        elif isinstance(answer, Inherited) and answer.ok:
+            value = {path: intervals_of(ranges) for path, ranges in answer.value.items()}
+            if life.source == (query.path, query.rev):
+                tallies[life].begin(value)
+            else:
+                tallies[life].turn(query.rev, value)
+    return joined({life: tally.all() for life, tally in tallies.items()})
+
+
+def joined(held: Dict[Life, List[Held]]) -> List[Gain]:
+    """The revisions that one revision of a target gained of one source, as one gain."""
+    found: Dict[Tuple[Life, int, Life, Optional[int], bool], List[int]] = {}
+    for target, each, is_carried in told_apart(held):
+        found.setdefault((target, each.gained, each.source, each.lost, is_carried), []).append(each.rev)
+    gains = [Gain(source, target, rev, sorted(revs), lost, is_carried)
+             for (target, rev, source, lost, is_carried), revs in found.items()]
+    return sorted(gains, key=lambda gain: (gain.rev, gain.target, gain.revisions[-1], gain.source))
+
+
+def told_apart(held: Dict[Life, List[Held]]) -> Iterator[Tuple[Life, Held, bool]]:
+    """Each revision that a target gained, and whether another source carried it along."""
+    gained: Dict[Tuple[Life, int], List[Held]] = {}
+    for target, all_of in held.items():
+        for each in all_of:
+            gained.setdefault((target, each.gained), []).append(each)
+    for (target, _), together in gained.items():
+        carried = {(each.source, each.rev) for carrier in together
+                   for each in gained.get((carrier.source, carrier.rev), ())}
+        for each in together:
+            yield target, each, (each.source, each.rev) in carried
