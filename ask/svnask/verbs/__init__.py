@@ -5,9 +5,10 @@ from .asking import AskVerb
 from .base import Verb
 from .branches import BranchesVerb, ChangedTagsVerb, ContainsVerb, UnmergedVerb
 from .dumps import ByteVerb, InfoVerb, RecordVerb
+from .graph import GraphVerb
 from .logs import LogVerb, ShowVerb
 from .merges import MergeinfoVerb
 from .places import SegmentsVerb, WhereVerb
 
 VERBS: List[Verb] = [LogVerb(), ShowVerb(), MergeinfoVerb(), WhereVerb(), SegmentsVerb(), BranchesVerb(), ContainsVerb(),
-                     UnmergedVerb(), ChangedTagsVerb(), RecordVerb(), ByteVerb(), InfoVerb(), AskVerb()]
+                     UnmergedVerb(), ChangedTagsVerb(), GraphVerb(), RecordVerb(), ByteVerb(), InfoVerb(), AskVerb()]

@@ -1,0 +1,58 @@
+"""`graph`."""
+import os
+from argparse import ArgumentParser, Namespace
+from typing import Iterable, Iterator
+
+from .. import graph, picture
+from ..errors import Failed, Usage
+from ..history import History
+from .base import Object, Verb
+from .branches import add_patterns, object_of_life, patterns_of
+
+
+class GraphVerb(Verb):
+    name = "graph"
+    help = "a picture of branches and tags, their copies and merges, as SVG for a browser"
+
+    def arguments(self, parser: ArgumentParser) -> None:
+        add_patterns(parser, "/trunk, /branches/* and /tags/*")
+        parser.add_argument("-o", "--output", metavar="FILE", help="where to write it, in place of the standard output")
+
+    def text(self, history: History, words: Namespace) -> Iterator[bytes]:
+        pieces = picture.svg_of(history, graph.graph_of(history, patterns_of(words)))
+        if words.output is None:
+            yield from pieces
+        else:
+            write(words.output, pieces)
+
+    def objects(self, history: History, words: Namespace) -> Iterator[Object]:
+        if words.output is not None:
+            raise Usage("-o is for the picture: --json prints objects")
+        found = graph.graph_of(history, patterns_of(words))
+        for number, lane in enumerate(found.lanes):
+            yield {"type": "lane", "lane": number, "kind": lane.kind, "lives": [object_of_life(life) for life in lane.lives],
+                   "revisions": lane.revisions}
+        for copy in found.copies:
+            yield dict(object_of_life(copy.life), type="copy", lane=copy.lane, source_lane=copy.source)
+        for merge in found.merges:
+            yield {"type": "merge", "source_lane": merge.source, "lane": merge.target, "revision": merge.rev,
+                   "merged": merge.revisions, "lost": merge.lost, "is_carried": merge.is_carried}
+
+
+def write(name: str, pieces: Iterable[bytes]) -> None:
+    """Writes a file whole or not at all, but for a device or a pipe."""
+    final = os.path.realpath(name)
+    is_plain = os.path.isfile(final) or not os.path.exists(final)
+    beside = "%s.%d.new" % (final, os.getpid()) if is_plain else final
+    try:
+        try:
+            with open(beside, "wb") as file:
+                file.writelines(pieces)
+            if is_plain:
+                os.replace(beside, final)
+        except BaseException:
+            if is_plain and os.path.exists(beside):
+                os.remove(beside)
+            raise
+    except OSError as error:
+        raise Failed("cannot write %s: %s" % (name, error.strerror)) from error
