@@ -15,7 +15,11 @@ FIRST_WINDOW, WINDOW_GROWS = 64, 16
 
 def lives_of(history: History, patterns: Sequence[bytes]) -> List[Life]:
     """The lives of all paths that match a pattern, or of the trunk, the branches and the tags."""
-    return all_lives(history.records(), patterns or PATTERNS, history.head)
+    lives = all_lives(history.records(), patterns or PATTERNS, history.head)
+    if not lives:
+        # Nothing more will be asked, and the dump may be one that is refused.
+        history.check()
+    return lives
 
 
 def last_changes(history: History, lives: Iterable[Life]) -> Dict[Life, int]:

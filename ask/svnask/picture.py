@@ -1,13 +1,13 @@
 """Draws a graph as SVG that any browser shows: no scripts, and nothing from elsewhere."""
-import re
-import unicodedata
-from typing import Dict, Iterator, List, NamedTuple, Set, Tuple
+from typing import Dict, Iterator, List, Set, Tuple
 from xml.sax.saxutils import escape
 
 from . import dates, log
-from .graph import TAG, TRUNK, Copy, Dot, Graph, Lane, Merge
+from .graph import BRANCH, TAG, TRUNK, Copy, Dot, Graph, Lane, Merge
 from .history import History
+from .layout import GAP, SMALLER, TOP, Layout, Place, width_of
 from .lives import Life
+from .texts import readable
 
 # Colours that colour-blind people tell apart, by Okabe and Ito.
 COLOURS = ("#0072b2", "#d55e00", "#009e73", "#cc79a7", "#e69f00", "#56b4e9")
@@ -27,41 +27,10 @@ text { font: 12px sans-serif; fill: #222222 }
 .head, .dot, .end { stroke-width: 1.5px }
 g:hover > .arrow, g:hover > .line { stroke-width: 4px }
 """
-TOP, BOTTOM, RIGHT, GAP = 58, 64, 40, 12
-HEIGHTS = {TAG: 20}
-HEIGHT = 32
-WIDTHS = {TRUNK: 4.0, TAG: 1.25}
-WIDTH = 2.5
-NARROWEST, WIDEST, USUAL = 8, 40, 1400
-LONGEST_NAME = 300
-# The least distance between revisions at the top, and from one name of a lane to where it is written again.
-APART, FAR = 46, 700
-# With more lanes than this the revisions stand at the bottom, too.
-MOST_LANES = 25
+WIDTHS = {TRUNK: 4.0, BRANCH: 2.5, TAG: 1.5}
+# The least distance between revisions at the top. With more rows than this they stand at the bottom, too.
+APART, MOST_ROWS = 46, 25
 MOST_LISTED = 24
-NARROW = frozenset("fijlrtI.,:;'|/ ()[]-")
-CONTROL = re.compile("[\x00-\x1f\x7f-\x9f\ud800-\udfff\ufffe\uffff]")
-
-
-def readable(text: bytes) -> str:
-    """Bytes as characters that XML may have. Others are shown as `\\xff`."""
-    return CONTROL.sub(lambda found: found[0].encode("unicode_escape").decode("ascii"),
-                       text.decode("utf-8", "backslashreplace"))
-
-
-def width_of(text: str) -> float:
-    """About how wide a text of 12 pixels is."""
-    return sum(4 if letter in NARROW else 12.5 if unicodedata.east_asian_width(letter) in "WF" else 7.2 for letter in text)
-
-
-def shortened(text: str, most: float) -> str:
-    """A text without its middle, where it is too wide."""
-    if width_of(text) <= most:
-        return text
-    half = len(text) // 2
-    while width_of(text[:half] + text[-half:]) > most:
-        half -= 1
-    return text[:half] + "\u2026" + text[-half:]
 
 
 def listed(revisions: List[int]) -> str:
@@ -134,61 +103,6 @@ def name_at(lane: Lane, rev: int) -> str:
     return name_of(next((life for life in lane.lives if life.first <= rev <= life.last), lane.lives[-1]))
 
 
-class Place(NamedTuple):
-    x: float
-    y: float
-
-
-class Sizes:
-    """Where lanes and columns are."""
-
-    def __init__(self, graph: Graph) -> None:
-        self._graph = graph
-        self.names = names_of(graph.lanes)
-        self.left = max([width_of(name) for name in self.names], default=0) + 2 * GAP + 8
-        self._step = min(max(USUAL / (len(graph.columns) or 1), NARROWEST), WIDEST)
-        self._middles: List[float] = []
-        bottom: float = TOP
-        for lane in graph.lanes:
-            height = HEIGHTS.get(lane.kind, HEIGHT)
-            self._middles.append(bottom + height / 2)
-            bottom += height
-        self.bottom = bottom
-        self.end = self.left + GAP + self._step * max(len(graph.columns) - 1, 0) + RIGHT
-        self.width = max(self.end + GAP, 640)
-        self.height = bottom + BOTTOM
-
-    def x(self, column: int) -> float:
-        return self.left + GAP + self._step * column
-
-    def y(self, lane: int) -> float:
-        return self._middles[lane]
-
-    def at(self, lane: int, rev: int) -> Place:
-        return Place(self.x(self._graph.column_of(rev)), self.y(lane))
-
-    def end_of(self, life: Life) -> float:
-        return self.end if life.is_alive else self.x(self._graph.column_of(life.last + 1))
-
-    @property
-    def step(self) -> float:
-        return self._step
-
-
-def names_of(lanes: List[Lane]) -> List[str]:
-    """The name at the left of each lane: that of its last life, and where it has others, too, its revisions."""
-    paths = [lane.lives[-1].path for lane in lanes]
-    counts: Dict[bytes, int] = {}
-    for path in paths:
-        counts[path] = counts.get(path, 0) + 1
-    names = []
-    for lane in lanes:
-        life = lane.lives[-1]
-        name = shortened(name_of(life), LONGEST_NAME)
-        names.append(name + " r%d\u2013r%d" % (life.first, life.last) if counts[life.path] > 1 else name)
-    return names
-
-
 def decimal(value: float) -> str:
     return ("%.1f" % value).rstrip("0").rstrip(".")
 
@@ -212,13 +126,15 @@ class Picture:
     def __init__(self, history: History, graph: Graph) -> None:
         self._history = history
         self._graph = graph
-        self._sizes = Sizes(graph)
+        self._layout = Layout(graph)
         self._titles = Titles(history, graph)
         coloured = [number for number, lane in enumerate(graph.lanes) if lane.kind != TRUNK]
         self._colours = {lane: COLOURS[place % len(COLOURS)] for place, lane in enumerate(coloured)}
 
     def pieces(self) -> Iterator[str]:
         yield self._front()
+        if not self._graph.lanes:
+            yield text(Place(GAP, TOP), "no path matches the patterns", "start", "small")
         yield from self._revisions()
         yield from self._guides()
         yield from map(self._copy, self._graph.copies)
@@ -234,10 +150,10 @@ class Picture:
         return self._colours.get(lane, TRUNK_COLOUR)
 
     def _front(self) -> str:
-        size = '"%d" height="%d"' % (self._sizes.width, self._sizes.height)
+        size = '"%d" height="%d"' % (self._layout.width, self._layout.height)
         return ('<svg xmlns="http://www.w3.org/2000/svg" width=%s viewBox="0 0 %d %d" role="img">\n<desc>%s</desc>\n'
                 '<style>%s</style>\n<rect width="100%%" height="100%%" fill="#ffffff"/>\n'
-                % (size, self._sizes.width, self._sizes.height, escape(self._about()), STYLE))
+                % (size, self._layout.width, self._layout.height, escape(self._about()), STYLE))
 
     def _about(self) -> str:
         lanes = self._graph.lanes
@@ -250,51 +166,48 @@ class Picture:
     def _revisions(self) -> Iterator[str]:
         """The revisions at the top, as many as have room, and the dates of the first and the last."""
         columns = self._graph.columns
-        bottom = self._sizes.bottom
-        for column in chosen([self._sizes.x(column) for column in range(len(columns))]):
-            x = self._sizes.x(column)
+        bottom = self._layout.bottom
+        for column in chosen([self._layout.x(column) for column in range(len(columns))]):
+            x = self._layout.x(column)
             yield '<path class="grid" d="M%s %d V%s"/>\n' % (decimal(x), TOP, decimal(bottom))
-            for y in [TOP - 12, bottom + 20][:1 + (len(self._graph.lanes) > MOST_LANES)]:
+            for y in [TOP - 12, bottom + 20][:1 + (len(self._layout.rows) > MOST_ROWS)]:
                 yield text(Place(x, y), "r%d" % columns[column], "middle", "small")
         for column in sorted({0, len(columns) - 1}) if columns else []:
             date = dated(self._history, columns[column])
-            yield text(Place(self._sizes.x(column), TOP - 30), date, "middle", "small")
+            yield text(Place(self._layout.x(column), TOP - 30), date, "middle", "small")
 
     def _guides(self) -> Iterator[str]:
-        for number, lane in enumerate(self._graph.lanes):
-            place = self._sizes.at(number, lane.lives[0].first)
-            yield '<path class="guide" d="M%s H%s"/>\n' % (points(self._sizes.left, place.y), decimal(place.x))
+        """From each name at the left to the line that it names."""
+        for number in self._layout.names:
+            place = self._layout.at(number, self._graph.lanes[number].lives[0].first)
+            yield '<path class="guide" d="M%s H%s"/>\n' % (points(self._layout.left, place.y), decimal(place.x))
 
     def _copy(self, copy: Copy) -> str:
         """A curve from the source to the line of the copy, and along it to the revision that made it. Where the source has
         no lane it is a stub."""
         assert copy.life.source is not None
-        to = self._sizes.at(copy.lane, copy.life.first)
+        to = self._layout.at(copy.lane, copy.life.first)
+        start, turn = self._layout.source(copy), self._layout.turn(copy)
         colour = self._colour(copy.lane)
-        if copy.source is None:
-            path = "M%s H%s" % (points(to.x - 0.6 * self._sizes.step, to.y), decimal(to.x))
-            return element(about_copy(copy), '<path class="stub" stroke="%s" stroke-width="2" d="%s"/>' % (colour, path))
-        column = max(self._graph.column_before(copy.life.source[1]),
-                     self._graph.column_of(self._graph.lanes[copy.source].lives[0].first))
-        start = Place(self._sizes.x(column), self._sizes.y(copy.source))
-        turn = min(start.x + self._sizes.step, to.x)
+        if start is None:
+            return element(about_copy(copy), '<path class="stub" stroke="%s" stroke-width="2" d="M%s H%s"/>' % (
+                colour, points(turn, to.y), decimal(to.x)))
         path = "M%s C%s H%s" % (points(*start), points(turn, start.y, start.x, to.y, turn, to.y), decimal(to.x))
         return element(about_copy(copy), '<path class="hit" d="%s"/>' % path,
                        '<path class="line" stroke="%s" stroke-width="1.5" d="%s"/>' % (colour, path))
 
     def _lane(self, number: int) -> str:
         lane = self._graph.lanes[number]
-        first, last = lane.lives[0], lane.lives[-1]
-        start = self._sizes.at(number, first.first)
+        start = self._layout.at(number, lane.lives[0].first)
         title = "\n".join("%s r%d\u2013r%d" % (name_of(life), life.first, life.last) for life in lane.lives)
         line = '<path class="line" stroke="%s" stroke-width="%s" d="M%s H%s"/>' % (
-            self._colour(number), decimal(WIDTHS.get(lane.kind, WIDTH)), points(*start), decimal(self._sizes.end_of(last)))
+            self._colour(number), decimal(WIDTHS[lane.kind]), points(*start), decimal(self._layout.end(number)))
         return element(title, line)
 
     def _merge(self, merge: Merge) -> str:
         """An arrow, which leaves and arrives upright."""
-        start = self._sizes.at(merge.source, merge.revisions[-1])
-        to = self._sizes.at(merge.target, merge.rev)
+        start = self._layout.at(merge.source, merge.revisions[-1])
+        to = self._layout.at(merge.target, merge.rev)
         way = -1 if to.y < start.y else 1
         reach = min(max(abs(to.y - start.y) * 0.6, 16), 70)
         tip = to.y - way * 5
@@ -308,7 +221,7 @@ class Picture:
 
     def _dot(self, dot: Dot) -> str:
         lane = self._graph.lanes[dot.lane]
-        place = Place(self._sizes.x(dot.column), self._sizes.y(dot.lane))
+        place = Place(self._layout.x(dot.column), self._layout.y(dot.lane))
         is_first = any(life.first in dot.revisions and life.source is not None for life in lane.lives)
         colour = self._colour(dot.lane)
         size = 3.0 if lane.kind == TAG else 4.0
@@ -320,7 +233,7 @@ class Picture:
         for number, lane in enumerate(self._graph.lanes):
             life = lane.lives[-1]
             if not life.is_alive:
-                x, y = self._sizes.end_of(life), self._sizes.y(number)
+                x, y = self._layout.end(number), self._layout.y(number)
                 title = "%s ended in r%d\n%s" % (name_of(life), life.last + 1, about_revision(self._history, life.last + 1))
                 mark = '<path class="end" fill="none" stroke="%s" d="M%s l8 8 m0 -8 l-8 8"/>' % (
                     self._colour(number), points(x - 4, y - 4))
@@ -328,37 +241,22 @@ class Picture:
 
     def _names(self) -> Iterator[str]:
         for number, lane in enumerate(self._graph.lanes):
-            name = self._sizes.names[number]
-            y = self._sizes.y(number)
             title = "\n".join(name_of(life) for life in lane.lives)
-            yield element(title, text(Place(self._sizes.left - GAP, y + 4), name, "end"))
-            for place in self._more_names(number):
-                yield text(*place, "start", "name")
-
-    def _more_names(self, number: int) -> Iterator[Tuple[Place, str]]:
-        """Where the name of a lane is written on its line: where it is another one than at the left, and far from that."""
-        lane = self._graph.lanes[number]
-        y = self._sizes.y(number) - 7
-        before = self._sizes.left
-        for life in lane.lives:
-            x = self._sizes.at(number, life.first).x
-            while x < self._sizes.end_of(life):
-                if x - before > FAR or life is not lane.lives[-1]:
-                    yield Place(x + 2, y), shortened(name_of(life), 200)
-                    before = x
-                x += 2 * FAR
-                if lane.kind == TAG:
-                    break
+            if number in self._layout.names:
+                place = Place(self._layout.left - GAP, self._layout.y(number) + 4)
+                yield element(title, text(place, self._layout.names[number], "end"))
+            for name in self._layout.names_on_line(number):
+                yield element(title, text(Place(name.place.x + 2, name.place.y - 7), name.text, "start", "name"))
 
     def _legend(self) -> str:
-        y = self._sizes.height - 22
+        y = self._layout.height - 22
         x = float(GAP)
         parts: List[str] = []
         for kind, mark, says in MARKS:
             if kind in self._kinds():
                 parts.append('<g transform="translate(%s)" stroke="#444444" fill="#444444">%s</g>' % (points(x, y), mark))
                 parts.append(text(Place(x + 34, y + 4), says, "start", "small"))
-                x += 34 + width_of(says) * 0.92 + 20
+                x += 34 + width_of(says) * SMALLER + 20
         return "".join(parts)
 
     def _kinds(self) -> Set[str]:

@@ -1,0 +1,189 @@
+"""The graph of branches and tags, and its picture."""
+import json
+import os
+import time
+import unittest
+from typing import List, Sequence
+from xml.etree import ElementTree
+
+import base
+from svnask import picture
+from svnask.graph import MOST_OTHERS, Graph, graph_of
+from svnask.history import History
+from svnask.layout import Layout, shortened, width_of
+from svnask.texts import readable
+
+SVG = "{http://www.w3.org/2000/svg}"
+PATTERNS: List[List[bytes]] = [[], [b"/*", b"/*/*"]]
+
+
+def drawn(history: History, patterns: Sequence[bytes] = ()) -> ElementTree.Element:
+    return ElementTree.fromstring(b"".join(picture.svg_of(history, graph_of(history, patterns))))
+
+
+def titles(svg: ElementTree.Element) -> List[str]:
+    return [each.text or "" for each in svg.iter(SVG + "title")]
+
+
+def names(graph: Graph) -> List[List[bytes]]:
+    return [[life.path for life in lane.lives] for lane in graph.lanes]
+
+
+def repository(count: int) -> bytes:
+    """A dump with a trunk, and branches that each begin, get a change and a merge from the trunk, and end or stay."""
+    blocks = [base.revision(0), base.revision(1)]
+    blocks += [base.node(path, "add") for path in ("trunk", "branches", "tags")] + [base.node("trunk/f", "add", kind="file")]
+    rev = 1
+    for number in range(count):
+        path = "branches/b%d" % number
+        blocks += [base.revision(rev + 1), base.node(path, "add", source=("trunk", rev))]
+        blocks += [base.revision(rev + 2), base.node("trunk/f", "change", kind="file")]
+        blocks += [base.revision(rev + 3), base.node(path, "change", mergeinfo="/trunk:%d" % (rev + 2))]
+        blocks += [base.revision(rev + 4)]
+        blocks += [base.node(path, "delete") if number % 2 else base.node("tags/t%d" % number, "add", source=(path, rev + 3))]
+        rev += 4
+    return base.dump(blocks)
+
+
+class Graphs(base.Case):
+    def graph(self, name: str, patterns: Sequence[bytes] = ()) -> Graph:
+        return graph_of(self.history(base.dump_of(name)), patterns)
+
+    def test_lanes_copies_and_merges(self) -> None:
+        graph = self.graph("merges")
+        self.assertEqual(names(graph), [[b"/trunk"], [b"/branches/three"], [b"/branches/two"], [b"/branches/one"]])
+        self.assertEqual([lane.kind for lane in graph.lanes], ["trunk", "branch", "branch", "branch"])
+        self.assertEqual([(copy.life.first, copy.lane, copy.source) for copy in graph.copies], [(17, 1, 0), (3, 2, 0), (2, 3, 0)])
+        self.assertEqual([(each.source, each.target, each.rev, each.revisions, each.lost) for each in graph.merges], [
+            (0, 3, 7, [4, 5, 6], 18), (0, 2, 8, [5], None), (0, 2, 9, [6], None), (3, 0, 11, [2, 7, 10], 12),
+            (0, 2, 13, [4], None), (0, 1, 19, [14], None)])
+        self.assertEqual(graph.columns, list(range(1, 20)))
+
+    def test_a_moved_branch_goes_on_in_its_lane(self) -> None:
+        graph = self.graph("inherited")
+        self.assertEqual(names(graph), [[b"/trunk"], [b"/branches/lib"], [b"/branches/one"], [b"/branches/one", b"/branches/two"]])
+        moved = [title for title in titles(drawn(self.history(base.dump_of("inherited")))) if "moved from" in title]
+        self.assertEqual(len(moved), 1)
+        self.assertTrue(moved[0].endswith("r13: moved from /branches/one to /branches/two"), moved)
+
+    def test_a_copy_of_a_part_begins_at_the_lane_of_the_whole(self) -> None:
+        graph = self.graph("inherited")
+        self.assertEqual([copy.source for copy in graph.copies if copy.life.path == b"/branches/lib"], [0])
+
+    def test_each_operative_revision_is_in_one_dot(self) -> None:
+        graph = graph_of(self.history(self.made("dump", repository(300))), [b"/trunk"])
+        self.assertEqual(sorted(rev for dot in graph.dots for rev in dot.revisions), graph.lanes[0].revisions)
+        blocks = [base.revision(0), base.revision(1), base.node("trunk", "add"), base.node("trunk/f", "add", kind="file")]
+        for rev in range(2, 3000):
+            blocks += [base.revision(rev), base.node("trunk/f", "change", kind="file")]
+        graph = graph_of(self.history(self.made("long", base.dump(blocks))), [])
+        self.assertEqual([rev for dot in graph.dots for rev in dot.revisions], list(range(1, 3000)))
+        self.assertLessEqual(len(graph.dots), MOST_OTHERS + 2)
+
+    def test_lanes_of_a_row_do_not_overlap(self) -> None:
+        for content in (repository(60), None):
+            history = self.history(self.made("dump", content) if content else base.dump_of("again"))
+            graph = graph_of(history, [] if content else [b"/*", b"/*/*"])
+            layout = Layout(graph)
+            for row in layout.rows:
+                places = [(layout.at(lane, graph.lanes[lane].lives[0].first).x, layout.end(lane)) for lane in row.lanes[::-1]]
+                self.assertEqual(places, sorted(places))
+                for one, other in zip(places, places[1:]):
+                    self.assertLess(one[1], other[0])
+            self.assertEqual(sorted(lane for row in layout.rows for lane in row.lanes), list(range(len(graph.lanes))))
+
+    def test_there_may_be_no_lane(self) -> None:
+        graph = self.graph("merges", [b"/nothing"])
+        self.assertEqual((graph.lanes, graph.dots, graph.columns), ([], [], []))
+        svg = drawn(self.history(base.dump_of("merges")), [b"/nothing"])
+        self.assertIn("no path matches", "".join(svg.itertext()))
+
+
+class Pictures(base.Case):
+    def test_each_repository_has_a_picture(self) -> None:
+        for name in base.names():
+            history = self.history(base.dump_of(name))
+            for patterns in PATTERNS:
+                with self.subTest(name=name, patterns=patterns):
+                    svg = drawn(history, patterns)
+                    self.assertEqual(svg.tag, SVG + "svg")
+                    self.assertEqual(len(list(svg.iter(SVG + "desc"))), 1)
+                    self.assertEqual([each for each in svg.iter() if each.tag.endswith(("script", "image", "use"))], [])
+
+    def test_the_example_is_what_is_drawn(self) -> None:
+        with open(os.path.join(base.ROOT, "docs", "merges.svg"), "rb") as file:
+            self.assertEqual(base.run(base.dump_of("merges"), "graph").output, file.read())
+
+    def test_marks_tell_of_revisions_copies_and_merges(self) -> None:
+        found = titles(drawn(self.history(base.dump_of("merges"))))
+        self.assertIn("r7: r4, r5, r6 of /trunk into /branches/one, no longer merged from r18 on", found)
+        self.assertIn("r17: /branches/three is a copy of /trunk@11", found)
+        dots = [title for title in found if "\nr13 | bob | 2024-01-01 00:13:00 +0000 (Mon, 01 Jan 2024)\n" in title]
+        self.assertEqual(len(dots), 1)
+        self.assertTrue(dots[0].endswith("\nr13: r4 of /trunk into /branches/two"), dots)
+
+    def test_texts_may_be_any_bytes(self) -> None:
+        odd = "a<b>&\"'\udcff\u202e\uffff]]>"
+        blocks = [base.revision(0), base.revision(1, "\x00\x01", "\x1b<&"), base.node("trunk", "add"), base.node("b", "add")]
+        blocks += [base.revision(2, "\n <!-- &amp;\x07\udc80 --> ]]>\rmore"), base.node("b/" + odd, "add", source=("trunk", 1))]
+        blocks += [base.revision(3), base.node("b/" + odd + "\x01\x7f", "add", source=("b/" + odd, 2))]
+        blocks += [base.revision(4), base.node("trunk", "change", mergeinfo="/b/%s:2" % odd), base.node("b/" + "w" * 900, "add")]
+        blocks += [base.revision(5), base.node("b/" + "\u6f22" * 300, "add")]
+        found = titles(drawn(self.history(self.made("dump", base.dump(blocks))), [b"/trunk", b"/b/*"]))
+        self.assertIn("r4: r2 of /b/a<b>&\"'\\xff\u202e\\uffff]]> into /trunk", found)
+        self.assertTrue(any("\n<!-- &amp;\\x07\\x80 --> ]]>" in title for title in found))
+        self.assertTrue(any("\nr1 | \\x1b<& | " in title for title in found))
+
+    def test_readable_texts(self) -> None:
+        for text, wanted in ((b"\xc3\xb6\xff\t\r", "\u00f6\\xff\\t\\r"), (b"\xed\xa0\x80", "\\xed\\xa0\\x80"), (b"", ""),
+                             (b"\xef\xbf\xbe\xc2\x85", "\\ufffe\\x85"), ("\U0001f600".encode(), "\U0001f600")):
+            self.assertEqual(readable(text), wanted)
+
+    def test_long_names_are_shortened(self) -> None:
+        for text in ("x" * 500, "\u6f22" * 90, "i" * 900):
+            self.assertLessEqual(width_of(shortened(text, 200)), 220)
+        self.assertEqual(shortened("short", 200), "short")
+
+    def test_many_branches_are_drawn_soon(self) -> None:
+        dump = self.made("dump", repository(400))
+        begun = time.monotonic()
+        svg = ElementTree.fromstring(base.run(dump, "graph").output)
+        self.assertLess(time.monotonic() - begun, 5)
+        self.assertIn("401 branches and 200 tags", next(svg.iter(SVG + "desc")).text or "")
+
+
+class Verb(base.Case):
+    def test_a_file_is_written_whole(self) -> None:
+        path = self.made("merges.svg", b"before")
+        done = base.run(base.dump_of("merges"), "graph", "-o", path)
+        self.assertEqual((done.status, done.output, done.said), (0, b"", ""))
+        with open(path, "rb") as file:
+            self.assertEqual(file.read(), base.run(base.dump_of("merges"), "graph").output)
+        self.assertEqual([name for name in os.listdir(self.folder) if "svg" in name], ["merges.svg"])
+
+    def test_a_file_that_cannot_be_written_has_status_3(self) -> None:
+        for path in (os.path.join(self.folder, "none", "x.svg"), "/dev/full", self.folder):
+            done = base.run(base.dump_of("merges"), "graph", "-o", path)
+            self.assertEqual(done.status, 3, path)
+            self.assertIn("cannot write %s: " % path, done.said)
+
+    def test_a_refused_dump_leaves_the_file_alone(self) -> None:
+        with open(base.dump_of("merges"), "rb") as file:
+            faulty = self.made("faulty", file.read().replace(b"Node-path: trunk\n", b"Node-path: other\n", 1))
+        path = self.made("merges.svg", b"before")
+        for verb in (["graph", "-o", path], ["branches"], ["unmerged"]):
+            self.assertEqual(base.run(faulty, *verb).status, 1, verb)
+        with open(path, "rb") as file:
+            self.assertEqual(file.read(), b"before")
+
+    def test_objects(self) -> None:
+        lines = base.run(base.dump_of("merges"), "graph", "--json").output.splitlines()
+        objects = [json.loads(line) for line in lines]
+        self.assertEqual([each["type"] for each in objects], ["lane"] * 4 + ["copy"] * 3 + ["merge"] * 6)
+        self.assertEqual(objects[7], {"type": "merge", "source_lane": 0, "lane": 3, "revision": 7, "merged": [4, 5, 6],
+                                      "lost": 18, "is_carried": False})
+        self.assertEqual(base.run(base.dump_of("merges"), "graph", "--json", "-o", "x").status, 2)
+
+
+if __name__ == "__main__":
+    unittest.main()
