@@ -129,8 +129,8 @@ class Finder:
 
 
 def ordered(lanes: List[Lane]) -> List[Lane]:
-    """Lanes from the top. The trunk is first. Below each lane are its copies, the newest source first, each with its own
-    ones, so that no curve of a copy crosses a lane."""
+    """Lanes from the top. The trunk is first. Below each lane are its copies, the newest source first, each with its
+    own ones, so that no curve of a copy crosses a lane."""
     places = {life: place for place, lane in enumerate(lanes) for life in lane.lives}
     finder = Finder(places)
     tops: List[Lane] = []
@@ -162,10 +162,10 @@ def merges_of(gains: Iterable[Gain], numbers: Dict[Life, int]) -> Iterator[Merge
         yield Merge(source, target, rev, sorted(revisions), lost, is_carried)
 
 
-def newest(revisions: Sequence[int], rev: int) -> Optional[int]:
-    """The newest of rising revisions up to one."""
+def newest(revisions: Sequence[int], rev: int) -> Sequence[int]:
+    """The newest of rising revisions up to one, if there is any."""
     at = bisect.bisect_right(revisions, rev)
-    return revisions[at - 1] if at else None
+    return revisions[max(at - 1, 0):at]
 
 
 def keys_of(lanes: List[Lane], copies: List[Copy], merged: List[Merge]) -> Iterator[int]:
@@ -176,9 +176,8 @@ def keys_of(lanes: List[Lane], copies: List[Copy], merged: List[Merge]) -> Itera
         if not lane.lives[-1].is_alive:
             yield lane.lives[-1].last + 1
     for copy in copies:
-        rev = newest(lanes[copy.source].revisions, copy.life.source[1]) if copy.source is not None and copy.life.source else None
-        if rev is not None:
-            yield rev
+        if copy.source is not None and copy.life.source is not None:
+            yield from newest(lanes[copy.source].revisions, copy.life.source[1])
     for merge in merged:
         yield from (merge.rev, merge.revisions[-1])
 

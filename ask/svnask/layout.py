@@ -4,11 +4,12 @@ A row has one lane, or several one after the other: branches that ended leave ro
 branch stand side by side below it. A row of one lane has its name at the left.
 """
 import unicodedata
-from typing import Dict, Iterator, List, NamedTuple, Optional
+from typing import Dict, Iterator, List, NamedTuple, Optional, Tuple
 
 from .graph import BRANCH, TAG, TRUNK, Copy, Graph, Lane
 from .lives import Life
 from .texts import readable
+from .titles import span_of
 
 TOP, BOTTOM, RIGHT, GAP = 58, 64, 40, 12
 HEIGHTS = {TRUNK: 32, BRANCH: 32, TAG: 22}
@@ -24,13 +25,6 @@ class Place(NamedTuple):
     y: float
 
 
-class Name(NamedTuple):
-    """A name on the line of a lane."""
-
-    place: Place
-    text: str
-
-
 class Extent(NamedTuple):
     """What a lane takes of a row, from where its copy arrives."""
 
@@ -39,16 +33,16 @@ class Extent(NamedTuple):
 
 
 class Row:
-    """The lanes of a row, the last one first. Those of tags are all copies of one lane."""
+    """The lanes of a row, the last one first."""
 
-    def __init__(self, kind: str, parent: Optional[int]) -> None:
-        self.lanes: List[int] = []
+    def __init__(self, place: int, kind: str) -> None:
+        self.place = place
         self.kind = kind
-        self._parent = parent
+        self.lanes: List[int] = []
         self._start = float("inf")
 
-    def has_room(self, kind: str, parent: Optional[int], extent: Extent) -> bool:
-        return kind == self.kind and (kind != TAG or parent == self._parent) and extent.end + GAP < self._start
+    def has_room(self, extent: Extent) -> bool:
+        return extent.end + GAP < self._start
 
     def put(self, lane: int, extent: Extent) -> None:
         self.lanes.append(lane)
@@ -63,6 +57,7 @@ class Layout:
         self._copies = {copy.lane: copy for copy in graph.copies}
         self.step = min(max(USUAL / (len(graph.columns) or 1), NARROWEST), WIDEST)
         self.left = 0.0
+        self._used = uses_of(graph)
         self._ends = [self._end_of(number) for number in range(len(graph.lanes))]
         self.rows = self._rows()
         self.names = names_of(graph.lanes, self.rows)
@@ -102,15 +97,15 @@ class Layout:
         to = self.x(self._graph.column_of(copy.life.first))
         return to - 0.6 * self.step if copy.source is None else min(self._x_of_source(copy) + self.step, to)
 
-    def names_on_line(self, lane: int) -> Iterator[Name]:
-        """The names on the line of a lane, but for those that stand at the left and are not far."""
+    def names_on_line(self, lane: int) -> Iterator[Tuple[Place, str]]:
+        """The names on the line of a lane: where it gets another one, and far from where its name stands already."""
         lives = self._graph.lanes[lane].lives
         before = self.left if lane in self.names else float("-inf")
-        for life in lives:
-            place = self.at(lane, life.first)
-            while place.x < self.end(lane) and (life is lives[-1] or place == self.at(lane, life.first)):
-                if place.x - before > FAR or life is not lives[-1]:
-                    yield Name(place, name_on_line(life, self._graph.lanes[lane]))
+        for life, ends in zip(lives, [self.at(lane, life.first).x for life in lives[1:]] + [self.end(lane)]):
+            start = place = self.at(lane, life.first)
+            while place.x < ends:
+                if place.x - before > FAR or (place == start and len(lives) > 1):
+                    yield place, name_on_line(life, self._graph.lanes[lane])
                     before = place.x
                 place = Place(place.x + 2 * FAR, place.y)
 
@@ -125,10 +120,8 @@ class Layout:
             return self.x(self._graph.column_of(lives[-1].last + 1))
         if kind != TAG:
             return self.right
-        used = [self.x(self._graph.column_of(rev)) for rev in [lives[-1].first, *revisions[-1:]]]
-        used += [self._x_of_source(copy) for copy in self._graph.copies if copy.source == lane]
-        used += [self.x(self._graph.column_of(merge.rev)) for merge in self._graph.merges if merge.target == lane]
-        return max(max(used) + GAP, self._end_of_name(lane))
+        used = self.x(self._graph.column_of(max([lives[-1].first, *revisions[-1:], *self._used.get(lane, [])])))
+        return max(used + GAP, self._end_of_name(lane))
 
     def _end_of_name(self, lane: int) -> float:
         life = self._graph.lanes[lane].lives[-1]
@@ -141,24 +134,41 @@ class Layout:
         return Extent(first if copy is None else self.turn(copy), max(self._ends[lane], self._end_of_name(lane)))
 
     def _rows(self) -> List[Row]:
-        """Puts each lane into the first row with room for it that is below that of its source."""
+        """Puts each lane into the first row with room for it that is below that of its source. A row of tags has only
+        those of one source."""
         rows: List[Row] = []
-        row_of: Dict[Optional[int], int] = {None: -1}
+        alike: Dict[Tuple[str, Optional[int]], List[Row]] = {}
+        place_of: Dict[Optional[int], int] = {None: -1}
         for number, lane in enumerate(self._graph.lanes):
-            parent = self._copies[number].source if number in self._copies else None
+            source = self._copies[number].source if number in self._copies else None
             extent = self._extent(number)
-            place = next((place for place in range(row_of[parent] + 1, len(rows))
-                          if rows[place].has_room(lane.kind, parent, extent)), len(rows))
-            if place == len(rows):
-                rows.append(Row(lane.kind, parent))
-            rows[place].put(number, extent)
-            row_of[number] = place
+            choice = alike.setdefault((lane.kind, source if lane.kind == TAG else None), [])
+            row = next((row for row in choice if row.place > place_of[source] and row.has_room(extent)), None)
+            if row is None:
+                row = Row(len(rows), lane.kind)
+                rows.append(row)
+                choice.append(row)
+            row.put(number, extent)
+            place_of[number] = row.place
         return rows
+
+
+def uses_of(graph: Graph) -> Dict[int, List[int]]:
+    """The revisions in which each lane is copied, and merged into."""
+    found: Dict[int, List[int]] = {}
+    for copy in graph.copies:
+        if copy.source is not None and copy.life.source is not None:
+            found.setdefault(copy.source, []).append(graph.columns[max(graph.column_before(copy.life.source[1]), 0)])
+    for merge in graph.merges:
+        found.setdefault(merge.target, []).append(merge.rev)
+    return found
 
 
 def width_of(text: str) -> float:
     """About how wide a text of 12 pixels is."""
-    return sum(4 if letter in NARROW else 12.5 if unicodedata.east_asian_width(letter) in "WF" else 7.2 for letter in text)
+    wide = sum(unicodedata.east_asian_width(letter) in "WF" for letter in text)
+    narrow = sum(letter in NARROW for letter in text)
+    return 7.2 * len(text) + 5.3 * wide - 3.2 * narrow
 
 
 def shortened(text: str, most: float) -> str:
@@ -187,5 +197,5 @@ def names_of(lanes: List[Lane], rows: List[Row]) -> Dict[int, str]:
     for number in (row.lanes[0] for row in rows if len(row.lanes) == 1):
         life = lanes[number].lives[-1]
         name = shortened(readable(life.path), LONGEST_NAME)
-        names[number] = name + " r%d\u2013r%d" % (life.first, life.last) if counts[life.path] > 1 else name
+        names[number] = "%s %s" % (name, span_of(life)) if counts[life.path] > 1 else name
     return names

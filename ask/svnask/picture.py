@@ -1,13 +1,11 @@
 """Draws a graph as SVG that any browser shows: no scripts, and nothing from elsewhere."""
-from typing import Dict, Iterator, List, Set, Tuple
+from typing import Iterator, List, Set
 from xml.sax.saxutils import escape
 
-from . import dates, log
-from .graph import BRANCH, TAG, TRUNK, Copy, Dot, Graph, Lane, Merge
+from .graph import BRANCH, TAG, TRUNK, Copy, Dot, Graph, Merge
 from .history import History
 from .layout import GAP, SMALLER, TOP, Layout, Place, width_of
-from .lives import Life
-from .texts import readable
+from .titles import Titles, about_copy, about_end, about_lane, dated
 
 # Colours that colour-blind people tell apart, by Okabe and Ito.
 COLOURS = ("#0072b2", "#d55e00", "#009e73", "#cc79a7", "#e69f00", "#56b4e9")
@@ -25,82 +23,15 @@ text { font: 12px sans-serif; fill: #222222 }
 .lost { stroke-dasharray: 6 3 }
 .stub { stroke-dasharray: 2 2 }
 .head, .dot, .end { stroke-width: 1.5px }
+.mark { stroke: #444444; fill: #444444 }
 g:hover > .arrow, g:hover > .line { stroke-width: 4px }
 """
 WIDTHS = {TRUNK: 4.0, BRANCH: 2.5, TAG: 1.5}
-# The least distance between revisions at the top. With more rows than this they stand at the bottom, too.
-APART, MOST_ROWS = 46, 25
-MOST_LISTED = 24
-
-
-def listed(revisions: List[int]) -> str:
-    shown = ", ".join("r%d" % rev for rev in revisions[-MOST_LISTED:])
-    more = len(revisions) - MOST_LISTED
-    return "%s, and %d older" % (shown, more) if more > 0 else shown
-
-
-def name_of(life: Life) -> str:
-    return readable(life.path)
-
-
-def dated(history: History, rev: int) -> str:
-    shown = dates.shown(history.revision(rev).date)
-    return shown[:10] if shown[0].isdigit() else shown
-
-
-def about_revision(history: History, rev: int) -> str:
-    """A revision in two lines: who committed it and when, and the first line of the message."""
-    revision = history.revision(rev)
-    message = log.LINE_END.split(log.cut(revision.message or b"").lstrip(), 1)[0]
-    return "%s\n%s" % (readable(log.head_line(revision, True)[:-1]), readable(message))
-
-
-def about_copy(copy: Copy) -> str:
-    assert copy.life.source is not None
-    path, rev = copy.life.source
-    return "r%d: %s is a copy of %s@%d" % (copy.life.first, name_of(copy.life), readable(path), rev)
-
-
-class Titles:
-    """What is shown of each mark under the pointer."""
-
-    def __init__(self, history: History, graph: Graph) -> None:
-        self._history = history
-        self._graph = graph
-        # What is to be told of a revision of a lane.
-        self._notes: Dict[Tuple[int, int], List[str]] = {}
-        for copy in graph.copies:
-            self._note(copy.lane, copy.life.first, about_copy(copy))
-        for number, lane in enumerate(graph.lanes):
-            for before, life in zip(lane.lives, lane.lives[1:]):
-                self._note(number, life.first, "r%d: moved from %s to %s" % (life.first, name_of(before), name_of(life)))
-        for merge in graph.merges:
-            self._note(merge.target, merge.rev, self.merge(merge))
-
-    def _note(self, lane: int, rev: int, text: str) -> None:
-        self._notes.setdefault((lane, rev), []).append(text)
-
-    def merge(self, merge: Merge) -> str:
-        source, target = (self._graph.lanes[lane] for lane in (merge.source, merge.target))
-        text = "r%d: %s of %s into %s" % (merge.rev, listed(merge.revisions), name_at(source, merge.revisions[-1]),
-                                          name_at(target, merge.rev))
-        if merge.is_carried:
-            text += ", carried along by another merge"
-        if merge.lost is not None:
-            text += ", no longer merged from r%d on" % merge.lost
-        return text
-
-    def dot(self, dot: Dot) -> str:
-        """All that is told of a dot: its newest revision, and what others share it."""
-        lines = [name_at(self._graph.lanes[dot.lane], dot.revisions[-1]), about_revision(self._history, dot.revisions[-1])]
-        if len(dot.revisions) > 1:
-            lines.append("with %s" % listed(dot.revisions[:-1]))
-        return "\n".join(lines + [note for rev in dot.revisions for note in self._notes.get((dot.lane, rev), [])])
-
-
-def name_at(lane: Lane, rev: int) -> str:
-    """The name of a lane in a revision."""
-    return name_of(next((life for life in lane.lives if life.first <= rev <= life.last), lane.lives[-1]))
+RADIUSES = {TRUNK: 4.0, BRANCH: 4.0, TAG: 3.0}
+# How much room a revision and a date take at the top, and how far from each other dates are.
+REVISION_ROOM, DATE_ROOM, DATES_APART = 46, 66, 240
+# With more rows than this the revisions stand at the bottom, too.
+MOST_ROWS = 25
 
 
 def decimal(value: float) -> str:
@@ -111,13 +42,13 @@ def points(*values: float) -> str:
     return " ".join(decimal(value) for value in values)
 
 
-def element(title: str, *inner: str, more: str = "") -> str:
-    return "<g%s><title>%s</title>%s</g>\n" % (more, escape(title), "".join(inner))
+def element(title: str, *inner: str) -> str:
+    return "<g><title>%s</title>%s</g>\n" % (escape(title), "".join(inner))
 
 
-def text(place: Place, content: str, anchor: str = "start", kind: str = "") -> str:
-    return '<text x="%s" y="%s" text-anchor="%s"%s>%s</text>\n' % (
-        decimal(place.x), decimal(place.y), anchor, ' class="%s"' % kind if kind else "", escape(content))
+def text(x: float, y: float, content: str, kind: str, anchor: str = "start") -> str:
+    return '<text x="%s" y="%s" class="%s" text-anchor="%s">%s</text>\n' % (
+        decimal(x), decimal(y), kind, anchor, escape(content))
 
 
 class Picture:
@@ -134,7 +65,7 @@ class Picture:
     def pieces(self) -> Iterator[str]:
         yield self._front()
         if not self._graph.lanes:
-            yield text(Place(GAP, TOP), "no path matches the patterns", "start", "small")
+            yield text(GAP, TOP, "no path matches the patterns", "small")
         yield from self._revisions()
         yield from self._guides()
         yield from map(self._copy, self._graph.copies)
@@ -159,22 +90,22 @@ class Picture:
         lanes = self._graph.lanes
         tags = sum(lane.kind == TAG for lane in lanes)
         merged = sum(not merge.is_carried for merge in self._graph.merges)
-        return "%d branches and %d tags from r0 to r%d, with %d copies and %d merges. Each line is a branch or a tag, from " \
-            "left to right its revisions; curves are copies, arrows are merges." % (
-                len(lanes) - tags, tags, self._history.head, len(self._graph.copies), merged)
+        counts = len(lanes) - tags, tags, self._history.head, len(self._graph.copies), merged
+        return "%d branches and %d tags from r0 to r%d, with %d copies and %d merges. " % counts + \
+            "Each line is a branch or a tag, from left to right its revisions; curves are copies, arrows are merges."
 
     def _revisions(self) -> Iterator[str]:
-        """The revisions at the top, as many as have room, and the dates of the first and the last."""
+        """The revisions and dates that have room, those of the first and the last column among them."""
         columns = self._graph.columns
+        places = [self._layout.x(column) for column in range(len(columns))]
         bottom = self._layout.bottom
-        for column in chosen([self._layout.x(column) for column in range(len(columns))]):
-            x = self._layout.x(column)
+        for column in chosen(places, REVISION_ROOM, REVISION_ROOM):
+            x = places[column]
             yield '<path class="grid" d="M%s %d V%s"/>\n' % (decimal(x), TOP, decimal(bottom))
             for y in [TOP - 12, bottom + 20][:1 + (len(self._layout.rows) > MOST_ROWS)]:
-                yield text(Place(x, y), "r%d" % columns[column], "middle", "small")
-        for column in sorted({0, len(columns) - 1}) if columns else []:
-            date = dated(self._history, columns[column])
-            yield text(Place(self._layout.x(column), TOP - 30), date, "middle", "small")
+                yield text(x, y, "r%d" % columns[column], "small", "middle")
+        for column in chosen(places, DATE_ROOM, DATES_APART):
+            yield text(places[column], TOP - 30, dated(self._history, columns[column]), "small", "middle")
 
     def _guides(self) -> Iterator[str]:
         """From each name at the left to the line that it names."""
@@ -183,8 +114,8 @@ class Picture:
             yield '<path class="guide" d="M%s H%s"/>\n' % (points(self._layout.left, place.y), decimal(place.x))
 
     def _copy(self, copy: Copy) -> str:
-        """A curve from the source to the line of the copy, and along it to the revision that made it. Where the source has
-        no lane it is a stub."""
+        """A curve from the source to the line of the copy, and along it to the revision that made it. Where the source
+        has no lane it is a stub."""
         assert copy.life.source is not None
         to = self._layout.at(copy.lane, copy.life.first)
         start, turn = self._layout.source(copy), self._layout.turn(copy)
@@ -199,10 +130,9 @@ class Picture:
     def _lane(self, number: int) -> str:
         lane = self._graph.lanes[number]
         start = self._layout.at(number, lane.lives[0].first)
-        title = "\n".join("%s r%d\u2013r%d" % (name_of(life), life.first, life.last) for life in lane.lives)
         line = '<path class="line" stroke="%s" stroke-width="%s" d="M%s H%s"/>' % (
             self._colour(number), decimal(WIDTHS[lane.kind]), points(*start), decimal(self._layout.end(number)))
-        return element(title, line)
+        return element(about_lane(lane), line)
 
     def _merge(self, merge: Merge) -> str:
         """An arrow, which leaves and arrives upright."""
@@ -224,39 +154,35 @@ class Picture:
         place = Place(self._layout.x(dot.column), self._layout.y(dot.lane))
         is_first = any(life.first in dot.revisions and life.source is not None for life in lane.lives)
         colour = self._colour(dot.lane)
-        size = 3.0 if lane.kind == TAG else 4.0
         circle = '<circle class="dot" cx="%s" cy="%s" r="%s" fill="%s" stroke="%s"/>' % (
-            decimal(place.x), decimal(place.y), decimal(size), "#ffffff" if is_first else colour, colour)
+            decimal(place.x), decimal(place.y), decimal(RADIUSES[lane.kind]), "#ffffff" if is_first else colour, colour)
         return element(self._titles.dot(dot), circle)
 
     def _ends(self) -> Iterator[str]:
         for number, lane in enumerate(self._graph.lanes):
-            life = lane.lives[-1]
-            if not life.is_alive:
-                x, y = self._layout.end(number), self._layout.y(number)
-                title = "%s ended in r%d\n%s" % (name_of(life), life.last + 1, about_revision(self._history, life.last + 1))
+            if not lane.lives[-1].is_alive:
+                start = points(self._layout.end(number) - 4, self._layout.y(number) - 4)
                 mark = '<path class="end" fill="none" stroke="%s" d="M%s l8 8 m0 -8 l-8 8"/>' % (
-                    self._colour(number), points(x - 4, y - 4))
-                yield element(title, mark)
+                    self._colour(number), start)
+                yield element(about_end(self._history, lane.lives[-1]), mark)
 
     def _names(self) -> Iterator[str]:
         for number, lane in enumerate(self._graph.lanes):
-            title = "\n".join(name_of(life) for life in lane.lives)
             if number in self._layout.names:
-                place = Place(self._layout.left - GAP, self._layout.y(number) + 4)
-                yield element(title, text(place, self._layout.names[number], "end"))
-            for name in self._layout.names_on_line(number):
-                yield element(title, text(Place(name.place.x + 2, name.place.y - 7), name.text, "start", "name"))
+                y = self._layout.y(number) + 4
+                name = text(self._layout.left - GAP, y, self._layout.names[number], "left", "end")
+                yield element(about_lane(lane), name)
+            for place, words in self._layout.names_on_line(number):
+                yield element(about_lane(lane), text(place.x + 2, place.y - 7, words, "name"))
 
     def _legend(self) -> str:
-        y = self._layout.height - 22
-        x = float(GAP)
+        x, y = float(GAP), self._layout.height - 22
+        kinds = self._kinds()
         parts: List[str] = []
-        for kind, mark, says in MARKS:
-            if kind in self._kinds():
-                parts.append('<g transform="translate(%s)" stroke="#444444" fill="#444444">%s</g>' % (points(x, y), mark))
-                parts.append(text(Place(x + 34, y + 4), says, "start", "small"))
-                x += 34 + width_of(says) * SMALLER + 20
+        for _, mark, says in (each for each in MARKS if each[0] in kinds):
+            parts.append('<g class="mark" transform="translate(%s)">%s</g>' % (points(x, y), mark))
+            parts.append(text(x + 34, y + 4, says, "small"))
+            x += 34 + width_of(says) * SMALLER + 20
         return "".join(parts)
 
     def _kinds(self) -> Set[str]:
@@ -285,16 +211,15 @@ MARKS = (
 )
 
 
-def chosen(places: List[float]) -> List[int]:
-    """The columns whose revisions are shown: the first, the last, and those between that have room."""
-    if not places:
-        return []
-    found = [0]
+def chosen(places: List[float], room: float, apart: float) -> List[int]:
+    """The columns at some places of which something is shown that takes this room: the first, the last, and those
+    between that are so far from each other."""
+    found = [0] if places else []
     last = len(places) - 1
     for column in range(1, last):
-        if places[column] - places[found[-1]] >= APART and places[last] - places[column] >= APART:
+        if places[column] - places[found[-1]] >= apart and places[last] - places[column] >= apart:
             found.append(column)
-    return found + ([last] if last and places[last] - places[found[-1]] >= APART * 0.8 else [])
+    return found + ([last] if last > 0 and places[last] - places[found[-1]] >= room else [])
 
 
 def svg_of(history: History, graph: Graph) -> Iterator[bytes]:

@@ -50,8 +50,10 @@ def refusal_of_engine(dump: str) -> str:
 
 def properties(**values: str) -> bytes:
     """The headers and the body of a property section. `svn_log` stands for `svn:log`."""
-    pairs = [(name.replace("_", ":").encode(), value.encode("utf-8", "surrogateescape")) for name, value in values.items()]
-    body = b"".join(b"K %d\n%s\nV %d\n%s\n" % (len(name), name, len(value), value) for name, value in pairs) + b"PROPS-END\n"
+    pairs = [(name.replace("_", ":").encode(), value.encode("utf-8", "surrogateescape"))
+             for name, value in values.items()]
+    body = b"".join(b"K %d\n%s\nV %d\n%s\n" % (len(name), name, len(value), value) for name, value in pairs)
+    body += b"PROPS-END\n"
     return b"Prop-content-length: %d\nContent-length: %d\n\n%s\n" % (len(body), len(body), body)
 
 

@@ -32,15 +32,16 @@ def names(graph: Graph) -> List[List[bytes]]:
 def repository(count: int) -> bytes:
     """A dump with a trunk, and branches that each begin, get a change and a merge from the trunk, and end or stay."""
     blocks = [base.revision(0), base.revision(1)]
-    blocks += [base.node(path, "add") for path in ("trunk", "branches", "tags")] + [base.node("trunk/f", "add", kind="file")]
+    blocks += [base.node(path, "add") for path in ("trunk", "branches", "tags")]
+    blocks += [base.node("trunk/f", "add", kind="file")]
     rev = 1
     for number in range(count):
         path = "branches/b%d" % number
         blocks += [base.revision(rev + 1), base.node(path, "add", source=("trunk", rev))]
         blocks += [base.revision(rev + 2), base.node("trunk/f", "change", kind="file")]
         blocks += [base.revision(rev + 3), base.node(path, "change", mergeinfo="/trunk:%d" % (rev + 2))]
-        blocks += [base.revision(rev + 4)]
-        blocks += [base.node(path, "delete") if number % 2 else base.node("tags/t%d" % number, "add", source=(path, rev + 3))]
+        tag = base.node("tags/t%d" % number, "add", source=(path, rev + 3))
+        blocks += [base.revision(rev + 4), base.node(path, "delete") if number % 2 else tag]
         rev += 4
     return base.dump(blocks)
 
@@ -53,7 +54,8 @@ class Graphs(base.Case):
         graph = self.graph("merges")
         self.assertEqual(names(graph), [[b"/trunk"], [b"/branches/three"], [b"/branches/two"], [b"/branches/one"]])
         self.assertEqual([lane.kind for lane in graph.lanes], ["trunk", "branch", "branch", "branch"])
-        self.assertEqual([(copy.life.first, copy.lane, copy.source) for copy in graph.copies], [(17, 1, 0), (3, 2, 0), (2, 3, 0)])
+        self.assertEqual([(copy.life.first, copy.lane, copy.source) for copy in graph.copies],
+                         [(17, 1, 0), (3, 2, 0), (2, 3, 0)])
         self.assertEqual([(each.source, each.target, each.rev, each.revisions, each.lost) for each in graph.merges], [
             (0, 3, 7, [4, 5, 6], 18), (0, 2, 8, [5], None), (0, 2, 9, [6], None), (3, 0, 11, [2, 7, 10], 12),
             (0, 2, 13, [4], None), (0, 1, 19, [14], None)])
@@ -61,7 +63,8 @@ class Graphs(base.Case):
 
     def test_a_moved_branch_goes_on_in_its_lane(self) -> None:
         graph = self.graph("inherited")
-        self.assertEqual(names(graph), [[b"/trunk"], [b"/branches/lib"], [b"/branches/one"], [b"/branches/one", b"/branches/two"]])
+        self.assertEqual(names(graph), [[b"/trunk"], [b"/branches/lib"], [b"/branches/one"],
+                                        [b"/branches/one", b"/branches/two"]])
         moved = [title for title in titles(drawn(self.history(base.dump_of("inherited")))) if "moved from" in title]
         self.assertEqual(len(moved), 1)
         self.assertTrue(moved[0].endswith("r13: moved from /branches/one to /branches/two"), moved)
@@ -73,7 +76,8 @@ class Graphs(base.Case):
     def test_each_operative_revision_is_in_one_dot(self) -> None:
         graph = graph_of(self.history(self.made("dump", repository(300))), [b"/trunk"])
         self.assertEqual(sorted(rev for dot in graph.dots for rev in dot.revisions), graph.lanes[0].revisions)
-        blocks = [base.revision(0), base.revision(1), base.node("trunk", "add"), base.node("trunk/f", "add", kind="file")]
+        blocks = [base.revision(0), base.revision(1), base.node("trunk", "add")]
+        blocks += [base.node("trunk/f", "add", kind="file")]
         for rev in range(2, 3000):
             blocks += [base.revision(rev), base.node("trunk/f", "change", kind="file")]
         graph = graph_of(self.history(self.made("long", base.dump(blocks))), [])
@@ -86,7 +90,8 @@ class Graphs(base.Case):
             graph = graph_of(history, [] if content else [b"/*", b"/*/*"])
             layout = Layout(graph)
             for row in layout.rows:
-                places = [(layout.at(lane, graph.lanes[lane].lives[0].first).x, layout.end(lane)) for lane in row.lanes[::-1]]
+                places = [(layout.at(lane, graph.lanes[lane].lives[0].first).x, layout.end(lane))
+                          for lane in row.lanes[::-1]]
                 self.assertEqual(places, sorted(places))
                 for one, other in zip(places, places[1:]):
                     self.assertLess(one[1], other[0])
@@ -124,19 +129,20 @@ class Pictures(base.Case):
 
     def test_texts_may_be_any_bytes(self) -> None:
         odd = "a<b>&\"'\udcff\u202e\uffff]]>"
-        blocks = [base.revision(0), base.revision(1, "\x00\x01", "\x1b<&"), base.node("trunk", "add"), base.node("b", "add")]
-        blocks += [base.revision(2, "\n <!-- &amp;\x07\udc80 --> ]]>\rmore"), base.node("b/" + odd, "add", source=("trunk", 1))]
+        blocks = [base.revision(0), base.revision(1, "\x00\x01", "\x1b<&"), base.node("trunk", "add")]
+        blocks += [base.node("b", "add"), base.revision(2, "\n <!-- &amp;\x07\udc80 --> ]]>\rmore")]
+        blocks += [base.node("b/" + odd, "add", source=("trunk", 1))]
         blocks += [base.revision(3), base.node("b/" + odd + "\x01\x7f", "add", source=("b/" + odd, 2))]
-        blocks += [base.revision(4), base.node("trunk", "change", mergeinfo="/b/%s:2" % odd), base.node("b/" + "w" * 900, "add")]
-        blocks += [base.revision(5), base.node("b/" + "\u6f22" * 300, "add")]
+        blocks += [base.revision(4), base.node("trunk", "change", mergeinfo="/b/%s:2" % odd)]
+        blocks += [base.revision(5), base.node("b/" + "w" * 900, "add"), base.node("b/" + "\u6f22" * 300, "add")]
         found = titles(drawn(self.history(self.made("dump", base.dump(blocks))), [b"/trunk", b"/b/*"]))
         self.assertIn("r4: r2 of /b/a<b>&\"'\\xff\u202e\\uffff]]> into /trunk", found)
         self.assertTrue(any("\n<!-- &amp;\\x07\\x80 --> ]]>" in title for title in found))
         self.assertTrue(any("\nr1 | \\x1b<& | " in title for title in found))
 
     def test_readable_texts(self) -> None:
-        for text, wanted in ((b"\xc3\xb6\xff\t\r", "\u00f6\\xff\\t\\r"), (b"\xed\xa0\x80", "\\xed\\xa0\\x80"), (b"", ""),
-                             (b"\xef\xbf\xbe\xc2\x85", "\\ufffe\\x85"), ("\U0001f600".encode(), "\U0001f600")):
+        for text, wanted in ((b"\xc3\xb6\xff\t\r", "\u00f6\\xff\\t\\r"), (b"\xed\xa0\x80", "\\xed\\xa0\\x80"),
+                             (b"", ""), (b"\xef\xbf\xbe\xc2\x85", "\\ufffe\\x85"), ("\U0001f600".encode(), "\U0001f600")):
             self.assertEqual(readable(text), wanted)
 
     def test_long_names_are_shortened(self) -> None:

@@ -18,7 +18,8 @@ def gains(history: History, patterns: Sequence[bytes] = ()) -> List[Gain]:
 
 
 def shown(found: List[Gain]) -> List[Found]:
-    return [(gain.source.path, gain.revisions, gain.target.path, gain.rev, gain.lost, gain.is_carried) for gain in found]
+    return [(gain.source.path, gain.revisions, gain.target.path, gain.rev, gain.lost, gain.is_carried)
+            for gain in found]
 
 
 def places(life: Life) -> List[Place]:
@@ -27,7 +28,8 @@ def places(life: Life) -> List[Place]:
 
 def held_in(rev: int, found: List[Gain]) -> Set[int]:
     """What a target had gained in one of its revisions, and not lost."""
-    return {each for gain in found if gain.rev <= rev and (gain.lost is None or gain.lost > rev) for each in gain.revisions}
+    held = [gain for gain in found if gain.rev <= rev and (gain.lost is None or gain.lost > rev)]
+    return {each for gain in held for each in gain.revisions}
 
 
 def merged(history: History, source: Life, targets: List[Place]) -> List[Set[int]]:
@@ -49,16 +51,17 @@ class Gains(base.Case):
         found = shown(gains(self.history(base.dump_of("merges"))))
         self.assertEqual(found, [
             (b"/trunk", [4, 5, 6], b"/branches/one", 7, 18, False), (b"/trunk", [5], b"/branches/two", 8, None, False),
-            (b"/trunk", [6], b"/branches/two", 9, None, False), (b"/branches/one", [2, 7, 10], b"/trunk", 11, 12, False),
-            (b"/trunk", [4], b"/branches/two", 13, None, False), (b"/trunk", [14], b"/branches/three", 19, None, False)])
+            (b"/trunk", [6], b"/branches/two", 9, None, False),
+            (b"/branches/one", [2, 7, 10], b"/trunk", 11, 12, False), (b"/trunk", [4], b"/branches/two", 13, None, False),
+            (b"/trunk", [14], b"/branches/three", 19, None, False)])
 
     def test_gains_of_subtrees(self) -> None:
         found = shown(gains(self.history(base.dump_of("merges")), [b"/trunk/dir", b"/branches/two/dir"]))
         self.assertEqual(found, [(b"/trunk/dir", [14], b"/branches/two/dir", 15, None, False)])
 
     def test_mergeinfo_is_inherited(self) -> None:
-        """Revision 12 takes the mergeinfo of /trunk away, so that /trunk/a, which revision 11 replaced, inherits that of
-        the root up to revision 15: `svn mergeinfo --show-revs merged trunk/a@10 trunk/a@12` prints r1 and r3."""
+        """Revision 12 takes the mergeinfo of /trunk away, so that /trunk/a, which revision 11 replaced, inherits that
+        of the root up to revision 15: `svn mergeinfo --show-revs merged trunk/a@10 trunk/a@12` prints r1 and r3."""
         history = self.history(base.dump_of("inherited"))
         self.assertEqual(shown(gains(history)), [])
         self.assertEqual(shown(gains(history, [b"/trunk/a"])), [(b"/trunk/a", [1, 3], b"/trunk/a", 12, 15, False)])

@@ -30,8 +30,8 @@ class GraphVerb(Verb):
             raise Usage("-o is for the picture: --json prints objects")
         found = graph.graph_of(history, patterns_of(words))
         for number, lane in enumerate(found.lanes):
-            yield {"type": "lane", "lane": number, "kind": lane.kind, "lives": [object_of_life(life) for life in lane.lives],
-                   "revisions": lane.revisions}
+            lives = [object_of_life(life) for life in lane.lives]
+            yield {"type": "lane", "lane": number, "kind": lane.kind, "lives": lives, "revisions": lane.revisions}
         for copy in found.copies:
             yield dict(object_of_life(copy.life), type="copy", lane=copy.lane, source_lane=copy.source)
         for merge in found.merges:
