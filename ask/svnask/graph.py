@@ -130,7 +130,7 @@ class Finder:
 
 def ordered(lanes: List[Lane]) -> List[Lane]:
     """Lanes from the top. The trunk is first. Below each lane are its copies, the newest source first, each with its
-    own ones, so that no curve of a copy crosses a lane."""
+    own ones: in this order no curve of a copy crosses a lane."""
     places = {life: place for place, lane in enumerate(lanes) for life in lane.lives}
     finder = Finder(places)
     tops: List[Lane] = []

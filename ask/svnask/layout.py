@@ -1,7 +1,8 @@
 """Where the lanes and columns of a graph stand in its picture, in pixels.
 
 A row has one lane, or several one after the other: branches that ended leave room for newer ones, and the tags of a
-branch stand side by side below it. A row of one lane has its name at the left.
+branch stand side by side below it. Where there are many lanes, a branch that is still there leaves room, too, after its
+last change, copy or merge. A row of one lane has its name at the left.
 """
 import unicodedata
 from typing import Dict, Iterator, List, NamedTuple, Optional, Tuple
@@ -11,10 +12,12 @@ from .lives import Life
 from .texts import readable
 from .titles import span_of
 
-TOP, BOTTOM, RIGHT, GAP = 58, 64, 40, 12
+TOP, BOTTOM, RIGHT, GAP, TAIL = 58, 64, 40, 12, 18
 HEIGHTS = {TRUNK: 32, BRANCH: 32, TAG: 22}
 NARROWEST, WIDEST, USUAL, LEAST = 8, 40, 1400, 640
 LONGEST_NAME, LONGEST_ON_LINE = 300, 200
+# With more lanes than this there are many.
+MANY = 30
 # How much smaller the names on lines are, and how far from each other those of one lane are at least.
 SMALLER, FAR = 0.87, 700
 NARROW = frozenset("fijlrtI.,:;'|/ ()[]-")
@@ -33,11 +36,13 @@ class Extent(NamedTuple):
 
 
 class Row:
-    """The lanes of a row, the last one first."""
+    """The lanes of a row, the last one first. Below it are the rows of tags of its lanes, and of the tags of these. Its
+    place is its number among the rows that are no such ones, and its number below that row."""
 
-    def __init__(self, place: int, kind: str) -> None:
-        self.place = place
+    def __init__(self, kind: str, place: Tuple[int, int], below: List["Row"]) -> None:
         self.kind = kind
+        self.place = place
+        self.below = below
         self.lanes: List[int] = []
         self._start = float("inf")
 
@@ -59,7 +64,8 @@ class Layout:
         self.left = 0.0
         self._used = uses_of(graph)
         self._ends = [self._end_of(number) for number in range(len(graph.lanes))]
-        self.rows = self._rows()
+        self.rows = list(self._rows())
+        self._lengthen()
         self.names = names_of(graph.lanes, self.rows)
         self.left = max(map(width_of, self.names.values()), default=0) + 2 * GAP + 8
         self._middles: Dict[int, float] = {}
@@ -118,10 +124,21 @@ class Layout:
         lives, kind, revisions = self._graph.lanes[lane]
         if not lives[-1].is_alive:
             return self.x(self._graph.column_of(lives[-1].last + 1))
-        if kind != TAG:
+        if kind == TRUNK or (kind == BRANCH and len(self._graph.lanes) <= MANY):
             return self.right
         used = self.x(self._graph.column_of(max([lives[-1].first, *revisions[-1:], *self._used.get(lane, [])])))
         return max(used + GAP, self._end_of_name(lane))
+
+    def _lengthen(self) -> None:
+        """Draws a branch that is still there to the right, where its row has nothing more."""
+        for row in self.rows:
+            if row.kind == BRANCH and self._graph.lanes[row.lanes[0]].lives[-1].is_alive:
+                self._ends[row.lanes[0]] = self.right
+
+    def is_cut(self, lane: int) -> bool:
+        """Whether a branch is still there, but its line ends."""
+        lives, kind, _ = self._graph.lanes[lane]
+        return kind == BRANCH and lives[-1].is_alive and self.end(lane) < self.right
 
     def _end_of_name(self, lane: int) -> float:
         life = self._graph.lanes[lane].lives[-1]
@@ -131,26 +148,35 @@ class Layout:
     def _extent(self, lane: int) -> Extent:
         copy = self._copies.get(lane)
         first = self.x(self._graph.column_of(self._graph.lanes[lane].lives[0].first))
-        return Extent(first if copy is None else self.turn(copy), max(self._ends[lane], self._end_of_name(lane)))
+        return Extent(first if copy is None else self.turn(copy), max(self._ends[lane] + TAIL, self._end_of_name(lane)))
 
-    def _rows(self) -> List[Row]:
-        """Puts each lane into the first row with room for it that is below that of its source. A row of tags has only
-        those of one source."""
+    def _rows(self) -> Iterator[Row]:
+        """Puts each lane into the first row with room for it that is below that of its source."""
         rows: List[Row] = []
-        alike: Dict[Tuple[str, Optional[int]], List[Row]] = {}
-        place_of: Dict[Optional[int], int] = {None: -1}
+        row_of: Dict[int, Row] = {}
         for number, lane in enumerate(self._graph.lanes):
             source = self._copies[number].source if number in self._copies else None
-            extent = self._extent(number)
-            choice = alike.setdefault((lane.kind, source if lane.kind == TAG else None), [])
-            row = next((row for row in choice if row.place > place_of[source] and row.has_room(extent)), None)
-            if row is None:
-                row = Row(len(rows), lane.kind)
-                rows.append(row)
-                choice.append(row)
-            row.put(number, extent)
-            place_of[number] = row.place
-        return rows
+            above = row_of[source] if source is not None else None
+            row_of[number] = row_for(rows, above, lane.kind, self._extent(number))
+            row_of[number].put(number, self._extent(number))
+        for row in rows:
+            yield row
+            yield from row.below
+
+
+def row_for(rows: List[Row], above: Optional[Row], kind: str, extent: Extent) -> Row:
+    """The first row with room, or a new one."""
+    is_below = above is not None and kind == TAG
+    choice = above.below if above is not None and is_below else rows
+    found = next((row for row in choice if row.kind == kind and (above is None or row.place > above.place)
+                  and row.has_room(extent)), None)
+    if found is not None:
+        return found
+    if above is not None and is_below:
+        choice.append(Row(kind, (above.place[0], len(choice) + 1), choice))
+    else:
+        choice.append(Row(kind, (len(rows), 0), []))
+    return choice[-1]
 
 
 def uses_of(graph: Graph) -> Dict[int, List[int]]:

@@ -4,7 +4,7 @@ from xml.sax.saxutils import escape
 
 from .graph import BRANCH, TAG, TRUNK, Copy, Dot, Graph, Merge
 from .history import History
-from .layout import GAP, SMALLER, TOP, Layout, Place, width_of
+from .layout import GAP, SMALLER, TAIL, TOP, Layout, Place, width_of
 from .titles import Titles, about_copy, about_end, about_lane, dated
 
 # Colours that colour-blind people tell apart, by Okabe and Ito.
@@ -14,14 +14,14 @@ STYLE = """
 text { font: 12px sans-serif; fill: #222222 }
 .small { font-size: 11px; fill: #666666 }
 .name { font-size: 10px; stroke: #ffffff; stroke-width: 3px; paint-order: stroke; stroke-linejoin: round }
-.line, .hit, .arrow, .guide, .grid, .stub { fill: none }
+.line, .hit, .arrow, .guide, .grid, .stub, .tail { fill: none }
 .guide { stroke: #bbbbbb; stroke-dasharray: 1 4 }
 .grid { stroke: #eeeeee }
 .hit { stroke: #ffffff; stroke-opacity: 0; stroke-width: 9px }
 .arrow { stroke-width: 1.25px; stroke-opacity: 0.85 }
 .carried { stroke-dasharray: 1 3 }
 .lost { stroke-dasharray: 6 3 }
-.stub { stroke-dasharray: 2 2 }
+.stub, .tail { stroke-width: 2px; stroke-dasharray: 2 2 }
 .head, .dot, .end { stroke-width: 1.5px }
 .mark { stroke: #444444; fill: #444444 }
 g:hover > .arrow, g:hover > .line { stroke-width: 4px }
@@ -121,7 +121,7 @@ class Picture:
         start, turn = self._layout.source(copy), self._layout.turn(copy)
         colour = self._colour(copy.lane)
         if start is None:
-            return element(about_copy(copy), '<path class="stub" stroke="%s" stroke-width="2" d="M%s H%s"/>' % (
+            return element(about_copy(copy), '<path class="stub" stroke="%s" d="M%s H%s"/>' % (
                 colour, points(turn, to.y), decimal(to.x)))
         path = "M%s C%s H%s" % (points(*start), points(turn, start.y, start.x, to.y, turn, to.y), decimal(to.x))
         return element(about_copy(copy), '<path class="hit" d="%s"/>' % path,
@@ -132,7 +132,9 @@ class Picture:
         start = self._layout.at(number, lane.lives[0].first)
         line = '<path class="line" stroke="%s" stroke-width="%s" d="M%s H%s"/>' % (
             self._colour(number), decimal(WIDTHS[lane.kind]), points(*start), decimal(self._layout.end(number)))
-        return element(about_lane(lane), line)
+        tail = '<path class="tail" stroke="%s" d="M%s h%d"/>' % (
+            self._colour(number), points(self._layout.end(number), start.y), TAIL)
+        return element(about_lane(lane), line, tail if self._layout.is_cut(number) else "")
 
     def _merge(self, merge: Merge) -> str:
         """An arrow, which leaves and arrives upright."""
@@ -188,6 +190,7 @@ class Picture:
     def _kinds(self) -> Set[str]:
         """The kinds of marks that the picture has."""
         found = {kind_of(merge) for merge in self._graph.merges}
+        found.update("cut" for number in range(len(self._graph.lanes)) if self._layout.is_cut(number))
         found.update("ended" for lane in self._graph.lanes if not lane.lives[-1].is_alive)
         return found | {"copy" for copy in self._graph.copies} | {"dot" for dot in self._graph.dots}
 
@@ -205,6 +208,8 @@ MARKS = (
     ("dot", '<circle cx="18" cy="0" r="4"/>', "revision"),
     ("copy", '<circle cx="18" cy="0" r="4" fill="#ffffff" stroke-width="1.5"/>', "made by a copy or a move"),
     ("ended", '<path fill="none" stroke-width="1.5" d="M14 -4 l8 8 m0 -8 l-8 8"/>', "deleted or replaced"),
+    ("cut", '<path class="line" stroke-width="2.5" d="M4 0 H16"/><path class="tail" d="M16 0 H30"/>',
+     "still there, no longer changed"),
     ("merged", arrow_mark("merged"), "merged, from the newest revision of those"),
     ("lost", arrow_mark("lost"), "merged, and taken back later"),
     ("carried", arrow_mark("carried"), "came with another merge"),

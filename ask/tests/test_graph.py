@@ -97,6 +97,27 @@ class Graphs(base.Case):
                     self.assertLess(one[1], other[0])
             self.assertEqual(sorted(lane for row in layout.rows for lane in row.lanes), list(range(len(graph.lanes))))
 
+    def test_tags_are_below_their_branches(self) -> None:
+        graph = graph_of(self.history(self.made("dump", repository(40))), [])
+        layout = Layout(graph)
+        tags = [copy for copy in graph.copies if graph.lanes[copy.lane].kind == "tag"]
+        self.assertEqual(len(tags), 20)
+        for tag in tags:
+            assert tag.source is not None
+            self.assertLess(abs(layout.y(tag.source) + 27 - layout.y(tag.lane)), 30)
+
+    def test_of_many_branches_those_of_today_make_room(self) -> None:
+        graph = graph_of(self.history(self.made("dump", repository(40))), [])
+        layout = Layout(graph)
+        self.assertLess(len(layout.rows), 10)
+        cut = [lane for lane in range(len(graph.lanes)) if layout.is_cut(lane)]
+        self.assertGreater(len(cut), 15)
+        for lane in cut:
+            self.assertTrue(graph.lanes[lane].lives[-1].is_alive)
+            self.assertGreater(layout.end(lane), layout.at(lane, graph.lanes[lane].revisions[-1]).x)
+        few = graph_of(self.history(self.made("few", repository(9))), [])
+        self.assertEqual([lane for lane in range(len(few.lanes)) if Layout(few).is_cut(lane)], [])
+
     def test_there_may_be_no_lane(self) -> None:
         graph = self.graph("merges", [b"/nothing"])
         self.assertEqual((graph.lanes, graph.dots, graph.columns), ([], [], []))
@@ -142,7 +163,7 @@ class Pictures(base.Case):
 
     def test_readable_texts(self) -> None:
         for text, wanted in ((b"\xc3\xb6\xff\t\r", "\u00f6\\xff\\t\\r"), (b"\xed\xa0\x80", "\\xed\\xa0\\x80"),
-                             (b"", ""), (b"\xef\xbf\xbe\xc2\x85", "\\ufffe\\x85"), ("\U0001f600".encode(), "\U0001f600")):
+                             (b"", ""), (b"\xef\xbf\xbe\xc2\x85", "\\ufffe\\x85"), (b"\xf0\x9f\x98\x80", "\U0001f600")):
             self.assertEqual(readable(text), wanted)
 
     def test_long_names_are_shortened(self) -> None:

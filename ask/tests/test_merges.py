@@ -52,7 +52,8 @@ class Gains(base.Case):
         self.assertEqual(found, [
             (b"/trunk", [4, 5, 6], b"/branches/one", 7, 18, False), (b"/trunk", [5], b"/branches/two", 8, None, False),
             (b"/trunk", [6], b"/branches/two", 9, None, False),
-            (b"/branches/one", [2, 7, 10], b"/trunk", 11, 12, False), (b"/trunk", [4], b"/branches/two", 13, None, False),
+            (b"/branches/one", [2, 7, 10], b"/trunk", 11, 12, False),
+            (b"/trunk", [4], b"/branches/two", 13, None, False),
             (b"/trunk", [14], b"/branches/three", 19, None, False)])
 
     def test_gains_of_subtrees(self) -> None:
