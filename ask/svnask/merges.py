@@ -13,8 +13,10 @@ from .lives import Life
 from .values import Explicit
 
 Interval = Tuple[int, int]
-# For each source path the revisions of its mergeinfo, as rising intervals.
+# For each path some revisions, as rising intervals.
 Intervals = Dict[bytes, List[Interval]]
+# For each source path a rangelist of mergeinfo, as svnhist prints it.
+Rangelists = Dict[bytes, str]
 
 
 class Gain(NamedTuple):
@@ -64,18 +66,20 @@ class Tally:
     def __init__(self, sources: Sources, own: Intervals) -> None:
         self._sources = sources
         self._own = own
-        self._value: Intervals = {}
+        self._value: Rangelists = {}
         self._held: Dict[Tuple[Life, int], int] = {}
         self._lost: List[Held] = []
 
-    def begin(self, value: Intervals) -> None:
+    def begin(self, value: Rangelists) -> None:
         """Takes what the source of the copy had."""
         self._value = value
 
-    def turn(self, rev: int, value: Intervals) -> None:
+    def turn(self, rev: int, value: Rangelists) -> None:
         """Takes the mergeinfo from a revision on."""
         for path in self._value.keys() | value.keys():
-            before, after = self._value.get(path, []), value.get(path, [])
+            if self._value.get(path) == value.get(path):
+                continue
+            before, after = intervals_of(self._value.get(path, "")), intervals_of(value.get(path, ""))
             for source in self._sources.revisions(path, minus(before, after)):
                 if source in self._held:
                     self._lost.append(Held(*source, self._held.pop(source), rev))
@@ -106,9 +110,9 @@ def minus(these: Sequence[Interval], those: Sequence[Interval]) -> List[Interval
 
 
 def intervals_of(ranges: str) -> List[Interval]:
-    """The intervals of a rangelist as svnhist prints it."""
+    """The intervals of a rangelist, with those that are not inheritable."""
     found = []
-    for each in ranges.split(","):
+    for each in ranges.split(",") if ranges else ():
         lo, dash, hi = each.rstrip("*").partition("-")
         found.append((int(lo), int(hi if dash else lo)))
     return found
@@ -149,11 +153,10 @@ def gains_of(history: History, operative: Dict[Life, List[int]]) -> List[Gain]:
         if isinstance(answer, Segments):
             tallies[life] = Tally(sources, own_history(answer))
         elif isinstance(answer, Inherited) and answer.ok:
-            value = {path: intervals_of(ranges) for path, ranges in answer.value.items()}
             if life.source == (query.path, query.rev):
-                tallies[life].begin(value)
+                tallies[life].begin(answer.value)
             else:
-                tallies[life].turn(query.rev, value)
+                tallies[life].turn(query.rev, answer.value)
     return joined({life: tally.all() for life, tally in tallies.items()})
 
 
