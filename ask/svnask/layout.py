@@ -2,7 +2,7 @@
 
 A row has one lane, or several one after the other: branches that ended leave room for newer ones, and the tags of a
 branch stand side by side below it. Where there are many lanes, a branch that is still there leaves room, too, after its
-last change, copy or merge. A row of one lane has its name at the left.
+last change, copy or merge. A row of one lane has its name at the left, if its line begins on a usual screen.
 """
 import unicodedata
 from typing import Dict, Iterator, List, NamedTuple, Optional, Tuple
@@ -14,7 +14,7 @@ from .titles import span_of
 
 TOP, BOTTOM, RIGHT, GAP, TAIL = 58, 64, 40, 12, 18
 HEIGHTS = {TRUNK: 32, BRANCH: 32, TAG: 22}
-NARROWEST, WIDEST, USUAL, LEAST = 8, 40, 1400, 640
+NARROWEST, WIDEST, USUAL = 8, 40, 1400
 LONGEST_NAME, LONGEST_ON_LINE = 300, 200
 # With more lanes than this there are many.
 MANY = 30
@@ -66,14 +66,15 @@ class Layout:
         self._ends = [self._end_of(number) for number in range(len(graph.lanes))]
         self.rows = list(self._rows())
         self._lengthen()
-        self.names = names_of(graph.lanes, self.rows)
+        alone = [row.lanes[0] for row in self.rows if len(row.lanes) == 1]
+        self.names = names_of(graph.lanes, [lane for lane in alone if self._start_of(lane) <= USUAL])
         self.left = max(map(width_of, self.names.values()), default=0) + 2 * GAP + 8
         self._middles: Dict[int, float] = {}
         self.bottom = float(TOP)
         for row in self.rows:
             self._middles.update((lane, self.bottom + HEIGHTS[row.kind] / 2) for lane in row.lanes)
             self.bottom += HEIGHTS[row.kind]
-        self.width = max(self.right + GAP, LEAST)
+        self.width = self.right + GAP
         self.height = self.bottom + BOTTOM
 
     @property
@@ -120,6 +121,9 @@ class Layout:
         first = self._graph.column_of(self._graph.lanes[copy.source].lives[0].first)
         return self.x(max(self._graph.column_before(copy.life.source[1]), first))
 
+    def _start_of(self, lane: int) -> float:
+        return self.x(self._graph.column_of(self._graph.lanes[lane].lives[0].first))
+
     def _end_of(self, lane: int) -> float:
         lives, kind, revisions = self._graph.lanes[lane]
         if not lives[-1].is_alive:
@@ -147,8 +151,8 @@ class Layout:
 
     def _extent(self, lane: int) -> Extent:
         copy = self._copies.get(lane)
-        first = self.x(self._graph.column_of(self._graph.lanes[lane].lives[0].first))
-        return Extent(first if copy is None else self.turn(copy), max(self._ends[lane] + TAIL, self._end_of_name(lane)))
+        start = self._start_of(lane) if copy is None else self.turn(copy)
+        return Extent(start, max(self._ends[lane] + TAIL, self._end_of_name(lane)))
 
     def _rows(self) -> Iterator[Row]:
         """Puts each lane into the first row with room for it that is below that of its source."""
@@ -213,14 +217,14 @@ def name_on_line(life: Life, lane: Lane) -> str:
     return shortened(readable(path), LONGEST_ON_LINE)
 
 
-def names_of(lanes: List[Lane], rows: List[Row]) -> Dict[int, str]:
-    """The name at the left of each lane with a row of its own: that of its last life, and where several lanes have that
-    name, its revisions."""
+def names_of(lanes: List[Lane], named: List[int]) -> Dict[int, str]:
+    """The name of some of the lanes at the left: that of the last life, and where several lanes have that, its
+    revisions."""
     counts: Dict[bytes, int] = {}
     for lane in lanes:
         counts[lane.lives[-1].path] = counts.get(lane.lives[-1].path, 0) + 1
     names = {}
-    for number in (row.lanes[0] for row in rows if len(row.lanes) == 1):
+    for number in named:
         life = lanes[number].lives[-1]
         name = shortened(readable(life.path), LONGEST_NAME)
         names[number] = "%s %s" % (name, span_of(life)) if counts[life.path] > 1 else name

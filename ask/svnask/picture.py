@@ -1,5 +1,5 @@
 """Draws a graph as SVG that any browser shows: no scripts, and nothing from elsewhere."""
-from typing import Iterator, List, Set
+from typing import Iterator, List, NamedTuple, Set
 from xml.sax.saxutils import escape
 
 from .graph import BRANCH, TAG, TRUNK, Copy, Dot, Graph, Merge
@@ -60,6 +60,7 @@ class Picture:
         self._layout = Layout(graph)
         self._titles = Titles(history, graph)
         coloured = [number for number, lane in enumerate(graph.lanes) if lane.kind != TRUNK]
+        self._legend = legend_of(self._kinds(), self._layout.height - 22)
         self._colours = {lane: COLOURS[place % len(COLOURS)] for place, lane in enumerate(coloured)}
 
     def pieces(self) -> Iterator[str]:
@@ -74,17 +75,17 @@ class Picture:
         yield from map(self._dot, self._graph.dots)
         yield from self._ends()
         yield from self._names()
-        yield self._legend()
+        yield self._legend.text
         yield "</svg>\n"
 
     def _colour(self, lane: int) -> str:
         return self._colours.get(lane, TRUNK_COLOUR)
 
     def _front(self) -> str:
-        size = '"%d" height="%d"' % (self._layout.width, self._layout.height)
-        return ('<svg xmlns="http://www.w3.org/2000/svg" width=%s viewBox="0 0 %d %d" role="img">\n<desc>%s</desc>\n'
-                '<style>%s</style>\n<rect width="100%%" height="100%%" fill="#ffffff"/>\n'
-                % (size, self._layout.width, self._layout.height, escape(self._about()), STYLE))
+        size = max(self._layout.width, self._legend.width), self._layout.height
+        return ('<svg xmlns="http://www.w3.org/2000/svg" width="%d" height="%d" viewBox="0 0 %d %d" role="img">\n'
+                '<desc>%s</desc>\n<style>%s</style>\n<rect width="100%%" height="100%%" fill="#ffffff"/>\n'
+                % (*size, *size, escape(self._about()), STYLE))
 
     def _about(self) -> str:
         lanes = self._graph.lanes
@@ -177,16 +178,6 @@ class Picture:
             for place, words in self._layout.names_on_line(number):
                 yield element(about_lane(lane), text(place.x + 2, place.y - 7, words, "name"))
 
-    def _legend(self) -> str:
-        x, y = float(GAP), self._layout.height - 22
-        kinds = self._kinds()
-        parts: List[str] = []
-        for _, mark, says in (each for each in MARKS if each[0] in kinds):
-            parts.append('<g class="mark" transform="translate(%s)">%s</g>' % (points(x, y), mark))
-            parts.append(text(x + 34, y + 4, says, "small"))
-            x += 34 + width_of(says) * SMALLER + 20
-        return "".join(parts)
-
     def _kinds(self) -> Set[str]:
         """The kinds of marks that the picture has."""
         found = {kind_of(merge) for merge in self._graph.merges}
@@ -214,6 +205,23 @@ MARKS = (
     ("lost", arrow_mark("lost"), "merged, and taken back later"),
     ("carried", arrow_mark("carried"), "came with another merge"),
 )
+
+
+class Legend(NamedTuple):
+    """What the marks mean, and how wide that is."""
+
+    text: str
+    width: float
+
+
+def legend_of(kinds: Set[str], y: float) -> Legend:
+    x = float(GAP)
+    parts: List[str] = []
+    for _, mark, says in (each for each in MARKS if each[0] in kinds):
+        parts.append('<g class="mark" transform="translate(%s)">%s</g>' % (points(x, y), mark))
+        parts.append(text(x + 34, y + 4, says, "small"))
+        x += 34 + width_of(says) * SMALLER + 20
+    return Legend("".join(parts), x)
 
 
 def chosen(places: List[float], room: float, apart: float) -> List[int]:
