@@ -74,7 +74,8 @@ class Layout:
         for row in self.rows:
             self._middles.update((lane, self.bottom + HEIGHTS[row.kind] / 2) for lane in row.lanes)
             self.bottom += HEIGHTS[row.kind]
-        self.width = self.right + GAP
+        names = [found for lane in range(len(graph.lanes)) for found in self.names_on_line(lane)]
+        self.width = max([self.right] + [place.x + width_of(name) * SMALLER for place, name in names]) + GAP
         self.height = self.bottom + BOTTOM
 
     @property

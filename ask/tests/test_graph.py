@@ -118,6 +118,15 @@ class Graphs(base.Case):
         few = graph_of(self.history(self.made("few", repository(9))), [])
         self.assertEqual([lane for lane in range(len(few.lanes)) if Layout(few).is_cut(lane)], [])
 
+    def test_names_are_within_the_picture(self) -> None:
+        blocks = [base.revision(0), base.revision(1), base.node("trunk", "add"), base.node("tags", "add")]
+        blocks += [base.revision(2), base.node("tags/one", "add", source=("trunk", 1))]
+        blocks += [base.revision(3), base.node("tags/" + "long" * 20, "add", source=("trunk", 2))]
+        layout = Layout(graph_of(self.history(self.made("dump", base.dump(blocks))), []))
+        for lane in range(3):
+            for place, name in layout.names_on_line(lane):
+                self.assertLess(place.x + 0.8 * width_of(name), layout.width)
+
     def test_there_may_be_no_lane(self) -> None:
         graph = self.graph("merges", [b"/nothing"])
         self.assertEqual((graph.lanes, graph.dots, graph.columns), ([], [], []))
