@@ -32,11 +32,19 @@ def runs_of(text: bytes) -> List[Run]:
         if lo < 1 or hi > GREATEST or (found[2] is not None and lo >= hi):
             raise ValueError("no range of revisions")
         runs.append(Run(lo, hi, not found[3]))
-    clashes = [(one, other) for one in runs for other in runs
-               if one.inheritable and not other.inheritable and one.lo <= other.hi and other.lo <= one.hi]
-    if clashes:
+    if has_clash(runs):
         raise ValueError("a revision is given with and without '*'")
     return runs
+
+
+def has_clash(runs: List[Run]) -> bool:
+    """Whether a revision is in a run that is inheritable and in one that is not."""
+    reached = {True: 0, False: 0}
+    for run in sorted(runs):
+        if run.lo <= reached[not run.inheritable]:
+            return True
+        reached[run.inheritable] = max(reached[run.inheritable], run.hi)
+    return False
 
 
 def value_of(text: bytes) -> Optional[Value]:
