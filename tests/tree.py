@@ -4,7 +4,7 @@ import shutil
 import subprocess
 
 ROOT = os.path.dirname(os.path.dirname(os.path.abspath(__file__)))
-PARTS = ["svnhist", "crates.txt", "crates", "scripts", "examples", "interop"]
+PARTS = ["svnhist", "svnask", "ask", "crates.txt", "crates", "scripts", "examples", "interop"]
 LEFT_OUT = shutil.ignore_patterns("out", "proofs", "must-fail", "__pycache__")
 
 

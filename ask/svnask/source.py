@@ -45,7 +45,7 @@ class Source:
         searched = at
         while at >= 0 and self.data.find(b"\n\n", searched) < 0:
             have = len(self.data) - at
-            at = self._fill(at, have + PIECE)
+            at = self._fill(at, have + max(have, PIECE))
             if len(self.data) - at == have:
                 break
             searched = at + max(have - 1, 0)

@@ -30,7 +30,7 @@ BLOCK = re.compile(
 
 
 # The offset of a block, which follows its other headers, but for a block that is not well formed.
-MARK = re.compile(rb"(?:[^\n]+\n)*?At: ([0-9]+)\n")
+MARK = re.compile(rb"\n*(?:[^\n]+\n)*?At: ([0-9]+)\n")
 
 
 class Setting(NamedTuple):
@@ -193,7 +193,7 @@ def make(file: BinaryIO, folder: str, seen: Callable[[int], object]) -> Index:
     with open(os.path.join(folder, "dump"), "wb", 1 << 20) as copy:
         stripper = Stripper(source, copy.write, places=True, people=True)
         found = stripper.run(seen)
-    index = Index(found.format, found.uuid or b"", found.records, found.read, found.is_whole, found.revisions,
+    index = Index(found.format, found.uuid or b"", found.records, found.read, found.fault is None, found.revisions,
                   found.renewals)
     with open(os.path.join(folder, "index"), "wb") as file_of_index:
         file_of_index.write(index.text())

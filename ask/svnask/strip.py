@@ -16,7 +16,7 @@ Headers = Dict[bytes, bytes]
 MAGIC = b"SVN-fs-dump-format-version: "
 FORMATS = {MAGIC + b"2\n": 2, MAGIC + b"3\n": 3}
 LAST_LINE = b"PROPS-END\n"
-NO_PROPERTIES = b"Prop-content-length: 10\nContent-length: 10\n\n" + LAST_LINE
+NO_PROPERTIES = b"Prop-content-length: 10\nContent-length: 10\n\n" + LAST_LINE + b"\n"
 MERGEINFO = b"svn:mergeinfo"
 OF_REVISIONS = (b"svn:author", b"svn:date", b"svn:log")
 # The headers by which a block is a revision, a record or the identity of the repository; the first one decides.
@@ -56,10 +56,11 @@ class Copy:
     revisions: List[int] = field(default_factory=list)
     # The revision and the path of each copy of a path of the revision before to itself.
     renewals: List[Tuple[int, bytes]] = field(default_factory=list)
-    # How many bytes the copy has, and the given dump, where it is whole.
+    # How many bytes the copy has, and how many of the given dump were read.
     length: int = 0
     read: int = 0
-    is_whole: bool = False
+    # Why the dump is not well formed, where it isn't.
+    fault: Optional[str] = None
 
 
 def clean(path: bytes) -> bytes:
@@ -107,7 +108,7 @@ def entry(name: bytes, value: Optional[bytes]) -> bytes:
 
 def body_of(section: bytes) -> bytes:
     """The last headers of a block that has this property section alone, and the section."""
-    return b"Prop-content-length: %d\nContent-length: %d\n\n%s" % (len(section), len(section), section)
+    return b"Prop-content-length: %d\nContent-length: %d\n\n%s\n" % (len(section), len(section), section)
 
 
 def mergeinfo_alone(section: bytes, is_delta: bool) -> bytes:
@@ -144,17 +145,16 @@ class Stripper:
 
     def run(self, seen: Callable[[int], object] = lambda read: None) -> Copy:
         """Copies the whole dump. `seen` is told now and then how many bytes were read."""
-        at = self._first_line()
         try:
+            at = self._first_line()
             turn = 0
             while at >= 0:
                 at = self._block(at)
                 turn += 1
                 if turn & 0xfff == 0:
                     seen(self.source.base + at)
-            self.copy.is_whole = True
-        except Malformed:
-            pass
+        except Malformed as fault:
+            self.copy.fault = str(fault)
         self.copy.read = self.source.base + len(self.source.data)
         return self.copy
 
@@ -172,7 +172,7 @@ class Stripper:
         self.copy.format = FORMATS.get(line, 0)
         if self.copy.format == 0:
             self._put(bytes(source.data[:1 << 16]))
-            return -1
+            raise Malformed("the input is no dump in format 2 or 3")
         self._put(line + b"\n")
         return len(line)
 
@@ -245,8 +245,11 @@ class Stripper:
             self._put(raw)
             raise
         kind = next((name for name in KINDS if name in headers), None)
+        if kind is None:
+            self._put(place + lines[:lines.index(b"\n") + 1] + b"\n")
+            raise Malformed("a block is neither a revision nor a record")
         kept = OF_RECORDS if kind == b"Node-path" else (kind,)
-        head = b"".join(b"%s: %s\n" % (name, headers[name]) for name in kept if name and name in headers) + place
+        head = b"".join(b"%s: %s\n" % (name, headers[name]) for name in kept if name in headers) + place
         if kind == b"Revision-number":
             return self._revision(head, raw, end + 2, section, rest)
         if kind == b"Node-path":
@@ -255,10 +258,9 @@ class Stripper:
             is_delta = self.copy.format == 3 and headers.get(b"Prop-delta") == b"true"
             given = section if b"Prop-content-length" in headers else -1
             return self._record(head, raw, end + 2, given, rest, is_delta)
-        if kind == b"UUID" and self.copy.uuid is None:
+        if self.copy.uuid is None:
             self.copy.uuid = headers[kind]
-        # A block of no kind is refused, so its first line is kept.
-        self._put((head if kind else place + lines[:lines.index(b"\n") + 1]) + b"\n")
+        self._put(head + b"\n")
         return self._after(raw, b"", end + 2, section + rest)
 
     def _section(self, raw: bytes, at: int, length: int) -> Tuple[bytes, int]:
