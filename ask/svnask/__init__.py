@@ -1,0 +1,22 @@
+"""Questions about the history of a Subversion repository, answered by svnhist from a dump.
+
+>>> from svnask import History, Log, Refused
+>>> with History.open("interop/branches.dump") as history:
+...     for answer in history.ask([Log(path, history.head) for path in (b"trunk", b"branches/two")]):
+...         revision = history.revision(answer.revisions[0])
+...         answer.query.path, revision.number, revision.author
+(b'trunk', 5, b'carol')
+(b'branches/two', 11, b'carol')
+
+Paths, names and messages are bytes, as in the dump. A dump that svnhist does not accept raises `Refused`.
+"""
+from .answers import (Answer, Inherited, Line, Locate, Located, Log, Logged, Merge, Mergeinfo, Merges, Pair, Query, Segment,
+                      Segments, Where)
+from .changes import Change
+from .errors import Denied, Error, Failed, Refused
+from .history import History
+from .store import Record, Revision
+
+__all__ = ["Answer", "Change", "Denied", "Error", "Failed", "History", "Inherited", "Line", "Locate", "Located", "Log",
+           "Logged", "Merge", "Mergeinfo", "Merges", "Pair", "Query", "Record", "Refused", "Revision", "Segment",
+           "Segments", "Where"]

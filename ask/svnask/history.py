@@ -22,6 +22,8 @@ class History:
     >>> with History.open("interop/branches.dump") as history:
     ...     history.head, history.log(b"trunk", 13).revisions
     (13, [5, 2, 1])
+
+    In the examples of the methods `history` is this one. It is closed at the end of `with`, or by `close`.
     """
 
     def __init__(self, store: Store, file: Optional[int] = None) -> None:
@@ -34,7 +36,13 @@ class History:
     @classmethod
     def open(cls, dump: Union[str, BinaryIO], is_cached: bool = True,
              seen: Callable[[int], object] = lambda read: None) -> "History":
-        """The history of a file, by its name or opened. `-` is the standard input. `seen` is told how far reading is."""
+        """The history of a file, by its name or opened. `-` is the standard input. What is read of a file is kept in the
+        cache, unless `is_cached` is false. `seen` is told now and then how many bytes were read.
+
+        >>> with History.open("interop/merges.dump", is_cached=False) as merges:
+        ...     merges.head
+        19
+        """
         try:
             if not isinstance(dump, str):
                 return cls(opened(dump, is_cached, seen), of_file(dump))
@@ -45,7 +53,11 @@ class History:
 
     @property
     def is_whole(self) -> bool:
-        """Whether the dump has its form from its first byte to its last one, and a revision."""
+        """Whether the dump has its form from its first byte to its last one, and a revision.
+
+        >>> history.is_whole
+        True
+        """
         return self.index.is_whole and self.head >= 0
 
     def __enter__(self) -> "History":
@@ -56,6 +68,7 @@ class History:
         self.close()
 
     def close(self) -> None:
+        """Removes what was read, unless it is in the cache."""
         self._store.close()
         if self._file is not None:
             os.close(self._file)
@@ -63,15 +76,30 @@ class History:
 
     @property
     def index(self) -> Index:
+        """What is known of the dump as a whole.
+
+        >>> history.index.format, history.index.records, history.index.size
+        (2, 22, 5930)
+        """
         return self._store.index
 
     @property
     def head(self) -> int:
-        """The youngest revision."""
+        """The youngest revision, or -1 where the dump has none.
+
+        >>> history.head
+        13
+        """
         return self._store.head
 
     def ask(self, queries: Iterable[Query]) -> Iterator[Answer]:
-        """The answers to queries, in their order, while svnhist gives them. `Refused` where it refuses the dump."""
+        """The answers to queries, in their order, while svnhist gives them. `Refused` where it refuses the dump.
+
+        >>> for answer in history.ask([Log(b"trunk", 13, (3, 13)), Locate(b"none", 13, 1)]):
+        ...     answer.status, answer.lines
+        ('ok', [b'r5 /trunk'])
+        ('no-such-path', [])
+        """
         asked = list(queries)
         try:
             yield from engine.run(self._store.dump, asked)
@@ -79,11 +107,22 @@ class History:
             raise self._placed(refused) from refused
 
     def front(self) -> bytes:
-        """The first bytes of the dump, without texts."""
+        """The first bytes of the dump, without texts.
+
+        >>> history.front()[:31]
+        b'SVN-fs-dump-format-version: 2\\n\\n'
+        """
         return self._store.data[:1 << 12] if os.path.getsize(self._store.dump) else b""
 
     def check(self) -> None:
-        """Raises `Refused` where svnhist refuses the dump."""
+        """Raises `Refused` where svnhist refuses the dump.
+
+        >>> history.check()
+        >>> with History.open("interop/branches.svn") as other:
+        ...     other.check()
+        Traceback (most recent call last):
+        svnask.errors.Refused: dump refused: 1 Magic at byte 0
+        """
         for _ in self.ask([]):
             pass
 
@@ -94,19 +133,35 @@ class History:
         return Refused(refused.number, refused.name, refused.unit, self._store.block_at(refused.place))
 
     def locate(self, path: bytes, rev: int, at: int) -> Located:
-        """Where a path of one revision was in another one."""
+        """Where a path of one revision was in another one.
+
+        >>> history.locate(b"tags/one-1.0", 13, 2).path
+        b'/trunk'
+        """
         return one(self.ask([Locate(path, rev, at)]), Located)
 
     def segments(self, path: bytes, rev: int) -> Segments:
-        """The location segments of a path, the newest first."""
+        """The location segments of a path, the newest first.
+
+        >>> history.segments(b"branches/one", 5).segments
+        [Segment(lo=3, hi=5, path=b'/branches/one'), Segment(lo=1, hi=2, path=b'/trunk')]
+        """
         return one(self.ask([Where(path, rev)]), Segments)
 
     def log(self, path: bytes, rev: int) -> Logged:
-        """The operative revisions of a path, the newest first."""
+        """The operative revisions of a path, the newest first.
+
+        >>> history.log(b"branches/two", 13).revisions
+        [11, 9, 5, 2, 1]
+        """
         return one(self.ask([Log(path, rev)]), Logged)
 
     def kind(self, path: bytes, rev: int) -> Optional[str]:
-        """Whether a path of a revision is a `file` or a `dir`, as the record says that added it first."""
+        """Whether a path of a revision is a `file` or a `dir`, as the record says that added it first.
+
+        >>> history.kind(b"/trunk/main.c", 13), history.kind(b"/trunk", 13), history.kind(b"/none", 13)
+        ('file', 'dir', None)
+        """
         if path == b"/":
             return "dir"
         located = [each for each in self.segments(path, rev).segments if each.path is not None]
@@ -118,33 +173,58 @@ class History:
         return kinds[-1] if kinds else None
 
     def revision(self, rev: int) -> Revision:
+        """Who committed a revision, when, and with which message.
+
+        >>> history.revision(9).author, history.revision(9).message
+        (b'alice', b'Branch and change in one revision')
+        """
         if rev not in self._revisions:
             self._revisions[rev] = self._store.revision(rev)
         return self._revisions[rev]
 
     def records(self, first: int = 0, last: Optional[int] = None) -> Iterator[Record]:
-        """The records of these revisions, in the order of the dump."""
+        """The records of these revisions, in the order of the dump.
+
+        >>> [(record.action, record.path, record.source) for record in history.records(10, 11)][0]
+        ('add', b'/branches/one-again', (b'/branches/one', 5))
+        """
         return self._store.records(first, last)
 
     def blocks(self) -> Iterator[Tuple[int, Optional[Record]]]:
-        """The offset of each block of the dump, and its record, if it has one."""
+        """The offset of each block of the dump, and its record, if it has one.
+
+        >>> [(at, record.path) for at, record in history.blocks() if record is not None][0]
+        (363, b'/branches')
+        """
         return self._store.blocks()
 
     def header(self, at: int) -> List[bytes]:
-        """The header lines of the block at an offset of the dump, where that is a file."""
+        """The header lines of the block at an offset of the dump, where that is a file.
+
+        >>> history.header(3874)
+        [b'Revision-number: 9', b'Prop-content-length: 133', b'Content-length: 133']
+        """
         if self._file is None:
             return []
         text = os.pread(self._file, HEADER, at).lstrip(b"\n")
         return text.split(b"\n\n", 1)[0].split(b"\n")
 
     def changes(self, rev: int) -> List[Change]:
-        """The changed paths of a revision, as `svn log -v` lists them."""
+        """The changed paths of a revision, as `svn log -v` lists them.
+
+        >>> history.changes(10)
+        [Change(path=b'/branches/one-again', letter='A', source=(b'/branches/one', 5))]
+        """
         if rev not in self._changes:
             self._changes[rev] = changes_of(self.records(rev, rev))
         return self._changes[rev]
 
     def revision_at(self, date: str) -> int:
-        """The youngest revision at a date, in one of the forms that `svn` takes in braces."""
+        """The youngest revision at a date, in one of the forms that `svn` takes in braces.
+
+        >>> history.revision_at("2024-01-01T00:05:30Z")
+        5
+        """
         return dates.revision_at(dates.given(date), self.head, lambda rev: self.revision(rev).date)
 
 
