@@ -115,7 +115,7 @@ def touched(history: History, patterns: Sequence[bytes]) -> Iterator[Touched]:
     """The tags that are not what they were copied from."""
     lives = lives_of(history, patterns or (b"/tags/*",))
     later = [life for life in lives if life.last > life.first]
-    answers = history.ask([Log(life.path, life.last, (life.first + 1, life.last)) for life in later])
+    answers = list(history.ask([Log(life.path, life.last, (life.first + 1, life.last)) for life in later]))
     changed: Dict[Life, List[int]] = {}
     for life, answer in zip(later, answers):
         assert isinstance(answer, Logged)

@@ -171,8 +171,6 @@ def is_shown(history: History, rev: int, options: Options) -> bool:
 
 def log_text(history: History, target: Target, options: Options) -> Iterator[bytes]:
     """The output of `svn log`, piece after piece."""
-    if options.limit is not None and options.limit <= 0:
-        raise Denied("E200004", "Argument to --limit must be positive")
     for count, rev in enumerate(entries(history, target, options)):
         if count == options.limit:
             break

@@ -77,6 +77,13 @@ class Command(base.Case):
         self.assertIn("16 NoParent at record", done.said)
         self.assertIn("add /trunk/", done.said)
 
+    def test_a_dump_that_is_refused_has_no_answers(self) -> None:
+        with open(DUMP, "rb") as file:
+            dump = self.made("faulty", file.read().replace(b"Node-path: trunk\n", b"Node-path: other\n", 1))
+        for words in (["show", "9"], ["changed-tags"], ["unmerged"], ["contains", "1"], ["branches"], ["info"]):
+            done = base.run(dump, *words)
+            self.assertEqual((done.status, done.output), (1, b""), words)
+
     def test_what_stands_at_a_byte_and_at_a_record(self) -> None:
         record = base.run(DUMP, "record", "3").output
         self.assertTrue(record.startswith(b"record 3: r1 add /trunk, at byte "))

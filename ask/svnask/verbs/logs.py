@@ -28,6 +28,8 @@ class LogVerb(Verb):
             if not words.limit.lstrip("-").isdigit():
                 raise Denied("E205000", "Non-numeric limit argument given")
             limit = int(words.limit)
+            if limit <= 0:
+                raise Denied("E200004", "Argument to --limit must be positive")
         return log.Options(ranges_of(history, words.ranges, words.changes), limit, words.quiet, words.verbose,
                            words.stop_on_copy)
 
@@ -51,8 +53,10 @@ class ShowVerb(Verb):
         parser.add_argument("revision", metavar="REV")
 
     def text(self, history: History, words: Namespace) -> Iterator[bytes]:
+        history.check()
         rev = existing(history, words.revision)
         yield log.entry_text(history, rev, log.Options(is_verbose=True)) + log.RULE
 
     def objects(self, history: History, words: Namespace) -> Iterator[Object]:
+        history.check()
         yield object_of_revision(history, existing(history, words.revision))
