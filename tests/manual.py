@@ -1,4 +1,4 @@
-"""Compares the version of the manual page with the launcher's, and has the page checked by the formatters that are
+"""Compares the versions of the manual pages with the launcher's, and has the pages checked by the formatters that are
 installed."""
 import os
 import re
@@ -7,10 +7,10 @@ import subprocess
 
 from tree import ROOT
 
-PAGE = os.path.join(ROOT, "docs", "svnhist.1")
-MANDOC = ["mandoc", "-T", "lint", "-W", "warning", PAGE]
+NAMES = ["svnhist", "svnask"]
+MANDOC = ["mandoc", "-T", "lint", "-W", "warning"]
 # These options are of man-db, which runs groff.
-MAN = ["man", "--warnings", "-E", "UTF-8", "-l", "-Tutf8", "-Z", PAGE]
+MAN = ["man", "--warnings", "-E", "UTF-8", "-l", "-Tutf8", "-Z"]
 
 
 def is_man_db():
@@ -21,10 +21,15 @@ def is_man_db():
     return done.returncode == 0 and done.stdout.startswith(b"man 2.")
 
 
-def warnings_of(words, output):
+def path_of(name):
+    return os.path.join(ROOT, "docs", name + ".1")
+
+
+def warnings_of(words, name, output):
     environment = dict(os.environ, LC_ALL="C.UTF-8", MANROFFSEQ="", MANWIDTH="80")
-    done = subprocess.run(words, env=environment, stdin=subprocess.DEVNULL, stdout=output, stderr=subprocess.PIPE)
-    return ((done.stdout or b"") + done.stderr).decode("utf-8", "replace").replace(PAGE, "docs/svnhist.1")
+    done = subprocess.run(words + [path_of(name)], env=environment, stdin=subprocess.DEVNULL, stdout=output,
+                          stderr=subprocess.PIPE)
+    return ((done.stdout or b"") + done.stderr).decode("utf-8", "replace").replace(path_of(name), "docs/%s.1" % name)
 
 
 def versions_in(path, pattern):
@@ -33,11 +38,14 @@ def versions_in(path, pattern):
 
 
 def run_manual():
-    """The two versions; and of each formatter its name, no warnings, and the warnings that it gave."""
+    """Of each page the two versions; and of each formatter its name, no warnings, and the warnings that it gave."""
     launcher = versions_in(os.path.join(ROOT, "svnhist"), r"^version=(\S+)$")
-    outcomes = [("version", launcher, versions_in(PAGE, r'^\.TH SVNHIST 1 \S+ "svnhist (\S+)"'))]
-    if shutil.which("mandoc"):
-        outcomes.append(("mandoc", "", warnings_of(MANDOC, subprocess.PIPE)))
-    if is_man_db():
-        outcomes.append(("man", "", warnings_of(MAN, subprocess.DEVNULL)))
+    outcomes = []
+    for name in NAMES:
+        header = r'^\.TH %s 1 \S+ "svnhist (\S+)"' % name.upper()
+        outcomes.append(("version of " + name, launcher, versions_in(path_of(name), header)))
+        if shutil.which("mandoc"):
+            outcomes.append(("mandoc " + name, "", warnings_of(MANDOC, name, subprocess.PIPE)))
+        if is_man_db():
+            outcomes.append(("man " + name, "", warnings_of(MAN, name, subprocess.DEVNULL)))
     return outcomes

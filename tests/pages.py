@@ -10,7 +10,7 @@ import subprocess
 
 from tree import ROOT, command, copied_tree
 
-PAGES = ["README.md", "docs/recipes.md", "docs/queries.md", "docs/svnhist.1"]
+PAGES = ["README.md", "docs/recipes.md", "docs/queries.md", "docs/svnask.md", "docs/svnhist.1", "docs/svnask.1"]
 CONSOLE = re.compile(r"^```console\n(.*?)^```$", re.MULTILINE | re.DOTALL)
 EXAMPLE = re.compile(r"^\.EX\n(.*?)^\.EE$", re.MULTILINE | re.DOTALL)
 # Commands of the examples. REPO is the repository of interop/branches.dump, and URL that of interop/merges.dump.
@@ -51,8 +51,11 @@ def run_pages(program, folder):
     tools = os.path.join(folder, "tools")
     for name, lines in TOOLS.items():
         command(tools, name, lines)
-    os.symlink(os.path.join(root, "svnhist"), os.path.join(tools, "svnhist"))
-    environment = dict(os.environ, PATH=tools + os.pathsep + os.environ.get("PATH", os.defpath))
+    for name in ("svnhist", "svnask"):
+        os.symlink(os.path.join(root, name), os.path.join(tools, name))
+    # The pages show dates by UTC, and svnask asks the program of the copied tree.
+    environment = dict(os.environ, PATH=tools + os.pathsep + os.environ.get("PATH", os.defpath), TZ="UTC",
+                       XDG_CACHE_HOME=os.path.join(folder, "cache"), SVNHIST=os.path.join(root, "svnhist"))
     outcomes = []
     for page in PAGES:
         with open(os.path.join(ROOT, page), encoding="utf-8") as file:
