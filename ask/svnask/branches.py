@@ -57,33 +57,26 @@ class Holder(NamedTuple):
     how: str
 
 
-def homes_of(history: History, lives: Iterable[Life], rev: int) -> List[bytes]:
-    """The branches that a revision changed."""
-    changed = [change.path for change in history.changes(rev)]
-    return [life.path for life in lives if life.first <= rev <= life.last
-            and any(is_at_or_below(path, life.path) or is_at_or_below(life.path, path) for path in changed)]
-
-
 def holders(history: History, patterns: Sequence[bytes], rev: int) -> Iterator[Holder]:
     """The branches and tags of today that have a revision of one of them."""
-    lives = lives_of(history, patterns)
-    homes = homes_of(history, lives, rev)
-    alive = [life for life in lives if life.is_alive]
+    changed = [change.path for change in history.changes(rev)]
+    alive = [life for life in lives_of(history, patterns) if life.is_alive]
     logs = history.ask([Log(life.path, history.head, (rev, rev)) for life in alive])
     values = history.ask([Mergeinfo(life.path, history.head) for life in alive])
     for life, logged, value in zip(alive, logs, values):
         if logged.text:
             yield Holder(life.path, "history")
         elif isinstance(value, Inherited) and value.ok:
-            how = merged_how(value.value, homes, rev)
+            how = merged_how(value.value, changed, rev)
             if how is not None:
                 yield Holder(life.path, how)
 
 
-def merged_how(value: Dict[bytes, str], homes: Iterable[bytes], rev: int) -> Optional[str]:
-    """Whether mergeinfo has a revision of one of these paths, and if so whether as a whole."""
-    found = [run.inheritable for home in homes if home in value for run in runs_of(value[home].encode("ascii"))
-             if run.lo <= rev <= run.hi]
+def merged_how(value: Dict[bytes, str], changed: Sequence[bytes], rev: int) -> Optional[str]:
+    """Whether mergeinfo has a revision of a source that the revision changed, and if so whether as a whole."""
+    found = [run.inheritable for source, ranges in value.items() for run in runs_of(ranges.encode("ascii"))
+             if run.lo <= rev <= run.hi
+             and any(is_at_or_below(path, source) or is_at_or_below(source, path) for path in changed)]
     return None if not found else "merged" if any(found) else "merged in part"
 
 

@@ -77,6 +77,10 @@ class Command(base.Case):
         self.assertIn("16 NoParent at record", done.said)
         self.assertIn("add /trunk/", done.said)
 
+    def test_branches_that_have_a_revision_of_a_path_of_another_pattern(self) -> None:
+        done = base.run(base.dump_of("merges"), "contains", "5", "/branches/*")
+        self.assertEqual(done.output, b"/branches/three\thistory\n/branches/two\tmerged\n")
+
     def test_a_dump_that_is_refused_has_no_answers(self) -> None:
         with open(DUMP, "rb") as file:
             dump = self.made("faulty", file.read().replace(b"Node-path: trunk\n", b"Node-path: other\n", 1))
