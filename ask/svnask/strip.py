@@ -269,7 +269,7 @@ class Stripper:
         section = bytes(self.source.data[at:at + length])
         if len(section) < length:
             self._put(raw + section)
-            raise Malformed("the dump ends within a property section")
+            raise Malformed("the dump ends within a body")
         return section, at + length
 
     def _after(self, raw: bytes, section: bytes, at: int, rest: int) -> int:
