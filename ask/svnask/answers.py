@@ -5,10 +5,13 @@ b'log\\ttrunk@8'
 >>> Log(b"trunk", 8).answer("ok", b"r5 /trunk\\nr1 /trunk").revisions
 [5, 1]
 """
+import re
 from dataclasses import dataclass
 from typing import Dict, List, NamedTuple, Optional, Tuple
 
 Range = Tuple[int, int]
+# A line of an answer to `log`.
+LOGGED = re.compile(rb"r([0-9]+) [^\n]*\n?")
 
 
 class Segment(NamedTuple):
@@ -69,7 +72,7 @@ class Logged(Answer):
 
     @property
     def revisions(self) -> List[int]:
-        return [int(line[1:line.index(b" ")]) for line in self.lines]
+        return list(map(int, LOGGED.findall(self.text)))
 
     @property
     def paths(self) -> List[bytes]:

@@ -7,8 +7,7 @@ import re
 import shutil
 import stat
 import tempfile
-import time
-from typing import BinaryIO, Callable, Iterator, List, NamedTuple, Optional, Tuple
+from typing import BinaryIO, Callable, Dict, Iterator, List, NamedTuple, Optional, Tuple
 
 from .errors import Failed
 from .source import Source
@@ -27,10 +26,10 @@ BLOCK = re.compile(
     rb"(?:Node-copyfrom-path: (?P<from_path>[^\n]*)\n)?(?P<delta>Prop-delta: true\n)?(?:Prop-delta: [^\n]*\n)?"
     rb"(?:Text-delta: [^\n]*\n)?|UUID: [^\n]*\n)At: (?P<at>[0-9]+)\n"
     rb"(?:Prop-content-length: (?P<length>[0-9]+)\nContent-length: [0-9]+\n)?\n")
-
-
 # The offset of a block, which follows its other headers, but for a block that is not well formed.
 MARK = re.compile(rb"\n*(?:[^\n]+\n)*?At: ([0-9]+)\n")
+# A property of a revision, up to its value.
+ENTRY = re.compile(rb"K [0-9]+\n([^\n]*)\nV ([0-9]+)\n")
 
 
 class Setting(NamedTuple):
@@ -126,7 +125,7 @@ class Store:
         if found is None:
             raise Failed("the cache is damaged: --no-cache reads the dump anew")
         length = int(found["length"] or 0)
-        values = dict(entries_of(self.data[found.end():found.end() + length], False)) if length else {}
+        values = properties_of(self.data[found.end():found.end() + length]) if length else {}
         return Revision(rev, values.get(b"svn:author"), values.get(b"svn:date"), values.get(b"svn:log"), int(found["at"]))
 
     def records(self, first: int = 0, last: Optional[int] = None) -> Iterator[Record]:
@@ -167,6 +166,17 @@ class Store:
             return 0
         found = MARK.match(self.data, place)
         return int(found[1]) if found else self.index.size
+
+
+def properties_of(section: bytes) -> Dict[bytes, bytes]:
+    """The properties of a revision, as far as they have their form, which svnhist does not judge."""
+    values = {}
+    at = 0
+    while found := ENTRY.match(section, at):
+        at = found.end() + int(found[2])
+        values[found[1]] = section[found.end():at]
+        at += 1
+    return values
 
 
 def record_of(found: "re.Match[bytes]", number: int, rev: int, version: int) -> Record:

@@ -1,5 +1,5 @@
-"""Reads a dump once and copies of it what questions need: its records, the values of `svn:mergeinfo` and, if asked, who
-committed a revision, when, and with which message. Texts are skipped by their length.
+"""Reads a dump once and copies of it what questions need: its records, the values of `svn:mergeinfo` and, if asked, the
+properties of revisions. Texts are skipped by their length.
 
 The copy is a dump of the same format, about which svnhist answers the same. Where the dump is not well formed, the copy
 ends with the block that is at fault, so that svnhist refuses it there, for its reason.
@@ -8,7 +8,7 @@ import re
 from dataclasses import dataclass, field
 from typing import Callable, Dict, List, Optional, Tuple
 
-from .source import Buffer, Source
+from .source import Source
 
 Write = Callable[[bytes], object]
 Headers = Dict[bytes, bytes]
@@ -18,7 +18,6 @@ FORMATS = {MAGIC + b"2\n": 2, MAGIC + b"3\n": 3}
 LAST_LINE = b"PROPS-END\n"
 NO_PROPERTIES = b"Prop-content-length: 10\nContent-length: 10\n\n" + LAST_LINE + b"\n"
 MERGEINFO = b"svn:mergeinfo"
-OF_REVISIONS = (b"svn:author", b"svn:date", b"svn:log")
 # The headers by which a block is a revision, a record or the identity of the repository; the first one decides.
 KINDS = (b"Revision-number", b"Node-path", b"UUID")
 OF_RECORDS = (b"Node-path", b"Node-kind", b"Node-action", b"Node-copyfrom-rev", b"Node-copyfrom-path", b"Prop-delta",
@@ -28,9 +27,8 @@ READ = frozenset(KINDS + OF_RECORDS + LENGTHS)
 LONGEST = (1 << 63) - 1
 COPIED = b"\nNode-copyfrom-path: "
 COPY = re.compile(rb"Node-path: ([^\n]*)\n(?s:.*)Node-copyfrom-rev: ([0-9]+)\nNode-copyfrom-path: ([^\n]*)\n")
-# How many pieces of a copy are written at once.
-MANY = 4096
-NUMBER = re.compile(rb"[0-9]+\Z")
+# How many pieces of a copy are written at once. One that is longer is not held back.
+MANY, LONG = 1024, 1 << 16
 # The headers of a record in the orders in which Subversion writes them. Those of another one are read line by line.
 SKIPPED = rb"(?:Text-(?:copy-source|content|delta-base)-(?:md5|sha1): [^\n]*\n)*"
 RECORD = re.compile(
@@ -69,7 +67,7 @@ def clean(path: bytes) -> bytes:
 
 
 def number_of(digits: bytes) -> int:
-    if not NUMBER.match(digits):
+    if not digits.isdigit():
         raise Malformed("a length is not a number")
     return int(digits)
 
@@ -116,24 +114,18 @@ def mergeinfo_alone(section: bytes, is_delta: bool) -> bytes:
     list without it says something, too: that there is none."""
     if section == LAST_LINE:
         return section
-    kept = [entry(name, value) for name, value in entries_of(section, is_delta) if name == MERGEINFO]
+    entries = entries_of(section, is_delta)
+    if len(entries) == 1 and entries[0][0] == MERGEINFO:
+        return section
+    kept = [entry(name, value) for name, value in entries if name == MERGEINFO]
     return b"".join(kept if is_delta else kept[-1:]) + LAST_LINE
-
-
-def of_revision(section: bytes) -> bytes:
-    """The property section of a revision with author, date and message alone. svnhist does not judge its form."""
-    try:
-        entries = dict(entries_of(section, False))
-    except Malformed:
-        return LAST_LINE
-    return b"".join(entry(name, entries[name]) for name in OF_REVISIONS if name in entries) + LAST_LINE
 
 
 class Stripper:
     """Copies a dump, block after block.
 
     With `places` each block of the copy has a header `At`, the offset of the block in the given dump, which svnhist
-    ignores; with `people` the revisions keep author, date and message.
+    ignores; with `people` the revisions keep their properties, such as author, date and message.
     """
 
     def __init__(self, source: Source, write: Write, places: bool = False, people: bool = False) -> None:
@@ -188,29 +180,37 @@ class Stripper:
         """Copies records from this place on as long as their headers are in an order of Subversion, their properties have
         their form and they are whole in the window; nearly all are. The place after them."""
         data, base, end = self.source.data, self.source.base, len(self.source.data)
-        has_deltas, places = self.copy.format == 3, self._places
+        has_deltas, places, match = self.copy.format == 3, self._places, RECORD.match
         pieces: List[bytes] = []
-        for found in iter(lambda: RECORD.match(data, at), None):
+        count = 0
+        while found := match(data, at):
             front, delta, text_delta, properties, later_delta, text, body = found.groups()
             section, rest = int(properties or 0), int(text or 0)
             whole = section + rest if body is None else int(body)
             begin = found.end()
             if whole < section + rest or begin + whole > end:
                 break
-            try:
-                kept = self._kept_body(data, begin, section, properties is not None, has_deltas and delta is not None)
-            except Malformed:
-                break
-            deltas = (delta or b"") + (text_delta or later_delta or b"") if delta or text_delta or later_delta else b""
-            pieces += front, deltas, b"At: %d\n" % (base + found.start(1)) if places else b"", kept
+            if properties is None:
+                kept = b"\n"
+            elif section == len(LAST_LINE) and data[begin:begin + section] == LAST_LINE:
+                kept = NO_PROPERTIES
+            else:
+                try:
+                    kept = body_of(mergeinfo_alone(data[begin:begin + section], has_deltas and delta is not None))
+                except Malformed:
+                    break
             if COPIED in front:
                 self._note_copy(front)
+            if delta or text_delta or later_delta:
+                front += (delta or b"") + (text_delta or later_delta or b"")
+            pieces += front, b"At: %d\n" % (base + found.start(1)) if places else b"", kept
+            count += 1
             at = begin + whole
-            self.copy.records += 1
-            if len(pieces) > MANY:
+            if len(pieces) > MANY or len(kept) > LONG:
                 self._put(b"".join(pieces))
                 pieces = []
         self._put(b"".join(pieces))
+        self.copy.records += count
         return at
 
     def _note_copy(self, front: bytes) -> None:
@@ -218,15 +218,6 @@ class Stripper:
         rev = len(self.copy.revisions) - 1
         if found and int(found[2]) == rev - 1 and clean(found[1]) == clean(found[3]):
             self.copy.renewals.append((rev, clean(found[1])))
-
-    @staticmethod
-    def _kept_body(data: Buffer, at: int, length: int, is_given: bool, is_delta: bool) -> bytes:
-        """What is kept of a body whose property section begins at this place, if there is one."""
-        if length == len(LAST_LINE) and data[at:at + length] == LAST_LINE:
-            return NO_PROPERTIES
-        if not is_given:
-            return b"\n"
-        return body_of(mergeinfo_alone(data[at:at + length], is_delta))
 
     def _any_block(self, at: int) -> int:
         """Copies a block whose headers come in any order."""
@@ -299,8 +290,8 @@ class Stripper:
         section, at = self._section(raw, at, length)
         at = self._after(raw, section, at, rest)
         self.copy.revisions.append(self.copy.length)
-        kept = of_revision(section) if self._people and length > 0 else b""
-        self._put(head + (body_of(kept) if kept else b"\n"))
+        # svnhist does not judge the properties of revisions, so they are kept as they are.
+        self._put(head + (body_of(section) if self._people and length > 0 else b"\n"))
         return at
 
 
