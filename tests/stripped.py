@@ -207,9 +207,20 @@ def run_changes(program, folder):
             compare(program, "changes", whole, queries)]
 
 
+def of_file(folder, text):
+    """The outcome of strip-texts whose standard input is a file with this text."""
+    path = os.path.join(folder, "whole")
+    with open(path, "wb") as file:
+        file.write(text)
+    with open(path, "rb") as file:
+        done = subprocess.run([STRIP], stdin=file, stdout=subprocess.PIPE, stderr=subprocess.PIPE)
+    return done.returncode, done.stdout, done.stderr
+
+
 def run_stripped(program, folder):
     """Of each run its name, what is wanted and what was found."""
     outcomes = [compare(program, name, content(path), queries) for name, path, queries in recorded()]
+    outcomes.append(("what is left of a file", (0, LEFT, b""), of_file(folder, WHOLE)))
     outcomes.append(("what is left", (0, LEFT, b""), outcome_of([STRIP], WHOLE)))
     outcomes.append(("what is left in format 3", (0, in_format_3(LEFT), b""), outcome_of([STRIP], in_format_3(WHOLE))))
     outcomes += run_changes(program, folder)

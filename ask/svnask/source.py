@@ -81,7 +81,8 @@ class Source:
         pieces = [bytes(self.data[at:])]
         have = len(pieces[0])
         while have < count:
-            piece = self._file.read(max(count - have, PIECE))
+            # A length that the dump claims may be far longer than the dump.
+            piece = self._file.read(PIECE)
             if not piece:
                 break
             pieces.append(piece)

@@ -25,6 +25,14 @@ class Command(base.Case):
             done = base.run("-", "info", given=file.read())
         self.assertEqual(done.output.split(b"\n")[2], b"youngest: 13")
 
+    def test_a_pipe_may_claim_a_length_that_it_lacks(self) -> None:
+        with open(DUMP, "rb") as file:
+            dump = file.read().replace(b"Prop-content-length: 10\nContent-length: 10",
+                                       b"Prop-content-length: %d\nContent-length: %d" % (10 ** 17, 10 ** 17), 1)
+        done = base.run("-", "info", given=dump)
+        self.assertEqual(done.status, 1)
+        self.assertIn("dump refused: 5 Truncated at byte 363", done.said)
+
     def test_lines_of_json_are_objects(self) -> None:
         for words in (["log", "/"], ["branches"], ["segments", "branches/two"], ["info"], ["record", "4"], ["show", "9"],
                       ["contains", "5"], ["unmerged"], ["changed-tags"], ["mergeinfo", "trunk"], ["where", "trunk", "3"],
