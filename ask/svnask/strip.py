@@ -25,6 +25,8 @@ OF_RECORDS = (b"Node-path", b"Node-kind", b"Node-action", b"Node-copyfrom-rev", 
 LENGTHS = (b"Prop-content-length", b"Text-content-length", b"Content-length")
 READ = frozenset(KINDS + OF_RECORDS + LENGTHS)
 LONGEST = (1 << 63) - 1
+# A header that makes a block of no kind.
+UNKNOWN = b"Unknown: 1\n"
 COPIED = b"\nNode-copyfrom-path: "
 COPY = re.compile(rb"Node-path: ([^\n]*)\n(?s:.*)Node-copyfrom-rev: ([0-9]+)\nNode-copyfrom-path: ([^\n]*)\n")
 # How many pieces of a copy are written at once. One that is longer is not held back.
@@ -237,7 +239,8 @@ class Stripper:
             raise
         kind = next((name for name in KINDS if name in headers), None)
         if kind is None:
-            self._put(place + lines[:lines.index(b"\n") + 1] + b"\n")
+            self._after(raw, b"", end + 2, section + rest)
+            self._put((place or UNKNOWN) + b"\n")
             raise Malformed("a block is neither a revision nor a record")
         kept = OF_RECORDS if kind == b"Node-path" else (kind,)
         head = b"".join(b"%s: %s\n" % (name, headers[name]) for name in kept if name in headers) + place

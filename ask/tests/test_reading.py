@@ -63,7 +63,9 @@ class Reading(base.Case):
                          (b"PROPS-END\n", b"PROPS-ENDS"), (b"Revision-number: 3", b"Revision-number: 4"),
                          (b"Node-path: trunk/lib\n", b"Node-path: trunk/./lib\n"), (b"Node-action: add", b"Node-action: put"),
                          (b"Node-copyfrom-rev: 2", b"Node-copyfrom-rev: 3"), (b"Node-copyfrom-rev: 2", b"Node-copyfrom-rev: x"),
-                         (b"Node-path: trunk\n", b"Node-path: \n"), (b"Node-path: trunk\n", b"Node-pat: trunk\n")):
+                         (b"Node-path: trunk\n", b"Node-path: \n"), (b"Node-path: trunk\n", b"Node-pat: trunk\n"),
+                         (b"Node-path: trunk\n", b"Content-length: 10\n\nPROPS-END\nNode-path: trunk\n"),
+                         (b"Node-path: trunk\n", b"Content-length: 99999\n\nPROPS-END\nNode-path: trunk\n")):
             self.assertIn(old, whole)
             self.check_refusal(whole.replace(old, new, 1))
 
