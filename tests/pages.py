@@ -1,6 +1,6 @@
 """Runs the commands that the documentation shows and compares their output with what the page shows.
 
-These are the lines after `$ `: in the manual page those of each block between `.EX` and `.EE`, in the other pages those
+These are the lines after `$ `: in a manual page those of each block between `.EX` and `.EE`, in the other pages those
 of each block marked `console`. Lines after `> ` that follow continue the command. The lines from there up to the next
 command are its output.
 """

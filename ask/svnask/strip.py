@@ -190,7 +190,7 @@ class Stripper:
             section, rest = int(properties or 0), int(text or 0)
             whole = section + rest if body is None else int(body)
             begin = found.end()
-            if whole < section + rest or begin + whole > end:
+            if whole < section + rest or begin + whole > end or (text_delta and later_delta):
                 break
             if properties is None:
                 kept = b"\n"

@@ -69,6 +69,13 @@ class Reading(base.Case):
             self.assertIn(old, whole)
             self.check_refusal(whole.replace(old, new, 1))
 
+    def test_a_header_that_stands_in_two_places_is_refused(self) -> None:
+        with open(base.dump_of("properties-deltas"), "rb") as file:
+            whole = file.read()
+        line = b"Prop-content-length: 10\n"
+        at = whole.index(line, whole.index(b"Text-delta: true\n"))
+        self.check_refusal(whole[:at] + line + b"Text-delta: true\n" + whole[at + len(line):])
+
     def check_refusal(self, content: bytes) -> None:
         dump = self.made("dump", content)
         try:
