@@ -1,5 +1,5 @@
-"""Asks for the log of a path in the youngest revision so many times by the module of svnask, and prints how many revisions
-the answers have in all."""
+"""Asks for the log of a path in the youngest revision so many times by the module of svnask, and prints how many
+revisions the answers have in all."""
 import os
 import sys
 

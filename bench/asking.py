@@ -1,5 +1,5 @@
-"""How long svnask takes: its first call about a dump, which reads and keeps what questions need, later calls, and reading
-many answers, compared with `grep` and with the program itself.
+"""How long svnask takes: its first call about a dump, which reads and keeps what questions need, later calls, and
+reading many answers, compared with `grep` and with the program itself.
 
 The history has release branches, and half of its bytes are mergeinfo. All times are processor seconds, of the commands
 and of what they start, and the best of some runs in turns. The program answers with as many workers as svnask has.
@@ -111,8 +111,8 @@ def run_asking(program: str, folder: str, given: argparse.Namespace) -> int:
                         given.times))
     length = asked.later().output.count(b"\nr")
     count = LINES // (QUICK if given.quick else 1) // length
-    best.update(best_of({"svnhist, many logs": lambda: asked.alone(count), "the module, the same": lambda: asked.read(count)},
-                        given.times))
+    best.update(best_of({"svnhist, many logs": lambda: asked.alone(count),
+                         "the module, the same": lambda: asked.read(count)}, given.times))
     show(best)
     print("lines of the many logs: %s" % best["the module, the same"].output.decode().strip())
     first, grep = best["svnask, the first call"], best["grep -c ^Node-path"]

@@ -10,8 +10,8 @@
 
 Paths, names and messages are bytes, as in the dump. A dump that svnhist does not accept raises `Refused`.
 """
-from .answers import (Answer, Inherited, Line, Locate, Located, Log, Logged, Merge, Mergeinfo, Merges, Pair, Query, Segment,
-                      Segments, Where)
+from .answers import (Answer, Inherited, Line, Locate, Located, Log, Logged, Merge, Mergeinfo, Merges, Pair, Query,
+                      Segment, Segments, Where)
 from .changes import Change
 from .errors import Denied, Error, Failed, Refused
 from .history import History
