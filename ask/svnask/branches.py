@@ -9,7 +9,8 @@ from .lives import PATTERNS, Life, all_lives
 from .targets import Target
 from .values import Explicit, runs_of
 
-# How many revisions are looked through at first for the last change of a life; each further look has as many times more.
+# How many revisions are looked through at first for the last change of a life, and how many times more at each further
+# look.
 FIRST_WINDOW, WINDOW_GROWS = 64, 16
 
 
@@ -23,7 +24,7 @@ def lives_of(history: History, patterns: Sequence[bytes]) -> List[Life]:
 
 
 def last_changes(history: History, lives: Iterable[Life]) -> Dict[Life, int]:
-    """The newest operative revision of each life. The answers for a long one would be long, so its end is asked first."""
+    """The newest operative revision of each life. That of a long one would be long, so its end is asked first."""
     found: Dict[Life, int] = {}
     left = list(lives)
     window = FIRST_WINDOW
@@ -88,7 +89,7 @@ class Left(NamedTuple):
 
 
 def unmerged(history: History, patterns: Sequence[bytes], into: Target) -> Iterator[Left]:
-    """What of each branch of today is still to be merged into a target, as `svn mergeinfo --show-revs eligible` says."""
+    """What of each branch of today is still to be merged into a target: `svn mergeinfo --show-revs eligible`."""
     explicit = Explicit(history.records())
     for life in lives_of(history, patterns or (b"/branches/*",)):
         if life.is_alive and life.path != into.path:

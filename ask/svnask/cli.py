@@ -23,15 +23,16 @@ class Parser(argparse.ArgumentParser):
 
 
 def parser() -> Parser:
-    words = Parser(prog="svnask", description="Answers a question about the history of a Subversion repository from its "
-                   "dump, as 'svn' would print it.")
+    words = Parser(prog="svnask", description="Answers a question about the history of a Subversion repository from "
+                   "its dump, as 'svn' would print it.")
     words.add_argument("dump", metavar="DUMP", help="a dump, or - for the standard input")
     words.add_argument("--json", action="store_true", help="print one object a line, for scripts")
     words.add_argument("--no-cache", action="store_true", help="read the dump anew, and keep nothing of it")
     verbs = words.add_subparsers(dest="verb", metavar="VERB", required=True, parser_class=Parser)
     for verb in VERBS:
         below = verbs.add_parser(verb.name, help=verb.help, description=verb.help)
-        below.add_argument("--json", action="store_true", default=argparse.SUPPRESS, help=argparse.SUPPRESS)
+        for option in ("--json", "--no-cache"):
+            below.add_argument(option, action="store_true", default=argparse.SUPPRESS, help=argparse.SUPPRESS)
         verb.arguments(below)
     return words
 
@@ -50,7 +51,8 @@ class Progress:
             return
         self._shown, self._is_open = now, True
         share = "%3d %%, " % (100 * read // self._size) if self._size else ""
-        sys.stderr.write("\rreading the dump: %s%d MB, %d MB/s " % (share, read >> 20, read / (now - self._begun) / (1 << 20)))
+        rate = read / (now - self._begun) / (1 << 20)
+        sys.stderr.write("\rreading the dump: %s%d MB, %d MB/s " % (share, read >> 20, rate))
         sys.stderr.flush()
 
     def close(self) -> None:
@@ -71,7 +73,7 @@ def lines_of(history: History, words: argparse.Namespace) -> Iterator[bytes]:
     if verb.judges and not history.is_whole:
         history.check()
     if words.json:
-        return (json.dumps(each, ensure_ascii=False).encode("utf-8", "surrogateescape") + b"\n"
+        return (json.dumps(each, ensure_ascii=False).encode("utf-8", "backslashreplace") + b"\n"
                 for each in verb.objects(history, words))
     return verb.text(history, words)
 

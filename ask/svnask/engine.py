@@ -45,8 +45,8 @@ def _run(dump: str, queries: List[Query]) -> Iterator[Answer]:
         lines.seek(0)
         command = [find_engine(), dump, "/dev/fd/%d" % lines.fileno(), "0", str(workers())]
         try:
-            process = subprocess.Popen(command, stdin=subprocess.DEVNULL, stdout=subprocess.PIPE, stderr=subprocess.PIPE,
-                                       pass_fds=[lines.fileno()])
+            process = subprocess.Popen(command, stdin=subprocess.DEVNULL, stdout=subprocess.PIPE,
+                                       stderr=subprocess.PIPE, pass_fds=[lines.fileno()])
         except OSError as error:
             raise Failed("cannot run %s: %s" % (command[0], error.strerror)) from error
         assert process.stdout is not None and process.stderr is not None

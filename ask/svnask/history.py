@@ -36,8 +36,8 @@ class History:
     @classmethod
     def open(cls, dump: Union[str, BinaryIO], is_cached: bool = True,
              seen: Callable[[int], object] = lambda read: None) -> "History":
-        """The history of a file, by its name or opened. `-` is the standard input. What is read of a file is kept in the
-        cache, unless `is_cached` is false. `seen` is told now and then how many bytes were read.
+        """The history of a file, by its name or opened. `-` is the standard input. What is read of a file is kept in
+        the cache, unless `is_cached` is false. `seen` is told now and then how many bytes were read.
 
         >>> with History.open("interop/merges.dump", is_cached=False) as merges:
         ...     merges.head

@@ -185,7 +185,7 @@ def show_revs(history: History, explicit: Explicit, source: Target, target: Targ
     if not is_merged:
         add_own_history(catalog, own, there)
     found = sort_out(catalog, there)
-    chosen = found.whole | found.partial if is_merged else set().union(*there.values()) - found.whole if there else set()
+    chosen = found.whole | found.partial if is_merged else set().union(*there.values()) - found.whole
     listed = set(log.revisions_of(history, log.trace(history, source), source.path == b"/"))
     coverage = Coverage(history, catalog, there)
     shown = []

@@ -7,7 +7,9 @@ from .errors import Refused
 from .store import Record
 
 PEG = re.compile(rb"(.*)@([0-9]+)\Z", re.DOTALL)
-VERBS = {b"locate": (3, 3), b"segments": (2, 2), b"log": (2, 3), b"mergeinfo": (2, 2), b"merged": (3, 4), b"eligible": (3, 4)}
+# The verbs of queries, with the fewest and the most fields of a line.
+VERBS = {b"locate": (3, 3), b"segments": (2, 2), b"log": (2, 3), b"mergeinfo": (2, 2), b"merged": (3, 4),
+         b"eligible": (3, 4)}
 
 
 class Shape(NamedTuple):
@@ -24,8 +26,8 @@ SHAPES = [
     Shape(b"\xfd7zXZ\0", "xz", "xzcat {dump} | svnask - .."),
     Shape(b"\x28\xb5\x2f\xfd", "zstd", "zstdcat {dump} | svnask - .."),
     Shape(b"PK\x03\x04", "a zip archive", "unzip -p {dump} | svnask - .."),
-    Shape(b"\xef\xbb\xbf", "text with a byte order mark", "the dump was edited or converted: dump the repository again"),
-    Shape(b"\xff\xfe", "UTF-16", "the dump was converted by a shell: dump the repository again, with svnadmin dump -F FILE"),
+    Shape(b"\xef\xbb\xbf", "text with a byte order mark", "the dump was edited or converted: dump it again"),
+    Shape(b"\xff\xfe", "UTF-16", "a shell converted the dump: dump it again, with svnadmin dump -F FILE"),
     Shape(b"<?xml", "XML", "a dump is what 'svnadmin dump -q REPO' writes, not 'svn log --xml'"),
     Shape(b"blob\n", "a stream of git fast-export", "a dump is what 'svnadmin dump -q REPO' writes"),
     Shape(b"commit ", "a stream of git", "a dump is what 'svnadmin dump -q REPO' writes"),

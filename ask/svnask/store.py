@@ -7,6 +7,7 @@ import re
 import shutil
 import stat
 import tempfile
+import time
 from typing import BinaryIO, Callable, Dict, Iterator, List, NamedTuple, Optional, Tuple
 
 from .errors import Failed
@@ -126,7 +127,8 @@ class Store:
             raise Failed("the cache is damaged: --no-cache reads the dump anew")
         length = int(found["length"] or 0)
         values = properties_of(self.data[found.end():found.end() + length]) if length else {}
-        return Revision(rev, values.get(b"svn:author"), values.get(b"svn:date"), values.get(b"svn:log"), int(found["at"]))
+        author, date, message = (values.get(name) for name in (b"svn:author", b"svn:date", b"svn:log"))
+        return Revision(rev, author, date, message, int(found["at"]))
 
     def records(self, first: int = 0, last: Optional[int] = None) -> Iterator[Record]:
         """The records of revisions, in the order of the dump. They are numbered from 1 in the first one."""
@@ -181,7 +183,9 @@ def properties_of(section: bytes) -> Dict[bytes, bytes]:
 
 def record_of(found: "re.Match[bytes]", number: int, rev: int, version: int) -> Record:
     section = found.string[found.end():found.end() + int(found["length"] or 0)]
-    source = (clean(found["from_path"]), int(found["from_rev"])) if found["from_path"] is not None and found["from_rev"] else None
+    source = None
+    if found["from_path"] is not None and found["from_rev"]:
+        source = clean(found["from_path"]), int(found["from_rev"])
     return Record(number, rev, clean(found["path"]), (found["action"] or b"").decode("latin-1"),
                   None if found["kind"] is None else found["kind"].decode("latin-1"), source,
                   setting_of(section, version == 3 and found["delta"] is not None), int(found["at"]))
@@ -219,9 +223,10 @@ def key_of(file: BinaryIO) -> str:
     """A name for the content of a file, by what tells it apart cheaply: where it is, its size and its time, and what
     stands at both its ends."""
     status = os.fstat(file.fileno())
-    digest = hashlib.sha256(("%d %d %d %d\n" % (status.st_dev, status.st_ino, status.st_size, status.st_mtime_ns)).encode())
-    for place in (0, max(status.st_size - END, 0)):
-        digest.update(os.pread(file.fileno(), END, place))
+    place = status.st_dev, status.st_ino, status.st_size, status.st_mtime_ns
+    digest = hashlib.sha256(b"%d %d %d %d\n" % place)
+    for begin in (0, max(status.st_size - END, 0)):
+        digest.update(os.pread(file.fileno(), END, begin))
     return digest.hexdigest()
 
 

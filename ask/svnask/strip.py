@@ -179,8 +179,8 @@ class Stripper:
         return self._any_block(at) if after == at else after
 
     def _records(self, at: int) -> int:
-        """Copies records from this place on as long as their headers are in an order of Subversion, their properties have
-        their form and they are whole in the window; nearly all are. The place after them."""
+        """Copies records from this place on as long as their headers are in an order of Subversion, their properties
+        have their form and they are whole in the window; nearly all are. The place after them."""
         data, base, end = self.source.data, self.source.base, len(self.source.data)
         has_deltas, places, match = self.copy.format == 3, self._places, RECORD.match
         pieces: List[bytes] = []

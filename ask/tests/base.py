@@ -37,7 +37,8 @@ def names() -> List[str]:
 
 def run(*words: str, given: bytes = b"") -> Done:
     """Runs the command on these arguments and this standard input."""
-    done = subprocess.run([sys.executable, COMMAND, *words], input=given, stdout=subprocess.PIPE, stderr=subprocess.PIPE)
+    done = subprocess.run([sys.executable, COMMAND, *words], input=given, stdout=subprocess.PIPE,
+                          stderr=subprocess.PIPE)
     return Done(done.returncode, done.stdout, done.stderr.decode("utf-8", "replace"))
 
 

@@ -34,13 +34,21 @@ class Command(base.Case):
         self.assertIn("dump refused: 5 Truncated at byte 363", done.said)
 
     def test_lines_of_json_are_objects(self) -> None:
-        for words in (["log", "/"], ["branches"], ["segments", "branches/two"], ["info"], ["record", "4"], ["show", "9"],
-                      ["contains", "5"], ["unmerged"], ["changed-tags"], ["mergeinfo", "trunk"], ["where", "trunk", "3"],
+        for words in (["log", "/"], ["branches"], ["segments", "branches/two"], ["info"], ["record", "4"],
+                      ["show", "9"],
+                      ["contains", "5"], ["unmerged"], ["changed-tags"], ["mergeinfo", "trunk"],
+                      ["where", "trunk", "3"],
                       ["mergeinfo", "--show-revs", "eligible", "trunk", "branches/two"]):
             done = base.run("--json", DUMP, *words)
             self.assertEqual((done.status, done.said), (0, ""), words)
             for line in done.output.splitlines():
                 self.assertIsInstance(json.loads(line), dict)
+
+    def test_bytes_that_are_no_text_are_escaped_in_json(self) -> None:
+        record = b"Node-path: a\xff\nNode-kind: file\nNode-action: add\n\n"
+        dump = self.made("bytes", b"SVN-fs-dump-format-version: 2\n\nRevision-number: 0\n\nRevision-number: 1\n\n" + record)
+        done = base.run(dump, "record", "1", "--json", "--no-cache")
+        self.assertEqual(json.loads(done.output)["path"].encode("utf-8", "surrogateescape"), b"/a\xff")
 
     def test_wrong_arguments_have_status_2(self) -> None:
         wrong: List[List[str]] = [[], [DUMP], [DUMP, "blame"], [DUMP, "log", "--bogus"], [DUMP, "where", "trunk"],
@@ -54,8 +62,10 @@ class Command(base.Case):
         self.assertEqual(base.run(os.path.join(self.folder, "none"), "info").status, 3)
 
     def test_questions_without_an_answer_have_status_1(self) -> None:
-        for words, code in ((["log", "nope"], "E160013"), (["log", "trunk@99"], "E160006"), (["log", "-l", "0"], "E200004"),
-                            (["log", "-l", "x"], "E205000"), (["log", "-r", "3:"], "E205000"), (["log", "-r", "BASE"], "E195002"),
+        for words, code in ((["log", "nope"], "E160013"), (["log", "trunk@99"], "E160006"),
+                            (["log", "-l", "0"], "E200004"),
+                            (["log", "-l", "x"], "E205000"), (["log", "-r", "3:"], "E205000"),
+                            (["log", "-r", "BASE"], "E195002"),
                             (["log", "-c", "3", "-r", "3"], "E195002"), (["log", "trunk/lib/util.c/x"], "E160013")):
             done = base.run(DUMP, *words)
             self.assertEqual((done.status, done.output), (1, b""), words)
@@ -64,7 +74,8 @@ class Command(base.Case):
     def test_input_that_is_no_dump_is_named(self) -> None:
         with open(DUMP, "rb") as file:
             whole = file.read()
-        for content, word in ((gzip.compress(whole), "gzip"), (b"", "empty"), (b"blob\nmark :1\n", "git"), (b"<?xml", "XML"),
+        for content, word in ((gzip.compress(whole), "gzip"), (b"", "empty"), (b"blob\nmark :1\n", "git"),
+                              (b"<?xml", "XML"),
                               (whole.replace(b"\n", b"\r\n"), "CR LF"), (b"log\ttrunk@3\n", "queries"),
                               (b"\xef\xbb\xbf" + whole, "byte order"), (b"hello", "no dump")):
             done = base.run(self.made("other", content), "info")
@@ -112,7 +123,8 @@ class Command(base.Case):
     def test_names_of_any_kind(self) -> None:
         name = "a b%@\u2028\u0085"
         record = "Node-path: %s\nNode-kind: file\nNode-action: add\n\n" % name
-        dump = self.made("names", ("SVN-fs-dump-format-version: 2\n\nRevision-number: 0\n\nRevision-number: 1\n\n" + record).encode())
+        dump = self.made("names",
+        ("SVN-fs-dump-format-version: 2\n\nRevision-number: 0\n\nRevision-number: 1\n\n" + record).encode())
         done = base.run(dump, "segments", "^/" + name + "@1")
         self.assertEqual((done.status, done.output.decode()), (0, "1-1 /%s\n" % name))
 
@@ -139,7 +151,8 @@ class Command(base.Case):
     def check_signal(self, number: int) -> None:
         temporary = os.path.join(self.folder, "temporary-%d" % number)
         os.mkdir(temporary)
-        process = subprocess.Popen([sys.executable, base.COMMAND, "-", "info"], stdin=subprocess.PIPE, stderr=subprocess.PIPE,
+        process = subprocess.Popen([sys.executable, base.COMMAND, "-", "info"], stdin=subprocess.PIPE,
+                                   stderr=subprocess.PIPE,
                                    env=dict(os.environ, TMPDIR=temporary))
         assert process.stdin is not None
         process.stdin.write(b"SVN-fs-dump-format-version: 2\n\n" + b"Revision-number: 0\n\n" * 9)

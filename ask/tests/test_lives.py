@@ -22,10 +22,12 @@ class Lives(base.Case):
 
     def test_lives_of_a_repository(self) -> None:
         history = self.history(base.dump_of("again"))
-        found = [(life.path, life.first, life.last, life.source) for life in all_lives(history.records(), [b"/b/*"], 17)]
+        found = [(life.path, life.first, life.last, life.source) for life in all_lives(history.records(),
+        [b"/b/*"], 17)]
         self.assertEqual(found, [
             (b"/b/one", 2, 2, (b"/trunk", 1)), (b"/b/one", 4, 6, (b"/trunk", 3)), (b"/b/one", 8, 14, (b"/b/one", 6)),
-            (b"/b/one", 16, 17, (b"/b/two", 14)), (b"/b/two", 11, 14, (b"/trunk", 10)), (b"/b/two", 17, 17, (b"/b/one", 2))])
+            (b"/b/one", 16, 17, (b"/b/two", 14)), (b"/b/two", 11, 14, (b"/trunk", 10)), (b"/b/two", 17, 17,
+            (b"/b/one", 2))])
 
 
 if __name__ == "__main__":

@@ -10,5 +10,6 @@ from .logs import LogVerb, ShowVerb
 from .merges import MergeinfoVerb
 from .places import SegmentsVerb, WhereVerb
 
-VERBS: List[Verb] = [LogVerb(), ShowVerb(), MergeinfoVerb(), WhereVerb(), SegmentsVerb(), BranchesVerb(), ContainsVerb(),
-                     UnmergedVerb(), ChangedTagsVerb(), GraphVerb(), RecordVerb(), ByteVerb(), InfoVerb(), AskVerb()]
+VERBS: List[Verb] = [
+    LogVerb(), ShowVerb(), MergeinfoVerb(), WhereVerb(), SegmentsVerb(), BranchesVerb(), ContainsVerb(),
+    UnmergedVerb(), ChangedTagsVerb(), GraphVerb(), RecordVerb(), ByteVerb(), InfoVerb(), AskVerb()]

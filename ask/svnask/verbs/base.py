@@ -56,8 +56,8 @@ def existing(history: History, text: str) -> int:
 
 
 def object_of_record(record: Record) -> Object:
-    found: Object = {"record": record.number, "revision": record.rev, "path": decoded(record.path), "action": record.action,
-                     "kind": record.kind, "byte": record.at}
+    found: Object = {"record": record.number, "revision": record.rev, "path": decoded(record.path),
+                     "action": record.action, "kind": record.kind, "byte": record.at}
     if record.source:
         found["from"] = {"path": decoded(record.source[0]), "revision": record.source[1]}
     if record.mergeinfo:

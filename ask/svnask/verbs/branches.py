@@ -43,7 +43,8 @@ class BranchesVerb(Verb):
             moved = any(life.continues(other) for other in lives)
             origin = (b"moved " if moved else b"") + origin_of(life)
             end = b"" if life.is_alive else b"\tended in r%d" % (life.last + 1)
-            yield b"%s\tr%d-r%d\t%s\tchanged in r%d%s\n" % (life.path, life.first, life.last, origin, changes[life], end)
+            yield b"%s\tr%d-r%d\t%s\tchanged in r%d%s\n" % (life.path, life.first, life.last, origin, changes[life],
+                                                            end)
 
     def objects(self, history: History, words: Namespace) -> Iterator[Object]:
         lives = branches.lives_of(history, patterns_of(words))
@@ -76,7 +77,8 @@ class UnmergedVerb(Verb):
 
     def arguments(self, parser: ArgumentParser) -> None:
         add_patterns(parser, "/branches/*")
-        parser.add_argument("--into", metavar="TARGET[@PEG]", default="/trunk", help="the target, /trunk if none is given")
+        parser.add_argument("--into", metavar="TARGET[@PEG]", default="/trunk",
+                            help="the target, /trunk if none is given")
 
     def left(self, history: History, words: Namespace) -> Iterator[branches.Left]:
         return branches.unmerged(history, patterns_of(words), target_of(history, words.into))
