@@ -60,6 +60,7 @@ class Asked:
         self.dump = os.path.join(folder, "asked")
         self.stripped = os.path.join(folder, "asked-stripped")
         self.cache = os.path.join(folder, "cache")
+        self.compiled = os.path.join(folder, "compiled")
         self.queries = os.path.join(folder, "asked-queries")
         self.workers = str(min(len(os.sched_getaffinity(0)), 64))
         self.rev = revisions
@@ -70,8 +71,9 @@ class Asked:
         load_into_cache(self.dump)
 
     def python(self, *words: str) -> List[str]:
-        """A script in Python with the program and the cache of this benchmark."""
-        return ["env", "SVNHIST=" + self.program, "XDG_CACHE_HOME=" + self.cache, sys.executable] + list(words)
+        """A script in Python with the program and the cache of this benchmark, and compiled once, as when installed."""
+        return ["env", "-u", "PYTHONDONTWRITEBYTECODE", "PYTHONPYCACHEPREFIX=" + self.compiled,
+                "SVNHIST=" + self.program, "XDG_CACHE_HOME=" + self.cache, sys.executable] + list(words)
 
     def grep(self) -> Run:
         return done(["grep", "-c", "-a", "^Node-path", self.dump])

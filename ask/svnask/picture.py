@@ -1,6 +1,6 @@
 """Draws a graph as SVG that any browser shows: no scripts, and nothing from elsewhere."""
+from html import escape
 from typing import Iterator, List, NamedTuple, Set
-from xml.sax.saxutils import escape
 
 from .graph import BRANCH, TAG, TRUNK, Copy, Dot, Graph, Merge
 from .history import History
@@ -43,12 +43,12 @@ def points(*values: float) -> str:
 
 
 def element(title: str, *inner: str) -> str:
-    return "<g><title>%s</title>%s</g>\n" % (escape(title), "".join(inner))
+    return "<g><title>%s</title>%s</g>\n" % (escape(title, quote=False), "".join(inner))
 
 
 def text(x: float, y: float, content: str, kind: str, anchor: str = "start") -> str:
     return '<text x="%s" y="%s" class="%s" text-anchor="%s">%s</text>\n' % (
-        decimal(x), decimal(y), kind, anchor, escape(content))
+        decimal(x), decimal(y), kind, anchor, escape(content, quote=False))
 
 
 class Picture:
@@ -85,7 +85,7 @@ class Picture:
         size = max(self._layout.width, self._legend.width), self._layout.height
         return ('<svg xmlns="http://www.w3.org/2000/svg" width="%d" height="%d" viewBox="0 0 %d %d" role="img">\n'
                 '<desc>%s</desc>\n<style>%s</style>\n<rect width="100%%" height="100%%" fill="#ffffff"/>\n'
-                % (*size, *size, escape(self._about()), STYLE))
+                % (*size, *size, escape(self._about(), quote=False), STYLE))
 
     def _about(self) -> str:
         lanes = self._graph.lanes
