@@ -8,6 +8,7 @@ from .history import History
 NUMBER = re.compile(r"r?(\d+)\Z")
 DATE = re.compile(r"\{(.*)\}\Z", re.DOTALL)
 WORDS = re.compile(r"(?:BASE|PREV|COMMITTED)\Z", re.IGNORECASE)
+URL = re.compile(r"[A-Za-z][A-Za-z0-9+.-]*://")
 GREATEST = 2147483647
 
 
@@ -36,6 +37,8 @@ def split_peg(text: str) -> Tuple[str, str]:
 
 def path_of(text: str) -> bytes:
     """A path of the repository, with or without `^/` or a slash at its front."""
+    if URL.match(text):
+        raise Denied("E170000", "'%s' is a URL, and a dump has none: name the path in it, such as trunk" % text)
     if text.startswith("^/") or text == "^":
         text = text[1:]
     parts = [part for part in encoded(text).split(b"/") if part not in (b"", b".")]

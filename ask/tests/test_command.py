@@ -65,7 +65,7 @@ class Command(base.Case):
         for words, code in ((["log", "nope"], "E160013"), (["log", "trunk@99"], "E160006"),
                             (["log", "-l", "0"], "E200004"),
                             (["log", "-l", "x"], "E205000"), (["log", "-r", "3:"], "E205000"),
-                            (["log", "-r", "BASE"], "E195002"),
+                            (["log", "-r", "BASE"], "E195002"), (["log", "file:///repo/trunk"], "E170000"),
                             (["log", "-c", "3", "-r", "3"], "E195002"), (["log", "trunk/lib/util.c/x"], "E160013")):
             done = base.run(DUMP, *words)
             self.assertEqual((done.status, done.output), (1, b""), words)
