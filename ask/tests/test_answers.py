@@ -5,7 +5,8 @@ import unittest
 from base import Case
 from svnask import Log
 
-PATHS = [b"/", b"/trunk", b"/branches/1.8", b"/a b", b"/a /trunk", b"/r1 /2", b"/ ", b"/x,1", b"/[3]", b"/\xc2\x85", b"/8"]
+PATHS = [b"/", b"/trunk", b"/branches/1.8", b"/a b", b"/a /trunk", b"/r1 /2", b"/ ", b"/x,1", b"/[3]", b"/\xc2\x85",
+         b"/8"]
 
 
 class Logs(Case):

@@ -45,8 +45,8 @@ class Command(base.Case):
                 self.assertIsInstance(json.loads(line), dict)
 
     def test_bytes_that_are_no_text_are_escaped_in_json(self) -> None:
-        record = b"Node-path: a\xff\nNode-kind: file\nNode-action: add\n\n"
-        dump = self.made("bytes", b"SVN-fs-dump-format-version: 2\n\nRevision-number: 0\n\nRevision-number: 1\n\n" + record)
+        front = b"SVN-fs-dump-format-version: 2\n\nRevision-number: 0\n\nRevision-number: 1\n\n"
+        dump = self.made("bytes", front + b"Node-path: a\xff\nNode-kind: file\nNode-action: add\n\n")
         done = base.run(dump, "record", "1", "--json", "--no-cache")
         self.assertEqual(json.loads(done.output)["path"].encode("utf-8", "surrogateescape"), b"/a\xff")
 
