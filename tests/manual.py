@@ -1,5 +1,4 @@
-"""Compares the versions of the manual pages with the launcher's, and has the pages checked by the formatters that are
-installed."""
+"""Has the manual pages checked by the formatters that are installed. A release writes its version into their heads."""
 import os
 import re
 import shutil
@@ -32,18 +31,16 @@ def warnings_of(words, name, output):
     return ((done.stdout or b"") + done.stderr).decode("utf-8", "replace").replace(path_of(name), "docs/%s.1" % name)
 
 
-def versions_in(path, pattern):
-    with open(path, encoding="utf-8") as file:
-        return re.findall(pattern, file.read(), re.MULTILINE)
+def heads_in(name):
+    with open(path_of(name), encoding="utf-8") as file:
+        return re.findall(r'^\.TH (\S+) 1 \S+ "([^"]*)"', file.read(), re.MULTILINE)
 
 
 def run_manual():
-    """Of each page the two versions; and of each formatter its name, no warnings, and the warnings that it gave."""
-    launcher = versions_in(os.path.join(ROOT, "svnhist"), r"^version=(\S+)$")
+    """Of each page its head; and of each formatter its name, no warnings, and the warnings that it gave."""
     outcomes = []
     for name in NAMES:
-        header = r'^\.TH %s 1 \S+ "svnhist (\S+)"' % name.upper()
-        outcomes.append(("version of " + name, launcher, versions_in(path_of(name), header)))
+        outcomes.append(("head of " + name, [(name.upper(), "svnhist")], heads_in(name)))
         if shutil.which("mandoc"):
             outcomes.append(("mandoc " + name, "", warnings_of(MANDOC, name, subprocess.PIPE)))
         if is_man_db():

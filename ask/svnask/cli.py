@@ -22,12 +22,18 @@ class Parser(argparse.ArgumentParser):
         raise Usage(message)
 
 
+def version() -> str:
+    with open(os.path.join(os.path.dirname(__file__), "VERSION"), encoding="ascii") as file:
+        return file.read().strip()
+
+
 def parser() -> Parser:
     words = Parser(prog="svnask", description="Answers a question about the history of a Subversion repository from "
                    "its dump, as 'svn' would print it.")
     words.add_argument("dump", metavar="DUMP", help="a dump, or - for the standard input")
     words.add_argument("--json", action="store_true", help="print one object a line, for scripts")
     words.add_argument("--no-cache", action="store_true", help="read the dump anew, and keep nothing of it")
+    words.add_argument("-V", "--version", action="version", version="svnask " + version())
     verbs = words.add_subparsers(dest="verb", metavar="VERB", required=True, parser_class=Parser)
     for verb in VERBS:
         below = verbs.add_parser(verb.name, help=verb.help, description=verb.help)

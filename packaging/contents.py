@@ -1,0 +1,125 @@
+"""What a release has: which file stands where in the tarball and in the Debian package."""
+import glob
+import gzip
+import os
+import re
+from typing import Dict, Iterator, List, NamedTuple
+
+ROOT = os.path.dirname(os.path.dirname(os.path.abspath(__file__)))
+HERE = os.path.dirname(os.path.abspath(__file__))
+# The pages for those who change svnhist. All other ones are for its users.
+FOR_DEVELOPERS = ["DECISIONS.md", "building.md", "code-map.md", "developing.md", "glossary.md", "releasing.md"]
+MANUALS = ["svnhist.1", "svnask.1"]
+MODULE = "usr/lib/python3/dist-packages/svnask/"
+PAGES = "usr/share/doc/svnhist/"
+EXAMPLE = re.compile(r"(?:examples|interop)/[\w-]+\.(?:dump|bundle)")
+LINK = re.compile(r"(!?)\[([^\]]*)\]\(([^)\s#]*)(#[^)\s]*)?\)")
+
+
+class File(NamedTuple):
+    """A file of a release: where it stands, what it has, and its mode."""
+
+    path: str
+    content: bytes
+    mode: int = 0o644
+
+
+class Parts(NamedTuple):
+    """What a release is made of beside the sources: the program, and the licences of what is linked into it by name."""
+
+    program: bytes
+    licences: Dict[str, bytes]
+
+
+def read(*names: str) -> bytes:
+    with open(os.path.join(ROOT, *names), "rb") as file:
+        return file.read()
+
+
+def version() -> str:
+    return read("ask", "svnask", "VERSION").decode("ascii").strip()
+
+
+def manual(name: str) -> bytes:
+    """A manual page, which names the version at its foot."""
+    head, quoted, rest = read("docs", name).partition(b'"svnhist"')
+    assert quoted and head.count(b"\n") < 3, name
+    return head + b'"svnhist %s"' % version().encode("ascii") + rest
+
+
+def module() -> List[File]:
+    found = []
+    for path in glob.glob(os.path.join(ROOT, "ask", "svnask", "**"), recursive=True):
+        if path.endswith((".py", "VERSION")):
+            found.append(File(os.path.relpath(path, os.path.join(ROOT, "ask", "svnask")), read(path)))
+    return sorted(found)
+
+
+def names_of_pages() -> List[str]:
+    below = sorted(os.listdir(os.path.join(ROOT, "docs")))
+    chosen = [name for name in below if name.endswith((".md", ".svg")) and name not in FOR_DEVELOPERS]
+    return ["README.md", "SECURITY.md"] + ["docs/" + name for name in chosen]
+
+
+def examples(names: List[str]) -> List[File]:
+    """The dumps that pages name, and the script that they call."""
+    found = sorted({name for page in names for name in EXAMPLE.findall(read(page).decode("utf-8"))})
+    kept = [File(name, read(name)) for name in found if os.path.exists(os.path.join(ROOT, name))]
+    return kept + [File("examples/strip-texts", read("examples", "strip-texts"), 0o755)]
+
+
+def with_live_links(name: str, page: str, paths: List[str]) -> str:
+    """A page whose links to files that the release doesn't have are plain text."""
+    def shown(found: "re.Match[str]") -> str:
+        target = os.path.normpath(os.path.join(os.path.dirname(name), found[3]))
+        is_kept = not found[3] or ":" in found[3] or target in paths
+        return found[0] if is_kept else found[2]
+
+    return LINK.sub(shown, page)
+
+
+def pages(others: List[str]) -> List[File]:
+    """The pages for users, with the examples that they speak of. They may lead to other files, too."""
+    names = names_of_pages()
+    kept = examples(names)
+    paths = names + others + [file.path for file in kept]
+    for name in names:
+        text = read(name)
+        if name.endswith(".md"):
+            text = with_live_links(name, text.decode("utf-8"), paths).encode("utf-8")
+        kept.append(File(name, text))
+    return kept
+
+
+def of_tarball(parts: Parts) -> List[File]:
+    """The files of the tarball: the folder has the shape of the source tree, so that the commands of the pages run in
+    it as they stand."""
+    others = ["CHANGELOG.md", "LICENSE"]
+    files = [File("svnhist", parts.program, 0o755), File("svnask", read("svnask"), 0o755)]
+    files += [File(name, read(name)) for name in others]
+    files += [File("ask/svnask/" + file.path, file.content) for file in module()]
+    files += [File("man/man1/" + name, manual(name)) for name in MANUALS]
+    files += [File("licenses/" + name, content) for name, content in parts.licences.items()]
+    return sorted(in_folder("svnhist-%s/" % version(), files + pages(others)))
+
+
+def in_folder(folder: str, files: List[File]) -> Iterator[File]:
+    for file in files:
+        yield file._replace(path=folder + file.path)
+
+
+def packed(content: bytes) -> bytes:
+    return gzip.compress(content, 9, mtime=0)
+
+
+def of_package(parts: Parts, debian_changelog: bytes) -> List[File]:
+    """The files that the Debian package installs."""
+    files = [File("usr/bin/svnhist", parts.program, 0o755), File("usr/bin/svnask", read("svnask"), 0o755)]
+    files += in_folder(MODULE, module())
+    files += [File("usr/share/man/man1/%s.gz" % name, packed(manual(name))) for name in MANUALS]
+    files += in_folder(PAGES, pages([]))
+    files += [File(PAGES + "copyright", read("packaging", "copyright")),
+              File(PAGES + "changelog.gz", packed(read("CHANGELOG.md"))),
+              File(PAGES + "changelog.Debian.gz", packed(debian_changelog)),
+              File("usr/share/lintian/overrides/svnhist", read("packaging", "lintian-overrides"))]
+    return sorted(files)

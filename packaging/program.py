@@ -1,0 +1,104 @@
+"""The program of a release: the object of the program that `./test` passed, linked with the C library into one file
+that runs on each Linux on x86-64."""
+import glob
+import os
+import shutil
+import subprocess
+import tempfile
+from typing import Dict, List
+
+from archives import NotMade, filled
+from contents import ROOT, File, Parts, version
+
+PROGRAM = os.path.join(ROOT, "crates", "svnhist", "out", "svnhist")
+OBJECT = PROGRAM + ".o"
+MADE_FROM = os.path.join(os.path.dirname(PROGRAM), "made-from")
+ARCHIVES = ["libos_c.a", "liblibc_c.a"]
+TARGET = "x86_64-unknown-linux-gnu"
+LINK = ["gcc", "-static-pie", "-Wl,--gc-sections", "-Wl,-z,relro,-z,now,-z,noexecstack", "-Wl,--build-id=sha1", "-s"]
+STRIP = ["strip", "--strip-unneeded", "-R", ".comment", "-R", ".note"]
+# The ported crates that are linked into the program.
+PORTS = ["crossbeam_deque", "itoa", "memchr", "once_cell", "rayon", "thiserror"]
+LGPL = "/usr/share/common-licenses/LGPL-2.1"
+
+
+def content(path: str) -> bytes:
+    try:
+        with open(path, "rb") as file:
+            return file.read()
+    except OSError as error:
+        raise NotMade("cannot read %s: %s" % (path, error.strerror)) from error
+
+
+def printed(words: List[str]) -> str:
+    """What a command prints, which must not fail."""
+    done = subprocess.run(words, cwd=ROOT, stdout=subprocess.PIPE, stderr=subprocess.STDOUT)
+    text = done.stdout.decode("utf-8", "replace").strip()
+    if done.returncode:
+        raise NotMade("%s: %s" % (words[0], text))
+    return text
+
+
+def kit() -> str:
+    """The folder of the Rattle kit."""
+    found = shutil.which("rt") or "/opt/rattle/bin/rt"
+    return os.path.dirname(os.path.dirname(os.path.realpath(found)))
+
+
+def archives() -> List[str]:
+    return [os.path.join(kit(), "c", name) for name in ARCHIVES]
+
+
+def is_of_object() -> bool:
+    """Whether the object is there, and linked as `rt` links it gives the built program."""
+    if not os.path.exists(OBJECT):
+        return False
+    with tempfile.TemporaryDirectory(prefix="svnhist-link-") as folder:
+        linked = os.path.join(folder, "svnhist")
+        printed([os.path.join(kit(), "bin", "rattle-link"), "--target", TARGET, "--toolchain",
+                 os.path.join(kit(), "toolchain"), "-o", linked, OBJECT] + archives())
+        return content(linked) == content(PROGRAM)
+
+
+def make_object() -> None:
+    """Has the launcher build the program once more where its object is not kept."""
+    if is_of_object():
+        return
+    os.remove(MADE_FROM)
+    with open(os.path.join(ROOT, "examples", "first.bundle"), "rb") as bundle:
+        subprocess.run([os.path.join(ROOT, "svnhist")], stdin=bundle, stdout=subprocess.DEVNULL, check=True)
+    if not is_of_object():
+        raise NotMade("the object in crates/svnhist/out is not that of the program")
+
+
+def link(to: str) -> None:
+    printed(LINK + ["-o", to, OBJECT] + archives())
+    printed(STRIP + [to])
+
+
+def licences() -> Dict[str, bytes]:
+    """The licences of what is linked into the program."""
+    found = {"LGPL-2.1": content(LGPL)}
+    for port in PORTS:
+        for path in sorted(glob.glob(os.path.join(kit(), "rattle", port, "LICENSE*"))):
+            found["%s-%s" % (port, os.path.basename(path))] = content(path)
+    return found
+
+
+def version_of(package: str) -> str:
+    return printed(["dpkg-query", "-W", "-f", "${Version}", package])
+
+
+def built_using() -> str:
+    return "glibc (= %s)" % version_of("libc6-dev")
+
+
+def of_relink(parts: Parts) -> List[File]:
+    """What links the program anew, with another C library, too."""
+    words = {"VERSION": version(), "GLIBC": "libc6-dev " + version_of("libc6-dev"),
+             "GCC": printed(["gcc", "--version"]).split("\n")[0],
+             "COMMAND": " ".join(LINK + ["-o", "svnhist", "svnhist.o"] + ARCHIVES)}
+    files = [File("README", filled("relink", words)), File("svnhist.o", content(OBJECT))]
+    files += [File(os.path.basename(path), content(path)) for path in archives()]
+    files += [File("licenses/" + name, text) for name, text in parts.licences.items()]
+    return sorted(file._replace(path="svnhist-%s-relink/%s" % (version(), file.path)) for file in files)

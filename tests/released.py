@@ -1,0 +1,103 @@
+"""Packs the built program as a release has it, without root and without the toolchain, and runs what was packed: the
+commands of the pages in the folder of the tarball, and the programs that the Debian package installs."""
+import gzip
+import io
+import os
+import re
+import shutil
+import subprocess
+import sys
+import tarfile
+
+from pages import run_commands
+from tree import ROOT
+
+sys.path.insert(0, os.path.join(ROOT, "packaging"))
+
+from archives import package, tarball  # noqa: E402
+from contents import LINK, MANUALS, Parts, of_package, of_tarball, version  # noqa: E402
+
+WHEN = 1767225600
+LICENCES = {"LGPL-2.1": b"The text of the licence.\n"}
+BUILT_USING = "glibc (= 2.36-9)"
+CHANGELOG = b"svnhist (0) unstable; urgency=medium\n"
+
+
+def unpacked(tar, folder):
+    """The root of what a tarball has."""
+    with tarfile.open(fileobj=io.BytesIO(tar)) as files:
+        files.extractall(folder)
+    return os.path.join(folder, os.listdir(folder)[0])
+
+
+def dead_links(root):
+    """The links of the pages that lead to no file of the release."""
+    dead = []
+    for folder, _, names in os.walk(root):
+        for name in names:
+            if name.endswith(".md"):
+                with open(os.path.join(folder, name), encoding="utf-8") as file:
+                    targets = [found[2] for found in LINK.findall(file.read())]
+                dead += [target for target in targets
+                         if target and ":" not in target and not os.path.exists(os.path.join(folder, target))]
+    return dead
+
+
+def run_tarball(parts, folder):
+    root = unpacked(tarball(of_tarball(parts), WHEN), os.path.join(folder, "tarball"))
+    outcomes = [("the folder of the tarball", "svnhist-" + version(), os.path.basename(root)),
+                ("links of the tarball", [], dead_links(root))]
+    outcomes += [("the tarball, " + name, wanted, found) for name, wanted, found in run_commands(root, folder)]
+    return outcomes
+
+
+def installed(root, *words):
+    """What a program of the package prints about the first dump of the README."""
+    lib = os.path.join(root, "usr", "lib", "python3", "dist-packages")
+    environment = dict(os.environ, PATH=os.path.join(root, "usr", "bin") + os.pathsep + os.environ["PATH"],
+                       PYTHONPATH=lib, XDG_CACHE_HOME=os.path.join(root, "cache"), TZ="UTC")
+    environment.pop("SVNHIST", None)
+    pages = os.path.join(root, "usr", "share", "doc", "svnhist")
+    done = subprocess.run(list(words), env=environment, cwd=pages, input=b"log\ttrunk@10\n", stdout=subprocess.PIPE,
+                          stderr=subprocess.STDOUT)
+    return done.returncode, done.stdout.decode("utf-8", "replace")
+
+
+def manuals(root):
+    """What each manual page has for a version."""
+    found = []
+    for name in MANUALS:
+        with gzip.open(os.path.join(root, "usr", "share", "man", "man1", name + ".gz"), "rt", encoding="utf-8") as file:
+            found += re.findall(r'^\.TH .* "(svnhist \S+)"', file.read(), re.MULTILINE)
+    return found
+
+
+def run_package(parts, folder):
+    if shutil.which("dpkg-deb") is None:
+        return []
+    files = of_package(parts, CHANGELOG)
+    deb, root = os.path.join(folder, "svnhist.deb"), os.path.join(folder, "root")
+    with open(deb, "wb") as file:
+        file.write(package(files, BUILT_USING, WHEN))
+    subprocess.run(["dpkg-deb", "-x", deb, root], check=True)
+    field = subprocess.run(["dpkg-deb", "-f", deb, "Version"], stdout=subprocess.PIPE, check=True)
+    log = "r5 /trunk\nr2 /trunk\nr1 /trunk\n"
+    return [("the package twice", True, package(files, BUILT_USING, WHEN) == package(files, BUILT_USING, WHEN)),
+            ("the version of the package", version() + "-1", field.stdout.decode("ascii").strip()),
+            ("the manual pages of the package", ["svnhist " + version()] * 2, manuals(root)),
+            ("links of the package", [], dead_links(os.path.join(root, "usr", "share", "doc", "svnhist"))),
+            ("the package, svnhist", (0, "#1 ok\n" + log),
+             installed(root, "svnhist", "interop/branches.dump", "/dev/stdin", "0", "1")),
+            ("the package, svnask", (0, "/branches/one\n"),
+             installed(root, "svnask", "interop/branches.dump", "where", "tags/one-1.0", "4")),
+            ("the package, svnask --version", (0, "svnask %s\n" % version()), installed(root, "svnask", "--version")),
+            ("the package, strip-texts", (0, "2517\n"),
+             installed(root, "sh", "-c", "examples/strip-texts < interop/branches.dump | wc -c"))]
+
+
+def run_released(program, folder):
+    """Of each outcome its name, what is wanted and what was found."""
+    with open(program, "rb") as file:
+        parts = Parts(file.read(), LICENCES)
+    twice = ("the tarball twice", True, tarball(of_tarball(parts), WHEN) == tarball(of_tarball(parts), WHEN))
+    return [twice] + run_tarball(parts, folder) + run_package(parts, folder)
