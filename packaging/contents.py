@@ -8,7 +8,7 @@ from typing import Dict, Iterator, List, NamedTuple
 ROOT = os.path.dirname(os.path.dirname(os.path.abspath(__file__)))
 HERE = os.path.dirname(os.path.abspath(__file__))
 # The pages for those who change svnhist. All other ones are for its users.
-FOR_DEVELOPERS = ["DECISIONS.md", "building.md", "code-map.md", "developing.md", "glossary.md", "releasing.md"]
+FOR_DEVELOPERS = ["DECISIONS.md", "code-map.md", "developing.md", "glossary.md", "releasing.md"]
 MANUALS = ["svnhist.1", "svnask.1"]
 MODULE = "usr/lib/python3/dist-packages/svnask/"
 PAGES = "usr/share/doc/svnhist/"

@@ -21,6 +21,9 @@ WHEN = 1767225600
 LICENCES = {"LGPL-2.1": b"The text of the licence.\n"}
 BUILT_USING = "glibc (= 2.36-9)"
 CHANGELOG = b"svnhist (0) unstable; urgency=medium\n"
+# The pages that name files of a release.
+NAMING = ["README.md", "docs/building.md"]
+NAMED = re.compile(r"svnhist[-_](\d+(?:\.\d+)+)")
 
 
 def unpacked(tar, folder):
@@ -95,9 +98,22 @@ def run_package(parts, folder):
              installed(root, "sh", "-c", "examples/strip-texts < interop/branches.dump | wc -c"))]
 
 
+def content(page):
+    with open(os.path.join(ROOT, page), encoding="utf-8") as file:
+        return file.read()
+
+
+def versions_of_pages():
+    """Whether the pages name the files of this version, and the changelog begins with it."""
+    for page in NAMING:
+        yield "the version in " + page, {version()}, set(NAMED.findall(content(page)))
+    newest = re.search(r"^## \[(.*)\] - \d{4}-\d\d-\d\d$", content("CHANGELOG.md"), re.MULTILINE)
+    yield "the version in CHANGELOG.md", version(), newest and newest[1]
+
+
 def run_released(program, folder):
     """Of each outcome its name, what is wanted and what was found."""
     with open(program, "rb") as file:
         parts = Parts(file.read(), LICENCES)
     twice = ("the tarball twice", True, tarball(of_tarball(parts), WHEN) == tarball(of_tarball(parts), WHEN))
-    return [twice] + run_tarball(parts, folder) + run_package(parts, folder)
+    return [twice] + list(versions_of_pages()) + run_tarball(parts, folder) + run_package(parts, folder)

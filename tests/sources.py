@@ -15,7 +15,7 @@ Outcome = Tuple[str, str, str]
 
 PAGES = ["README.md", "CONTRIBUTING.md", "SECURITY.md"] + sorted(
     os.path.relpath(path, ROOT) for path in glob.glob(os.path.join(ROOT, "docs", "*.md")))
-FOLDERS = ["ask", "bench", "crates", "docs", "examples", "interop", "model", "scripts", "tests", ".ci"]
+FOLDERS = ["ask", "bench", "crates", "docs", "examples", "interop", "model", "packaging", "scripts", "tests", ".ci"]
 SPAN = re.compile(r"`([^`\n]+)`")
 WORD = re.compile(r"[^\W\d]\w*")
 # A name that only a source can have: it has an underscore, a capital within or `::`.
