@@ -1,5 +1,6 @@
 """Packs the built program as a release has it, without root and without the toolchain, and runs what was packed: the
-commands of the pages in the folder of the tarball, and the programs that the Debian package installs."""
+commands of the pages in the folder of the tarball, and the programs that the Debian package installs. It also has
+`scripts/release` refuse what is not tested."""
 import gzip
 import io
 import os
@@ -10,7 +11,7 @@ import sys
 import tarfile
 
 from pages import run_commands
-from tree import ROOT
+from tree import ROOT, copied_tree
 
 sys.path.insert(0, os.path.join(ROOT, "packaging"))
 
@@ -98,6 +99,48 @@ def run_package(parts, folder):
              installed(root, "sh", "-c", "examples/strip-texts < interop/branches.dump | wc -c"))]
 
 
+def committed(folder, program):
+    """A copy of the source tree, as a repository in which all is committed. Returns its root and its tree."""
+    os.mkdir(folder)
+    root = copied_tree(folder, program)
+    shutil.copy(os.path.join(ROOT, ".gitignore"), root)
+    shutil.copytree(os.path.join(ROOT, "packaging"), os.path.join(root, "packaging"),
+                    ignore=shutil.ignore_patterns("__pycache__"))
+    git = ["git", "-C", root, "-c", "user.name=tests", "-c", "user.email=tests@localhost"]
+    for words in (["init", "-q"], ["add", "-A"], ["commit", "-q", "-m", "tests"]):
+        subprocess.run(git + words, check=True)
+    return root, subprocess.run(git + ["rev-parse", "HEAD^{tree}"], stdout=subprocess.PIPE, check=True).stdout.decode()
+
+
+def write(path, text):
+    os.makedirs(os.path.dirname(path), exist_ok=True)
+    with open(path, "w", encoding="utf-8") as file:
+        file.write(text)
+
+
+def refusal(root):
+    done = subprocess.run([os.path.join(root, "scripts", "release")], cwd=root, stdin=subprocess.DEVNULL,
+                          stdout=subprocess.PIPE, stderr=subprocess.PIPE)
+    return done.returncode, done.stdout.decode("utf-8", "replace") + done.stderr.decode("utf-8", "replace")
+
+
+def refused_releases(program, folder):
+    """What `scripts/release` says of a tree that `./test` did not pass on, of another program, and of changes."""
+    if shutil.which("git") is None:
+        return
+    root, tree = committed(os.path.join(folder, "refused"), program)
+    tested, built = os.path.join(root, "out", "tested"), os.path.join(root, "crates", "svnhist", "out")
+    yield "a release untested", (1, "release: ./test did not pass on this tree\n"), refusal(root)
+    write(tested, "0" * 40 + "\n" + "0" * 64 + "  svnhist\n")
+    yield "a release of another tree", (1, "release: ./test passed on another tree\n"), refusal(root)
+    write(tested, tree + "0" * 64 + "  svnhist\n")
+    yield "a release of another program", (1, "release: the program is not the one that ./test passed\n"), refusal(root)
+    write(os.path.join(built, "made-from"), "")
+    yield "a release of other sources", (1, "release: the program is not built from these sources\n"), refusal(root)
+    write(os.path.join(root, "new"), "")
+    yield "a release of changes", (1, "release: the tree has changes that are not committed\n"), refusal(root)
+
+
 def content(page):
     with open(os.path.join(ROOT, page), encoding="utf-8") as file:
         return file.read()
@@ -116,4 +159,5 @@ def run_released(program, folder):
     with open(program, "rb") as file:
         parts = Parts(file.read(), LICENCES)
     twice = ("the tarball twice", True, tarball(of_tarball(parts), WHEN) == tarball(of_tarball(parts), WHEN))
-    return [twice] + list(versions_of_pages()) + run_tarball(parts, folder) + run_package(parts, folder)
+    judged = list(versions_of_pages()) + list(refused_releases(program, folder))
+    return [twice] + judged + run_tarball(parts, folder) + run_package(parts, folder)
