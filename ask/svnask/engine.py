@@ -39,14 +39,13 @@ def run(dump: str, queries: List[Query]) -> Iterator[Answer]:
 
 
 def _run(dump: str, queries: List[Query]) -> Iterator[Answer]:
-    with tempfile.TemporaryFile() as lines:
+    with tempfile.NamedTemporaryFile(prefix="svnask-") as lines:
         lines.writelines(query.line() + b"\n" for query in queries)
         lines.flush()
-        lines.seek(0)
-        command = [find_engine(), dump, "/dev/fd/%d" % lines.fileno(), "0", str(workers())]
+        command = [find_engine(), dump, lines.name, "0", str(workers())]
         try:
             process = subprocess.Popen(command, stdin=subprocess.DEVNULL, stdout=subprocess.PIPE,
-                                       stderr=subprocess.PIPE, pass_fds=[lines.fileno()])
+                                       stderr=subprocess.PIPE)
         except OSError as error:
             raise Failed("cannot run %s: %s" % (command[0], error.strerror)) from error
         assert process.stdout is not None and process.stderr is not None
