@@ -1,12 +1,9 @@
-"""How long the program takes on long histories of changes and of additions, and how much memory their maps take.
+"""How long the program takes on long histories of changes and of additions, and how much memory.
 
 The whole job is measured, which is reading, the index, the map, its check and a report on ten queries, beside two other
 readers of the same bytes: `grep -c ^Node-path` through a pipe, and the program on the dump with a faulty block at its
 end, which it reads and refuses. The three lengths of a history are measured in turns. A change of a text adds nothing to
 the map, and an addition adds a node for each component of its path.
-
-The map alone is made by a copy of the program that ends after it (`steps.py`). Its time and memory are the difference of
-a run that makes it and one that ends after reading.
 """
 import os
 import random
@@ -14,7 +11,6 @@ import random
 from measure import Failed, generate, peak_of, run
 from merges import query
 from questions import Question, records_of
-from steps import build, words
 
 SIZES = (30000, 60000, 120000)
 RECORDS = 4
@@ -30,7 +26,6 @@ REFUSED = 1
 COMPARED = {"changes": "grep", "additions": "reading"}
 MOST_TIMES = {"changes": {1: 10, 4: 8}, "additions": {1: 8, 4: 6}}
 MOST_MEGABYTES = {"changes": 700, "additions": 1500}
-MOST_BYTES = {"changes": 200, "additions": 800}
 MOST_FOR_TWICE = 2.3
 MOST_MEMORY_FOR_TWICE = 2.1
 
@@ -65,9 +60,8 @@ def write_faulty(dump, path):
 class History:
     """A generated history, with the best run of each command on it so far."""
 
-    def __init__(self, program, steps, folder, mix, revisions):
+    def __init__(self, program, folder, mix, revisions):
         self.program = program
-        self.steps = steps
         self.mix = mix
         self.revisions = revisions
         self.dump = os.path.join(folder, "%s-%d" % (mix, revisions))
@@ -89,8 +83,6 @@ class History:
         return [((workers, block), self.job(workers, block), None, 0) for workers, block in KINDS] + [
             ("grep", ["grep", "-c", "^Node-path"], ["cat", self.dump], 0),
             ("reading", [self.program, self.faulty, self.queries, "0", "1"], None, REFUSED),
-            ("read", words(self.steps, self.dump, "read"), None, 0),
-            ("map", words(self.steps, self.dump, "map"), None, 0),
         ]
 
     def run_once(self):
@@ -111,8 +103,6 @@ class History:
 
     def measure_memory(self):
         self.peak = peak_of(self.job(1, 0))
-        peaks = [peak_of(words(self.steps, self.dump, step)) for step in ("read", "map")]
-        self.map_bytes = (peaks[1] - peaks[0]) / (self.revisions * RECORDS)
 
     def wall(self, name):
         return self.best[name].wall
@@ -135,16 +125,16 @@ class History:
                 self.mix, format(self.revisions, ","), self.size / 1e6, workers, format(block, ","), wall,
                 wall / self.wall("grep"), wall / self.wall("reading")))
 
-    def print_map_row(self):
-        print("| %s | %s | %.3f | %.3f | %.1f | %.3f | %.0f |" % (
+    def print_memory_row(self):
+        print("| %s | %s | %.3f | %.3f | %.1f | %.0f |" % (
             self.mix, format(self.revisions, ","), self.wall("grep"), self.wall("reading"), self.peak / 1e6,
-            self.wall("map") - self.wall("read"), self.map_bytes))
+            self.peak / (self.revisions * RECORDS)))
 
 
-def measured(program, steps, folder, mix, given):
+def measured(program, folder, mix, given):
     """The measured histories of a mix, the shortest first."""
     sizes = [size // 10 if given.quick else size for size in SIZES]
-    found = [History(program, steps, folder, mix, size) for size in sizes]
+    found = [History(program, folder, mix, size) for size in sizes]
     for _ in range(given.times):
         for history in found:
             history.run_once()
@@ -165,7 +155,6 @@ def print_criteria(mix, found):
         print_criterion("%s, %s revisions, time with WORKERS %d relative to %s"
                         % (mix, revisions, workers, COMPARED[mix]), MOST_TIMES[mix][workers], last.compared(workers))
     print_criterion("%s, %s revisions, peak MB" % (mix, revisions), MOST_MEGABYTES[mix], last.peak / 1e6)
-    print_criterion("%s, %s revisions, bytes of the map per record" % (mix, revisions), MOST_BYTES[mix], last.map_bytes)
     for half, full in zip(found, found[1:]):
         title = "%s, %s revisions relative to %s" % (mix, format(full.revisions, ","), format(half.revisions, ","))
         print_criterion(title + ", time", MOST_FOR_TWICE, full.wall((1, 0)) / half.wall((1, 0)))
@@ -173,18 +162,16 @@ def print_criteria(mix, found):
 
 
 def run_maps(program, folder, given):
-    steps = build(folder)
-    found = {mix: measured(program, steps, folder, mix, given) for mix in MIXES}
+    found = {mix: measured(program, folder, mix, given) for mix in MIXES}
     histories = [history for each in found.values() for history in each]
     print("## Maps\n\nThe best of %d measurements.\n" % given.times)
     print("| history | revisions | MB | workers | BLOCK | seconds | relative to grep | relative to reading |\n"
           "|---|---|---|---|---|---|---|---|")
     for history in histories:
         history.print_rows()
-    print("\n| history | revisions | grep, s | reading, s | peak MB | map alone, s | bytes of the map per record |\n"
-          "|---|---|---|---|---|---|---|")
+    print("\n| history | revisions | grep, s | reading, s | peak MB | peak bytes per record |\n|---|---|---|---|---|---|")
     for history in histories:
-        history.print_map_row()
+        history.print_memory_row()
     print("\n| criterion | at most | measured | |\n|---|---|---|---|")
     for mix, each in found.items():
         print_criteria(mix, each)
