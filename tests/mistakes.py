@@ -8,6 +8,7 @@ import gzip
 import lzma
 import os
 import re
+import resource
 import subprocess
 
 from tree import ROOT
@@ -40,10 +41,18 @@ def with_mergeinfo(path, value, length):
     return b"Node-path: %s\nNode-action: change\n%s\n%s\n\n" % (path, lengths, section)
 
 
+def with_message(number, text, length):
+    """A revision with a message, and with the lengths of one that is as long as this."""
+    section = b"K 7\nsvn:log\nV %d\n%s\nPROPS-END\n" % (length, text)
+    most = len(section) - len(text) + length
+    return b"Revision-number: %d\nProp-content-length: %d\nContent-length: %d\n\n%s\n" % (number, most, most, section)
+
+
 PATHS = [b"trunk", b"trunk/src", b"with space", b"a@b", "\u00fc".encode()]
 WHOLE = FIRST + revision(1, *map(added, PATHS), added(b"trunk/src/a", b"file"))
 COPY = copied(b"branch", b"trunk")
 EDITED = with_mergeinfo(b"trunk", b"/main:1", len(b"/trunk:1"))
+LONGER, SHORTER = (with_message(2, text, len(b"a message")) for text in (b"a longer message", b"message"))
 # Records that `svnrdump` writes: a new directory, and a property that was deleted.
 PART_3 = (b"Node-path: tags\nNode-kind: dir\nNode-action: add\nProp-delta: true\nProp-content-length: 10\n"
           b"Content-length: 10\n\nPROPS-END\n\n")
@@ -77,6 +86,32 @@ REFUSED = [
     ("a part with all that exists", WHOLE + revision(2, added(b"trunk")), "17 Exists at record 7"),
     ("a change of what a copy lacks", WHOLE + revision(2, COPY, changed(b"branch/x")), "18 Missing at record 8"),
     ("a copy of what a copy lacks", WHOLE + revision(2, COPY, copied(b"y", b"branch/x")), "19 NoSource at record 8"),
+]
+# The same of a dump that was edited.
+EDITS = [
+    ("a longer message", WHOLE + LONGER, "3 Header at byte %d" % (len(WHOLE + LONGER) - 8)),
+    ("no empty line after headers", WHOLE + b"Node-path: trunk\nNode-action: change\nContent-length: 2\na\n\n",
+     "3 Header at byte %d" % len(WHOLE)),
+    ("a header twice", WHOLE + b"Node-path: trunk\n" + changed(b"trunk"), "3 Header at byte %d" % len(WHOLE)),
+    ("a lesser length", WHOLE + re.sub(rb"\nContent-length: \d", b"\nContent-length: ", EDITED),
+     "4 Length at byte %d" % len(WHOLE)),
+    ("a length that is no number", WHOLE + EDITED.replace(b"\nContent-length: ", b"\nContent-length: x"),
+     "4 Length at byte %d" % len(WHOLE)),
+    ("no newlines at the end", WHOLE + changed(b"trunk").rstrip(b"\n"), "5 Truncated at byte %d" % len(WHOLE)),
+    ("a shorter message", WHOLE + SHORTER + changed(b"trunk"), "7 BadRecord at byte %d" % (len(WHOLE + SHORTER) + 1)),
+    ("no action", WHOLE + b"Node-path: trunk\nNode-acton: change\n\n", "7 BadRecord at byte %d" % len(WHOLE)),
+    ("an empty line in headers", WHOLE + b"Node-path: trunk\n\nNode-action: change\n\n",
+     "7 BadRecord at byte %d" % len(WHOLE)),
+    ("a revision twice", WHOLE + revision(1), "8 Revision at byte %d" % len(WHOLE)),
+    ("a path with a dot", WHOLE + changed(b"./trunk"), "9 BadPath at byte %d" % len(WHOLE)),
+    ("a source that is not earlier", WHOLE + COPY, "11 CopyRevision at byte %d" % len(WHOLE)),
+    ("the root in place of a directory", FIRST + revision(1, added(b"")),
+     "12 RootAction at byte %d" % len(FIRST + revision(1))),
+    ("no revision 1", FIRST + added(b"trunk"), "13 RevisionZero at byte %d" % len(FIRST)),
+    ("a file in place of a directory", WHOLE.replace(b"dir", b"file", 1), "16 NoParent at record 2"),
+    ("an addition twice", WHOLE + added(b"trunk"), "17 Exists at record 7"),
+    ("a path that was changed once", WHOLE + revision(2, changed(b"main")), "18 Missing at record 7"),
+    ("a path that is still a source", WHOLE.replace(b"trunk", b"main") + revision(2, COPY), "19 NoSource at record 7"),
 ]
 BAD = [
     b"\xef\xbb\xbflog\ttrunk@1", b"log\ttrunk@1\r", b"log trunk@1", b"log\t\ttrunk@1", b"log\\ttrunk@1",
@@ -115,15 +150,28 @@ class Runs:
         with open(os.path.join(self.folder, name), "wb") as file:
             file.write(text)
 
-    def run(self, words, given=b""):
-        done = subprocess.run([self.program] + words, cwd=self.folder, input=given, stdout=subprocess.PIPE,
-                              stderr=subprocess.PIPE)
-        return done.returncode, done.stdout, done.stderr
+    def run(self, words, given=os.devnull, taker=None, memory=None):
+        """A run with the content of a file as its input. Where its output is not given to another file, it is a part of
+        the outcome. The memory in bytes may be limited."""
+        def limit():
+            if memory is not None:
+                resource.setrlimit(resource.RLIMIT_AS, (memory, memory))
 
-    def refuse(self, name, status, line, words, given=b""):
+        source = os.open(os.path.join(self.folder, given), os.O_RDONLY)
+        sink = subprocess.PIPE if taker is None else os.open(taker, os.O_WRONLY)
+        try:
+            done = subprocess.run([self.program] + words, cwd=self.folder, stdin=source, stdout=sink,
+                                  stderr=subprocess.PIPE, preexec_fn=limit)
+        finally:
+            os.close(source)
+            if taker is not None:
+                os.close(sink)
+        return done.returncode, done.stdout or b"", done.stderr
+
+    def refuse(self, name, status, line, words, **others):
         """A run that ends with this status and this line."""
         self.lines.add(re.sub(r"record \d+$", "record K", re.sub(r"byte [1-9]\d*$", "byte B", line)))
-        self.outcomes.append((name, (status, b"", b"svnhist: %s\n" % line.encode()), self.run(words, given)))
+        self.outcomes.append((name, (status, b"", b"svnhist: %s\n" % line.encode()), self.run(words, **others)))
 
     def strip(self, words, wanted):
         """A call of strip-texts with arguments, of which it takes none."""
@@ -143,14 +191,20 @@ class Runs:
 def run_mistakes(program, folder):
     """Of each run its name, what is wanted and what was found."""
     runs = Runs(program, folder)
-    for name, dump, refusal in REFUSED:
+    for name, dump, refusal in REFUSED + EDITS:
         runs.write("dump", dump)
         runs.refuse(name, 1, "dump refused: " + refusal, ["dump", "queries", "0", "1"])
     runs.refuse("dump and queries swapped", 1, "dump refused: 1 Magic at byte 0", ["queries", "good", "0", "1"])
     for name, path in UNREAD:
         runs.refuse(name + " as the dump", 3, "cannot read the dump", [path, "queries", "0", "1"])
         runs.refuse(name + " as the queries", 3, "cannot read the queries", ["missing", path, "0", "1"])
-    runs.refuse("a dump and no arguments", 2, USAGE, [], WHOLE)
+    runs.refuse("a dump and no arguments", 2, USAGE, [], given="good")
+    runs.write("long", b"\n" * 1000001)
+    runs.refuse("a long dump and queries swapped", 1, "more than 1000000 queries", ["queries", "long", "0", "1"])
+    runs.refuse("a directory as the input", 3, "cannot read standard input", [], given=".")
+    runs.refuse("a full disk", 3, "cannot write the report", ["good", "queries", "0", "1"], taker="/dev/full")
+    runs.write("large", b"x" * (64 << 20))
+    runs.refuse("little memory", 4, "out of memory", [], given="large", memory=32 << 20)
     with open(os.path.join(ROOT, "docs", "dump-format.md"), encoding="utf-8") as file:
         runs.outcomes.append(("the lines of docs/dump-format.md", set(TABLED.findall(file.read())), runs.lines))
     runs.strip(["good"], (2, b"", STRIP_USAGE))
