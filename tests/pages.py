@@ -10,7 +10,8 @@ import subprocess
 
 from tree import ROOT, command, copied_tree
 
-PAGES = ["README.md", "docs/recipes.md", "docs/queries.md", "docs/svnask.md", "docs/svnhist.1", "docs/svnask.1"]
+PAGES = ["README.md", "docs/recipes.md", "docs/queries.md", "docs/dump-format.md", "docs/svnask.md", "docs/svnhist.1",
+         "docs/svnask.1"]
 CONSOLE = re.compile(r"^```console\n(.*?)^```$", re.MULTILINE | re.DOTALL)
 EXAMPLE = re.compile(r"^\.EX\n(.*?)^\.EE$", re.MULTILINE | re.DOTALL)
 # Commands of the examples. REPO is the repository of interop/branches.dump, and URL that of interop/merges.dump.

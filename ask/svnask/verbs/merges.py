@@ -23,7 +23,7 @@ class MergeinfoVerb(Verb):
         parser.add_argument("-r", "--revision", dest="ranges", metavar="LO:HI", action="append", default=[])
 
     def value(self, history: History, words: Namespace) -> Dict[bytes, str]:
-        if words.target or words.recursive or words.ranges:
+        if words.target is not None or words.recursive or words.ranges:
             raise Usage("a target, -R and -r belong to --show-revs")
         target = target_of(history, words.source)
         answer = one(history.ask([Mergeinfo(*target)]), Inherited)
@@ -34,7 +34,7 @@ class MergeinfoVerb(Verb):
         return answer.value
 
     def revisions(self, history: History, words: Namespace) -> List[Tuple[int, bool]]:
-        if not words.target:
+        if words.target is None:
             raise Usage("--show-revs takes a source and a target")
         if len(words.ranges) > 1:
             raise Denied("E205000", "Multiple revision arguments encountered; can't specify -r more than once")
