@@ -2,13 +2,14 @@
 import os
 import shutil
 import subprocess
+from typing import List, Optional
 
 ROOT = os.path.dirname(os.path.dirname(os.path.abspath(__file__)))
 PARTS = ["svnhist", "svnask", "ask", "crates.txt", "crates", "scripts", "examples", "interop"]
 LEFT_OUT = shutil.ignore_patterns("out", "proofs", "must-fail", "__pycache__")
 
 
-def copied_tree(folder, program=None):
+def copied_tree(folder: str, program: Optional[str] = None) -> str:
     """The root of a copy in the folder, with the built program in its place if one is given."""
     root = os.path.join(folder, "tree")
     os.mkdir(root)
@@ -23,7 +24,7 @@ def copied_tree(folder, program=None):
     return root
 
 
-def place_program(root, program):
+def place_program(root: str, program: str) -> None:
     """Puts the program where a build leaves it, with the list of the sources that it is made from."""
     built = os.path.join("crates", "svnhist", "out", "svnhist")
     os.makedirs(os.path.dirname(os.path.join(root, built)), exist_ok=True)
@@ -32,7 +33,7 @@ def place_program(root, program):
         subprocess.run(["scripts/list-sources", built], cwd=root, stdout=file, check=True)
 
 
-def command(folder, name, lines):
+def command(folder: str, name: str, lines: List[str]) -> None:
     """Makes a shell script as a stand-in for a command."""
     os.makedirs(folder, exist_ok=True)
     path = os.path.join(folder, name)
@@ -41,7 +42,7 @@ def command(folder, name, lines):
     os.chmod(path, 0o755)
 
 
-def path_without(name):
+def path_without(name: str) -> str:
     """PATH without the folders that have a command of this name."""
     folders = os.environ.get("PATH", os.defpath).split(os.pathsep)
     return os.pathsep.join(folder for folder in folders if not os.path.exists(os.path.join(folder, name)))
