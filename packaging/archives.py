@@ -10,8 +10,6 @@ from typing import Dict, List
 
 from contents import File, read, version
 
-DAY = "%a, %d %b %Y %H:%M:%S +0000"
-
 
 class NotMade(Exception):
     """Why there is no archive."""
@@ -62,6 +60,7 @@ def place(files: List[File], folder: str, when: int) -> None:
     for top, below, names in os.walk(folder):
         for name in below + names:
             os.utime(os.path.join(top, name), (when, when))
+    os.chmod(folder, 0o755)
     os.utime(folder, (when, when))
 
 
@@ -86,7 +85,7 @@ def package(files: List[File], built_using: str, when: int) -> bytes:
     """A Debian package that installs these files."""
     with tempfile.TemporaryDirectory(prefix="svnhist-package-") as folder:
         tree, made = os.path.join(folder, "tree"), os.path.join(folder, "made.deb")
-        os.mkdir(tree, 0o755)
+        os.mkdir(tree)
         place(files + control(files, built_using), tree, when)
         done = subprocess.run(["dpkg-deb", "--root-owner-group", "-Zxz", "-z9", "--build", tree, made],
                               env=dict(os.environ, SOURCE_DATE_EPOCH=str(when), DPKG_DEB_THREADS_MAX="1"),

@@ -6,13 +6,12 @@ import re
 from typing import Dict, Iterator, List, NamedTuple
 
 ROOT = os.path.dirname(os.path.dirname(os.path.abspath(__file__)))
-HERE = os.path.dirname(os.path.abspath(__file__))
 # The pages for those who change svnhist. All other ones are for its users.
 FOR_DEVELOPERS = ["DECISIONS.md", "code-map.md", "developing.md", "glossary.md", "releasing.md"]
 MANUALS = ["svnhist.1", "svnask.1"]
 MODULE = "usr/lib/python3/dist-packages/svnask/"
 PAGES = "usr/share/doc/svnhist/"
-EXAMPLE = re.compile(r"(?:examples|interop)/[\w-]+\.(?:dump|bundle)")
+EXAMPLE = re.compile(r"(?:examples|interop)/[\w-]+\.(?:dump|bundle|queries|report)")
 LINK = re.compile(r"(!?)\[([^\]]*)\]\(([^)\s#]*)(#[^)\s]*)?\)")
 
 
@@ -49,7 +48,7 @@ def manual(name: str) -> bytes:
 
 def module() -> List[File]:
     found = []
-    for path in glob.glob(os.path.join(ROOT, "ask", "svnask", "**"), recursive=True):
+    for path in glob.glob(os.path.join(glob.escape(ROOT), "ask", "svnask", "**"), recursive=True):
         if path.endswith((".py", "VERSION")):
             found.append(File(os.path.relpath(path, os.path.join(ROOT, "ask", "svnask")), read(path)))
     return sorted(found)
@@ -62,7 +61,7 @@ def names_of_pages() -> List[str]:
 
 
 def examples(names: List[str]) -> List[File]:
-    """The dumps that pages name, and the script that they call."""
+    """The examples that pages name, and the script that they call."""
     found = sorted({name for page in names for name in EXAMPLE.findall(read(page).decode("utf-8"))})
     kept = [File(name, read(name)) for name in found if os.path.exists(os.path.join(ROOT, name))]
     return kept + [File("examples/strip-texts", read("examples", "strip-texts"), 0o755)]
@@ -96,7 +95,7 @@ def of_tarball(parts: Parts) -> List[File]:
     it as they stand."""
     others = ["CHANGELOG.md", "LICENSE"]
     files = [File("svnhist", parts.program, 0o755), File("svnask", read("svnask"), 0o755)]
-    files += [File(name, read(name)) for name in others]
+    files += [File(name, read(name)) for name in others] + [File("COPYRIGHT", read("packaging", "copyright"))]
     files += [File("ask/svnask/" + file.path, file.content) for file in module()]
     files += [File("man/man1/" + name, manual(name)) for name in MANUALS]
     files += [File("licenses/" + name, content) for name, content in parts.licences.items()]
@@ -108,17 +107,28 @@ def in_folder(folder: str, files: List[File]) -> Iterator[File]:
         yield file._replace(path=folder + file.path)
 
 
+def of_system(script: bytes) -> bytes:
+    """A script for the Python that has the module, whatever stands first on the path."""
+    return script.replace(b"#!/usr/bin/env python3\n", b"#!/usr/bin/python3\n", 1)
+
+
+def notices(parts: Parts) -> bytes:
+    """The licences of what is linked into the program, one after another."""
+    return b"\n".join(b"==== %s\n\n%s" % (name.encode("ascii"), text) for name, text in sorted(parts.licences.items()))
+
+
 def packed(content: bytes) -> bytes:
     return gzip.compress(content, 9, mtime=0)
 
 
 def of_package(parts: Parts, debian_changelog: bytes) -> List[File]:
     """The files that the Debian package installs."""
-    files = [File("usr/bin/svnhist", parts.program, 0o755), File("usr/bin/svnask", read("svnask"), 0o755)]
+    files = [File("usr/bin/svnhist", parts.program, 0o755), File("usr/bin/svnask", of_system(read("svnask")), 0o755)]
     files += in_folder(MODULE, module())
     files += [File("usr/share/man/man1/%s.gz" % name, packed(manual(name))) for name in MANUALS]
     files += in_folder(PAGES, pages([]))
     files += [File(PAGES + "copyright", read("packaging", "copyright")),
+              File(PAGES + "notices.gz", packed(notices(parts))),
               File(PAGES + "changelog.gz", packed(read("CHANGELOG.md"))),
               File(PAGES + "changelog.Debian.gz", packed(debian_changelog)),
               File("usr/share/lintian/overrides/svnhist", read("packaging", "lintian-overrides"))]

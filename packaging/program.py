@@ -1,5 +1,5 @@
 """The program of a release: the object of the program that `./test` passed, linked with the C library into one file
-that runs on each Linux on x86-64."""
+that needs no library."""
 import glob
 import os
 import shutil
@@ -8,7 +8,7 @@ import tempfile
 from typing import Dict, List
 
 from archives import NotMade, filled
-from contents import ROOT, File, Parts, version
+from contents import ROOT, File, Parts, read, version
 
 PROGRAM = os.path.join(ROOT, "crates", "svnhist", "out", "svnhist")
 OBJECT = PROGRAM + ".o"
@@ -17,9 +17,8 @@ ARCHIVES = ["libos_c.a", "liblibc_c.a"]
 TARGET = "x86_64-unknown-linux-gnu"
 LINK = ["gcc", "-static-pie", "-Wl,--gc-sections", "-Wl,-z,relro,-z,now,-z,noexecstack", "-Wl,--build-id=sha1", "-s"]
 STRIP = ["strip", "--strip-unneeded", "-R", ".comment", "-R", ".note"]
-# The ported crates that are linked into the program.
-PORTS = ["crossbeam_deque", "itoa", "memchr", "once_cell", "rayon", "thiserror"]
 LGPL = "/usr/share/common-licenses/LGPL-2.1"
+NOTICES_OF_GLIBC = "/usr/share/doc/libc6-dev/copyright"
 
 
 def content(path: str) -> bytes:
@@ -76,12 +75,21 @@ def link(to: str) -> None:
     printed(STRIP + [to])
 
 
+def ports() -> List[str]:
+    """The ported crates that are linked into the program: those of the kit that its crates name."""
+    lines = [line.partition(":") for line in content(os.path.join(ROOT, "crates.txt")).decode("ascii").splitlines()
+             if not line.startswith("#")]
+    return sorted({name for line in lines for name in line[2].split()} - {line[0] for line in lines})
+
+
 def licences() -> Dict[str, bytes]:
     """The licences of what is linked into the program."""
-    found = {"LGPL-2.1": content(LGPL)}
-    for port in PORTS:
-        for path in sorted(glob.glob(os.path.join(kit(), "rattle", port, "LICENSE*"))):
-            found["%s-%s" % (port, os.path.basename(path))] = content(path)
+    found = {"LGPL-2.1": content(LGPL), "glibc-copyright": content(NOTICES_OF_GLIBC)}
+    for port in ports():
+        paths = sorted(glob.glob(os.path.join(glob.escape(kit()), "rattle", port, "LICENSE*")))
+        if not paths:
+            raise NotMade("the kit has no licence of %s" % port)
+        found.update({"%s-%s" % (port, os.path.basename(path)): content(path) for path in paths})
     return found
 
 
@@ -94,11 +102,13 @@ def built_using() -> str:
 
 
 def of_relink(parts: Parts) -> List[File]:
-    """What links the program anew, with another C library, too."""
+    """What links the program anew, with another version of the GNU C library, too."""
     words = {"VERSION": version(), "GLIBC": "libc6-dev " + version_of("libc6-dev"),
              "GCC": printed(["gcc", "--version"]).split("\n")[0],
-             "COMMAND": " ".join(LINK + ["-o", "svnhist", "svnhist.o"] + ARCHIVES)}
+             "COMMAND": " ".join(LINK + ["-o", "svnhist", "svnhist.o"] + ARCHIVES),
+             "STRIP": " ".join(STRIP + ["svnhist"])}
     files = [File("README", filled("relink", words)), File("svnhist.o", content(OBJECT))]
+    files += [File("LICENSE", read("LICENSE")), File("COPYRIGHT", read("packaging", "copyright"))]
     files += [File(os.path.basename(path), content(path)) for path in archives()]
     files += [File("licenses/" + name, text) for name, text in parts.licences.items()]
     return sorted(file._replace(path="svnhist-%s-relink/%s" % (version(), file.path)) for file in files)

@@ -57,9 +57,9 @@ def run_tarball(parts, folder):
 
 def installed(root, *words):
     """What a program of the package prints about the first dump of the README."""
+    path = os.path.join(root, "usr", "bin") + os.pathsep + os.environ.get("PATH", os.defpath)
     lib = os.path.join(root, "usr", "lib", "python3", "dist-packages")
-    environment = dict(os.environ, PATH=os.path.join(root, "usr", "bin") + os.pathsep + os.environ["PATH"],
-                       PYTHONPATH=lib, XDG_CACHE_HOME=os.path.join(root, "cache"), TZ="UTC")
+    environment = dict(os.environ, PATH=path, PYTHONPATH=lib, XDG_CACHE_HOME=os.path.join(root, "cache"), TZ="UTC")
     environment.pop("SVNHIST", None)
     pages = os.path.join(root, "usr", "share", "doc", "svnhist")
     done = subprocess.run(list(words), env=environment, cwd=pages, input=b"log\ttrunk@10\n", stdout=subprocess.PIPE,
@@ -76,6 +76,11 @@ def manuals(root):
     return found
 
 
+def first_line(path):
+    with open(path, encoding="utf-8") as file:
+        return file.readline()
+
+
 def run_package(parts, folder):
     if shutil.which("dpkg-deb") is None:
         return []
@@ -86,6 +91,7 @@ def run_package(parts, folder):
     subprocess.run(["dpkg-deb", "-x", deb, root], check=True)
     field = subprocess.run(["dpkg-deb", "-f", deb, "Version"], stdout=subprocess.PIPE, check=True)
     log = "r5 /trunk\nr2 /trunk\nr1 /trunk\n"
+    svnask = os.path.join(root, "usr", "bin", "svnask")
     return [("the package twice", True, package(files, BUILT_USING, WHEN) == package(files, BUILT_USING, WHEN)),
             ("the version of the package", version() + "-1", field.stdout.decode("ascii").strip()),
             ("the manual pages of the package", ["svnhist " + version()] * 2, manuals(root)),
@@ -93,8 +99,10 @@ def run_package(parts, folder):
             ("the package, svnhist", (0, "#1 ok\n" + log),
              installed(root, "svnhist", "interop/branches.dump", "/dev/stdin", "0", "1")),
             ("the package, svnask", (0, "/branches/one\n"),
-             installed(root, "svnask", "interop/branches.dump", "where", "tags/one-1.0", "4")),
-            ("the package, svnask --version", (0, "svnask %s\n" % version()), installed(root, "svnask", "--version")),
+             installed(root, sys.executable, svnask, "interop/branches.dump", "where", "tags/one-1.0", "4")),
+            ("the package, svnask --version", (0, "svnask %s\n" % version()),
+             installed(root, sys.executable, svnask, "--version")),
+            ("the Python of the package", "#!/usr/bin/python3\n", first_line(svnask)),
             ("the package, strip-texts", (0, "2517\n"),
              installed(root, "sh", "-c", "examples/strip-texts < interop/branches.dump | wc -c"))]
 
@@ -106,10 +114,16 @@ def committed(folder, program):
     shutil.copy(os.path.join(ROOT, ".gitignore"), root)
     shutil.copytree(os.path.join(ROOT, "packaging"), os.path.join(root, "packaging"),
                     ignore=shutil.ignore_patterns("__pycache__"))
-    git = ["git", "-C", root, "-c", "user.name=tests", "-c", "user.email=tests@localhost"]
+    git = ["git", "-C", root, "-c", "user.name=tests", "-c", "user.email=tests@localhost", "-c", "commit.gpgsign=false"]
     for words in (["init", "-q"], ["add", "-A"], ["commit", "-q", "-m", "tests"]):
-        subprocess.run(git + words, check=True)
-    return root, subprocess.run(git + ["rev-parse", "HEAD^{tree}"], stdout=subprocess.PIPE, check=True).stdout.decode()
+        subprocess.run(git + words, env=without_git(), check=True)
+    done = subprocess.run(git + ["rev-parse", "HEAD^{tree}"], env=without_git(), stdout=subprocess.PIPE, check=True)
+    return root, done.stdout.decode("ascii")
+
+
+def without_git():
+    """The environment without what names another repository."""
+    return {name: value for name, value in os.environ.items() if not name.startswith("GIT_")}
 
 
 def write(path, text):
@@ -119,8 +133,8 @@ def write(path, text):
 
 
 def refusal(root):
-    done = subprocess.run([os.path.join(root, "scripts", "release")], cwd=root, stdin=subprocess.DEVNULL,
-                          stdout=subprocess.PIPE, stderr=subprocess.PIPE)
+    done = subprocess.run([os.path.join(root, "scripts", "release")], cwd=root, env=without_git(),
+                          stdin=subprocess.DEVNULL, stdout=subprocess.PIPE, stderr=subprocess.PIPE)
     return done.returncode, done.stdout.decode("utf-8", "replace") + done.stderr.decode("utf-8", "replace")
 
 

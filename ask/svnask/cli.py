@@ -43,6 +43,12 @@ def parser() -> Parser:
     return words
 
 
+def with_dump(arguments: List[str]) -> List[str]:
+    """The arguments with a dump, which `svnask VERB --help` needs none of."""
+    is_help = arguments[1:] in (["-h"], ["--help"])
+    return ["-"] + arguments if is_help and arguments[0] in [verb.name for verb in VERBS] else arguments
+
+
 class Progress:
     """One line on a terminal where reading takes more than a second: how much was read, and how fast."""
 
@@ -70,6 +76,9 @@ class Progress:
 def opened(name: str) -> BinaryIO:
     try:
         return sys.stdin.buffer if name == "-" else open(name, "rb")
+    except IsADirectoryError as error:
+        advice = ": svnadmin dump -q %s | svnask - .." % name if os.path.isdir(os.path.join(name, "db")) else ""
+        raise Failed("%s is a directory%s" % (name, advice)) from error
     except OSError as error:
         raise Failed("cannot read %s: %s" % (name, error.strerror)) from error
 
@@ -122,9 +131,11 @@ def end_by(number: int) -> NoReturn:
 
 def main(arguments: Optional[List[str]] = None) -> int:
     for number in (signal.SIGINT, signal.SIGTERM, signal.SIGHUP):
-        signal.signal(number, stop)
+        # What the caller has the command ignore, as nohup does, stays ignored.
+        if signal.getsignal(number) != signal.SIG_IGN:
+            signal.signal(number, stop)
     try:
-        words = parser().parse_args(arguments)
+        words = parser().parse_args(with_dump(sys.argv[1:] if arguments is None else arguments))
         with opened(words.dump) as file:
             answer(words, file)
     except Error as error:

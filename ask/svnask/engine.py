@@ -21,8 +21,13 @@ REFUSED = re.compile(r"svnhist: dump refused: (\d+) (\w+) at (byte|record) (\d+)
 
 def find_engine() -> str:
     """The program: `$SVNHIST`, the one beside this module's tree, or the one on the path."""
+    named = os.environ.get("SVNHIST")
+    if named:
+        return shutil.which(named) or named
     beside = os.path.join(os.path.dirname(os.path.dirname(HERE)), "svnhist")
-    found = os.environ.get("SVNHIST") or (beside if os.access(beside, os.X_OK) else shutil.which("svnhist"))
+    if os.path.isfile(beside) and os.access(beside, os.X_OK):
+        return beside
+    found = shutil.which("svnhist")
     if not found:
         raise Failed("no svnhist: set $SVNHIST, or put it on the path")
     return found
@@ -52,6 +57,10 @@ def _run(dump: str, queries: List[Query]) -> Iterator[Answer]:
         messages = Messages(process.stderr)
         try:
             yield from answers_of(process.stdout, queries)
+        except BaseException:
+            # Nobody wants the rest.
+            process.terminate()
+            raise
         finally:
             process.stdout.close()
             status = process.wait()

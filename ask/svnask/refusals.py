@@ -101,13 +101,18 @@ def bad_query(line: bytes) -> str:
         reason = bad_peg(field)
         if reason:
             return reason
-    return "a number or a range is not one, or is above 2147483647"
+    if fields[0] == b"locate":
+        return "'%s' is no number up to 2147483647" % fields[2].decode("utf-8", "replace")
+    return "'%s' is no range: LO:HI, two numbers up to 2147483647, of which the first is not above the second" % (
+        fields[-1].decode("utf-8", "replace"))
 
 
 def bad_peg(field: bytes) -> Optional[str]:
     shown = field.decode("utf-8", "replace")
     found = PEG.match(field)
     if found is None:
+        if shown.partition("@")[2].strip("@"):
+            return "the peg revision of '%s' is no number" % shown
         return "'%s' has no peg revision: '%s@REV'" % (shown, shown.rstrip("@"))
     if int(found[2]) > 2147483647:
         return "the revision of '%s' is above 2147483647" % shown

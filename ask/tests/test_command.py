@@ -58,8 +58,19 @@ class Command(base.Case):
             self.assertEqual((done.status, done.output), (2, b""), words)
             self.assertEqual(done.said.count("\n"), 1)
 
+    def test_the_help_of_a_verb_needs_no_dump(self) -> None:
+        done = base.run("where", "--help")
+        self.assertEqual((done.status, done.said), (0, ""))
+        self.assertIn(b"PATH[@PEG]", done.output)
+
     def test_a_file_that_is_not_there_has_status_3(self) -> None:
         self.assertEqual(base.run(os.path.join(self.folder, "none"), "info").status, 3)
+
+    def test_a_repository_is_no_dump(self) -> None:
+        os.mkdir(os.path.join(self.folder, "db"))
+        done = base.run(self.folder, "info")
+        self.assertEqual(done.status, 3)
+        self.assertIn("is a directory: svnadmin dump -q ", done.said)
 
     def test_questions_without_an_answer_have_status_1(self) -> None:
         for words, code in ((["log", "nope"], "E160013"), (["log", "trunk@99"], "E160006"),
@@ -112,6 +123,8 @@ class Command(base.Case):
         self.assertTrue(record.startswith(b"record 3: r1 add /trunk, at byte "))
         place = record.split(b"\n")[0].rsplit(b" ", 1)[1].decode()
         self.assertEqual(base.run(DUMP, "byte", str(int(place) + 5)).output, record)
+        with open(DUMP, "rb") as file:
+            self.assertEqual(base.run("-", "byte", "4000", given=file.read()).output, b"block at byte 3874\n")
 
     def test_bad_queries_have_a_reason(self) -> None:
         queries = self.made("queries", b"log trunk@3\nblame\ttrunk@3\nlog\ttrunk\nlog\ta/../b@3\nlog\ttrunk@3\n")
@@ -119,6 +132,12 @@ class Command(base.Case):
         self.assertEqual([line.partition(b"bad-query: ")[2][:12] for line in lines[:4]],
                          [b"the fields a", b"there is no ", b"'trunk' has ", b"'a/../b@3' h"])
         self.assertEqual(lines[4], b"log\ttrunk@3\tr2 /trunk")
+
+    def test_a_bad_number_is_named(self) -> None:
+        queries = self.made("queries", b"log\ttrunk@r5\nlog\ttrunk@5\t4:2\nlocate\ttrunk@4\tHEAD\n")
+        lines = base.run(DUMP, "ask", queries).output.splitlines()
+        self.assertEqual([line.partition(b"bad-query: ")[2][:24] for line in lines],
+                         [b"the peg revision of 'tru", b"'4:2' is no range: LO:HI", b"'HEAD' is no number up t"])
 
     def test_names_of_any_kind(self) -> None:
         name = "a b%@\u2028\u0085"
@@ -147,6 +166,15 @@ class Command(base.Case):
     def test_signals_leave_no_folder(self) -> None:
         for number in (signal.SIGINT, signal.SIGTERM, signal.SIGHUP):
             self.check_signal(number)
+
+    def test_a_signal_that_is_ignored_stays_ignored(self) -> None:
+        process = subprocess.Popen(["nohup", sys.executable, base.COMMAND, "-", "info"], stdin=subprocess.PIPE,
+                                   stdout=subprocess.PIPE, stderr=subprocess.PIPE)
+        time.sleep(0.5)
+        process.send_signal(signal.SIGHUP)
+        with open(DUMP, "rb") as file:
+            output, _ = process.communicate(file.read())
+        self.assertEqual((process.returncode, output.split(b"\n")[2]), (0, b"youngest: 13"))
 
     def check_signal(self, number: int) -> None:
         temporary = os.path.join(self.folder, "temporary-%d" % number)

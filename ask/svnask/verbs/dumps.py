@@ -57,8 +57,7 @@ class ByteVerb(Verb):
         at, record = self.block(history, words)
         if record is not None:
             return described(history, record)
-        return (b"  " + line + b"\n" if count else b"block at byte %d\n  %s\n" % (at, line)
-                for count, line in enumerate(history.header(at) or [b""]))
+        return iter([b"block at byte %d\n" % at] + [b"  " + line + b"\n" for line in history.header(at)])
 
     def objects(self, history: History, words: Namespace) -> Iterator[Object]:
         at, record = self.block(history, words)
