@@ -1,7 +1,8 @@
 """Compares the pages with the sources that they speak of, and the examples of the crates with the tests.
 
-A page may name no function, type, definition or file that is gone, `docs/proofs.md` names each public function in the
-section of its crate, and the lines of the example at the head of a `lib.rt` stand one after another in a test.
+A page may name no function, type, definition or file that is gone, and link to no heading that is. `docs/proofs.md`
+names each public function in the section of its crate, and the lines of the example at the head of a `lib.rt` stand one
+after another in a test.
 """
 import functools
 import glob
@@ -26,6 +27,8 @@ FILE = re.compile(r"[\w./+-]*\w\.(?:rt|antt|edit|py|c|sh)\Z")
 PUBLIC = re.compile(r"^(?:    )?pub fn (\w+)", re.MULTILINE)
 SECTION = re.compile(r"^## (\w+)\n(.*?)(?=^## |\Z)", re.MULTILINE | re.DOTALL)
 EXAMPLE = re.compile(r"^//! ```\n(.*?)^//! ```$", re.MULTILINE | re.DOTALL)
+HEADING = re.compile(r"^#+ (.*)$", re.MULTILINE)
+TO_HEADING = re.compile(r"\]\(([^)\s#:]*)#([^)\s]+)\)")
 
 
 def content(path: str) -> str:
@@ -70,6 +73,22 @@ def names_of_pages() -> Iterator[Outcome]:
         yield "%s names what stands in the sources" % page, "", " ".join(gone)
 
 
+def anchor(heading: str) -> str:
+    """What a link names a heading by."""
+    return re.sub(r"[^\w -]", "", heading.lower()).replace(" ", "-")
+
+
+def links_to_headings() -> Iterator[Outcome]:
+    """Whether the pages have each heading that a page links to."""
+    for page in PAGES + ["interop/README.md", "model/README.md"]:
+        dead = []
+        for target, name in TO_HEADING.findall(content(page)):
+            path = os.path.normpath(os.path.join(os.path.dirname(page), target)) if target else page
+            if name not in [anchor(heading) for heading in HEADING.findall(content(path))]:
+                dead.append("%s#%s" % (target, name))
+        yield "links of %s to headings" % page, "", " ".join(dead)
+
+
 def public_functions() -> Dict[str, Set[str]]:
     """The public functions of each crate that the program needs."""
     crates = re.findall(r"^(\w+):", content("crates.txt").split("#")[0], re.MULTILINE)
@@ -105,4 +124,5 @@ def examples_of_crates() -> Iterator[Outcome]:
 
 def run_sources() -> List[Outcome]:
     """Of each comparison its name, what is wanted and what was found."""
-    return list(names_of_pages()) + list(functions_of_proofs()) + list(examples_of_crates())
+    judged = [names_of_pages(), links_to_headings(), functions_of_proofs(), examples_of_crates()]
+    return [outcome for each in judged for outcome in each]
