@@ -102,8 +102,8 @@ def bad_query(line: bytes) -> str:
         if reason:
             return reason
     if fields[0] == b"locate":
-        return "'%s' is no number up to 2147483647" % fields[2].decode("utf-8", "replace")
-    return "'%s' is no range: LO:HI, two numbers up to 2147483647, of which the first is not above the second" % (
+        return "'%s' is not a number up to 2147483647" % fields[2].decode("utf-8", "replace")
+    return "'%s' is not a range: LO:HI, two numbers up to 2147483647, of which the first is not above the second" % (
         fields[-1].decode("utf-8", "replace"))
 
 
@@ -112,7 +112,7 @@ def bad_peg(field: bytes) -> Optional[str]:
     found = PEG.match(field)
     if found is None:
         if shown.partition("@")[2].strip("@"):
-            return "the peg revision of '%s' is no number" % shown
+            return "the peg revision of '%s' is not a number" % shown
         return "'%s' has no peg revision: '%s@REV'" % (shown, shown.rstrip("@"))
     if int(found[2]) > 2147483647:
         return "the revision of '%s' is above 2147483647" % shown

@@ -137,7 +137,7 @@ class Command(base.Case):
         queries = self.made("queries", b"log\ttrunk@r5\nlog\ttrunk@5\t4:2\nlocate\ttrunk@4\tHEAD\n")
         lines = base.run(DUMP, "ask", queries).output.splitlines()
         self.assertEqual([line.partition(b"bad-query: ")[2][:24] for line in lines],
-                         [b"the peg revision of 'tru", b"'4:2' is no range: LO:HI", b"'HEAD' is no number up t"])
+                         [b"the peg revision of 'tru", b"'4:2' is not a range: LO", b"'HEAD' is not a number u"])
 
     def test_names_of_any_kind(self) -> None:
         name = "a b%@\u2028\u0085"
