@@ -2,8 +2,8 @@
 
 The whole job is measured, which is reading, the index, the map, its check and a report on ten queries, beside two other
 readers of the same bytes: `grep -c ^Node-path` through a pipe, and the program on the dump with a faulty block at its
-end, which it reads and refuses. The three lengths of a history are measured in turns. A change of a text adds nothing to
-the map, and an addition adds a node for each component of its path.
+end, which it reads and refuses. The three lengths of a history are measured in turns. A change of a text adds nothing
+to the map, and an addition adds a node for each component of its path and one for the root.
 """
 import os
 import random
@@ -169,7 +169,8 @@ def run_maps(program, folder, given):
           "|---|---|---|---|---|---|---|---|")
     for history in histories:
         history.print_rows()
-    print("\n| history | revisions | grep, s | reading, s | peak MB | peak bytes per record |\n|---|---|---|---|---|---|")
+    print("\n| history | revisions | grep, s | reading, s | peak MB | peak bytes per record |\n"
+          "|---|---|---|---|---|---|")
     for history in histories:
         history.print_memory_row()
     print("\n| criterion | at most | measured | |\n|---|---|---|---|")

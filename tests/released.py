@@ -11,6 +11,7 @@ import sys
 import tarfile
 
 from pages import run_commands
+from sources import content
 from tree import ROOT, copied_tree
 
 sys.path.insert(0, os.path.join(ROOT, "packaging"))
@@ -153,11 +154,6 @@ def refused_releases(program, folder):
     yield "a release of other sources", (1, "release: the program is not built from these sources\n"), refusal(root)
     write(os.path.join(root, "new"), "")
     yield "a release of changes", (1, "release: the tree has changes that are not committed\n"), refusal(root)
-
-
-def content(page):
-    with open(os.path.join(ROOT, page), encoding="utf-8") as file:
-        return file.read()
 
 
 def versions_of_pages():
