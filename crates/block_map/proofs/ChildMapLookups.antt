@@ -1,8 +1,7 @@
 -- What the maps of children say of a name as maps are added.
-use Rattle.std.proofs.Common.{◌≡◌, ◌≢◌, ℕ, zero, suc, ◌+◌, ◌<◌, ◌≤◌, ◌%◌, ◌/◌, ◌==◌, Bool, true, false, List, [], ◌∷◌, ◌++◌, Option, Some, None, Result, Ok, Err, OnErr, OnOk, length, if◌then◌else◌, inl, inr, refl, sym, ap, subst, ◌∙◌, add-one, arith}
+use Rattle.std.proofs.Common.{◌≡◌, ◌≢◌, ℕ, zero, suc, ◌+◌, ◌<◌, ◌≤◌, ◌%◌, ◌/◌, ◌==◌, ◌⊎◌, Bool, true, false, List, [], ◌∷◌, ◌++◌, Option, Some, None, Result, Ok, Err, OnErr, OnOk, length, slice_get, if◌then◌else◌, inl, inr, refl, sym, ap, subst, ◌∙◌, add-one, arith}
 use Rattle.std.proofs.lemmas.Bool.{cases_eq, eq-eqb, ne_eqb}
-use Rattle.std.proofs.lemmas.Option.{slice_get_within}
-use Rattle.svn_text.proofs.TextTables.{slice_get-push}
+use Rattle.std.proofs.lemmas.Option.{same_Some, slice_get_within}
 use Rattle.block_map.specs.ChildMaps.{Extends, AreOrdered, HaveNodesBelow, IsOrderedAfter, HasOne, HasSides, HasTwo, SetsChild, child_in, found_within, leaf_of, child_map_at, sides_of, with_name}
 use Rattle.block_map.specs.declared.trie.node.NodeId.{NodeId}
 use Rattle.block_map.specs.declared.trie.child_map.ChildMap.{ChildMap}
@@ -10,6 +9,15 @@ use Rattle.block_map.specs.declared.trie.child_map.ChildMap.TheVariants.{Leaf, B
 use Rattle.block_map.specs.declared.trie.child_map.ChildMapId.{ChildMapId}
 use Rattle.block_map.proofs.GrownTries.{Extends-none, child_in-grown, slice_get-grown, slice_get-last}
 use Rattle.block_map.proofs.ChildMapSteps.{child_in-None, child_in-Leaf, child_in-Branch, found_within-empty}
+
+-- an element of a list with one more is that or one of the others
+slice_get-push : {X : Type 0} (xs : List X) (last : X) (index : ℕ) (x : X) → slice_get (xs ++ last ∷ []) index ≡ Some x
+    → ((index ≡ length xs) × (x ≡ last)) ⊎ (slice_get xs index ≡ Some x)
+slice_get-push [] last zero x at = inl (refl, same_Some x last (sym at))
+slice_get-push [] last (suc index) x at = let never : None ≡ Some x = at in cc
+slice_get-push (y ∷ xs) last zero x at = inr at
+slice_get-push (y ∷ xs) last (suc index) x at =
+    elim (slice_get-push xs last index x at) [ inl (is, same) ↦ inl (ap suc is, same) | inr before ↦ inr before ]
 
 -- ---- maps as functions of the bits of a name
 

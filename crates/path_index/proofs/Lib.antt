@@ -1,5 +1,4 @@
 mod CameFromItself
-mod ChildrenFound
 mod DownFrom
 mod EntriesOfPaths
 mod HistoryTo

@@ -1,14 +1,27 @@
 -- Numbers for paths: a path's node is found from the root, one component after another.
-use Rattle.std.specs.Prelude.{◌≡◌, ℕ, suc, ◌+◌, ◌≤◌, ◌==◌, Bool, ◌&&◌, List, [], ◌∷◌, ◌++◌, Option, Some, length, slice_get, option_map, option_and_then, position}
-use Rattle.std.specs.BTreeMap.{BTreeMap, get}
-use Rattle.std.specs.Ordering.{nat_cmp, ordering_then}
-use Rattle.std.specs.declared.cmp.Ordering.{Ordering}
+use Rattle.std.specs.Prelude.{◌≡◌, ℕ, suc, ◌+◌, ◌*◌, ◌%◌, ◌^◌, ◌≤◌, ◌==◌, bit_or, Bool, true, ◌&&◌, List, [], ◌∷◌, ◌++◌, Option, Some, length, slice_get, option_map, option_and_then, position}
+use Rattle.std.specs.Hash.{HashWrites, u64}
+use Rattle.std.proofs.Common.{ap₂, eqb-true}
+use Rattle.std.proofs.lemmas.Bool.{and_parts}
 use Rattle.svn_path.specs.Path.{same_name}
 use Rattle.svn_path.specs.declared.names.NameId.{NameId}
 use Rattle.path_index.specs.declared.nodes.Child.{Child}
 
 abbrev pub same_child : Child → Child → Bool
 same_child a b = a.parent == b.parent && same_name a.name b.name
+
+-- what a child gives to a hasher: one word of both numbers
+abbrev pub word_of : ℕ → ℕ → ℕ
+word_of parent name = bit_or ((parent * 2 ^ 32) % 2 ^ 64) name
+
+abbrev pub writes_of : Child → HashWrites
+writes_of child = u64 (word_of child.parent child.name.0)
+
+-- so equal children give the same
+pub writes_of-same : (a b : Child) → same_child a b ≡ true → writes_of a ≡ writes_of b
+writes_of-same a b same =
+    let (parents, names) = and_parts (a.parent == b.parent) (same_name a.name b.name) same in
+    ap₂ (λ parent name. u64 (word_of parent name)) (eqb-true a.parent b.parent parents) (eqb-true a.name.0 b.name.0 names)
 
 -- the node of a component below another node: the root is node 0, and the child of an index in the list has the number
 -- after it
@@ -24,21 +37,6 @@ node_below children node (name ∷ path) =
 
 abbrev pub node_of : List Child → List NameId → Option ℕ
 node_of children path = node_below children 0 path
-
--- the order of children, by the node above and then by the component
-abbrev pub child_cmp : Child → Child → Ordering
-child_cmp a b = ordering_then (nat_cmp a.parent b.parent) (nat_cmp a.name.0 b.name.0)
-
--- each child's node is the number that the map has for the child, and the map has no others
-abbrev pub AreNumbersOf : List Child → BTreeMap Child ℕ → Type 0
-AreNumbersOf children numbers =
-    (child : Child) → get child_cmp numbers child ≡ child_of children child.parent child.name
-
--- each child stands once, so its node is the number after its index
-abbrev pub AreDistinct : List Child → Type 0
-AreDistinct children =
-    (index : ℕ) (child : Child) → slice_get children index ≡ Some child
-    → child_of children child.parent child.name ≡ Some (index + 1)
 
 -- children were added, and none removed
 pub record ExtendsNodes (old new : List Child) : Type 0 where

@@ -15,6 +15,7 @@ use std::alloc::{AllocError, Global};
 use std::marker::Model;
 use svn_dump::NodeRecord;
 use svn_path::Path;
+use svn_text::Seed;
 
 /// The hits that are reserved at first.
 const USUAL_HITS: usize = 16;
@@ -41,8 +42,23 @@ impl Model for Index {
 }
 
 impl Index {
-    /// An index of these records, which `first` others precede.
+    /// An index of these records, which `first` others precede, with the fixed seed. Where strangers choose the paths,
+    /// take `build_with_seed`.
     pub fn build(alloc: Global, records: &[NodeRecord], first: u32) -> Result<Self, AllocError>
+        requires { first + length records.now < 2 ^ 32 }
+        ensures records { IfOk result (λ index. index.records ≡ records.now) }
+        ensures first { IfOk result (λ index. index.first ≡ first) }
+    {
+        Index::build_with_seed(alloc, Seed::fixed(), records, first)
+    }
+
+    /// An index of these records, which `first` others precede. Paths are found by the hashes of a seed.
+    pub fn build_with_seed(
+        alloc: Global,
+        seed: Seed,
+        records: &[NodeRecord],
+        first: u32,
+    ) -> Result<Self, AllocError>
         requires { first + length records.now < 2 ^ 32 }
         ensures records { IfOk result (λ index. index.records ≡ records.now) }
         ensures first { IfOk result (λ index. index.first ≡ first) }
@@ -50,7 +66,7 @@ impl Index {
         Ok(Index {
             records: Records::of(alloc, records)?,
             first,
-            by_path: RecordsByPath::of(alloc, records)?,
+            by_path: RecordsByPath::of(alloc, seed, records)?,
         })
     }
 

@@ -27,7 +27,8 @@ impl Acts for Index {
     }
 
     fn unit(&self) -> Result<Self, AllocError> {
-        Index::build(self.records.allocator(), &[], self.first)
+        let seed = self.by_path.seed();
+        Index::build_with_seed(self.records.allocator(), seed, &[], self.first)
     }
 
     fn join(&self, later: &Self) -> Result<Self, AllocError> {

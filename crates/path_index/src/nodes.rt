@@ -1,65 +1,73 @@
 //! The paths of records, each once, as a tree of components.
-ghost use Rattle.std.specs.Prelude.{◌≡◌, ◌≤◌, List, [], None, Some, length, IfOk, IfSome, OnOk};
+ghost use Rattle.std.specs.Prelude.{◌≡◌, ◌≤◌, List, [], Some, length, IfOk, OnOk};
 ghost use Rattle.path_index.specs.Nodes.{child_of, node_of, AreNodesOf, ExtendsNodes};
 
+use indexmap::IndexSet;
 use std::alloc::{AllocError, Global};
-use std::collections::BTreeMap;
+use std::hash::{Hash, Hasher};
 use std::marker::Model;
 use svn_path::{NameId, Path};
-use svn_text::RecentNumbers;
+use svn_text::Seed;
 
 /// A node, by the node above it and its last component.
-#[derive(Clone, Copy, PartialEq, Eq, PartialOrd, Ord)]
+#[derive(Clone, Copy, PartialEq, Eq)]
 struct Child {
     parent: u32,
     name: NameId,
 }
 
+/// Both numbers are hashed as one word, which takes half the time of two.
+impl Hash for Child {
+    ghost use Rattle.path_index.specs.Nodes.{writes_of, writes_of-same};
+
+    ghost hash_input = { writes_of };
+
+    ghost respects_eq = { writes_of-same };
+
+    fn hash<H: Hasher>(&self, state: &mut H) {
+        state.write_u64(u64::from(self.parent) << 32 | u64::from(self.name.0));
+    }
+}
+
 /// The nodes of some paths and of all paths above them. The root is node 0, and the others are numbered from 1.
-///
-/// Children are found in a tree, which takes a logarithmic time at worst. A table of hashes would not, since no hasher
-/// here is random: a dump could choose children that all meet in one place. As nodes are added, most are found in a
-/// memory of recent ones before it.
 #[derive(Drop)]
 pub(crate) struct Nodes {
-    children: Vec<Child>,
-    numbers: BTreeMap<Child, u32>,
-    recent: RecentNumbers,
+    children: IndexSet<Child, Seed>,
 }
 
 impl Model for Nodes {
     ghost use Rattle.std.specs.Prelude.{List, length, ◌<◌, ◌^◌};
-    ghost use Rattle.path_index.specs.Nodes.{AreDistinct, AreNumbersOf, HaveParentsBefore};
+    ghost use Rattle.path_index.specs.Nodes.{HaveParentsBefore};
     ghost use Rattle.path_index.specs.declared.nodes.Child.{Child};
 
     ghost Value = { List Child };
 
-    ghost view = { λ n. n.children.items };
+    ghost view = { λ n. n.children.keys };
 
-    ghost invariant = { λ n. (length n.children.items < 2 ^ 32) × HaveParentsBefore n.children.items
-        × AreDistinct n.children.items × AreNumbersOf n.children.items n.numbers };
+    ghost invariant = { λ n. (length n.children.keys < 2 ^ 32) × HaveParentsBefore n.children.keys };
 }
 
 impl Nodes {
-    /// The root alone. It takes no memory.
-    pub(crate) fn new(alloc: Global) -> Self
+    /// The root alone. Others are found by the hashes of a seed. It takes no memory.
+    pub(crate) fn new(alloc: Global, seed: Seed) -> Self
         ensures { result ≡ [] }
     {
         Nodes {
-            children: Vec::new(alloc),
-            numbers: BTreeMap::new(alloc),
-            recent: RecentNumbers::new(alloc),
+            children: IndexSet::with_hasher(alloc, seed),
         }
     }
 
-    /// An equal tree, with no memory of recent nodes.
+    /// The seed by which nodes are found.
+    pub(crate) fn seed(&self) -> Seed {
+        *self.children.hasher()
+    }
+
+    /// An equal tree.
     pub(crate) fn dup(&self) -> Result<Self, AllocError>
         ensures { IfOk result (λ nodes. nodes ≡ self.now) }
     {
         Ok(Nodes {
             children: self.children.clone()?,
-            numbers: self.numbers.clone()?,
-            recent: RecentNumbers::new(*self.children.allocator()),
         })
     }
 
@@ -67,7 +75,6 @@ impl Nodes {
     pub(crate) fn shrink_to_fit(&mut self)
         ensures { self.new ≡ self.old }
     {
-        self.recent = RecentNumbers::new(*self.children.allocator());
         self.children.shrink_to_fit();
     }
 
@@ -78,50 +85,11 @@ impl Nodes {
         ensures node { IfOk result (λ node. child_of self.new parent name ≡ Some node) }
         ensures grown { OnOk result (ExtendsNodes self.old self.new) }
     {
-        let child = Child { parent, name };
-        let hash = hash_of(child);
-        if let Some(node) = self.recent_node(hash, child) {
-            return Ok(node);
-        }
-        let node = match self.child(parent, name) {
-            Some(node) => node,
-            None => self.push(child)?,
-        };
-        self.recent.put(hash, node);
-        Ok(node)
-    }
-
-    /// The node of a child with this hash, if it is the recent one.
-    fn recent_node(&self, hash: u64, child: Child) -> Option<u32>
-        ensures { IfSome result (λ node. child_of self.now child.parent child.name ≡ Some node) }
-    {
-        let node = self.recent.get(hash)?;
-        let index = node.checked_sub(1)?;
-        match self.children.get(index as usize) {
-            Some(known) if *known == child => Some(node),
-            _ => None,
-        }
-    }
-
-    /// Adds a new node.
-    fn push(&mut self, child: Child) -> Result<u32, AllocError>
-        requires above { child.parent ≤ length self.old }
-        requires absent { child_of self.old child.parent child.name ≡ None }
-        ensures node { IfOk result (λ node. child_of self.new child.parent child.name ≡ Some node) }
-        ensures grown { OnOk result (ExtendsNodes self.old self.new) }
-    {
-        let before = self.children.len();
-        if before == u32::MAX as usize {
+        if self.children.len() == u32::MAX as usize {
             return Err(AllocError);
         }
-        let node = before as u32 + 1;
-        self.recent.reserve(before)?;
-        self.children.push(child)?;
-        if let Err(refused) = self.numbers.insert(child, node) {
-            self.children.pop();
-            return Err(AllocError::from(refused));
-        }
-        Ok(node)
+        let (index, _) = self.children.insert_full(Child { parent, name })?;
+        Ok(index as u32 + 1)
     }
 
     /// Adds the nodes of another tree. Returns the node of each, from the root on.
@@ -143,7 +111,9 @@ impl Nodes {
     pub(crate) fn child(&self, parent: u32, name: NameId) -> Option<u32>
         ensures { result ≡ child_of self.now parent name }
     {
-        self.numbers.get(&Child { parent, name }).copied()
+        self.children
+            .get_index_of(&Child { parent, name })
+            .map(|index| index as u32 + 1)
     }
 
     /// The node of a path.
@@ -159,11 +129,4 @@ impl Nodes {
         }
         Some(node)
     }
-}
-
-/// A hash of a child, for the memory of recent nodes alone. The multiplier is 2^64 by the golden ratio, as in Fibonacci
-/// hashing; the upper half of the product is the mixed one.
-fn hash_of(child: Child) -> u64 {
-    let both = u64::from(child.parent) << 32 | u64::from(child.name.0);
-    both.wrapping_mul(0x9e37_79b9_7f4a_7c15) >> 32
 }

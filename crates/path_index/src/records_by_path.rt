@@ -12,6 +12,7 @@ use crate::numbers::{Numbers, newer};
 use std::alloc::{AllocError, Global};
 use svn_dump::{Act, NodeRecord};
 use svn_path::Path;
+use svn_text::Seed;
 
 /// The records of a history by the paths that they name.
 #[derive(Drop)]
@@ -27,13 +28,17 @@ pub(crate) struct RecordsByPath {
 }
 
 impl RecordsByPath {
-    /// The records of a list by the paths that they name.
-    pub(crate) fn of(alloc: Global, records: &[NodeRecord]) -> Result<Self, AllocError>
+    /// The records of a list by the paths that they name. Paths are found by the hashes of a seed.
+    pub(crate) fn of(
+        alloc: Global,
+        seed: Seed,
+        records: &[NodeRecord],
+    ) -> Result<Self, AllocError>
         requires { length records.now < 2 ^ 32 }
         ensures { IfOk result (AreByPath records.now) }
     {
         let mut by_path = RecordsByPath {
-            nodes: Nodes::new(alloc),
+            nodes: Nodes::new(alloc, seed),
             added: Numbers::new(alloc),
             copied: Numbers::new(alloc),
             named: Numbers::new(alloc),
@@ -53,6 +58,11 @@ impl RecordsByPath {
         self.added.shrink_to_fit();
         self.copied.shrink_to_fit();
         self.named.shrink_to_fit();
+    }
+
+    /// The seed by which paths are found.
+    pub(crate) fn seed(&self) -> Seed {
+        self.nodes.seed()
     }
 
     /// Adds the record of this index.

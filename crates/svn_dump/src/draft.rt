@@ -20,7 +20,7 @@ use crate::texts::Texts;
 use std::alloc::Global;
 use std::marker::Model;
 use svn_path::Names;
-use svn_text::number_up_to;
+use svn_text::{Seed, number_up_to};
 
 /// How many names, records, revisions and texts a dump has at most.
 const MOST_NUMBERED: usize = 4_294_967_294;
@@ -47,14 +47,14 @@ impl Model for Draft {
 
 impl Draft {
     /// A dump without revisions. It takes no memory.
-    pub(crate) fn new(alloc: Global) -> Self
+    pub(crate) fn new(alloc: Global, seed: Seed) -> Self
         ensures { result ≡ dump_of [] [] [] [] }
     {
         Draft {
-            names: Names::new(alloc),
+            names: Names::with_seed(alloc, seed),
             records: Vec::new(alloc),
             counts: Vec::new(alloc),
-            texts: Texts::new(alloc),
+            texts: Texts::new(alloc, seed),
         }
     }
 

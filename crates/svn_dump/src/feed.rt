@@ -12,6 +12,7 @@ use crate::error::DumpError;
 use crate::pieces::reader::Reader;
 use std::alloc::Global;
 use std::marker::Model;
+use svn_text::Seed;
 
 /// A reader of a dump that comes in pieces.
 ///
@@ -40,15 +41,27 @@ impl Model for Feed {
 }
 
 impl Feed {
-    /// A reader to which nothing has come. It takes no memory.
+    /// A reader to which nothing has come, with the fixed seed. It takes no memory. Where strangers write the dump, take
+    /// `with_seed`.
     pub fn new(alloc: Global) -> Self
         ensures read { HasRead result [] }
         ensures count { result.count ≡ 0 }
         ensures error { result.error ≡ None }
         ensures undecided { IsUndecided [] }
     {
+        Feed::with_seed(alloc, Seed::fixed())
+    }
+
+    /// A reader to which nothing has come. Names and mergeinfo texts are found by the hashes of a seed. It takes no
+    /// memory.
+    pub fn with_seed(alloc: Global, seed: Seed) -> Self
+        ensures read { HasRead result [] }
+        ensures count { result.count ≡ 0 }
+        ensures error { result.error ≡ None }
+        ensures undecided { IsUndecided [] }
+    {
         Feed {
-            reader: Reader::new(alloc),
+            reader: Reader::new(alloc, seed),
             count: 0,
             error: None,
         }

@@ -26,6 +26,6 @@ pub use error::DumpError;
 pub use feed::Feed;
 pub use kind::Kind;
 pub use origin::Origin;
-pub use reading::read;
+pub use reading::{read, read_with_seed};
 pub use record::{Act, Mi, NodeRecord, ValueId};
 pub use refusal::refusal_name;

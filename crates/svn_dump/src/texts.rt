@@ -7,7 +7,7 @@ use crate::read_error::ReadError;
 use crate::record::ValueId;
 use std::alloc::Global;
 use std::marker::Model;
-use svn_text::TextTable;
+use svn_text::{Seed, TextTable};
 
 /// The distinct mergeinfo texts of a dump, seen as the list of their bytes.
 #[derive(Drop)]
@@ -25,11 +25,11 @@ impl Model for Texts {
 
 impl Texts {
     /// A table without texts. It takes no memory.
-    pub(crate) fn new(alloc: Global) -> Self
+    pub(crate) fn new(alloc: Global, seed: Seed) -> Self
         ensures { result ≡ [] }
     {
         Texts {
-            known: TextTable::new(alloc),
+            known: TextTable::new(alloc, seed),
         }
     }
 

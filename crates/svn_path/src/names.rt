@@ -6,7 +6,7 @@ ghost use Rattle.svn_path.specs.Names.{has_name, with_name, most_names, HasNoRoo
 
 use std::alloc::{AllocError, Global};
 use std::marker::Model;
-use svn_text::{TextTable, TextTableError};
+use svn_text::{Seed, TextTable, TextTableError};
 use thiserror::Error;
 
 /// The number of a name in a table. Numbers begin at 0 and follow the order in which names came.
@@ -64,13 +64,26 @@ impl From<TextTableError> for NamesError {
 }
 
 impl Names {
-    /// A table without names. It takes no memory.
+    /// A table without names, with the fixed seed. It takes no memory. Where strangers choose the names, take
+    /// `with_seed`: names that all have one hash make each look-up as slow as a search through all of them.
     pub fn new(alloc: Global) -> Self
         ensures { result ≡ [] }
     {
+        Names::with_seed(alloc, Seed::fixed())
+    }
+
+    /// A table without names, whose hashes begin with a seed. It takes no memory.
+    pub fn with_seed(alloc: Global, seed: Seed) -> Self
+        ensures { result ≡ [] }
+    {
         Names {
-            known: TextTable::new(alloc),
+            known: TextTable::new(alloc, seed),
         }
+    }
+
+    /// The seed by which names are found.
+    pub fn seed(&self) -> Seed {
+        self.known.seed()
     }
 
     /// The number of a name, which is added at the end of the table where it is new.

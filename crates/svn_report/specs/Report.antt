@@ -7,10 +7,10 @@ use Rattle.svn_dump.specs.Tree.{trees_of}
 use Rattle.query_answer.specs.Answer.{TreesOfBytes, answer_of, answer_text}
 use Rattle.query_answer.specs.Query.{query_of}
 use Rattle.svn_report.specs.QueryLines.{query_lines}
-use Rattle.svn_report.specs.declared.reporting.TheConstants.{MOST_QUERIES}
 
+-- how many queries one run answers
 abbrev pub most_queries : ℕ
-most_queries = MOST_QUERIES
+most_queries = 1000000
 
 -- there are no more lines than one run answers
 abbrev pub AreFew : List ℕ → Type 0

@@ -4,6 +4,7 @@ use Rattle.svn_dump.specs.declared.error.DumpError.{DumpError}
 use Rattle.svn_dump.specs.declared.error.DumpError.TheVariants as refusal
 use Rattle.svn_dump.specs.Refusal.{refusal_name_of}
 use Rattle.block_map.specs.FaultKind.{fault_name_of, fault_number}
+use Rattle.svn_report.specs.Report.{most_queries}
 use Rattle.svn_report.specs.declared.run_error.RunError.{RunError}
 use Rattle.svn_report.specs.declared.run_error.RunError.TheVariants as run
 use Rattle.devices.specs.declared.source.Source.{Source}
@@ -25,7 +26,7 @@ refusal_text (refusal.Refused number at) = refused_at number (refusal_name_of nu
 refusal_text refusal.Memory = codes "out of memory"
 
 abbrev pub error_text : RunError → List ℕ
-error_text run.TooMany = codes "more than 1000000 queries"
+error_text run.TooMany = codes "more than " ++ (decimal most_queries ++ codes " queries")
 error_text (run.Dump refused) = refusal_text refused
 error_text (run.Fault fault) = refused_at (fault_number fault.kind) (fault_name_of fault.kind) (codes "record") fault.number
 error_text (run.Read source) = codes "cannot read " ++ source_name_of source

@@ -1,5 +1,5 @@
 //! Answering the queries of a run by several workers.
-ghost use Rattle.std.specs.Prelude.{◌≡◌, ◌<◌, ◌≤◌, ◌++◌, IfOk, length};
+ghost use Rattle.std.specs.Prelude.{◌≡◌, ◌+◌, ◌<◌, ◌≤◌, ◌++◌, ℕ, IfOk, length};
 ghost use Rattle.std.specs.List.{flat_map};
 ghost use Rattle.svn_dump.specs.Dump.{history_in_bytes};
 ghost use Rattle.svn_report.specs.Answering.{answers_to_batch, partial_text};
@@ -34,6 +34,7 @@ pub(crate) fn answer_lines<R: Threads + Wait + Sync, G: Gate>(
     requires few_queries { length (query_lines queries.now) ≤ most_queries }
     requires some_worker { 0 < workers }
     requires few_workers { workers ≤ most_workers }
+    requires gate { (place : ℕ) → place < length (query_lines queries.now) → G.watches gate.now place }
     ensures { IfOk result (λ out. out.items ≡ answers (history_in_bytes repo.now) queries.now) }
 {
     let lines = lines_of(alloc, queries)?;
@@ -57,6 +58,7 @@ fn answer_batches<'r, R: Threads + Wait + Sync, G: Gate>(
     requires few_queries { length lines.now ≤ most_queries }
     requires some_worker { 0 < workers }
     requires few_workers { workers ≤ most_workers }
+    requires gate { (place : ℕ) → place < length lines.now → G.watches gate.now place }
     ensures { IfOk result (λ out. out.items ≡ answers_to_batch repo.now 0 lines.now) }
 {
     let mut partial = PartialReport {
@@ -101,6 +103,8 @@ impl PartialReport {
     ) -> Result<Self, AllocError>
         requires some_worker { 0 < workers }
         requires few_workers { workers ≤ most_workers }
+        requires gate { (place : ℕ) → place < length batch.now.lines.now
+            → G.watches gate.now (batch.now.first + place) }
         ensures { IfOk result (λ after. partial_text after
             ≡ partial_text self ++ answers_to_batch batch.now.repo.now batch.now.first batch.now.lines.now) }
     {
@@ -117,7 +121,8 @@ impl PartialReport {
                 after.items ≡ report.items ++ flat_map (λ text. text.items) joined.entry.now) }
         { with_texts(report, joined) };
         let answering = move || -> Result<Vec<Vec<u8>>, AllocError>
-            requires { (0 < workers) × (workers ≤ most_workers) }
+            requires { (0 < workers) × (workers ≤ most_workers) × ((place : ℕ) → place < length batch.now.lines.now
+                → G.watches gate.now (batch.now.first + place)) }
             ensures { IfOk result (λ texts. flat_map (λ text. text.items) texts.items
                 ≡ answers_to_batch batch.entry.now.repo.now batch.entry.now.first batch.entry.now.lines.now) }
         { batch.answers(rt, workers, gate) };
@@ -131,7 +136,9 @@ impl PartialReport {
 }
 
 /// How many bytes all texts have.
-fn length_of(texts: &[Vec<u8>]) -> usize {
+fn length_of(texts: &[Vec<u8>]) -> usize
+    ensures { result ≤ length (flat_map (λ text. text.items) texts.now) }
+{
     let mut length: usize = 0;
     for text in texts {
         length = length.saturating_add(text.len());

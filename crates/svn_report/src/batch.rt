@@ -1,5 +1,5 @@
 //! A batch of the queries of a run.
-ghost use Rattle.std.specs.Prelude.{◌≡◌, ◌+◌, ◌<◌, ◌≤◌, IfOk, length};
+ghost use Rattle.std.specs.Prelude.{◌≡◌, ◌+◌, ◌<◌, ◌≤◌, ℕ, IfOk, length};
 ghost use Rattle.std.specs.List.{flat_map};
 ghost use Rattle.query_pool.specs.Serving.{most_workers};
 ghost use Rattle.svn_report.specs.Answering.{answers_to_batch};
@@ -68,6 +68,7 @@ impl Batch<'_, '_> {
     ) -> Result<Vec<Vec<u8>>, AllocError>
         requires some_worker { 0 < workers }
         requires few_workers { workers ≤ most_workers }
+        requires gate { (place : ℕ) → place < length self.now.lines.now → G.watches gate.now (self.now.first + place) }
         ensures { IfOk result (λ texts. flat_map (λ text. text.items) texts.items
             ≡ answers_to_batch self.now.repo.now self.now.first self.now.lines.now) }
     {
@@ -85,8 +86,7 @@ impl Batch<'_, '_> {
     }
 }
 
-/// The gate of a run, which is called with the places that the queries have in the run. No sum wraps, since these are
-/// below 1,000,000, but no contract of a gate says so.
+/// The gate of a run, which is called with the places that the queries of a batch have in the run.
 #[derive(Drop)]
 struct BatchGate<'g, G> {
     gate: &'g G,
@@ -94,11 +94,15 @@ struct BatchGate<'g, G> {
 }
 
 impl<G: Gate> Gate for BatchGate<'_, G> {
+    ghost use Rattle.std.specs.Prelude.{◌+◌, ◌^◌, ◌<◌};
+
+    ghost watches = { λ batch place. (batch.first + place < 2 ^ 32) × G.watches batch.gate.now (batch.first + place) };
+
     fn enter(&self, place: u32) {
-        self.gate.enter(self.first.wrapping_add(place));
+        self.gate.enter(self.first + place);
     }
 
     fn leave(&self, place: u32) {
-        self.gate.leave(self.first.wrapping_add(place));
+        self.gate.leave(self.first + place);
     }
 }

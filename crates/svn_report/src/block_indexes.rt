@@ -8,12 +8,14 @@ use path_index::Index;
 use std::alloc::{AllocError, Global};
 use std::thread::Threads;
 use svn_dump::{Dump, NodeRecord};
+use svn_text::Seed;
 
 /// Blocks of records, each between two borders, which are numbers of records. What is made of a block is the index of
 /// its records.
 #[derive(Clone, Copy)]
 pub(crate) struct BlockIndexes<'a> {
     alloc: Global,
+    seed: Seed,
     records: &'a [NodeRecord],
     borders: &'a [usize],
 }
@@ -30,11 +32,17 @@ impl Make for BlockIndexes<'_> {
     fn make(&self, i: usize) -> Result<Index, AllocError> {
         let start = self.borders[i];
         let end = self.borders[i + 1];
-        Index::build(self.alloc, &self.records[start..end], start as u32)
+        Index::build_with_seed(
+            self.alloc,
+            self.seed,
+            &self.records[start..end],
+            start as u32,
+        )
     }
 }
 
-/// The index of all records of a dump. The blocks between these borders are indexed in parallel and joined.
+/// The index of all records of a dump, with the seed of its names. The blocks between these borders are indexed in
+/// parallel and joined.
 pub(crate) fn index_of<R: Threads + Sync>(
     rt: &R,
     alloc: Global,
@@ -48,14 +56,16 @@ pub(crate) fn index_of<R: Threads + Sync>(
     ensures records { IfOk result (λ index. index.records ≡ dump.now.records) }
     ensures first { IfOk result (λ index. index.first ≡ 0) }
 {
+    let seed = dump.names().seed();
     let blocks = BlockIndexes {
         alloc,
+        seed,
         records: dump.records(),
         borders,
     };
     let indexes = make_all(rt, alloc, &blocks, borders.len() - 1, workers)?;
     match total(rt, alloc, indexes, workers)? {
         Some(index) => Ok(index),
-        None => Index::build(alloc, &[], 0),
+        None => Index::build_with_seed(alloc, seed, &[], 0),
     }
 }

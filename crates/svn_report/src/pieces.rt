@@ -1,5 +1,5 @@
 //! The report on a dump that a device gives in pieces.
-ghost use Rattle.std.specs.Prelude.{◌≡◌, ◌+◌, ◌<◌, ◌≤◌, ◌↔◌, All, length, IfErr, IfOk, IsErrOf, OnOk};
+ghost use Rattle.std.specs.Prelude.{◌≡◌, ◌+◌, ◌<◌, ◌≤◌, ◌↔◌, All, ℕ, length, IfErr, IfOk, IsErrOf, OnOk};
 ghost use Rattle.query_pool.specs.Serving.{most_workers};
 ghost use Rattle.svn_report.specs.Load.{most_reads};
 ghost use Rattle.svn_report.specs.QueryLines.{query_lines};
@@ -13,15 +13,17 @@ use crate::run_error::RunError;
 use devices::{Pull, Source};
 use query_pool::Gate;
 use std::alloc::Global;
+use std::random::RandomSource;
 use std::sync::Wait;
 use std::thread::Threads;
 use svn_dump::{Dump, Feed};
+use svn_text::Seed;
 
 /// The report on a dump that a device gives, in pieces of at most 65,536 bytes, of which only one is held at a time.
 ///
 /// Reading ends with the piece that decides a refusal. Where the device fails before one is decided, or 4,294,967,296
 /// reads meet no end, the answer is `Read(Source::Dump)`. All else is as for `report`.
-pub fn report_from<R: Threads + Wait + Sync, P: Pull, G: Gate>(
+pub fn report_from<R: RandomSource + Threads + Wait + Sync, P: Pull, G: Gate>(
     rt: &R,
     alloc: Global,
     input: &mut P,
@@ -33,6 +35,7 @@ pub fn report_from<R: Threads + Wait + Sync, P: Pull, G: Gate>(
     requires cuts { All (λ length. 0 < length) cuts.now }
     requires some_worker { 0 < workers }
     requires few_workers { workers ≤ most_workers }
+    requires gate { (place : ℕ) → place < length (query_lines queries.now) → G.watches gate.now place }
     ensures ok { IfOk result
         (λ report. IsReportFrom (P.state input.old) (P.state input.new) queries.now report.items) }
     ensures error { IfErr result (IsRunErrorFrom (P.state input.old) (P.state input.new) queries.now) }
@@ -50,12 +53,12 @@ pub fn report_from<R: Threads + Wait + Sync, P: Pull, G: Gate>(
     if count_lines(queries) > MOST_QUERIES {
         return Err(RunError::TooMany);
     }
-    let dump = read_dump(alloc, input)?;
+    let dump = read_dump(alloc, Seed::random(rt), input)?;
     report_on(rt, alloc, dump, queries, cuts, workers, gate)
 }
 
-/// The dump that an input is.
-fn read_dump<P: Pull>(alloc: Global, input: &mut P) -> Result<Dump, RunError>
+/// The dump that an input is. Its names and mergeinfo texts are found by the hashes of a seed.
+fn read_dump<P: Pull>(alloc: Global, seed: Seed, input: &mut P) -> Result<Dump, RunError>
     ensures ok { IfOk result (IsDumpFrom (P.state input.old) (P.state input.new)) }
     ensures error { IfErr result (IsDumpErrorFrom (P.state input.old) (P.state input.new)) }
     ensures unfailed { OnOk result ((P.state input.new).failures ≡ (P.state input.old).failures) }
@@ -65,7 +68,7 @@ fn read_dump<P: Pull>(alloc: Global, input: &mut P) -> Result<Dump, RunError>
 {
     let mut piece = Vec::with_capacity(alloc, PIECE)?;
     piece.resize(PIECE, 0)?;
-    let mut feed = Feed::new(alloc);
+    let mut feed = Feed::with_seed(alloc, seed);
     for _ in 0..MOST_READS {
         match input.pull(piece.as_mut_slice()) {
             Err(_) => return Err(RunError::Read(Source::Dump)),

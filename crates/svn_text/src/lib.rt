@@ -1,4 +1,4 @@
-//! Bytes cut at a byte, tables of texts, memories of recent numbers, decimal numbers, and the greatest revision.
+//! Bytes cut at a byte, tables of texts and the seeds of their hashes, decimal numbers, and the greatest revision.
 //!
 //! ```
 //! let bytes = b"a: b: c".as_slice();
@@ -11,11 +11,11 @@
 
 mod cut;
 mod number;
-mod recent_numbers;
-mod text_numbers;
+mod seed;
+mod text;
 mod text_table;
 
 pub use cut::{split_at_byte, split_at_last};
 pub use number::{GREATEST_REVISION, number_up_to, push_number};
-pub use recent_numbers::RecentNumbers;
+pub use seed::Seed;
 pub use text_table::{TextTable, TextTableError};

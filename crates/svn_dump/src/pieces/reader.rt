@@ -21,6 +21,7 @@ use crate::read_error::ReadError;
 use crate::refusal::Refusal;
 use std::alloc::Global;
 use std::mem::replace;
+use svn_text::Seed;
 
 /// Where the next byte belongs.
 #[derive(Drop)]
@@ -49,13 +50,13 @@ pub(crate) struct Reader {
 
 impl Reader {
     /// A reader of a dump of which nothing has come. It takes no memory.
-    pub(crate) fn new(alloc: Global) -> Self
+    pub(crate) fn new(alloc: Global, seed: Seed) -> Self
         ensures read { HasReadAll result [] }
         ensures whole { IsWholeHistory result.draft }
     {
         Reader {
             alloc,
-            draft: Draft::new(alloc),
+            draft: Draft::new(alloc, seed),
             progress: Progress::Line(PartialLine::Front(0)),
             format: Format::Two,
             at: 0,

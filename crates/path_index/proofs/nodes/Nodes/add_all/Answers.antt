@@ -22,14 +22,14 @@ loop-child-init c = record {
 pub index-requires : goal.index-requires
 index-requires c =
     let all = c.as_slice-child-items.result.now in
-    let ordered : HaveParentsBefore all = subst HaveParentsBefore (sym c.as_slice-child-items.ensures.value) c.later.invariant.1 in
+    let ordered : HaveParentsBefore all = subst HaveParentsBefore (sym c.as_slice-child-items.ensures.keys) c.later.invariant.1 in
     omega (arith, parent_before all c.loop-child.child-index ordered c.loop-child-test.true, c.loop-child.invariant.mapped.all)
 
 pub add-requires : goal.add-requires
 add-requires c =
     let all = c.as_slice-child-items.result.now in
     let nodes = c.loop-child.nodes.items in
-    let ordered : HaveParentsBefore all = subst HaveParentsBefore (sym c.as_slice-child-items.ensures.value) c.later.invariant.1 in
+    let ordered : HaveParentsBefore all = subst HaveParentsBefore (sym c.as_slice-child-items.ensures.keys) c.later.invariant.1 in
     let parent = (get_or all c.loop-child.child-index some_child).parent in
     let low : parent < length nodes = omega (arith, parent_before all c.loop-child.child-index ordered c.loop-child-test.true, c.loop-child.invariant.mapped.all) in
     subst (λ n. n ≤ length c.loop-child.self) (sym c.index.ensures) (c.loop-child.invariant.mapped.within parent c.index.result.now low)
@@ -43,7 +43,7 @@ loop-child-preserved c =
     let before = c.loop-child.self in
     let after = c.add.new.self in
     let node = c.in_ok-node.node in
-    let ordered : HaveParentsBefore all = subst HaveParentsBefore (sym c.as_slice-child-items.ensures.value) c.later.invariant.1 in
+    let ordered : HaveParentsBefore all = subst HaveParentsBefore (sym c.as_slice-child-items.ensures.keys) c.later.invariant.1 in
     let at : slice_get all k ≡ Some child = slice_get-get_or all k some_child c.loop-child-test.true in
     let low : child.parent < length nodes = omega (arith, parent_before all k ordered c.loop-child-test.true, c.loop-child.invariant.mapped.all) in
     let parent : c.index.result.now ≡ get_or nodes child.parent 0 = c.index.ensures ∙ get_or_default nodes child.parent c.index.result.now 0 low in
@@ -56,6 +56,6 @@ loop-child-preserved c =
 pub returns-clause-nodes : goal.returns-clause-nodes
 returns-clause-nodes c =
     let all = c.as_slice-child-items.result.now in
-    subst (λ children. AreNodesOf c.args.later children c.loop-child.nodes.items) (sym (c.shrink_to_fit.ensures.items ∙ c.self-2.view_is))
-    (subst (λ later. AreNodesOf later c.loop-child.self c.loop-child.nodes.items) (c.as_slice-child-items.ensures.value ∙ c.later.view_is)
+    subst (λ children. AreNodesOf c.args.later children c.loop-child.nodes.items) (sym (c.shrink_to_fit.ensures.keys ∙ c.self-2.view_is))
+    (subst (λ later. AreNodesOf later c.loop-child.self c.loop-child.nodes.items) (c.as_slice-child-items.ensures.keys ∙ c.later.view_is)
     (AreNodesOf-mapped all c.loop-child.self c.loop-child.nodes.items c.loop-child.child-index (omega (arith, c.loop-child-test.false, c.loop-child.auto.child-index-end)) c.loop-child.invariant.mapped))

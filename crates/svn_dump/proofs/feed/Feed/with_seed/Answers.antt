@@ -1,6 +1,6 @@
 use Rattle.std.proofs.Common.{[]}
 use Rattle.svn_dump.proofs.Undecided.{IsUndecided-read}
-use Rattle.svn_dump.proofs.feed.Feed.new.Goals as goal
+use Rattle.svn_dump.proofs.feed.Feed.with_seed.Goals as goal
 
 pub returns-clause-undecided : goal.returns-clause-undecided
 returns-clause-undecided c = IsUndecided-read c.new.result [] c.new.ensures.read
