@@ -2,15 +2,14 @@
 use Rattle.std.specs.Prelude.{◌≡◌, ℕ, ◌==◌, nat_lt, List, filter, if◌then◌else◌, length}
 use Rattle.std.specs.List.{flat_map}
 use Rattle.query_pool.specs.declared.part.Part.{Part}
-use Rattle.query_pool.specs.declared.serving.TheConstants.{MOST_PLACES, MOST_WORKERS}
 
 -- how many places a job may have
 abbrev pub most_places : ℕ
-most_places = MOST_PLACES
+most_places = 1000000
 
 -- how many workers there may be
 abbrev pub most_workers : ℕ
-most_workers = MOST_WORKERS
+most_workers = 64
 
 -- the results of all parts, one part after another
 abbrev pub results_of : {X : Type 0} → List (Part X) → List (ℕ × X)
