@@ -48,6 +48,7 @@ pub(crate) fn serve_place<J: Job, G: Gate>(
     progress: &mut Progress<J::State, J::Out>,
 ) -> Result<(), AllocError>
     requires place { J.has job.now place }
+    requires gate { G.watches gate.now place }
     requires state { J.lawful job.now progress.old.state }
     ensures state { OnOk result (J.lawful job.now progress.new.state) }
     ensures done { OnOk result (Finishes (J.gives job.now) progress.old.done.items place progress.new.done.items) }

@@ -36,6 +36,7 @@ pub fn serve<R: Threads + Wait + Sync, J: Job, G: Gate>(
     gate: &G,
 ) -> Result<Vec<Part<J::Out>>, AllocError>
     requires places { (place : ℕ) → place < n → J.has job.now place }
+    requires gate { (place : ℕ) → place < n → G.watches gate.now place }
     requires few_places { n ≤ most_places }
     requires some_worker { 0 < workers }
     requires few_workers { workers ≤ most_workers }
@@ -73,6 +74,7 @@ fn serve_with<R: Threads + Wait + Sync, J: Job, G: Gate>(
     requires deque { worker_deque caller.owner ≡ stealer_deque thief.now }
     requires parts { thieves < (worker_view caller.owner).parts }
     requires places { (place : ℕ) → place < (worker_view caller.owner).puts → J.has job.now place }
+    requires gate { (place : ℕ) → place < (worker_view caller.owner).puts → G.watches gate.now place }
     ensures continues { IfOk result (Continues (J.lawful job.now) (J.gives job.now) caller) }
     ensures few { IfOk result (λ after. length after.parts.items ≤ length caller.parts.items + thieves) }
 {
@@ -83,7 +85,8 @@ fn serve_with<R: Threads + Wait + Sync, J: Job, G: Gate>(
     let stealing = move || -> Result<(ThiefPass, Part<J::Out>), AllocError>
         requires { IsSync R.row × IsSync J.row × IsSync G.row × IsSend J.Out.row
             × IsPassOf (stealer_deque thief.now) pass × (0 < (view pass).parts) × ((view pass).taken ≡ [])
-            × ((place : ℕ) → place < (view pass).puts → J.has job.now place) }
+            × ((place : ℕ) → place < (view pass).puts → J.has job.now place)
+            × ((place : ℕ) → place < (view pass).puts → G.watches gate.now place) }
         ensures { IfOk result (λ it. IsPassOf (stealer_deque thief.entry.now) it.0
             × Serves (J.gives job.entry.now) (view pass) (view it.0) it.1.done.items) }
     { steal_all(rt, alloc, job, gate, thief, pass) };
@@ -92,7 +95,8 @@ fn serve_with<R: Threads + Wait + Sync, J: Job, G: Gate>(
         requires { IsSync R.row × IsSync J.row × IsSync G.row × IsSend J.Out.row × IsSend J.State.row
             × IsReady (J.lawful job.now) (J.gives job.now) caller × (worker_deque caller.owner ≡ stealer_deque thief.now)
             × (rest < (worker_view caller.owner).parts)
-            × ((place : ℕ) → place < (worker_view caller.owner).puts → J.has job.now place) }
+            × ((place : ℕ) → place < (worker_view caller.owner).puts → J.has job.now place)
+            × ((place : ℕ) → place < (worker_view caller.owner).puts → G.watches gate.now place) }
         ensures { IfOk result (λ after. Continues (J.lawful job.entry.now) (J.gives job.entry.now) caller after
             × (length after.parts.items ≤ length caller.parts.items + rest)) }
     { serve_with(rt, alloc, job, gate, thief, caller, rest) };
@@ -114,6 +118,7 @@ fn take_all<R: Wait, J: Job, G: Gate>(
     requires ready { IsReady (J.lawful job.now) (J.gives job.now) caller }
     requires part { 0 < (worker_view caller.owner).parts }
     requires places { (place : ℕ) → place < (worker_view caller.owner).puts → J.has job.now place }
+    requires gate { (place : ℕ) → place < (worker_view caller.owner).puts → G.watches gate.now place }
     ensures continues { IfOk result (Continues (J.lawful job.now) (J.gives job.now) caller) }
     ensures parts { IfOk result (λ after. after.parts ≡ caller.parts) }
     ensures empty { IfOk result (λ after. LooksEmpty (worker_view after.owner)) }
@@ -140,6 +145,7 @@ fn steal_all<R: Wait, J: Job, G: Gate>(
     requires part { 0 < (view pass).parts }
     requires fresh { (view pass).taken ≡ [] }
     requires places { (place : ℕ) → place < (view pass).puts → J.has job.now place }
+    requires gate { (place : ℕ) → place < (view pass).puts → G.watches gate.now place }
     ensures pass { IfOk result (λ it. IsPassOf (stealer_deque thief.now) it.0) }
     ensures serves { IfOk result (λ it. Serves (J.gives job.now) (view pass) (view it.0) it.1.done.items) }
 {

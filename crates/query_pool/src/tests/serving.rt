@@ -1,5 +1,5 @@
 //! Serving places.
-ghost use Rattle.std.specs.Prelude.{◌<◌, ◌≤◌};
+ghost use Rattle.std.specs.Prelude.{ℕ, ◌<◌, ◌≤◌};
 ghost use Rattle.query_pool.specs.Serving.{most_workers};
 
 use crate::tests::meetings::{Meeting, Others};
@@ -59,7 +59,9 @@ fn serves_in_order<R: Threads + Wait + Sync, G: Gate>(
     n: u32,
     workers: usize,
     gate: &G,
-) -> Result<bool, Fail> {
+) -> Result<bool, Fail>
+    requires gate { (place : ℕ) → place < n → G.watches gate.now place }
+{
     if n > MOST_PLACES || workers == 0 || workers > MOST_WORKERS {
         return Ok(false);
     }
@@ -144,6 +146,10 @@ struct Counting {
 }
 
 impl Gate for Counting {
+    ghost use Rattle.std.specs.Prelude.{⊤};
+
+    ghost watches = { λ gate place. ⊤ };
+
     fn enter(&self, place: u32) {
         self.inside.fetch_add(1, Ordering::SeqCst);
         self.entered.fetch_add(place as usize, Ordering::SeqCst);

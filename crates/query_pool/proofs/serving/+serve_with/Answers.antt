@@ -21,7 +21,8 @@ join-stolen-requires-after_bounds g t c κs within =
       records = subst (λ taken. Records (g.J.Job.gives c.args.job.now) taken (results_in c.args.caller)) (sym (ap (λ (pass : Tally). pass.taken) split.left)) ready.records;
     } in
     let fewer : c.args.thieves - 1 < (worker_view c.split-pass.new.owner).parts = omega (arith, c.requires.parts, more, ap (λ (pass : Tally). pass.parts) split.left) in
-    let places : (place : ℕ) → place < (worker_view c.split-pass.new.owner).puts → g.J.Job.has c.args.job.now place = λ place put. c.requires.places place (subst (λ n. place < n) own put) in (
+    let places : (place : ℕ) → place < (worker_view c.split-pass.new.owner).puts → g.J.Job.has c.args.job.now place = λ place put. c.requires.places place (subst (λ n. place < n) own put) in
+    let gate : (place : ℕ) → place < (worker_view c.split-pass.new.owner).puts → g.G.Gate.watches c.args.gate.now place = λ place put. c.requires.gate place (subst (λ n. place < n) own put) in (
       (
         (
           search rules,
@@ -32,6 +33,7 @@ join-stolen-requires-after_bounds g t c κs within =
           omega (arith, ap (λ (pass : Tally). pass.parts) split.right),
           ap (λ (pass : Tally). pass.taken) split.right,
           λ place put. c.requires.places place (subst (λ n. place < n) theirs put),
+          λ place put. c.requires.gate place (subst (λ n. place < n) theirs put),
         ),
         (search rules, search rules, search rules, search rules, search rules),
       ),
@@ -48,7 +50,7 @@ join-stolen-requires-after_bounds g t c κs within =
                 (
                   (λ _ lives. lives),
                   (
-                    (search rules, search rules, search rules, search rules, search rules, ready_again, split.same.0 ∙ c.requires.deque, fewer, places),
+                    (search rules, search rules, search rules, search rules, search rules, ready_again, split.same.0 ∙ c.requires.deque, fewer, places, gate),
                     (search rules, search rules, search rules, search rules, search rules),
                   ),
                 ),

@@ -12,6 +12,11 @@ take_all-requires-clause-places g c κs within place put =
     let all = ap (λ (pass : Tally). pass.puts) c.in_ok-owner.ensures.view in
     c.requires.places place (subst (λ n. place < n) (c.in_ok-caller.ensures.continues.serves.puts ∙ all) put)
 
+pub take_all-requires-clause-gate : goal.take_all-requires-clause-gate
+take_all-requires-clause-gate g c κs within place put =
+    let all = ap (λ (pass : Tally). pass.puts) c.in_ok-owner.ensures.view in
+    c.requires.gate place (subst (λ n. place < n) (c.in_ok-caller.ensures.continues.serves.puts ∙ all) put)
+
 pub returns-clause-each_once : goal.returns-clause-each_once
 returns-clause-each_once g c =
     let gives = g.J.Job.gives c.args.job.now in
