@@ -263,9 +263,9 @@ fn ends_count_the_records_up_to_a_revision(rt: HostRuntime) -> Result<(), Fail> 
     Ok(())
 }
 
-// The ticks before and after the records of a part of `NESTED`, and how many nodes its map keeps.
-fn extent_of_nested(alloc: Global, part: Part) -> Result<(u32, u32, u64), Fail> {
-    let dump = read(alloc, NESTED)?;
+// The ticks before and after the records of a part of a dump, and how many nodes its map keeps.
+fn extent_of(alloc: Global, bytes: &[u8], part: Part) -> Result<(u32, u32, u64), Fail> {
+    let dump = read(alloc, bytes)?;
     let found = extent(alloc, &dump, part);
     drop(dump);
     found
@@ -274,7 +274,7 @@ fn extent_of_nested(alloc: Global, part: Part) -> Result<(u32, u32, u64), Fail> 
 #[test]
 fn a_part_has_the_ticks_of_its_records_and_few_nodes(rt: HostRuntime) -> Result<(), Fail> {
     for (part, first, last, most) in [(BEFORE_COPIES, 0, 5, 15), (COPIES, 5, 7, 5)] {
-        let (lo, hi, nodes) = extent_of_nested(rt.alloc(), part)?;
+        let (lo, hi, nodes) = extent_of(rt.alloc(), NESTED, part)?;
         assert!(rt; (lo, hi) == (first, last) && nodes <= most, "{first}");
     }
     Ok(())
@@ -285,8 +285,18 @@ fn a_part_has_the_ticks_of_its_records_and_few_nodes(rt: HostRuntime) -> Result<
 fn a_part_keeps_a_node_for_each_component_and_one_more(rt: HostRuntime) -> Result<(), Fail> {
     let second = Part { start: 1, end: 2 };
     for (part, wanted) in [(second, 3), (COPIES, 4), (BEFORE_COPIES, 14)] {
-        let (_, _, nodes) = extent_of_nested(rt.alloc(), part)?;
+        let (_, _, nodes) = extent_of(rt.alloc(), NESTED, part)?;
         assert!(rt; nodes == wanted, "{wanted}: {nodes}");
+    }
+    Ok(())
+}
+
+// The fourth record of `MERGED` changes a file.
+#[test]
+fn a_change_without_mergeinfo_adds_no_node(rt: HostRuntime) -> Result<(), Fail> {
+    for (start, end, wanted) in [(0, 3, 7), (0, 4, 7), (3, 4, 1)] {
+        let (_, _, nodes) = extent_of(rt.alloc(), MERGED, Part { start, end })?;
+        assert!(rt; nodes == wanted, "{end}: {nodes}");
     }
     Ok(())
 }

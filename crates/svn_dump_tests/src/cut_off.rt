@@ -44,7 +44,8 @@ fn is_same(one: &NodeRecord, other: &NodeRecord) -> bool {
     one.rev == other.rev && one.path == other.path && is_same_act(&one.act, &other.act)
 }
 
-fn records_are_first(records: &[NodeRecord], all: &[NodeRecord]) -> bool {
+/// Whether these records are the first ones of all.
+pub(crate) fn records_are_first(records: &[NodeRecord], all: &[NodeRecord]) -> bool {
     records.len() <= all.len()
         && records
             .iter()

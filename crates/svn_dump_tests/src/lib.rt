@@ -26,4 +26,6 @@ mod refused_nodes;
 #[cfg(test)]
 mod samples;
 #[cfg(test)]
+mod seeds;
+#[cfg(test)]
 mod version_3;

@@ -3,7 +3,7 @@
 use std::alloc::{AllocError, Global};
 use std::test::Fail;
 use svn_text::{
-    GREATEST_REVISION, TextTable, number_up_to, push_number, split_at_byte, split_at_last,
+    GREATEST_REVISION, Seed, TextTable, number_up_to, push_number, split_at_byte, split_at_last,
 };
 
 #[test]
@@ -38,7 +38,7 @@ fn is_numbered(table: &mut TextTable, text: &[u8], number: u32) -> Result<bool, 
 
 #[test]
 fn texts_are_numbered_in_the_order_in_which_they_came(rt: HostRuntime) -> Result<(), Fail> {
-    let mut table = TextTable::new(rt.alloc());
+    let mut table = TextTable::new(rt.alloc(), Seed::fixed());
     for (text, number) in [
         (b"/branches/1.x:2-9".as_slice(), 0),
         (b"/branches/2.x:2-9", 1),
@@ -52,18 +52,50 @@ fn texts_are_numbered_in_the_order_in_which_they_came(rt: HostRuntime) -> Result
     Ok(())
 }
 
-// The last eight bytes make the hash of such a text 0, whatever the first eight are.
+// With the fixed seed, a table looks for all of these texts in the same places, and finds the same there.
+const COLLIDING: [&[u8]; 20] = [
+    b"b0".as_slice(),
+    b"b2588294",
+    b"b12326094",
+    b"b13019229",
+    b"b17471083",
+    b"b18016271",
+    b"b19453151",
+    b"b27533632",
+    b"b34537774",
+    b"b37322203",
+    b"b39556335",
+    b"b40304671",
+    b"b43550018",
+    b"b43961021",
+    b"b59685456",
+    b"b65893388",
+    b"b77789462",
+    b"b79050739",
+    b"b86220883",
+    b"b88012789",
+];
+
+// Whether a table numbers these texts in their order.
+fn are_numbered(table: &mut TextTable) -> Result<bool, Fail> {
+    for (index, text) in COLLIDING.iter().enumerate() {
+        if !is_numbered(table, *text, index as u32)? {
+            return Ok(false);
+        }
+    }
+    Ok(true)
+}
+
+fn are_numbered_with(alloc: Global, seed: Seed) -> Result<bool, Fail> {
+    let mut table = TextTable::new(alloc, seed);
+    Ok(are_numbered(&mut table)? && are_numbered(&mut table)?)
+}
+
 #[test]
-fn texts_of_one_hash_are_told_apart(rt: HostRuntime) -> Result<(), Fail> {
-    let mut table = TextTable::new(rt.alloc());
-    for (text, number) in [
-        (b"branch-1\x15\x7c\x4a\x7f\xb9\x79\x37\x9e".as_slice(), 0),
-        (b"branch-2\x15\x7c\x4a\x7f\xb9\x79\x37\x9e", 1),
-        (b"branch-3\x15\x7c\x4a\x7f\xb9\x79\x37\x9e", 2),
-        (b"branch-1\x15\x7c\x4a\x7f\xb9\x79\x37\x9e", 0),
-        (b"branch-3\x15\x7c\x4a\x7f\xb9\x79\x37\x9e", 2),
-    ] {
-        assert!(rt; is_numbered(&mut table, text, number)?);
+fn texts_are_told_apart_with_every_seed(rt: HostRuntime) -> Result<(), Fail> {
+    assert!(rt; are_numbered_with(rt.alloc(), Seed::fixed())?);
+    for _ in 0..20 {
+        assert!(rt; are_numbered_with(rt.alloc(), Seed::random(&rt))?);
     }
     Ok(())
 }

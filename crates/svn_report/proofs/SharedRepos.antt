@@ -21,4 +21,4 @@ index_sync : IsSync Index.the_row
 index_sync = search (sendable, crosses, maps_cross, sync-GhostList) depth 40 fits 100000
 
 pub repo_sync : IsSync Repo.the_row
-repo_sync = search (sendable, crosses, maps_cross, map_sync, index_sync) depth 40 fits 100000
+repo_sync = search (sendable, crosses, maps_cross, map_sync, index_sync) depth 80 fits 200000

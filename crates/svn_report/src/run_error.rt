@@ -2,6 +2,7 @@
 ghost use Rattle.std.specs.Prelude.{◌≡◌, ◌++◌, IfOk, OnOk, OnErr};
 ghost use Rattle.svn_report.specs.RunError.{line_of, status_of, refused_text, source_name_of, unread_text};
 
+use crate::reporting::MOST_QUERIES;
 use crate::repository::LoadError;
 use block_map::Fault;
 use devices::Source;
@@ -13,7 +14,7 @@ use thiserror::Error;
 /// Why a run gave no report. Each is displayed as its line, without `svnhist: ` and the newline.
 #[derive(Debug, Drop, Error)]
 pub enum RunError {
-    #[error("more than 1000000 queries")]
+    #[error("more than {most} queries", most = MOST_QUERIES)]
     TooMany,
     #[error("{0}")]
     Dump(DumpError),
@@ -99,9 +100,7 @@ impl RunError {
         ensures { IfOk result (λ line. line.items ≡ line_of self.now) }
     {
         match self {
-            RunError::TooMany => {
-                Vec::from_slice(alloc, b"svnhist: more than 1000000 queries\n".as_slice())
-            }
+            RunError::TooMany => too_many_line(alloc),
             RunError::Dump(DumpError::Refused { number, at }) => {
                 refused_line(alloc, *number, refusal_name(*number), "byte", *at)
             }
@@ -120,6 +119,16 @@ impl RunError {
             }
         }
     }
+}
+
+/// The line of more queries than a run answers.
+fn too_many_line(alloc: Global) -> Result<Vec<u8>, AllocError>
+    ensures { IfOk result (λ line. line.items ≡ line_of RunError.TooMany) }
+{
+    let mut line = Vec::from_slice(alloc, b"svnhist: more than ".as_slice())?;
+    push_number(&mut line, MOST_QUERIES as u64)?;
+    line.extend_from_slice(b" queries\n".as_slice())?;
+    Ok(line)
 }
 
 /// The line of a dump that is refused at a byte or a record.

@@ -3,13 +3,14 @@
 use query_pool::NoGate;
 use sample_dumps::FIRST;
 use std::alloc::Global;
+use std::random::RandomSource;
 use std::sync::Wait;
 use std::test::Fail;
 use std::thread::Threads;
 use svn_report::{RunError, report};
 
 /// The log of a path at its peg revision, found by eight workers.
-fn log_of<R: Threads + Wait + Sync>(
+fn log_of<R: RandomSource + Threads + Wait + Sync>(
     rt: &R,
     alloc: Global,
     dump: &[u8],

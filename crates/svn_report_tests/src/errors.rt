@@ -5,6 +5,7 @@ use block_map::{Fault, FaultKind};
 use devices::Source;
 use sample_dumps::FIRST;
 use std::alloc::{AllocError, Global};
+use std::random::RandomSource;
 use std::sync::Wait;
 use std::test::Fail;
 use std::thread::Threads;
@@ -128,7 +129,7 @@ fn each_refusal_has_its_line(rt: HostRuntime) -> Result<(), Fail> {
 }
 
 // Why there is no report on a dump and these queries.
-fn error_of<R: Threads + Wait + Sync>(
+fn error_of<R: RandomSource + Threads + Wait + Sync>(
     rt: &R,
     alloc: Global,
     dump: &[u8],
@@ -148,7 +149,7 @@ fn queries_are_counted_before_the_dump_is_read(rt: HostRuntime) -> Result<(), Fa
 }
 
 // Whether there is no report on a dump, for an error with this line.
-fn is_refused<R: Threads + Wait + Sync>(
+fn is_refused<R: RandomSource + Threads + Wait + Sync>(
     rt: &R,
     alloc: Global,
     dump: &[u8],

@@ -8,11 +8,12 @@ use sample_dumps::{
     EXISTS, MISSING, NO_PARENT, NO_PARENT_OF_COPY, NO_SOURCE, REPLACED_BY_NOTHING, REPLACES_NOTHING,
 };
 use std::alloc::Global;
+use std::random::RandomSource;
 use std::sync::Wait;
 use std::thread::Threads;
 use svn_report::{RunError, report};
 
-fn fault_of<R: Threads + Wait + Sync>(
+fn fault_of<R: RandomSource + Threads + Wait + Sync>(
     rt: &R,
     alloc: Global,
     dump: &[u8],
@@ -41,7 +42,7 @@ const FAULTY: [(&[u8], u32, FaultKind); 7] = [
 ];
 
 // Whether each dump is refused for its first faulty record.
-fn all_are_named<R: Threads + Wait + Sync>(
+fn all_are_named<R: RandomSource + Threads + Wait + Sync>(
     rt: &R,
     alloc: Global,
     cuts: &[u32],

@@ -6,6 +6,7 @@ use crate::workers::ten_times;
 use query_pool::Gate;
 use sample_dumps::{FIRST, MERGED};
 use std::alloc::{AllocError, Global};
+use std::random::RandomSource;
 use std::sync::Wait;
 use std::sync::atomic::{AtomicUsize, Ordering};
 use std::test::Fail;
@@ -21,6 +22,10 @@ struct Counting {
 }
 
 impl Gate for Counting {
+    ghost use Rattle.std.specs.Prelude.{⊤};
+
+    ghost watches = { λ _ _. ⊤ };
+
     fn enter(&self, place: u32) {
         let before = self.entered.fetch_add(1, Ordering::SeqCst);
         if before != place as usize || self.left.load(Ordering::SeqCst) != place as usize {
@@ -94,6 +99,10 @@ impl Places {
 }
 
 impl Gate for Places {
+    ghost use Rattle.std.specs.Prelude.{⊤};
+
+    ghost watches = { λ _ _. ⊤ };
+
     fn enter(&self, place: u32) {
         self.count(place, 0);
     }
@@ -104,7 +113,7 @@ impl Gate for Places {
 }
 
 // Whether so many workers enter and leave each of 190 places.
-fn are_passed<R: Threads + Wait + Sync>(
+fn are_passed<R: RandomSource + Threads + Wait + Sync>(
     rt: &R,
     alloc: Global,
     queries: &[u8],

@@ -4,6 +4,7 @@ use devices::{Device, Failed, GhostCount, Pull};
 use query_pool::NoGate;
 use sample_dumps::FIRST;
 use std::alloc::Global;
+use std::random::RandomSource;
 use std::sync::Wait;
 use std::test::Fail;
 use std::thread::Threads;
@@ -43,7 +44,7 @@ impl Pull for Lent<'_> {
 }
 
 /// The report on bytes in memory that come through such a device.
-fn report_on_lent<R: Threads + Wait + Sync>(
+fn report_on_lent<R: RandomSource + Threads + Wait + Sync>(
     rt: &R,
     alloc: Global,
     bytes: &[u8],
@@ -58,7 +59,7 @@ fn report_on_lent<R: Threads + Wait + Sync>(
 }
 
 /// The report on the bytes of a reader of std.
-fn report_on_reader<R: Threads + Wait + Sync>(
+fn report_on_reader<R: RandomSource + Threads + Wait + Sync>(
     rt: &R,
     alloc: Global,
     reader: &[u8],

@@ -22,6 +22,8 @@ mod refused_growths;
 #[cfg(test)]
 mod reports;
 #[cfg(test)]
+mod seeds;
+#[cfg(test)]
 mod trickles;
 #[cfg(test)]
 mod workers;

@@ -42,6 +42,10 @@ impl Meeting {
 }
 
 impl Gate for Meeting {
+    ghost use Rattle.std.specs.Prelude.{⊤};
+
+    ghost watches = { λ _ _. ⊤ };
+
     fn enter(&self, place: u32) {
         if place >= self.first {
             let before = self.begun.fetch_add(1, Ordering::SeqCst);

@@ -9,6 +9,7 @@ use query_pool::NoGate;
 use sample_dumps::{DELETE_AND_COPY, DUMPED, MERGED, joined};
 use std::alloc::Global;
 use std::io::{self, Read};
+use std::random::RandomSource;
 use std::sync::Wait;
 use std::test::Fail;
 use std::thread::Threads;
@@ -91,7 +92,7 @@ fn a_failed_read_is_reported(rt: HostRuntime) {
 }
 
 // Whether the report on the merged history, which comes in pieces of 7 bytes, is this one.
-fn is_report_of_pieces<R: Threads + Wait + Sync>(
+fn is_report_of_pieces<R: RandomSource + Threads + Wait + Sync>(
     rt: &R,
     alloc: Global,
     cuts: &[u32],
@@ -118,7 +119,7 @@ fn a_dump_in_pieces_has_the_same_report(rt: HostRuntime) -> Result<(), Fail> {
 }
 
 // Why there is no report on what a device gives.
-fn error_from<R: Threads + Wait + Sync>(
+fn error_from<R: RandomSource + Threads + Wait + Sync>(
     rt: &R,
     alloc: Global,
     input: &mut Device<Pieces<'_>>,
@@ -164,7 +165,7 @@ fn good_for(dump: &[u8], reads: usize) -> Device<Pieces<'_>> {
 }
 
 // The first number of good reads after which a failed one is not reported.
-fn first_unreported<R: Threads + Wait + Sync>(
+fn first_unreported<R: RandomSource + Threads + Wait + Sync>(
     rt: &R,
     alloc: Global,
     dump: &[u8],
@@ -180,7 +181,7 @@ fn first_unreported<R: Threads + Wait + Sync>(
 }
 
 // The report on what comes in so many pieces.
-fn report_after<R: Threads + Wait + Sync>(
+fn report_after<R: RandomSource + Threads + Wait + Sync>(
     rt: &R,
     alloc: Global,
     dump: &[u8],

@@ -6,6 +6,7 @@ use sample_dumps::{
     MERGED, MERGEINFO_TEXTS, MOVES, NESTED, REPLACE, REPLACED, SPARSE, copies_of_the_root, joined,
 };
 use std::alloc::{AllocError, Global};
+use std::random::RandomSource;
 use std::sync::Wait;
 use std::test::Fail;
 use std::thread::Threads;
@@ -230,7 +231,7 @@ const REPLACEMENTS_REPORT: &[u8] =
     b"#1 ok\n/b\n#2 ok\n/trunk\n#3 ok\n/trunk\n#4 ok\n-\n#5 ok\n3-3 /b\n1-2 /trunk\n#6 ok\nr3 /b\nr1 /trunk\n";
 
 /// The report of one worker over one block.
-pub(crate) fn report_of<R: Threads + Wait + Sync>(
+pub(crate) fn report_of<R: RandomSource + Threads + Wait + Sync>(
     rt: &R,
     alloc: Global,
     dump: &[u8],
@@ -240,7 +241,7 @@ pub(crate) fn report_of<R: Threads + Wait + Sync>(
 }
 
 /// Whether the report is the wanted one, however the history is cut into blocks and however many workers there are.
-fn reports<R: Threads + Wait + Sync>(
+fn reports<R: RandomSource + Threads + Wait + Sync>(
     rt: &R,
     alloc: Global,
     dump: &[u8],
@@ -259,7 +260,7 @@ fn reports<R: Threads + Wait + Sync>(
 }
 
 /// The first queries that have another report.
-fn first_wrong<R: Threads + Wait + Sync>(
+fn first_wrong<R: RandomSource + Threads + Wait + Sync>(
     rt: &R,
     alloc: Global,
     rows: &[Row],
@@ -309,7 +310,7 @@ fn wrong_queries_have_a_status(rt: HostRuntime) -> Result<(), Fail> {
 }
 
 // Whether the replacement that these records make is located at its source.
-fn is_replacement_located<R: Threads + Wait + Sync>(
+fn is_replacement_located<R: RandomSource + Threads + Wait + Sync>(
     rt: &R,
     alloc: Global,
     records: &[u8],
@@ -352,7 +353,7 @@ fn query_about_copies(alloc: Global, count: u32, rev: u32) -> Result<Vec<u8>, Al
 }
 
 // Whether the path through so many copies of the root was at this one in a revision.
-fn is_path_through_copies<R: Threads + Wait + Sync>(
+fn is_path_through_copies<R: RandomSource + Threads + Wait + Sync>(
     rt: &R,
     alloc: Global,
     dump: &[u8],
@@ -365,7 +366,7 @@ fn is_path_through_copies<R: Threads + Wait + Sync>(
 }
 
 // Whether it was the root in revision 0, and the first copy in revision 1.
-fn was_root_then_first_copy<R: Threads + Wait + Sync>(
+fn was_root_then_first_copy<R: RandomSource + Threads + Wait + Sync>(
     rt: &R,
     alloc: Global,
     dump: &[u8],
@@ -380,7 +381,7 @@ fn was_root_then_first_copy<R: Threads + Wait + Sync>(
 }
 
 // Whether the locations in the dump of so many copies are found.
-fn are_copies_located<R: Threads + Wait + Sync>(
+fn are_copies_located<R: RandomSource + Threads + Wait + Sync>(
     rt: &R,
     alloc: Global,
     count: u32,

@@ -7,6 +7,7 @@ use crate::reports::report_of;
 use query_pool::NoGate;
 use sample_dumps::MERGED;
 use std::alloc::{AllocError, Global};
+use std::random::RandomSource;
 use std::sync::Wait;
 use std::test::Fail;
 use std::thread::Threads;
@@ -26,7 +27,7 @@ pub(crate) fn ten_times(alloc: Global) -> Result<Vec<u8>, AllocError> {
 }
 
 // Whether so many workers give this report, however the history is cut into blocks.
-fn is_report_of_workers<R: Threads + Wait + Sync>(
+fn is_report_of_workers<R: RandomSource + Threads + Wait + Sync>(
     rt: &R,
     alloc: Global,
     queries: &[u8],
@@ -66,7 +67,7 @@ fn all_workers_and_blocks_give_the_same_report(rt: HostRuntime) -> Result<(), Fa
 }
 
 // Whether so many workers, which all meet at the gate from a place on, give the report of one.
-fn answer_at_once<R: Threads + Wait + Sync>(
+fn answer_at_once<R: RandomSource + Threads + Wait + Sync>(
     rt: &R,
     alloc: Global,
     queries: &[u8],
@@ -82,7 +83,7 @@ fn answer_at_once<R: Threads + Wait + Sync>(
 }
 
 // Whether the report is this one, with so many workers and a gate.
-fn reports_through<R: Threads + Wait + Sync>(
+fn reports_through<R: RandomSource + Threads + Wait + Sync>(
     rt: &R,
     alloc: Global,
     queries: &[u8],

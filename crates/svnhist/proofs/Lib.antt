@@ -1,3 +1,2 @@
 mod Bundles
-mod FileAnswers
-mod Statuses
+mod Errors

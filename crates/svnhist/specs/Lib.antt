@@ -1,5 +1,6 @@
 pub mod Arguments
+pub mod Asked
 pub mod Bundle
 pub mod ExitStatus
-pub mod FileAnswer
+pub mod Files
 pub mod ProgramLines

@@ -1,22 +1,23 @@
 //! The program: a bundle or two files in, their report out.
-ghost use Rattle.std.specs.Prelude.{◌≡◌, ◌≢◌, ◌<◌, ◌≤◌, ◌⊎◌, IfErr, IfOk, IsFalse, IsTrue};
+ghost use Rattle.std.specs.Prelude.{◌≡◌, ◌≢◌, ◌<◌, ◌≤◌, ◌⊎◌, IfErr, IfOk, IsFalse, IsTrue, MatchOption};
 ghost use Rattle.std.specs.Io.KnownBytes.{Appends};
 ghost use Rattle.std.specs.Process.{exit_status};
-ghost use Rattle.svn_report.specs.Load.{IsReadError, IsUnread};
-ghost use Rattle.svnhist.specs.ExitStatus.{IsBundleAnswer, IsBundleError, IsPartSent, IsFailedOnFiles, IsFailed, IsFailureLine, IsDoneOnFiles, IsInputAnswer, IsInputError, IsErrorLine, IsRefusedOnFiles, IsRefused, IsDone, IsNoBundle, PrintsLine};
 ghost use Rattle.svn_report.specs.RunError.{line_of};
+ghost use Rattle.svnhist.specs.Asked.{IsErrorAsked, IsErrorOnInput, IsMisused, IsNoBundle, IsReportAsked, IsReportOnInput, texts_of};
+ghost use Rattle.svnhist.specs.ExitStatus.{IsCut, IsDone, IsErrorLine, IsPartSent, IsRefused, PrintsLine};
 ghost use Rattle.svnhist.specs.ProgramLines.{unsent_line, usage_line};
-ghost use Rattle.query_pool.specs.Serving.{most_workers};
 
-use crate::arguments::Arguments;
+use crate::arguments::read_arguments;
 use crate::bundle_reader::bundle;
 use crate::cuts::cuts_of;
 use crate::files::answer_files;
+use crate::opening::Open;
 use devices::{Pull, Push, Source, send};
 use query_pool::NoGate;
 use std::alloc::{AllocError, Global};
+use std::io::{self, ErrorKind};
 use std::process::ExitCode;
-use std::rt::Files;
+use std::random::RandomSource;
 use std::sync::Wait;
 use std::thread::Threads;
 use svn_report::{RunError, load, report};
@@ -27,66 +28,54 @@ const UNSENT: &[u8] = b"svnhist: cannot write the report\n";
 
 const NO_MEMORY: &[u8] = b"svnhist: out of memory\n";
 
-/// Reads a bundle, sends its report and answers the status with which the program ends. Where there is no report, one
-/// line for `errors` says why.
-pub(crate) fn run<R: Threads + Wait + Sync, I: Pull, O: Push, E: Push>(
+/// Does what the arguments after the program's name ask for, and answers the status with which the program ends. Without
+/// arguments `input` is a bundle. Where there is no report, one line for `errors` says why.
+pub(crate) fn run<
+    R: RandomSource + Threads + Wait + Sync,
+    F: Open<D>,
+    D: Pull + Drop,
+    I: Pull,
+    O: Push,
+    E: Push,
+>(
     rt: &R,
     alloc: Global,
+    files: &F,
+    arguments: io::Result<Vec<String>>,
     input: &mut I,
     output: &mut O,
     errors: &mut E,
 ) -> ExitCode
-    ensures done { exit_status result ≡ 0 →
-        IsDone (I.state input.old) (I.state input.new) (O.state output.old) (O.state output.new) }
-    ensures refused { exit_status result ≡ 1 →
-        IsRefused (I.state input.old) (I.state input.new) (E.state errors.old) (E.state errors.new) }
-    ensures usage { exit_status result ≡ 2 →
-        IsNoBundle (I.state input.old) (I.state input.new) (E.state errors.old) (E.state errors.new) }
-    ensures failed { exit_status result ≡ 3 →
-        IsFailed (I.state input.old) (I.state input.new) (O.state output.old) (O.state output.new) }
-    ensures failure_line { exit_status result ≡ 3 →
-        IsFailureLine (O.state output.old) (O.state output.new) (E.state errors.old) (E.state errors.new) }
-    ensures memory { exit_status result ≡ 4 →
-        PrintsLine (E.state errors.old) (E.state errors.new) (line_of RunError.Memory) }
+    ensures done { exit_status result ≡ 0 → IsDone
+        (IsReportAsked (F.opens files.now) D.state (texts_of arguments) (I.state input.old) (I.state input.new))
+        (O.state output.old) (O.state output.new) }
+    ensures misused { exit_status result ≡ 2 →
+        IsMisused (texts_of arguments) (I.state input.old) (I.state input.new) }
+    ensures usage_line { exit_status result ≡ 2 →
+        PrintsLine (E.state errors.old) (E.state errors.new) usage_line }
+    ensures cut { output.new ≢ output.old → exit_status result ≢ 0 → IsCut
+        (IsReportAsked (F.opens files.now) D.state (texts_of arguments) (I.state input.old) (I.state input.new))
+        (O.state output.old) (O.state output.new) }
+    ensures cut_line { output.new ≢ output.old → exit_status result ≢ 0 →
+        PrintsLine (E.state errors.old) (E.state errors.new) unsent_line }
+    ensures refused { output.new ≡ output.old → exit_status result ≢ 2 → IsRefused
+        (IsErrorAsked (F.opens files.now) (F.refuses files.now) D.state (texts_of arguments)
+            (I.state input.old) (I.state input.new))
+        (exit_status result) (E.state errors.old) (E.state errors.new) }
     ensures known { exit_status result ≤ 4 }
     ensures silent { exit_status result ≡ 0 → errors.new ≡ errors.old }
     ensures quiet { (exit_status result ≡ 0) ⊎ (exit_status result ≡ 3) ⊎ (output.new ≡ output.old) }
     ensures untouched { (output.new ≡ output.old) ⊎ ((O.state output.old).calls < (O.state output.new).calls) }
 {
-    match answer_input(rt, alloc, input) {
+    match answer(rt, alloc, files, arguments, input) {
         Ok(Some(report)) => deliver(output, errors, report.as_slice()),
         Ok(None) => refuse_usage(errors),
         Err(error) => refuse(alloc, errors, &error),
     }
 }
 
-/// Reads two files, sends their report and answers the status with which the program ends.
-pub(crate) fn run_files<R: Files + Threads + Wait + Sync, O: Push, E: Push>(
-    rt: &R,
-    alloc: Global,
-    asked: &Arguments<'_>,
-    output: &mut O,
-    errors: &mut E,
-) -> ExitCode
-    requires some_worker { 0 < asked.now.workers }
-    requires few_workers { asked.now.workers ≤ most_workers }
-    ensures done { exit_status result ≡ 0 → IsDoneOnFiles (O.state output.old) (O.state output.new) }
-    ensures failed { exit_status result ≡ 3 →
-        IsFailedOnFiles (O.state output.old) (O.state output.new) (E.state errors.old) (E.state errors.new) }
-    ensures refused { exit_status result ≢ 0 → output.new ≡ output.old →
-        IsRefusedOnFiles (exit_status result) (E.state errors.old) (E.state errors.new) }
-    ensures silent { exit_status result ≡ 0 → errors.new ≡ errors.old }
-    ensures quiet { (exit_status result ≡ 0) ⊎ (exit_status result ≡ 3) ⊎ (output.new ≡ output.old) }
-    ensures untouched { (output.new ≡ output.old) ⊎ ((O.state output.old).calls < (O.state output.new).calls) }
-{
-    match answer_files(rt, alloc, asked) {
-        Ok(report) => deliver(output, errors, report.as_slice()),
-        Err(error) => refuse(alloc, errors, &error),
-    }
-}
-
 /// Prints how the program is used.
-pub(crate) fn refuse_usage<E: Push>(errors: &mut E) -> ExitCode
+fn refuse_usage<E: Push>(errors: &mut E) -> ExitCode
     ensures status { exit_status result ≡ 2 }
     ensures line { PrintsLine (E.state errors.old) (E.state errors.new) usage_line }
 {
@@ -95,7 +84,7 @@ pub(crate) fn refuse_usage<E: Push>(errors: &mut E) -> ExitCode
 }
 
 /// Prints that memory ran out.
-pub(crate) fn refuse_memory<E: Push>(errors: &mut E) -> ExitCode
+fn refuse_memory<E: Push>(errors: &mut E) -> ExitCode
     ensures status { exit_status result ≡ 4 }
     ensures line { PrintsLine (E.state errors.old) (E.state errors.new) (line_of RunError.Memory) }
 {
@@ -152,30 +141,45 @@ fn print_line<E: Push>(errors: &mut E, line: &[u8])
     let _ = send(errors, line);
 }
 
+/// The report that the arguments ask for, or `None` where they, or the input as a bundle, ask for nothing.
+fn answer<R: RandomSource + Threads + Wait + Sync, F: Open<D>, D: Pull + Drop, I: Pull>(
+    rt: &R,
+    alloc: Global,
+    files: &F,
+    arguments: io::Result<Vec<String>>,
+    input: &mut I,
+) -> Result<Option<Vec<u8>>, RunError>
+    ensures ok { IfOk result (λ found. MatchOption found
+        (IsMisused (texts_of arguments) (I.state input.old) (I.state input.new))
+        (λ report. IsReportAsked (F.opens files.now) D.state (texts_of arguments) (I.state input.old)
+            (I.state input.new) report.items)) }
+    ensures error { IfErr result (IsErrorAsked (F.opens files.now) (F.refuses files.now) D.state (texts_of arguments)
+        (I.state input.old) (I.state input.new)) }
+{
+    match arguments {
+        Ok(texts) if texts.is_empty() => answer_input(rt, alloc, input),
+        Ok(texts) => match read_arguments(texts.as_slice()) {
+            Some(asked) => Ok(Some(answer_files(rt, alloc, files, &asked)?)),
+            None => Ok(None),
+        },
+        Err(e) if e.kind() == ErrorKind::OutOfMemory => Err(RunError::Memory),
+        Err(_) => Ok(None),
+    }
+}
+
 /// The report on the bundle that an input is, or `None` where it is not a bundle.
-fn answer_input<R: Threads + Wait + Sync, I: Pull>(
+fn answer_input<R: RandomSource + Threads + Wait + Sync, I: Pull>(
     rt: &R,
     alloc: Global,
     input: &mut I,
 ) -> Result<Option<Vec<u8>>, RunError>
-    ensures ok { IfOk result (IsInputAnswer (I.state input.old) (I.state input.new)) }
-    ensures error { IfErr result (IsInputError (I.state input.old) (I.state input.new)) }
-    ensures unread { IfErr result (λ e. IsReadError e → IsUnread (I.state input.old) (I.state input.new)) }
+    ensures ok { IfOk result (λ found. MatchOption found
+        (IsNoBundle (I.state input.old) (I.state input.new))
+        (λ report. IsReportOnInput (I.state input.old) (I.state input.new) report.items)) }
+    ensures error { IfErr result (IsErrorOnInput (I.state input.old) (I.state input.new)) }
 {
     let bytes = load(alloc, input, Source::Input)?;
-    answer_bundle(rt, alloc, bytes.as_slice())
-}
-
-/// The report on a bundle, or `None` where the bytes are not a bundle.
-fn answer_bundle<R: Threads + Wait + Sync>(
-    rt: &R,
-    alloc: Global,
-    bytes: &[u8],
-) -> Result<Option<Vec<u8>>, RunError>
-    ensures ok { IfOk result (IsBundleAnswer bytes.now) }
-    ensures error { IfErr result (IsBundleError bytes.now) }
-{
-    let Some(parts) = bundle(bytes) else {
+    let Some(parts) = bundle(bytes.as_slice()) else {
         return Ok(None);
     };
     let report = report(

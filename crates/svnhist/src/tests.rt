@@ -3,10 +3,12 @@
 use crate::arguments::{Arguments, DumpPath, QueriesPath, read_arguments};
 use crate::bundle_reader::bundle;
 use crate::files::answer_files;
+use crate::opening::SystemFiles;
 use devices::Source;
 use std::alloc::{AllocError, Global};
 use std::env::{self, Env};
 use std::path::PathBuf;
+use std::random::RandomSource;
 use std::rt::Files;
 use std::sync::Wait;
 use std::test::Fail;
@@ -112,7 +114,7 @@ fn written<R: Files + Env + AllocGlobal>(
 }
 
 // The report on the files at two paths.
-fn answers<R: Files + Threads + Wait + Sync>(
+fn answers<R: Files + RandomSource + Threads + Wait + Sync>(
     rt: &R,
     alloc: Global,
     dump: &str,
@@ -124,11 +126,11 @@ fn answers<R: Files + Threads + Wait + Sync>(
         block: 0,
         workers: 1,
     };
-    answer_files(rt, alloc, &asked)
+    answer_files(rt, alloc, &SystemFiles(rt), &asked)
 }
 
 // Whether the report on two files is right, and an error names the one that is missing.
-fn are_answered<R: Files + Threads + Wait + Sync>(
+fn are_answered<R: Files + RandomSource + Threads + Wait + Sync>(
     rt: &R,
     alloc: Global,
     dump: &str,

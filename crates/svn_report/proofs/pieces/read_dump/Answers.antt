@@ -24,3 +24,11 @@ loop-preserved g c = record {
   going = c.in_ok-feed-in-Ok.ensures.ok;
   room = search rules;
 }
+
+pub returns-in-Ok-eq0-clause-ok : goal.returns-in-Ok-eq0-clause-ok
+returns-in-Ok-eq0-clause-ok g c = search (rules, c.loop.invariant.front, c.loop.invariant.ends, c.in-Ok-eq0.ensures.bytes, c.in-Ok-eq0.ensures.ends, c.in-Ok-eq0.ensures.failed, c.in_ok-finish-in-Ok-eq0.ensures.ok)
+
+pub returns-in_err-finish-in-Ok-eq0-clause-error : goal.returns-in_err-finish-in-Ok-eq0-clause-error
+returns-in_err-finish-in-Ok-eq0-clause-error g c =
+    let told = err_from_is_err_and c.from_residual-in_err-finish-in-Ok-eq0.result c.from_residual-in_err-finish-in-Ok-eq0.ensures.1 in
+    rw (told.1, told.2) (c.in_err-finish-in-Ok-eq0.ensures.refused)

@@ -1,0 +1,69 @@
+-- What a run is asked for. Without arguments it is the report on the bundle that the input is; with four, that on two
+-- files; other arguments ask for nothing.
+use Rattle.std.specs.Prelude.{◌≡◌, ◌⊎◌, ℕ, List, [], ◌∷◌, Option, Some, None, Result, Ok, Err, String, Vec, map, string_bytes, ⊤}
+use Rattle.std.specs.declared.alloc.Global.{Global}
+use Rattle.devices.specs.Device.{PullState}
+use Rattle.devices.specs.declared.source.Source.TheVariants.{Input}
+use Rattle.svn_report.specs.Load.{IsReadWhole, IsUnread}
+use Rattle.svn_report.specs.Report.{IsReport}
+use Rattle.svn_report.specs.ReportError.{IsRunError}
+use Rattle.svn_report.specs.declared.run_error.RunError.{RunError}
+use Rattle.svn_report.specs.declared.run_error.RunError.TheVariants.{Read, Memory}
+use Rattle.svnhist.specs.Arguments.{ArgumentsValue, IsArguments}
+use Rattle.svnhist.specs.Bundle.{BundleValue, IsBundle}
+use Rattle.svnhist.specs.Files.{IsErrorOnFiles, IsReportOnFiles}
+
+-- the arguments as bytes, where they are texts and there was memory for them
+abbrev pub texts_of : {E : Type 0} → Result (Vec (String Global) Global) E → Option (List (List ℕ))
+texts_of (Ok texts) = Some (map string_bytes texts.items)
+texts_of (Err error) = None
+
+-- ---- the bundle of an input
+
+-- all of an input was read, and this is the report on the bundle that it is
+pub record IsReportOnInput (old new : PullState) (report : List ℕ) : Type 0 where
+  pub bytes : List ℕ
+  pub value : BundleValue
+  pub read : IsReadWhole old new bytes
+  pub bundle : IsBundle bytes value
+  pub right : IsReport value.dump value.queries report
+
+-- all of an input was read, it is a bundle, and there is no report on it for this reason
+pub record IsRefusedInput (old new : PullState) (error : RunError) : Type 0 where
+  pub bytes : List ℕ
+  pub value : BundleValue
+  pub read : IsReadWhole old new bytes
+  pub bundle : IsBundle bytes value
+  pub why : IsRunError value.dump value.queries error
+
+-- all of an input was read, and it is not a bundle
+pub record IsNoBundle (old new : PullState) : Type 0 where
+  pub bytes : List ℕ
+  pub read : IsReadWhole old new bytes
+  pub none : (value : BundleValue) → IsBundle bytes value → ⊥
+
+abbrev pub IsErrorOnInput : PullState → PullState → RunError → Type 0
+IsErrorOnInput old new error =
+    (error ≡ Memory) ⊎ ((error ≡ Read Input) × IsUnread old new) ⊎ IsRefusedInput old new error
+
+-- ---- by the arguments
+
+-- the report that is asked for
+abbrev pub IsReportAsked : {D : Type 0} → (List ℕ → D → Type 0) → (D → PullState) → Option (List (List ℕ)) → PullState → PullState → List ℕ → Type 0
+IsReportAsked opens state None old new report = ⊥
+IsReportAsked opens state (Some []) old new report = IsReportOnInput old new report
+IsReportAsked opens state (Some (text ∷ texts)) old new report =
+    (asked : ArgumentsValue) × IsArguments (text ∷ texts) asked × IsReportOnFiles opens state asked report
+
+-- why there is none
+abbrev pub IsErrorAsked : {D : Type 0} → (List ℕ → D → Type 0) → (List ℕ → Type 0) → (D → PullState) → Option (List (List ℕ)) → PullState → PullState → RunError → Type 0
+IsErrorAsked opens refuses state None old new error = error ≡ Memory
+IsErrorAsked opens refuses state (Some []) old new error = IsErrorOnInput old new error
+IsErrorAsked opens refuses state (Some (text ∷ texts)) old new error =
+    (asked : ArgumentsValue) × IsArguments (text ∷ texts) asked × IsErrorOnFiles opens refuses state asked error
+
+-- nothing is asked for
+abbrev pub IsMisused : Option (List (List ℕ)) → PullState → PullState → Type 0
+IsMisused None old new = ⊤
+IsMisused (Some []) old new = IsNoBundle old new
+IsMisused (Some (text ∷ texts)) old new = (asked : ArgumentsValue) → IsArguments (text ∷ texts) asked → ⊥
