@@ -1,5 +1,5 @@
 -- Each event keeps the rule of the deque.
-use Rattle.std.proofs.Common.{Bool, true, false, drop, get_or, ◌-◌, ◌≡◌, ℕ, zero, suc, ◌+◌, ◌<◌, ◌≤◌, ◌==◌, All, List, [], ◌∷◌, ◌++◌, filter, length, set, if◌then◌else◌, nat_lt, refl, sym, subst, ap, ◌∙◌, arith}
+use Rattle.std.proofs.Common.{Bool, true, false, drop, get_or, ◌≡◌, ℕ, zero, suc, ◌+◌, ◌<◌, ◌==◌, All, List, [], ◌∷◌, ◌++◌, length, set, if◌then◌else◌, nat_lt, refl, sym, subst, ap, ◌∙◌, arith}
 use mathlib.Core.Option.{some, some-ne-none, some-injective}
 use lib.ListN.{get_elem?}
 use Rattle.std.specs.List.{range_with_len, sum_by}

@@ -44,7 +44,7 @@ pub fn serve<R: Threads + Wait + Sync, J: Job, G: Gate>(
     ensures each_once { IfOk result (λ parts. HasEachOnce n (results_of parts.items)) }
     ensures gives { IfOk result (λ parts. All (λ each. J.gives job.now each.0 each.1) (results_of parts.items)) }
 {
-    // What callers are told is no less than what the contract takes.
+    // The constants that callers go by are no lower than the limits of the contract.
     prove!(n <= MOST_PLACES && workers <= MOST_WORKERS);
     let thieves = (workers as u32).min(n).max(1) - 1;
     let owner = deque_of_places(alloc, n)?;

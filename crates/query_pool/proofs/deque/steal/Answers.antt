@@ -1,4 +1,3 @@
-use Rattle.std.proofs.Common.{◌<◌}
 use Rattle.query_pool.proofs.Stealing.{takes}
 use Rattle.query_pool.proofs.deque.steal.Goals as goal
 

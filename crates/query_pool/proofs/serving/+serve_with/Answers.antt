@@ -1,4 +1,4 @@
-use Rattle.std.proofs.Common.{rules, ℕ, ◌-◌, ◌≡◌, ◌<◌, ◌∙◌, ap, sym, subst, arith}
+use Rattle.std.proofs.Common.{rules, ℕ, ◌-◌, ◌<◌, ◌∙◌, ap, sym, subst, arith}
 use Rattle.crossbeam_deque.specs.Handles.{view, worker_view}
 use Rattle.query_pool.specs.Calling.{Continues, IsReady, results_in}
 use Rattle.query_pool.specs.Stealing.{Records, Serves}
