@@ -1,54 +1,45 @@
 -- Results that are collected from a list, until one is missing.
-use Rattle.std.proofs.Common.{◌≡◌, ℕ, zero, suc, ◌+◌, ◌<◌, List, [], ◌∷◌, ◌++◌, Option, Some, None, length, get_or, map, take, refl, sym, ap, ◌∙◌, arith}
+use Rattle.std.proofs.Common.{◌≡◌, ℕ, ◌+◌, ◌<◌, List, [], ◌∷◌, ◌++◌, Option, Some, None, All, length, get_or, drop, map, refl, sym, ap, ◌∙◌}
 use Rattle.std.specs.Prelude.{option_map}
-use Rattle.std.proofs.lemmas.List.{get_or-map, length-map, map_more}
-use Rattle.std.proofs.lemmas.Option.{none-some, same_Some}
+use Rattle.std.proofs.lemmas.List.{append-nil, append_assoc, drop_more}
+use Rattle.std.proofs.lemmas.List.Elements.{All-nil, All-push}
 use Rattle.merge_info.specs.Line.{all_of}
 
--- what follows the first, where nothing is missing
-record Follows {X : Type 0} (first : X) (rest : Option (List X)) (all : List X) : Type 0 where
-  more : List X
-  there : rest ≡ Some more
-  whole : first ∷ more ≡ all
+-- what a loop over a list has left where it comes to an element
+pub drop-next : {X : Type 0} (xs : List X) (n : ℕ) (x : X) → (n < length xs) × (x ≡ get_or xs n x) → drop n xs ≡ x ∷ drop (n + 1) xs
+drop-next xs n x at = drop_more xs n x at.0 ∙ ap (λ each. each ∷ drop (n + 1) xs) (sym at.1)
 
--- since something follows then
-Follows-from : {X : Type 0} (first : X) (rest : Option (List X)) (all : List X) → option_map (λ more. first ∷ more) rest ≡ Some all → Follows first rest all
-Follows-from first None all same = absurd (none-some all same)
-Follows-from first (Some more) all same =
-    record { more = more; there = refl; whole = same_Some (first ∷ more) all same }
+-- what was collected, and what is still to come
+abbrev onto : {Y : Type 0} → List Y → Option (List Y) → Option (List Y)
+onto done rest = option_map (λ more. done ++ more) rest
 
--- where none is missing
-pub all_of-Some : {X : Type 0} (all : List X) → all_of (map Some all) ≡ Some all
-all_of-Some [] = refl
-all_of-Some (first ∷ all) = ap (option_map (λ rest. first ∷ rest)) (all_of-Some all)
+onto-none : {Y : Type 0} (rest : Option (List Y)) → rest ≡ onto [] rest
+onto-none None = refl
+onto-none (Some more) = refl
 
--- one more at the end
-pub all_of-push : {X : Type 0} (each : List (Option X)) (all : List X) (x : X) → all_of each ≡ Some all → all_of (each ++ Some x ∷ []) ≡ Some (all ++ x ∷ [])
-all_of-push [] all x same = ap (λ xs. Some (xs ++ x ∷ [])) (same_Some [] all same)
-all_of-push (None ∷ each) all x same = absurd (none-some all same)
-all_of-push (Some first ∷ each) all x same =
-    let found = Follows-from first (all_of each) all same in
-    ap (option_map (λ rest. first ∷ rest)) (all_of-push each found.more x found.there)
-    ∙ ap (λ xs. Some (xs ++ x ∷ [])) found.whole
+onto-more : {Y : Type 0} (done : List Y) (y : Y) (rest : Option (List Y)) → onto done (onto (y ∷ []) rest) ≡ onto (done ++ y ∷ []) rest
+onto-more done y None = refl
+onto-more done y (Some more) = ap Some (sym (append_assoc done (y ∷ []) more))
 
--- one is missing
-pub all_of-missing : {X : Type 0} (each : List (Option X)) (n : ℕ) → n < length each → get_or each n None ≡ None → all_of each ≡ None
-all_of-missing [] n within missing = absurd (omega arith)
-all_of-missing (None ∷ each) n within missing = refl
-all_of-missing (Some first ∷ each) zero within missing = absurd (none-some first (sym missing))
-all_of-missing (Some first ∷ each) (suc n) within missing =
-    ap (option_map (λ rest. first ∷ rest)) (all_of-missing each n (omega arith) missing)
+-- the results of a whole list are those that were collected and those of what is left
+pub record AreCollected {X Y : Type 0} (f : X → Option Y) (P : Y → Type 0) (whole : Option (List Y)) (done : List Y) (left : List X) : Type 0 where
+  pub results : whole ≡ onto done (all_of (map f left))
+  pub each : All P done
 
--- ---- the results of a function, as in a loop that has come to the index n
+module _ {X Y : Type 0} {f : X → Option Y} {P : Y → Type 0} {whole : Option (List Y)} where
+  pub AreCollected-none : {left : List X} → whole ≡ all_of (map f left) → AreCollected f P whole [] left
+  AreCollected-none {left} is = record { results = is ∙ onto-none (all_of (map f left)); each = All-nil P }
 
--- the result there is another
-pub all_of-more : {X Y : Type 0} (f : X → Option Y) (xs : List X) (n : ℕ) (x : X) (all : List Y) (y : Y) → (n < length xs) × (x ≡ get_or xs n x) → f x ≡ Some y → all_of (map f (take n xs)) ≡ Some all → all_of (map f (take (n + 1) xs)) ≡ Some (all ++ y ∷ [])
-all_of-more f xs n x all y at found same =
-    ap all_of (map_more f xs n x at.0 ∙ ap (λ each. map f (take n xs) ++ each ∷ []) (ap f (sym at.1) ∙ found))
-    ∙ all_of-push (map f (take n xs)) all y same
+  module _ {done : List Y} {left : List X} (collected : AreCollected f P whole done left) where
+    pub AreCollected-all : left ≡ [] → whole ≡ Some done
+    AreCollected-all none = collected.results ∙ rw none (ap Some (append-nil done))
 
--- the result there is missing
-pub all_of-missing_at : {X Y : Type 0} (f : X → Option Y) (xs : List X) (n : ℕ) (x : X) → (n < length xs) × (x ≡ get_or xs n x) → f x ≡ None → all_of (map f xs) ≡ None
-all_of-missing_at f xs n x at missing =
-    all_of-missing (map f xs) n (omega (arith, length-map xs f, at.0))
-    (get_or-map f xs n x None at.0 ∙ ap f (sym at.1) ∙ missing)
+    module _ {x : X} {others : List X} (next : left ≡ x ∷ others) where
+      pub AreCollected-missing : f x ≡ None → whole ≡ None
+      AreCollected-missing missing = collected.results ∙ rw (next, missing) refl
+
+      pub AreCollected-more : {y : Y} → f x ≡ Some y → P y → AreCollected f P whole (done ++ y ∷ []) others
+      AreCollected-more {y} found fine = record {
+        results = collected.results ∙ rw (next, found) (onto-more done y (all_of (map f others)));
+        each = All-push P done y collected.each fine;
+      }

@@ -3,13 +3,13 @@ use Rattle.std.proofs.Common.{◌≡◌, ◌≢◌, ℕ, ◌-◌, ◌<◌, List,
 use Rattle.std.proofs.Common.{refl, sym, ap, ◌∙◌, arith, eq-eqb}
 use Rattle.std.specs.Prelude.{Some, option_and_then}
 use Rattle.std.specs.Io.BufRead.{strip_last}
-use Rattle.std.specs.List.{before_last, join_with_byte}
-use Rattle.std.proofs.lemmas.Bool.{and_from, cond-false, cond-true, lt-ltb, ne_eqb}
+use Rattle.std.specs.List.{before_last, join_with_byte, slice_split}
+use Rattle.std.proofs.lemmas.Bool.{and_from, cond-false, cond-true, lt-ltb}
 use Rattle.std.proofs.lemmas.List.{append-nil, append_assoc, get_or_at, length-append, take_at}
 use Rattle.std.proofs.lemmas.List.Elements.{All-map}
 use Rattle.std.proofs.lemmas.List.Folds.{list_any_none}
 use Rattle.svn_path.specs.Components.{is_dot, parts_of}
-use Rattle.svn_text.specs.Line.{line_text}
+use Rattle.svn_text.specs.Line.{is_newline, line_text}
 use Rattle.svn_text.specs.Cut.{Lacks}
 use Rattle.svn_text.proofs.Cuts.{after_last-whole, before_last-whole}
 use Rattle.range_list.specs.Rangelist.{IsCanonical}
@@ -21,7 +21,6 @@ use Rattle.merge_info.specs.Text.{printed_entry, value_text}
 use Rattle.merge_info.specs.Value.{IsEntry, IsMergeInfo, IsOnOneLine, lines_between, lines_of, text_lines}
 use Rattle.range_list.proofs.Canonical.{AreRuns-from_canonical}
 use Rattle.merge_info.proofs.CanonicalRuns.{has_clash-canonical}
-use Rattle.merge_info.proofs.LinesRead.{lines_between-some}
 use Rattle.merge_info.proofs.JoinedBytes.{Lacks-append, Lacks-cons, Lacks-nil, all_of-map, length-join, list_any-whole, slice_split-join}
 use Rattle.merge_info.proofs.RunTexts.{Lacks-rangelist_text, elements_of-rangelist_text, without_blanks-rangelist_text}
 
@@ -91,6 +90,11 @@ value_text-joined line (next ∷ lines) =
     ∙ append_assoc (printed_entry line) (10 ∷ []) (rest ++ 10 ∷ [])
     ∙ sym (append_assoc (printed_entry line) (10 ∷ rest) (10 ∷ []))
 
+-- bytes that are not empty are a line or more
+lines_between-some : (bytes : List ℕ) → 0 < length bytes → lines_between bytes ≡ slice_split is_newline bytes
+lines_between-some [] some = absurd (omega arith)
+lines_between-some (byte ∷ bytes) some = refl
+
 -- the lines of a printed value are those of its entries
 pub text_lines-value_text : (value : List Line) → All IsEntry value → All IsOnOneLine value
     → text_lines (value_text value) ≡ map printed_entry value
@@ -102,7 +106,7 @@ text_lines-value_text (line ∷ lines) entries one_line =
     (λ k d below. Lacks-printed_entry (get_or (line ∷ lines) k d) (entries k d below) (one_line k d below)) in
     ap text_lines (value_text-joined line lines)
     ∙ ap lines_between (strip_last-push 10 joined)
-    ∙ lines_between-some joined (ne_eqb (length joined) 0 (λ none. omega arith))
+    ∙ lines_between-some joined some
     ∙ slice_split-join 10 (printed_entry line) (map printed_entry lines) none
 
 -- a printed value is read as the value

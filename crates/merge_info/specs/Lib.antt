@@ -1,6 +1,7 @@
 pub mod CanonicalValue
 pub mod Clash
 pub mod Element
+pub mod Field
 pub mod Inherited
 pub mod Line
 pub mod RunsByPath

@@ -10,6 +10,7 @@ mod clash;
 mod element;
 mod entry;
 mod error;
+mod field;
 mod line;
 mod lines;
 mod merge_info;

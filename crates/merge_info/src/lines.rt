@@ -5,6 +5,7 @@ ghost use Rattle.merge_info.specs.Line.{IsLine, line_view};
 ghost use Rattle.merge_info.specs.Value.{lines_of};
 
 use crate::error::MergeError;
+use crate::field::first_field;
 use crate::line::Line;
 use std::alloc::Global;
 
@@ -19,8 +20,11 @@ pub(crate) fn read_lines(alloc: Global, text: &[u8]) -> Result<Vec<Line>, MergeE
     if text.is_empty() {
         return Ok(lines);
     }
-    for line in text.split(|byte| *byte == b'\n') {
+    let mut left = Some(text);
+    while let Some(rest) = left {
+        let (line, more) = first_field(b'\n', rest);
         lines.push(Line::read(alloc, line)?)?;
+        left = more;
     }
     Ok(lines)
 }

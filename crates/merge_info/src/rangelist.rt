@@ -18,6 +18,7 @@ pub(crate) fn rangelist(alloc: Global, bytes: &[u8]) -> Result<Vec<Run>, MergeEr
     if bytes.is_empty() {
         return Ok(runs);
     }
+    // A closure finds the end of a short element sooner than `memchr` does.
     for part in bytes.split(|byte| *byte == b',') {
         let Some(run) = element(part) else {
             return Err(MergeError::Malformed);

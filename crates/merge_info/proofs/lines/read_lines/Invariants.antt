@@ -1,7 +1,12 @@
-use Rattle.std.proofs.Common.{map}
-use Rattle.merge_info.specs.Line.{line_view}
-use Rattle.merge_info.proofs.LinesRead.{AreRead}
+use Rattle.std.proofs.Common.{length, map}
+use Rattle.merge_info.specs.Field.{fields_left}
+use Rattle.merge_info.specs.Line.{IsLine, line_of, line_view}
+use Rattle.merge_info.specs.Value.{lines_of}
+use Rattle.merge_info.proofs.Collected.{AreCollected}
 use Rattle.merge_info.proofs.lines.read_lines.Given as goal
 
-abbrev pub invariant-loop-line : goal.invariant-loop-line
-invariant-loop-line l = AreRead (map (λ line. line.now) l.yielded) (map line_view l.lines.items)
+abbrev pub invariant-loop-left : goal.invariant-loop-left
+invariant-loop-left l = AreCollected line_of IsLine (lines_of l.fn.text) (map line_view l.lines.items) (fields_left 10 l.left)
+
+abbrev pub decreases-loop-left : goal.decreases-loop-left
+decreases-loop-left l = length (fields_left 10 l.left)
