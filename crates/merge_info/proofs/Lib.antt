@@ -19,4 +19,3 @@ mod ReadsBack
 mod RunTexts
 mod RunsAt
 mod RunsByPath
-mod SourcePaths

@@ -5,6 +5,7 @@ ghost use Rattle.svn_path.specs.Components.{parts_of, path_text};
 ghost use Rattle.merge_info.specs.Inherited.{is_before_below, path_below, stays_before};
 ghost use Rattle.merge_info.specs.Line.{IsPrintedPath};
 
+use crate::field::first_field;
 use std::alloc::{AllocError, Global};
 
 /// The path as it is printed: a slash before each component, and a slash for the root.
@@ -12,10 +13,14 @@ pub(crate) fn printed_path(alloc: Global, bytes: &[u8]) -> Result<Vec<u8>, Alloc
     ensures { IfOk result (λ path. path.items ≡ path_text (parts_of bytes.now)) }
 {
     let mut path = Vec::new(alloc);
-    let parts = bytes.split(|byte| *byte == b'/');
-    for part in parts.filter(|part| !part.is_empty()) {
-        path.push(b'/')?;
-        path.extend_from_slice(part)?;
+    let mut left = Some(bytes);
+    while let Some(rest) = left {
+        let (part, more) = first_field(b'/', rest);
+        if !part.is_empty() {
+            path.push(b'/')?;
+            path.extend_from_slice(part)?;
+        }
+        left = more;
     }
     if path.is_empty() {
         path.push(b'/')?;

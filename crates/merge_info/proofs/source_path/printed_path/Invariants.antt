@@ -1,6 +1,12 @@
-use Rattle.std.proofs.Common.{◌≡◌, length, take}
+use Rattle.std.proofs.Common.{◌≡◌, ◌++◌, filter, length}
+use Rattle.svn_text.specs.Bytes.{is_not_empty}
 use Rattle.svn_path.specs.Components.{parts_of, parts_text}
+use Rattle.merge_info.specs.Field.{fields_left}
 use Rattle.merge_info.proofs.source_path.printed_path.Given as goal
 
-abbrev pub invariant-loop-part : goal.invariant-loop-part
-invariant-loop-part l = l.path.items ≡ parts_text (take (length l.yielded) (parts_of l.bytes))
+abbrev pub invariant-loop-left : goal.invariant-loop-left
+invariant-loop-left l =
+    parts_text (parts_of l.bytes) ≡ l.path.items ++ parts_text (filter is_not_empty (fields_left 47 l.left))
+
+abbrev pub decreases-loop-left : goal.decreases-loop-left
+decreases-loop-left l = length (fields_left 47 l.left)
