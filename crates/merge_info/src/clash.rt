@@ -21,7 +21,7 @@ pub(crate) fn has_clash(alloc: Global, runs: &[Run]) -> Result<bool, AllocError>
     Ok(has_clash_in_order(&sorted))
 }
 
-/// Whether each run begins at or after those before it.
+/// Whether it is certain that each run begins at or after those before it.
 fn is_in_order(runs: &[Run]) -> bool
     ensures { OnTrue result (IsRisingByFirst runs.now) }
 {

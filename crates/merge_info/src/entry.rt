@@ -38,7 +38,7 @@ impl Entry {
         })
     }
 
-    /// Appends the line of the entry, or as much of it as there is memory for.
+    /// Appends the line of the entry. Also after an error `out` begins with what it held.
     #[tactic(auto, using(svn_text::proofs::Appended::appended))]
     pub(crate) fn append(&self, out: &mut Vec<u8>) -> Result<(), AllocError>
         ensures ok { OnOk result (out.new.items ≡ out.old.items ++ line_text (printed_entry (entry_view self.now))) }
@@ -51,7 +51,8 @@ impl Entry {
         Ok(())
     }
 
-    /// Appends the line of what a path inherits of this entry, given `rest`, or as much of it as there is memory for.
+    /// Appends the line of what a path inherits of this entry, given `rest`. Also after an error `out` begins with what
+    /// it held.
     #[tactic(auto, using(svn_text::proofs::Appended::appended))]
     pub(crate) fn append_inherited(&self, rest: &[u8], out: &mut Vec<u8>) -> Result<(), AllocError>
         requires path { IsPrintedPath self.now.path.items }

@@ -39,7 +39,7 @@ pub(crate) fn path_below(alloc: Global, path: &[u8], rest: &[u8]) -> Result<Vec<
     Ok(both)
 }
 
-/// Appends a path followed by the rest of another, or as much of it as there is memory for.
+/// Appends a path followed by the rest of another. Also after an error `out` begins with what it held.
 #[tactic(auto, using(svn_text::proofs::Appended::appended))]
 pub(crate) fn push_path_below(path: &[u8], rest: &[u8], out: &mut Vec<u8>) -> Result<(), AllocError>
     requires path { IsPrintedPath path.now }

@@ -10,7 +10,7 @@ ghost use Rattle.merge_info.specs.Value.{IsMergeInfo, entry_view};
 use crate::entry::Entry;
 use std::alloc::AllocError;
 
-/// Appends the line of each entry, or as much of the lines as there is memory for.
+/// Appends the line of each entry. Also after an error `out` begins with what it held.
 #[tactic(auto, using(svn_text::proofs::Appended::appended))]
 pub(crate) fn append_entries(entries: &[Entry], out: &mut Vec<u8>) -> Result<(), AllocError>
     ensures ok { OnOk result (out.new.items ≡ out.old.items ++ value_text (map entry_view entries.now)) }
@@ -22,8 +22,8 @@ pub(crate) fn append_entries(entries: &[Entry], out: &mut Vec<u8>) -> Result<(),
     Ok(())
 }
 
-/// Appends the lines of what a path inherits of the entries of a value, given what follows the path that has it, or as
-/// much of the lines as there is memory for.
+/// Appends the lines of what a path inherits of the entries of a value, given what follows the path that has it. Also
+/// after an error `out` begins with what it held.
 #[tactic(auto, using(svn_text::proofs::Appended::appended))]
 pub(crate) fn append_inherited(
     entries: &[Entry],
