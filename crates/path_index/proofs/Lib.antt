@@ -1,4 +1,5 @@
 mod CameFromItself
+mod ChildrenDistinct
 mod DownFrom
 mod EntriesOfPaths
 mod HistoryTo

@@ -1,5 +1,5 @@
 //! The paths of records, each once, as a tree of components.
-ghost use Rattle.std.specs.Prelude.{◌≡◌, ◌≤◌, List, [], Some, length, IfOk, OnOk};
+ghost use Rattle.std.specs.Prelude.{◌≡◌, ◌≤◌, List, [], Some, length, IfOk, IsTrue, OnOk};
 ghost use Rattle.path_index.specs.Nodes.{child_of, node_of, AreNodesOf, ExtendsNodes};
 
 use indexmap::IndexSet;
@@ -90,6 +90,36 @@ impl Nodes {
         }
         let (index, _) = self.children.insert_full(Child { parent, name })?;
         Ok(index as u32 + 1)
+    }
+
+    /// The same, given a node that it may be. Whether that is the one is seen without a look-up.
+    pub(crate) fn add_likely(
+        &mut self,
+        parent: u32,
+        name: NameId,
+        likely: Option<u32>,
+    ) -> Result<u32, AllocError>
+        requires { parent ≤ length self.old }
+        ensures node { IfOk result (λ node. child_of self.new parent name ≡ Some node) }
+        ensures grown { OnOk result (ExtendsNodes self.old self.new) }
+    {
+        match likely {
+            Some(node) if self.is_child(node, parent, name) => Ok(node),
+            _ => self.add(parent, name),
+        }
+    }
+
+    /// Whether a node is that of a component below another node.
+    fn is_child(&self, node: u32, parent: u32, name: NameId) -> bool
+        ensures { IsTrue result → child_of self.now parent name ≡ Some node }
+    {
+        let Some(index) = node.checked_sub(1) else {
+            return false;
+        };
+        match self.children.as_slice().get(index as usize) {
+            Some(child) => *child == Child { parent, name },
+            None => false,
+        }
     }
 
     /// Adds the nodes of another tree. Returns the node of each, from the root on.

@@ -43,8 +43,9 @@ impl RecordsByPath {
             copied: Numbers::new(alloc),
             named: Numbers::new(alloc),
         };
+        let mut last = Vec::new(alloc);
         for (index, each) in records.iter().enumerate() {
-            by_path.add(index as u32, each)?;
+            by_path.add(index as u32, each, &mut last)?;
         }
         by_path.shrink_to_fit();
         Ok(by_path)
@@ -65,13 +66,18 @@ impl RecordsByPath {
         self.nodes.seed()
     }
 
-    /// Adds the record of this index.
-    fn add(&mut self, index: u32, each: &NodeRecord) -> Result<(), AllocError>
+    /// Adds the record of this index. `last` has the nodes of the record before it.
+    fn add(
+        &mut self,
+        index: u32,
+        each: &NodeRecord,
+        last: &mut Vec<u32>,
+    ) -> Result<(), AllocError>
         ensures { OnOk result ((records : List Record) → slice_get records index ≡ Some each.now
             → AreListed records index self.old.nodes self.old.added self.old.copied self.old.named
             → AreListed records (index + 1) self.new.nodes self.new.added self.new.copied self.new.named) }
     {
-        let node = self.name(&each.path, each.rev)?;
+        let node = self.name(&each.path, each.rev, last)?;
         match &each.act {
             Act::Add { .. } => self.added.insert(node, index)?,
             Act::Copy { .. } => self.copied.insert(node, index)?,
@@ -81,7 +87,10 @@ impl RecordsByPath {
     }
 
     /// Adds the path and all paths above it, with the revision. Returns the path's node.
-    fn name(&mut self, path: &Path, rev: u32) -> Result<u32, AllocError>
+    ///
+    /// Most paths begin as the one before them did. So `last`, which has the nodes of that path without the root's, and
+    /// then those of this one, is asked first. Only time depends on it.
+    fn name(&mut self, path: &Path, rev: u32, last: &mut Vec<u32>) -> Result<u32, AllocError>
         ensures node { IfOk result (λ node. node_of self.new.nodes path.now ≡ Some node) }
         ensures grown { OnOk result (ExtendsNodes self.old.nodes self.new.nodes) }
         ensures named { OnOk result (AddsEntries self.new.nodes (IsFrontAt path.now (length path.now) rev)
@@ -90,9 +99,14 @@ impl RecordsByPath {
         ensures copied { self.new.copied ≡ self.old.copied }
     {
         let mut node = 0;
+        let mut depth: usize = 0;
         self.named.insert(0, rev)?;
         for name in path.parts() {
-            node = self.nodes.add(node, *name)?;
+            node = self
+                .nodes
+                .add_likely(node, *name, last.get(depth).copied())?;
+            replace_from(last, depth, node)?;
+            depth = depth.saturating_add(1);
             self.named.insert(node, rev)?;
         }
         Ok(node)
@@ -158,4 +172,13 @@ impl RecordsByPath {
             None => Ok(()),
         }
     }
+}
+
+/// Puts a node at a place, without what is at this place and after it, unless it is there already.
+fn replace_from(nodes: &mut Vec<u32>, place: usize, node: u32) -> Result<(), AllocError> {
+    if nodes.get(place) != Some(&node) {
+        nodes.truncate(place);
+        nodes.push(node)?;
+    }
+    Ok(())
 }

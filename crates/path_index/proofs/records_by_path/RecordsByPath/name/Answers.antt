@@ -18,14 +18,14 @@ loop-name-init c =
       copied = refl;
     }
 
-pub add-requires : goal.add-requires
-add-requires c = node_of-within c.loop-name.self.nodes (take c.loop-name.name-index c.parts-name-items.result.now) c.loop-name.node c.loop-name.invariant.node
+pub add_likely-requires : goal.add_likely-requires
+add_likely-requires c = node_of-within c.loop-name.self.nodes (take c.loop-name.name-index c.parts-name-items.result.now) c.loop-name.node c.loop-name.invariant.node
 
 pub loop-name-preserved : goal.loop-name-preserved
 loop-name-preserved c =
     let old = c.args.self.now in
     let before = c.loop-name.self in
-    let nodes = c.add.new.self in
+    let nodes = c.add_likely.new.self in
     let parts = c.parts-name-items.result.now in
     let n = c.loop-name.name-index in
     let so = c.loop-name.invariant in

@@ -1,0 +1,32 @@
+-- Each child stands once, so where it stands is where it is found.
+use Rattle.std.proofs.Common.{◌≡◌, ℕ, suc, true, false, List, length, get_or, Some, option_map, slice_get, sym, ap, subst, ◌∙◌, arith}
+use Rattle.std.proofs.lemmas.Bool.{cond-true, lt-ltb}
+use Rattle.std.proofs.lemmas.Grind.{common_steps}
+use Rattle.std.proofs.lemmas.List.Sums.{position_or_len_is}
+use Rattle.std.proofs.lemmas.Map.Keys.{apart_from_distinct}
+use Rattle.std.proofs.lemmas.Option.{get_or_from_slice_get, slice_get_within}
+use Rattle.std.specs.List.{position, position_or_len, IsDistinct}
+use Rattle.path_index.specs.Nodes.{same_child, child_of}
+use Rattle.path_index.specs.declared.nodes.Child.{Child}
+
+same_child-self : (a : Child) → same_child a a ≡ true
+same_child-self a = grind (arith, common_steps)
+
+same_child-flipped : (a b : Child) → same_child a b ≡ same_child b a
+same_child-flipped a b = grind (arith, common_steps)
+
+pub child_of-distinct : (children : List Child) (index : ℕ) (child : Child) → IsDistinct same_child children
+    → slice_get children index ≡ Some child → child_of children child.parent child.name ≡ Some (suc index)
+child_of-distinct children index child distinct at =
+    let within = slice_get_within children index child at in
+    let here : get_or children index child ≡ child = get_or_from_slice_get children index child child at in
+    let first : position_or_len (same_child child) children ≡ index =
+    position_or_len_is (same_child child) children index child (omega (arith, within))
+    (λ before less. subst (λ (each : Child). same_child each (get_or children before child) ≡ false) here
+    (same_child-flipped (get_or children index child) (get_or children before child)
+    ∙ apart_from_distinct same_child children before index child distinct less within))
+    (λ _. subst (λ (each : Child). same_child child each ≡ true) (sym here) (same_child-self child)) in
+    let found : position (same_child child) children ≡ Some index =
+    cond-true _ _ _ (lt-ltb (position_or_len (same_child child) children) (length children) (omega (arith, first, within)))
+    ∙ ap Some first in
+    ap (option_map suc) found
