@@ -37,7 +37,7 @@ impl Model for MergeInfo {
 }
 
 impl MergeInfo {
-    /// The value without any path.
+    /// The value without any path. It takes no memory.
     pub fn empty(alloc: Global) -> Self
         ensures { result ≡ [] }
     {

@@ -29,11 +29,7 @@ pub(crate) struct RecordsByPath {
 
 impl RecordsByPath {
     /// The records of a list by the paths that they name. Paths are found by the hashes of a seed.
-    pub(crate) fn of(
-        alloc: Global,
-        seed: Seed,
-        records: &[NodeRecord],
-    ) -> Result<Self, AllocError>
+    pub(crate) fn of(alloc: Global, seed: Seed, records: &[NodeRecord]) -> Result<Self, AllocError>
         requires { length records.now < 2 ^ 32 }
         ensures { IfOk result (AreByPath records.now) }
     {
@@ -67,12 +63,7 @@ impl RecordsByPath {
     }
 
     /// Adds the record of this index. `last` has the nodes of the record before it.
-    fn add(
-        &mut self,
-        index: u32,
-        each: &NodeRecord,
-        last: &mut Vec<u32>,
-    ) -> Result<(), AllocError>
+    fn add(&mut self, index: u32, each: &NodeRecord, last: &mut Vec<u32>) -> Result<(), AllocError>
         ensures { OnOk result ((records : List Record) → slice_get records index ≡ Some each.now
             → AreListed records index self.old.nodes self.old.added self.old.copied self.old.named
             → AreListed records (index + 1) self.new.nodes self.new.added self.new.copied self.new.named) }

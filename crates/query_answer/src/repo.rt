@@ -70,7 +70,7 @@ impl Repo {
         self.dump.names()
     }
 
-    /// A memo with a cell for each mergeinfo text of the dump, of which none has been read.
+    /// A memo with a cell for each mergeinfo text of the dump.
     pub fn memo(&self, alloc: Global) -> Result<Memo<'_>, AllocError>
         ensures { IfOk result (λ memo. length memo ≡ length self.now.values) }
     {

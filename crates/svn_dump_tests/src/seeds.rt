@@ -44,7 +44,10 @@ fn is_read(alloc: Global, seed: Seed, wanted: &Dump) -> Result<bool, DumpError> 
 fn the_seed_does_not_show_in_a_dump(rt: HostRuntime) -> Result<(), Fail> {
     let wanted = read(rt.alloc(), MERGED)?;
     for byte in 0..=255 {
-        assert!(rt; is_read(rt.alloc(), Seed::random(&Same(byte)), &wanted)?, "{byte}");
+        assert!(rt;
+            is_read(rt.alloc(), Seed::random(&Same(byte)), &wanted)?,
+            "{byte}"
+        );
     }
     Ok(())
 }

@@ -1,13 +1,15 @@
 -- The front of a dump that a device gave to a reader.
-use Rattle.std.proofs.Common.{◌≡◌, ℕ, ◌≤◌, List, ◌++◌, Option, length, take, inl, IsFalse}
+use Rattle.std.proofs.Common.{◌≡◌, ℕ, ◌≤◌, List, ◌++◌, Option, length, take, inl, inr, IsFalse}
 use Rattle.std.specs.Io.KnownBytes.{Consumes}
 use Rattle.std.proofs.KnownBytes.{Consumes-trans}
 use Rattle.std.proofs.lemmas.List.{take-append-le, take-take}
 use Rattle.devices.specs.Device.{PullState}
 use Rattle.svn_dump.specs.Decided.{IsDecidedError, IsUndecided}
 use Rattle.svn_dump.specs.Feed.{FeedValue, HasRead}
+use Rattle.svn_dump.specs.DumpError.{IsRefusal}
 use Rattle.svn_dump.specs.declared.error.DumpError.{DumpError}
 use Rattle.svn_dump.specs.declared.error.DumpError.TheVariants as refusal
+use Rattle.svn_report.specs.Load.{IsReadWhole}
 use Rattle.svn_report.specs.ReportError.{run_error_of_dump}
 use Rattle.svn_report.specs.ReportFrom.{IsDumpErrorFrom, most_bytes}
 
@@ -43,6 +45,13 @@ module _ (old mid new : PullState) (feed : FeedValue) (is : IsFrontRead old mid 
     decided = decided is.front is.read;
   })
   IsDumpErrorFrom-piece refusal.Memory decided no_end sound small = tt
+
+-- all bytes were given, and only their end decides a refusal
+pub IsDumpErrorFrom-end : (old new : PullState) (bytes : List ℕ) (error : DumpError) → IsReadWhole old new bytes → IsUndecided bytes
+    → IsRefusal bytes error → IsDumpErrorFrom old new (run_error_of_dump error)
+IsDumpErrorFrom-end old new bytes (refusal.Refused number at) all undecided first =
+    inr (record { dump = bytes; all = all; before = undecided; first = first })
+IsDumpErrorFrom-end old new bytes refusal.Memory all undecided first = tt
 
 -- the bytes that were given stand at the front of the piece
 pub Consumes-piece : (old new : Option (List ℕ)) (count len : ℕ) (given rest : List ℕ) → count ≤ length given → count ≤ len

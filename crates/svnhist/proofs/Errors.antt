@@ -31,7 +31,7 @@ pub status-error : (error : RunError) (status : ℕ) (old new : PushState) → I
     → (status ≡ 1) ⊎ (status ≡ 3) ⊎ (status ≡ 4)
 status-error error status old new (inr (memory, line)) = inr (inr memory)
 status-error error status old new (inl (same, line)) = elim (status_of-error error) [
-    | inl one ↦ inl (same ∙ one)
-    | inr (inl three) ↦ inr (inl (same ∙ three))
-    | inr (inr four) ↦ inr (inr (same ∙ four))
-  ]
+  | inl one ↦ inl (same ∙ one)
+  | inr (inl three) ↦ inr (inl (same ∙ three))
+  | inr (inr four) ↦ inr (inr (same ∙ four))
+]

@@ -60,7 +60,7 @@ pub(crate) fn run<
         PrintsLine (E.state errors.old) (E.state errors.new) unsent_line }
     ensures refused { output.new ≡ output.old → exit_status result ≢ 2 → IsRefused
         (IsErrorAsked (F.opens files.now) (F.refuses files.now) D.state (texts_of arguments)
-            (I.state input.old) (I.state input.new))
+        (I.state input.old) (I.state input.new))
         (exit_status result) (E.state errors.old) (E.state errors.new) }
     ensures known { exit_status result ≤ 4 }
     ensures silent { exit_status result ≡ 0 → errors.new ≡ errors.old }
@@ -152,7 +152,7 @@ fn answer<R: RandomSource + Threads + Wait + Sync, F: Open<D>, D: Pull + Drop, I
     ensures ok { IfOk result (λ found. MatchOption found
         (IsMisused (texts_of arguments) (I.state input.old) (I.state input.new))
         (λ report. IsReportAsked (F.opens files.now) D.state (texts_of arguments) (I.state input.old)
-            (I.state input.new) report.items)) }
+        (I.state input.new) report.items)) }
     ensures error { IfErr result (IsErrorAsked (F.opens files.now) (F.refuses files.now) D.state (texts_of arguments)
         (I.state input.old) (I.state input.new)) }
 {

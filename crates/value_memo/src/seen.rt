@@ -46,9 +46,8 @@ impl<'t> Seen<'t> {
         })
     }
 
-    /// What the text of a number says. The worker takes the reading that another one published, if that is one of this
-    /// text. Else it reads the text, and publishes the reading where none is yet, or keeps it for itself. Later calls
-    /// with the number read nothing.
+    /// What the text of a number says, by a reading that another worker published or by one of its own. Which of the two
+    /// it is shows in `parses` alone.
     pub fn value<'a>(
         &'a mut self,
         memo: &'a Memo<'t>,

@@ -1,6 +1,6 @@
 use Rattle.std.proofs.Common.{rules}
 use Rattle.std.proofs.lemmas.Result.{err_from_is_err_and}
-use Rattle.svn_report.proofs.Fronts.{Consumes-piece, IsDumpErrorFrom-piece, IsFrontRead-more}
+use Rattle.svn_report.proofs.Fronts.{Consumes-piece, IsDumpErrorFrom-end, IsDumpErrorFrom-piece, IsFrontRead-more}
 use Rattle.svn_report.proofs.pieces.read_dump.Goals as goal
 
 pub returns-in_err-feed-in-Ok-clause-error : goal.returns-in_err-feed-in-Ok-clause-error
@@ -31,4 +31,7 @@ returns-in-Ok-eq0-clause-ok g c = search (rules, c.loop.invariant.front, c.loop.
 pub returns-in_err-finish-in-Ok-eq0-clause-error : goal.returns-in_err-finish-in-Ok-eq0-clause-error
 returns-in_err-finish-in-Ok-eq0-clause-error g c =
     let told = err_from_is_err_and c.from_residual-in_err-finish-in-Ok-eq0.result c.from_residual-in_err-finish-in-Ok-eq0.ensures.1 in
-    rw (told.1, told.2) (c.in_err-finish-in-Ok-eq0.ensures.refused)
+    let read = c.loop.invariant.front in
+    rw (told.1, told.2) (IsDumpErrorFrom-end (g.P.Pull.state c.args.input.now) (g.P.Pull.state c.pull.new.self) read.front _
+    (search (rules, read.given, c.loop.invariant.ends, c.in-Ok-eq0.ensures.bytes, c.in-Ok-eq0.ensures.ends, c.in-Ok-eq0.ensures.failed))
+    read.undecided (c.in_err-finish-in-Ok-eq0.ensures.refused read.front read.read))
