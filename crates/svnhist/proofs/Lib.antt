@@ -1,2 +1,3 @@
 mod Bundles
 mod Errors
+mod Misuses

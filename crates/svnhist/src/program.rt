@@ -179,17 +179,16 @@ fn answer_input<R: RandomSource + Threads + Wait + Sync, I: Pull>(
     ensures error { IfErr result (IsErrorOnInput (I.state input.old) (I.state input.new)) }
 {
     let bytes = load(alloc, input, Source::Input)?;
-    let Some(parts) = bundle(bytes.as_slice()) else {
-        return Ok(None);
-    };
-    let report = report(
-        rt,
-        alloc,
-        parts.dump,
-        parts.queries,
-        cuts_of(&parts.block),
-        parts.workers,
-        &NoGate,
-    )?;
-    Ok(Some(report))
+    match bundle(bytes.as_slice()) {
+        Some(parts) => Ok(Some(report(
+            rt,
+            alloc,
+            parts.dump,
+            parts.queries,
+            cuts_of(&parts.block),
+            parts.workers,
+            &NoGate,
+        )?)),
+        None => Ok(None),
+    }
 }
