@@ -1,5 +1,5 @@
 -- Which errors loading an input has, and which statuses errors have.
-use Rattle.std.proofs.Common.{◌≡◌, ◌≢◌, ◌⊎◌, ℕ, inl, inr, refl, sym, ap, ◌∙◌, arith}
+use Rattle.std.proofs.Common.{◌≡◌, ◌⊎◌, ℕ, inl, inr, refl, ap, ◌∙◌}
 use Rattle.svn_dump.specs.declared.error.DumpError.TheVariants as refusal
 use Rattle.devices.specs.Device.{PullState, PushState}
 use Rattle.devices.specs.declared.source.Source.{Source}

@@ -1,4 +1,4 @@
-use Rattle.std.proofs.Common.{◌≡◌, [], map, sym, subst, rules}
+use Rattle.std.proofs.Common.{map, sym, subst, rules}
 use Rattle.std.specs.Prelude.{string_bytes}
 use Rattle.svnhist.specs.Arguments.{ArgumentsValue, IsArguments}
 use Rattle.svnhist.specs.Asked.{IsMisused, texts_of}
