@@ -1,6 +1,6 @@
 -- The numbers of the nodes of paths, as paths and records are added.
 use Rattle.std.proofs.Common.{◌≡◌, ◌≢◌, ℕ, zero, suc, ◌+◌, ◌-◌, ◌^◌, ◌<◌, ◌≤◌, ◌==◌, Bool, true, false, ◌⊎◌, List, [], ◌∷◌, ◌++◌, Contains, filter, length, take, drop, slice_get, None, Some, inl, inr, refl, sym, ap, subst, ◌∙◌, append_assoc, append-nil, arith, length-append, true≢false}
-use Rattle.std.specs.Global.{Vec}
+use Rattle.smallvec.specs.SmallVec.{SmallVec}
 use Rattle.std.proofs.lemmas.Bool.{cases_Bool, cases_lt, false_from_ne_true, eq-eqb, eqb-true, or_right}
 use Rattle.std.proofs.lemmas.List.{take_at, take-append-drop}
 use Rattle.std.proofs.lemmas.Option.{same_Some, slice_get_within}
@@ -38,16 +38,16 @@ module _ (old new : List Child) (grown : ExtendsNodes old new) where
   IsEntryOf-grown : (P : List NameId → ℕ → Type 0) (node number : ℕ) → IsEntryOf old P node number → IsEntryOf new P node number
   IsEntryOf-grown P node number of = record { path = of.path; found = node_of-grown old new of.path node grown of.found; small = of.small; holds = of.holds }
 
-  HasEntryOf-grown : (path : List NameId) (number : ℕ) (lists : List (Vec ℕ)) → HasEntryOf old path number lists → HasEntryOf new path number lists
+  HasEntryOf-grown : (path : List NameId) (number : ℕ) (lists : List (SmallVec ℕ)) → HasEntryOf old path number lists → HasEntryOf new path number lists
   HasEntryOf-grown path number lists has = record { node = has.node; found = node_of-grown old new path has.node grown has.found; within = has.within }
 
-  pub AreEntriesOf-grown : (P : List NameId → ℕ → Type 0) (lists : List (Vec ℕ)) → AreEntriesOf old P lists → AreEntriesOf new P lists
+  pub AreEntriesOf-grown : (P : List NameId → ℕ → Type 0) (lists : List (SmallVec ℕ)) → AreEntriesOf old P lists → AreEntriesOf new P lists
   AreEntriesOf-grown P lists are = record {
     sound = λ node number has. IsEntryOf-grown P node number (are.sound node number has);
     complete = λ path number holds. HasEntryOf-grown path number lists (are.complete path number holds);
   }
 
-  pub AddsEntries-grown : (P : List NameId → ℕ → Type 0) (before after : List (Vec ℕ)) → AddsEntries old P before after → AddsEntries new P before after
+  pub AddsEntries-grown : (P : List NameId → ℕ → Type 0) (before after : List (SmallVec ℕ)) → AddsEntries old P before after → AddsEntries new P before after
   AddsEntries-grown P before after adds = record {
     kept = adds.kept;
     sound = λ node number has. elim (adds.sound node number has) [ inl kept ↦ inl kept | inr of ↦ inr (IsEntryOf-grown P node number of) ];
@@ -58,14 +58,14 @@ pub IsEntryOf-weaker : (nodes : List Child) (P Q : List NameId → ℕ → Type 
     → IsEntryOf nodes Q node number
 IsEntryOf-weaker nodes P Q weaker node number of = record { path = of.path; found = of.found; small = of.small; holds = weaker of.path number of.holds }
 
-pub HasEntryOf-more : (nodes : List Child) (path : List NameId) (number : ℕ) (old new : List (Vec ℕ)) → ((node number : ℕ) → HasNumber old node number → HasNumber new node number) → HasEntryOf nodes path number old
+pub HasEntryOf-more : (nodes : List Child) (path : List NameId) (number : ℕ) (old new : List (SmallVec ℕ)) → ((node number : ℕ) → HasNumber old node number → HasNumber new node number) → HasEntryOf nodes path number old
     → HasEntryOf nodes path number new
 HasEntryOf-more nodes path number old new kept has = record { node = has.node; found = has.found; within = kept has.node number has.within }
 
 -- ---- numbers that are added
 
 -- where nothing holds, none
-pub AddsEntries-none : (nodes : List Child) (P : List NameId → ℕ → Type 0) (lists : List (Vec ℕ)) → ((path : List NameId) (number : ℕ) → P path number → ⊥) → AddsEntries nodes P lists lists
+pub AddsEntries-none : (nodes : List Child) (P : List NameId → ℕ → Type 0) (lists : List (SmallVec ℕ)) → ((path : List NameId) (number : ℕ) → P path number → ⊥) → AddsEntries nodes P lists lists
 AddsEntries-none nodes P lists never = record {
   kept = λ node number has. has;
   sound = λ node number has. inl has;
@@ -73,7 +73,7 @@ AddsEntries-none nodes P lists never = record {
 }
 
 -- one more
-pub AddsEntries-more : (nodes : List Child) (P Q : List NameId → ℕ → Type 0) (old middle new : List (Vec ℕ)) (path : List NameId) (node number : ℕ) → AddsEntries nodes P old middle → AddsNumbers (ArePair node number) middle new
+pub AddsEntries-more : (nodes : List Child) (P Q : List NameId → ℕ → Type 0) (old middle new : List (SmallVec ℕ)) (path : List NameId) (node number : ℕ) → AddsEntries nodes P old middle → AddsNumbers (ArePair node number) middle new
     → node_of nodes path ≡ Some node → number < 2 ^ 32
     → ((p : List NameId) (n : ℕ) → P p n → Q p n) → Q path number → ((p : List NameId) (n : ℕ) → Q p n → P p n ⊎ ((p ≡ path) × (n ≡ number)))
     → AddsEntries nodes Q old new
@@ -93,14 +93,14 @@ AddsEntries-more nodes P Q old middle new path node number adds inserted found s
     }
 
 -- those of the paths above a path: the root
-pub AddsEntries-root : (nodes : List Child) (whole : List NameId) (rev : ℕ) (old new : List (Vec ℕ)) → rev < 2 ^ 32 → AddsNumbers (ArePair 0 rev) old new → AddsEntries nodes (IsFrontAt whole 0 rev) old new
+pub AddsEntries-root : (nodes : List Child) (whole : List NameId) (rev : ℕ) (old new : List (SmallVec ℕ)) → rev < 2 ^ 32 → AddsNumbers (ArePair 0 rev) old new → AddsEntries nodes (IsFrontAt whole 0 rev) old new
 AddsEntries-root nodes whole rev old new small inserted =
     AddsEntries-more nodes (λ p n. ⊥) (IsFrontAt whole 0 rev) old old new [] 0 rev (AddsEntries-none nodes (λ p n. ⊥) old (λ p n never. never)) inserted refl small
     (λ p n never. absurd never) ((0, omega arith, refl), refl)
     (λ p n ((k, few, is), at). let none : k ≡ 0 = omega arith in inr (is ∙ ap (λ m. take m whole) none, at))
 
 -- and one after another
-pub AddsEntries-next : (nodes : List Child) (whole : List NameId) (most rev node : ℕ) (old middle new : List (Vec ℕ)) → AddsEntries nodes (IsFrontAt whole most rev) old middle → node_of nodes (take (most + 1) whole) ≡ Some node
+pub AddsEntries-next : (nodes : List Child) (whole : List NameId) (most rev node : ℕ) (old middle new : List (SmallVec ℕ)) → AddsEntries nodes (IsFrontAt whole most rev) old middle → node_of nodes (take (most + 1) whole) ≡ Some node
     → rev < 2 ^ 32 → AddsNumbers (ArePair node rev) middle new → AddsEntries nodes (IsFrontAt whole (most + 1) rev) old new
 AddsEntries-next nodes whole most rev node old middle new adds found small inserted =
     AddsEntries-more nodes (IsFrontAt whole most rev) (IsFrontAt whole (most + 1) rev) old middle new (take (most + 1) whole) node rev adds inserted found small
@@ -113,7 +113,7 @@ AddsEntries-next nodes whole most rev node old middle new adds found small inser
 -- ---- the numbers of records
 
 -- one record more
-pub AreEntriesOf-more : (old_nodes nodes : List Child) (IsOf : NodeRecord → ℕ → List NameId → ℕ → Type 0) (records : List NodeRecord) (index : ℕ) (each : NodeRecord) (old new : List (Vec ℕ))
+pub AreEntriesOf-more : (old_nodes nodes : List Child) (IsOf : NodeRecord → ℕ → List NameId → ℕ → Type 0) (records : List NodeRecord) (index : ℕ) (each : NodeRecord) (old new : List (SmallVec ℕ))
     → ExtendsNodes old_nodes nodes → slice_get records index ≡ Some each → AreEntriesOf old_nodes (IsOfSome IsOf records index) old → AddsEntries nodes (IsOf each index) old new
     → AreEntriesOf nodes (IsOfSome IsOf records (index + 1)) new
 AreEntriesOf-more old_nodes nodes IsOf records index each old new grown at are adds =
@@ -139,7 +139,7 @@ AreEntriesOf-more old_nodes nodes IsOf records index each old new grown at are a
     }
 
 -- all three lists, where each gets those of the record
-pub AreListed-more : (old_nodes nodes : List Child) (records : List NodeRecord) (index : ℕ) (each : NodeRecord) (added copied named added' copied' named' : List (Vec ℕ)) → ExtendsNodes old_nodes nodes → slice_get records index ≡ Some each
+pub AreListed-more : (old_nodes nodes : List Child) (records : List NodeRecord) (index : ℕ) (each : NodeRecord) (added copied named added' copied' named' : List (SmallVec ℕ)) → ExtendsNodes old_nodes nodes → slice_get records index ≡ Some each
     → AreListed records index old_nodes added copied named → AddsEntries nodes (AddsPath each index) added added' → AddsEntries nodes (CopiesPath each index) copied copied' → AddsEntries nodes (NamesPath each index) named named'
     → AreListed records (index + 1) nodes added' copied' named'
 AreListed-more old_nodes nodes records index each added copied named added' copied' named' grown at so adds copies names = record {
@@ -148,12 +148,12 @@ AreListed-more old_nodes nodes records index each added copied named added' copi
   of_named = AreEntriesOf-more old_nodes nodes NamesPath records index each named named' grown at so.of_named names;
 }
 
-module _ (Is : Act → Type 0) (nodes : List Child) (each : NodeRecord) (index : ℕ) (old : List (Vec ℕ)) where
+module _ (Is : Act → Type 0) (nodes : List Child) (each : NodeRecord) (index : ℕ) (old : List (SmallVec ℕ)) where
   abbrev IsOwn : List NameId → ℕ → Type 0
   IsOwn path number = Is each.act × (each.path ≡ path) × (number ≡ index)
 
   -- a record with such an act adds its own path
-  pub AddsEntries-own : (act : Act) → each.act ≡ act → Is act → (node : ℕ) (new : List (Vec ℕ)) → node_of nodes each.path ≡ Some node → index < 2 ^ 32 → AddsNumbers (ArePair node index) old new → AddsEntries nodes IsOwn old new
+  pub AddsEntries-own : (act : Act) → each.act ≡ act → Is act → (node : ℕ) (new : List (SmallVec ℕ)) → node_of nodes each.path ≡ Some node → index < 2 ^ 32 → AddsNumbers (ArePair node index) old new → AddsEntries nodes IsOwn old new
   AddsEntries-own act is so node new found small inserted =
       AddsEntries-more nodes (λ p n. ⊥) IsOwn old old new each.path node index (AddsEntries-none nodes (λ p n. ⊥) old (λ p n never. never)) inserted found small
       (λ p n never. absurd never) (subst Is (sym is) so, refl, refl) (λ p n (acts, own, here). inr (sym own, here))
@@ -184,13 +184,13 @@ not_IsCopy each not_so = by each.act refl
     by (act.Copy replace from from_rev mi) is so = not_so replace from from_rev mi is
 
 -- a copy of the numbers
-AreEntriesOf-same : (nodes : List Child) (P : List NameId → ℕ → Type 0) (old new : List (Vec ℕ)) → HaveSameNumbers old new → AreEntriesOf nodes P old → AreEntriesOf nodes P new
+AreEntriesOf-same : (nodes : List Child) (P : List NameId → ℕ → Type 0) (old new : List (SmallVec ℕ)) → HaveSameNumbers old new → AreEntriesOf nodes P old → AreEntriesOf nodes P new
 AreEntriesOf-same nodes P old new same are = record {
   sound = λ node number has. are.sound node number (subst (λ all. Contains all number) (same node) has);
   complete = λ path number holds. HasEntryOf-more nodes path number old new (λ node n. subst (λ all. Contains all n) (sym (same node))) (are.complete path number holds);
 }
 
-pub AreListed-same : (records : List NodeRecord) (count : ℕ) (nodes : List Child) (added copied named added' copied' named' : List (Vec ℕ)) → HaveSameNumbers added added' → HaveSameNumbers copied copied'
+pub AreListed-same : (records : List NodeRecord) (count : ℕ) (nodes : List Child) (added copied named added' copied' named' : List (SmallVec ℕ)) → HaveSameNumbers added added' → HaveSameNumbers copied copied'
     → HaveSameNumbers named named' → AreListed records count nodes added copied named → AreListed records count nodes added' copied' named'
 AreListed-same records count nodes added copied named added' copied' named' adds copies names so = record {
   of_added = AreEntriesOf-same nodes (IsOfSome AddsPath records count) added added' adds so.of_added;
@@ -199,13 +199,13 @@ AreListed-same records count nodes added copied named added' copied' named' adds
 }
 
 -- a path's node has exactly the numbers that it should have
-pub holds-HasEntryOf : (nodes : List Child) (P : List NameId → ℕ → Type 0) (lists : List (Vec ℕ)) (path : List NameId) (number : ℕ) → AreEntriesOf nodes P lists → HasEntryOf nodes path number lists → P path number
+pub holds-HasEntryOf : (nodes : List Child) (P : List NameId → ℕ → Type 0) (lists : List (SmallVec ℕ)) (path : List NameId) (number : ℕ) → AreEntriesOf nodes P lists → HasEntryOf nodes path number lists → P path number
 holds-HasEntryOf nodes P lists path number are has =
     let of = are.sound has.node number has.within in
     subst (λ p. P p number) (node_of-one nodes of.path path has.node of.found has.found) of.holds
 
 -- of a path that has a node
-pub HasNumber-HasEntryOf : (nodes : List Child) (path : List NameId) (node number : ℕ) (lists : List (Vec ℕ)) → node_of nodes path ≡ Some node → HasEntryOf nodes path number lists → HasNumber lists node number
+pub HasNumber-HasEntryOf : (nodes : List Child) (path : List NameId) (node number : ℕ) (lists : List (SmallVec ℕ)) → node_of nodes path ≡ Some node → HasEntryOf nodes path number lists → HasNumber lists node number
 HasNumber-HasEntryOf nodes path node number lists found has =
     let same : has.node ≡ node = same_Some has.node node (sym has.found ∙ found) in
     subst (λ n. HasNumber lists n number) same has.within

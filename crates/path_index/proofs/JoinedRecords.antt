@@ -1,6 +1,6 @@
 -- The records of two neighbouring parts of a history by their paths.
 use Rattle.std.proofs.Common.{◌≡◌, ℕ, ◌+◌, ◌-◌, ◌^◌, ◌<◌, ◌≤◌, ◌⊎◌, List, ◌++◌, length, get_or, slice_get, Some, inl, inr, refl, sym, ap, subst, ◌∙◌, arith, length-append}
-use Rattle.std.specs.Global.{Vec}
+use Rattle.smallvec.specs.SmallVec.{SmallVec}
 use Rattle.std.proofs.lemmas.Bool.{cases_lt}
 use Rattle.std.proofs.lemmas.List.{get_or_append_left, get_or-append-add}
 use Rattle.std.proofs.lemmas.Option.{get_or_from_slice_get, slice_get-get_or, slice_get_within}
@@ -23,7 +23,7 @@ record AreBoth (P Q R : List NameId → ℕ → Type 0) (shift : ℕ) : Type 0 w
   small : (path : List NameId) (number : ℕ) → Q path number → number < 2 ^ 32 → number + shift < 2 ^ 32
   either : (path : List NameId) (number : ℕ) → R path number → P path number ⊎ ((earlier : ℕ) × Q path earlier × (number ≡ earlier + shift))
 
-AreEntriesOf-both : (P Q R : List NameId → ℕ → Type 0) (shift : ℕ) → AreBoth P Q R shift → (old_nodes nodes later_nodes : List Child) (mapped : List ℕ) (old new later : List (Vec ℕ)) → ExtendsNodes old_nodes nodes
+AreEntriesOf-both : (P Q R : List NameId → ℕ → Type 0) (shift : ℕ) → AreBoth P Q R shift → (old_nodes nodes later_nodes : List Child) (mapped : List ℕ) (old new later : List (SmallVec ℕ)) → ExtendsNodes old_nodes nodes
     → AreNodesOf later_nodes nodes mapped → AddsNumbers (IsMoved later mapped (length mapped) shift) old new → AreEntriesOf old_nodes P old → AreEntriesOf later_nodes Q later → AreEntriesOf nodes R new
 AreEntriesOf-both P Q R shift both old_nodes nodes later_nodes mapped old new later grown nodes_of adds one other =
     let before = AreEntriesOf-grown old_nodes nodes grown P old one in
@@ -134,7 +134,7 @@ module _ (records more : List NodeRecord) (few : length records + length more < 
       (named : AddsNumbers (IsMoved other.named mapped (length mapped) 0) one.named joined.named) where
     of_both : (IsOf : NodeRecord → ℕ → List NameId → ℕ → Type 0) (shift : ℕ)
         → AreBoth (IsOfSome IsOf records (length records)) (IsOfSome IsOf more (length more)) (IsOfSome IsOf (records ++ more) (length (records ++ more))) shift
-        → (old new later : List (Vec ℕ)) → AddsNumbers (IsMoved later mapped (length mapped) shift) old new → AreEntriesOf one.nodes (IsOfSome IsOf records (length records)) old
+        → (old new later : List (SmallVec ℕ)) → AddsNumbers (IsMoved later mapped (length mapped) shift) old new → AreEntriesOf one.nodes (IsOfSome IsOf records (length records)) old
         → AreEntriesOf other.nodes (IsOfSome IsOf more (length more)) later → AreEntriesOf joined.nodes (IsOfSome IsOf (records ++ more) (length (records ++ more))) new
     of_both IsOf shift both old new later adds =
         AreEntriesOf-both (IsOfSome IsOf records (length records)) (IsOfSome IsOf more (length more)) (IsOfSome IsOf (records ++ more) (length (records ++ more))) shift both one.nodes joined.nodes other.nodes mapped old new later

@@ -1,6 +1,6 @@
 -- Lists of numbers of nodes, as numbers are inserted.
 use Rattle.std.proofs.Common.{◌≡◌, ◌≢◌, ℕ, zero, suc, map, ◌+◌, ◌-◌, ◌<◌, ◌≤◌, ◌⊎◌, List, [], ◌∷◌, ◌++◌, Contains, ltb, true, false, true≢false, set, length, get_or, slice_get, Some, inl, inr, refl, sym, ap, subst, ◌∙◌, arith}
-use Rattle.std.specs.Global.{Vec}
+use Rattle.smallvec.specs.SmallVec.{SmallVec}
 use Rattle.std.specs.List.{insert}
 use Rattle.std.specs.List.Sorted.{IsPartitionPoint}
 use Rattle.std.proofs.lemmas.Bool.{cases_eq, cases_lt, lt-ltb, ltb-true}
@@ -12,25 +12,25 @@ use Rattle.path_index.specs.Numbers.{numbers_in, numbers_of, AddsNumbers, AreAll
 
 -- ---- the numbers of one node
 
-pub numbers_of-within : (lists : List (Vec ℕ)) (node : ℕ) (d : Vec ℕ) → node < length lists → numbers_of lists node ≡ (get_or lists node d).items
+pub numbers_of-within : (lists : List (SmallVec ℕ)) (node : ℕ) (d : SmallVec ℕ) → node < length lists → numbers_of lists node ≡ (get_or lists node d).items
 numbers_of-within lists node d within = ap numbers_in (slice_get-get_or lists node d within)
 
-pub numbers_of-past : (lists : List (Vec ℕ)) (node : ℕ) → length lists ≤ node → numbers_of lists node ≡ []
+pub numbers_of-past : (lists : List (SmallVec ℕ)) (node : ℕ) → length lists ≤ node → numbers_of lists node ≡ []
 numbers_of-past lists node past = ap numbers_in (slice_get_past lists node past)
 
-pub numbers_of-set : (lists : List (Vec ℕ)) (node : ℕ) (list : Vec ℕ) → node < length lists → numbers_of (set lists node list) node ≡ list.items
+pub numbers_of-set : (lists : List (SmallVec ℕ)) (node : ℕ) (list : SmallVec ℕ) → node < length lists → numbers_of (set lists node list) node ≡ list.items
 numbers_of-set lists node list within =
-    numbers_of-within (set lists node list) node list (omega (arith, length-set lists node list)) ∙ ap (λ (v : Vec ℕ). v.items) (get_or-set_same lists node list list within)
+    numbers_of-within (set lists node list) node list (omega (arith, length-set lists node list)) ∙ ap (λ (v : SmallVec ℕ). v.items) (get_or-set_same lists node list list within)
 
-pub numbers_of-set_other : (lists : List (Vec ℕ)) (node : ℕ) (list : Vec ℕ) (other : ℕ) → other ≢ node → numbers_of (set lists node list) other ≡ numbers_of lists other
+pub numbers_of-set_other : (lists : List (SmallVec ℕ)) (node : ℕ) (list : SmallVec ℕ) (other : ℕ) → other ≢ node → numbers_of (set lists node list) other ≡ numbers_of lists other
 numbers_of-set_other lists node list other differs = elim (cases_lt other (length lists)) [
   | inl within ↦
       numbers_of-within (set lists node list) other list (omega (arith, length-set lists node list))
-      ∙ ap (λ (v : Vec ℕ). v.items) (get_or-set_other lists node other list list differs) ∙ sym (numbers_of-within lists other list within)
+      ∙ ap (λ (v : SmallVec ℕ). v.items) (get_or-set_other lists node other list list differs) ∙ sym (numbers_of-within lists other list within)
   | inr past ↦ numbers_of-past (set lists node list) other (omega (arith, length-set lists node list)) ∙ sym (numbers_of-past lists other past)
 ]
 
-pub AreAllRising-same : (old new : List (Vec ℕ)) → HaveSameNumbers old new → AreAllRising old → AreAllRising new
+pub AreAllRising-same : (old new : List (SmallVec ℕ)) → HaveSameNumbers old new → AreAllRising old → AreAllRising new
 AreAllRising-same old new same rising node = subst IsRising (sym (same node)) (rising node)
 
 -- ---- a number more
@@ -104,7 +104,7 @@ module _ (numbers : List ℕ) (number index : ℕ) (at : IsFirstNotBelow number 
 -- ---- the numbers that come
 
 -- where nothing holds, none
-pub AddsNumbers-none : (P : ℕ → ℕ → Type 0) (lists : List (Vec ℕ)) → ((node number : ℕ) → P node number → ⊥) → AddsNumbers P lists lists
+pub AddsNumbers-none : (P : ℕ → ℕ → Type 0) (lists : List (SmallVec ℕ)) → ((node number : ℕ) → P node number → ⊥) → AddsNumbers P lists lists
 AddsNumbers-none P lists never = record {
   kept = λ node number has. has;
   sound = λ node number has. inl has;
@@ -112,7 +112,7 @@ AddsNumbers-none P lists never = record {
 }
 
 -- first some, then others
-pub AddsNumbers-then : (P Q R : ℕ → ℕ → Type 0) (old middle new : List (Vec ℕ)) → AddsNumbers P old middle → AddsNumbers Q middle new
+pub AddsNumbers-then : (P Q R : ℕ → ℕ → Type 0) (old middle new : List (SmallVec ℕ)) → AddsNumbers P old middle → AddsNumbers Q middle new
     → ((node number : ℕ) → P node number → R node number) → ((node number : ℕ) → Q node number → R node number) → ((node number : ℕ) → R node number → P node number ⊎ Q node number)
     → AddsNumbers R old new
 AddsNumbers-then P Q R old middle new one other first second cases = record {
@@ -128,7 +128,7 @@ AddsNumbers-then P Q R old middle new one other first second cases = record {
 }
 
 -- after the lists were copied
-pub AddsNumbers-same : (P : ℕ → ℕ → Type 0) (old middle new : List (Vec ℕ)) → HaveSameNumbers old middle → AddsNumbers P middle new → AddsNumbers P old new
+pub AddsNumbers-same : (P : ℕ → ℕ → Type 0) (old middle new : List (SmallVec ℕ)) → HaveSameNumbers old middle → AddsNumbers P middle new → AddsNumbers P old new
 AddsNumbers-same P old middle new same adds = record {
   kept = λ node number has. adds.kept node number (subst (λ all. Contains all number) (sym (same node)) has);
   sound = λ node number has. elim (adds.sound node number has) [ inl before ↦ inl (subst (λ all. Contains all number) (same node) before) | inr p ↦ inr p ];
@@ -136,7 +136,7 @@ AddsNumbers-same P old middle new same adds = record {
 }
 
 -- one number
-pub AddsNumbers-set : (lists : List (Vec ℕ)) (node number : ℕ) (list : Vec ℕ) → node < length lists → IsWith number (numbers_of lists node) list.items → AddsNumbers (ArePair node number) lists (set lists node list)
+pub AddsNumbers-set : (lists : List (SmallVec ℕ)) (node number : ℕ) (list : SmallVec ℕ) → node < length lists → IsWith number (numbers_of lists node) list.items → AddsNumbers (ArePair node number) lists (set lists node list)
 AddsNumbers-set lists node number list within inserted = record {
   kept = λ other each has. elim (cases_eq other node) [
     | inl is ↦ subst (λ all. Contains all each) (sym (here other is)) (inserted.kept each (subst (λ n. HasNumber lists n each) is has))
@@ -155,27 +155,27 @@ AddsNumbers-set lists node number list within inserted = record {
     here : (other : ℕ) → other ≡ node → numbers_of (set lists node list) other ≡ list.items
     here other is = ap (numbers_of (set lists node list)) is ∙ numbers_of-set lists node list within
 
-pub AddsNumbers-none_shifted : (old new : List (Vec ℕ)) (shift node : ℕ) → HaveSameNumbers old new → AddsNumbers (IsShifted [] shift node) old new
+pub AddsNumbers-none_shifted : (old new : List (SmallVec ℕ)) (shift node : ℕ) → HaveSameNumbers old new → AddsNumbers (IsShifted [] shift node) old new
 AddsNumbers-none_shifted old new shift node same =
     AddsNumbers-same (IsShifted [] shift node) old new new same
     (AddsNumbers-none (IsShifted [] shift node) new (λ n k so. let below = so.within.1 in omega (arith, below)))
 
 -- ---- copies
 
-abbrev pub items_in : Vec ℕ → List ℕ
+abbrev pub items_in : SmallVec ℕ → List ℕ
 items_in list = list.items
 
-numbers_of-map : (lists : List (Vec ℕ)) (node : ℕ) → numbers_of lists node ≡ get_or (map items_in lists) node []
+numbers_of-map : (lists : List (SmallVec ℕ)) (node : ℕ) → numbers_of lists node ≡ get_or (map items_in lists) node []
 numbers_of-map [] node = refl
 numbers_of-map (list ∷ lists) zero = refl
 numbers_of-map (list ∷ lists) (suc node) = numbers_of-map lists node
 
-pub HaveSameNumbers-map : (old new : List (Vec ℕ)) → map items_in new ≡ map items_in old → HaveSameNumbers old new
+pub HaveSameNumbers-map : (old new : List (SmallVec ℕ)) → map items_in new ≡ map items_in old → HaveSameNumbers old new
 HaveSameNumbers-map old new same node = numbers_of-map new node ∙ ap (λ all. get_or all node []) same ∙ sym (numbers_of-map old node)
 
 -- ---- the numbers of other nodes
 
-pub AddsNumbers-next_shifted : (old middle new : List (Vec ℕ)) (done : List ℕ) (each shift node : ℕ) → AddsNumbers (IsShifted done shift node) old middle → AddsNumbers (ArePair node (each + shift)) middle new
+pub AddsNumbers-next_shifted : (old middle new : List (SmallVec ℕ)) (done : List ℕ) (each shift node : ℕ) → AddsNumbers (IsShifted done shift node) old middle → AddsNumbers (ArePair node (each + shift)) middle new
     → AddsNumbers (IsShifted (done ++ each ∷ []) shift node) old new
 AddsNumbers-next_shifted old middle new done each shift node one other =
     AddsNumbers-then (IsShifted done shift node) (ArePair node (each + shift)) (IsShifted (done ++ each ∷ []) shift node) old middle new one other
@@ -186,7 +186,7 @@ AddsNumbers-next_shifted old middle new done each shift node one other =
       | inr last ↦ inr (so.here, so.is ∙ ap (λ e. e + shift) (sym last))
     ])
 
-pub AddsNumbers-next_node : (old middle new lists : List (Vec ℕ)) (nodes : List ℕ) (count shift node : ℕ) → slice_get nodes count ≡ Some node → AddsNumbers (IsMoved lists nodes count shift) old middle
+pub AddsNumbers-next_node : (old middle new lists : List (SmallVec ℕ)) (nodes : List ℕ) (count shift node : ℕ) → slice_get nodes count ≡ Some node → AddsNumbers (IsMoved lists nodes count shift) old middle
     → AddsNumbers (IsShifted (numbers_of lists count) shift node) middle new → AddsNumbers (IsMoved lists nodes (count + 1) shift) old new
 AddsNumbers-next_node old middle new lists nodes count shift node at one other =
     AddsNumbers-then (IsMoved lists nodes count shift) (IsShifted (numbers_of lists count) shift node) (IsMoved lists nodes (count + 1) shift) old middle new one other

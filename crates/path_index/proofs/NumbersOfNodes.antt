@@ -1,6 +1,6 @@
 -- The numbers of a node, in rising order.
 use Rattle.std.proofs.Common.{◌≡◌, leb, ℕ, zero, suc, pred, ◌+◌, ◌-◌, ◌<◌, ◌≤◌, max, Bool, true, false, ◌⊎◌, List, [], ◌∷◌, ◌++◌, All, Contains, map, filter, slice_get, length, get_or, take, Option, None, Some, inl, inr, refl, sym, ap, subst, ◌∙◌, append_assoc, append-nil, arith, true≢false}
-use Rattle.std.specs.Global.{Vec}
+use Rattle.smallvec.specs.SmallVec.{SmallVec}
 use Rattle.std.specs.List.Sorted.{IsPartitionPoint, IsNonDecreasing}
 use Rattle.std.proofs.lemmas.Bool.{cases_lt, false_from_ne_true, eqb-true, leb-true, le-leb}
 use Rattle.std.proofs.lemmas.List.Elements.{All-contains, Contains-append_left, Contains-push, Contains-push_cases}
@@ -13,10 +13,10 @@ use Rattle.path_index.specs.Operative.{down_from, hit_at}
 use Rattle.path_index.specs.declared.hit.Hit.{Hit}
 use Rattle.path_index.proofs.DownFrom.{filter_down-none}
 
-pub has_number-HasNumber : (lists : List (Vec ℕ)) (node number : ℕ) → HasNumber lists node number → has_number lists node number ≡ true
+pub has_number-HasNumber : (lists : List (SmallVec ℕ)) (node number : ℕ) → HasNumber lists node number → has_number lists node number ≡ true
 has_number-HasNumber lists node number has = list_any-from_Contains nat_eq_equiv number (numbers_of lists node) has
 
-pub HasNumber-has_number : (lists : List (Vec ℕ)) (node number : ℕ) → has_number lists node number ≡ true → HasNumber lists node number
+pub HasNumber-has_number : (lists : List (SmallVec ℕ)) (node number : ℕ) → has_number lists node number ≡ true → HasNumber lists node number
 HasNumber-has_number lists node number has = Contains-from_any (λ x y. eqb-true x y) number (numbers_of lists node) has
 
 -- ---- the newest of two
@@ -139,7 +139,7 @@ filter_down-next p lo next (suc gap) top after is none here =
 
 -- ---- the hits of a node
 
-module _ (lists : List (Vec ℕ)) (segment node lo hi : ℕ) (old : List Hit) where
+module _ (lists : List (SmallVec ℕ)) (segment node lo hi : ℕ) (old : List Hit) where
   abbrev has : ℕ → Bool
   has number = has_number lists node number
 

@@ -1,30 +1,30 @@
 -- Rising lists of numbers, one for each node.
 use Rattle.std.specs.Prelude.{◌≡◌, ℕ, ◌+◌, ◌^◌, ◌<◌, ◌≤◌, ◌==◌, ◌⊎◌, max, Bool, List, [], AllPairs, All, Contains, Option, None, Some, slice_get, length, slice_index_or}
-use Rattle.std.specs.Global.{Vec}
+use Rattle.smallvec.specs.SmallVec.{SmallVec}
 use Rattle.std.specs.List.{list_any}
 
 abbrev pub IsRising : List ℕ → Type 0
 IsRising numbers = AllPairs (λ each later. each < later) numbers
 
-abbrev pub numbers_in : Option (Vec ℕ) → List ℕ
+abbrev pub numbers_in : Option (SmallVec ℕ) → List ℕ
 numbers_in None = []
 numbers_in (Some list) = list.items
 
 -- the numbers of a node: past the end of the lists it has none
-abbrev pub numbers_of : List (Vec ℕ) → ℕ → List ℕ
+abbrev pub numbers_of : List (SmallVec ℕ) → ℕ → List ℕ
 numbers_of lists node = numbers_in (slice_get lists node)
 
-abbrev pub HasNumber : List (Vec ℕ) → ℕ → ℕ → Type 0
+abbrev pub HasNumber : List (SmallVec ℕ) → ℕ → ℕ → Type 0
 HasNumber lists node number = Contains (numbers_of lists node) number
 
-abbrev pub has_number : List (Vec ℕ) → ℕ → ℕ → Bool
+abbrev pub has_number : List (SmallVec ℕ) → ℕ → ℕ → Bool
 has_number lists node number = list_any (λ each. number == each) (numbers_of lists node)
 
-abbrev pub AreAllRising : List (Vec ℕ) → Type 0
+abbrev pub AreAllRising : List (SmallVec ℕ) → Type 0
 AreAllRising lists = (node : ℕ) → IsRising (numbers_of lists node)
 
 -- each node has the same numbers in both
-abbrev pub HaveSameNumbers : List (Vec ℕ) → List (Vec ℕ) → Type 0
+abbrev pub HaveSameNumbers : List (SmallVec ℕ) → List (SmallVec ℕ) → Type 0
 HaveSameNumbers old new = (node : ℕ) → numbers_of new node ≡ numbers_of old node
 
 -- one number more
@@ -34,7 +34,7 @@ pub record IsWith (number : ℕ) (old new : List ℕ) : Type 0 where
   pub here : Contains new number
 
 -- the new lists have the numbers of the old ones and those of which this holds
-pub record AddsNumbers (IsNew : ℕ → ℕ → Type 0) (old new : List (Vec ℕ)) : Type 0 where
+pub record AddsNumbers (IsNew : ℕ → ℕ → Type 0) (old new : List (SmallVec ℕ)) : Type 0 where
   pub kept : (node number : ℕ) → HasNumber old node number → HasNumber new node number
   pub sound : (node number : ℕ) → HasNumber new node number → HasNumber old node number ⊎ IsNew node number
   pub complete : (node number : ℕ) → IsNew node number → HasNumber new node number
@@ -51,7 +51,7 @@ pub record IsShifted (numbers : List ℕ) (shift node other number : ℕ) : Type
   pub is : number ≡ earlier + shift
 
 -- the number is one of the first nodes plus a shift, at the node to which that node is mapped
-pub record IsMoved (lists : List (Vec ℕ)) (nodes : List ℕ) (count shift node number : ℕ) : Type 0 where
+pub record IsMoved (lists : List (SmallVec ℕ)) (nodes : List ℕ) (count shift node number : ℕ) : Type 0 where
   pub from : ℕ
   pub early : from < count
   pub mapped : slice_get nodes from ≡ Some node
@@ -60,7 +60,7 @@ pub record IsMoved (lists : List (Vec ℕ)) (nodes : List ℕ) (count shift node
   pub is : number ≡ earlier + shift
 
 -- the numbers plus a shift are below 2^32
-pub record FitShifted (lists : List (Vec ℕ)) (shift : ℕ) : Type 0 where
+pub record FitShifted (lists : List (SmallVec ℕ)) (shift : ℕ) : Type 0 where
   pub fits : (node number : ℕ) → HasNumber lists node number → number + shift < 2 ^ 32
 
 -- the numbers up to this one, in rising order

@@ -1,6 +1,6 @@
 -- What the records by their paths say of the records.
 use Rattle.std.specs.Prelude.{◌≡◌, ℕ, ◌+◌, ◌^◌, ◌<◌, ◌≤◌, ◌⊎◌, List, ◌++◌, Some, length, slice_get, take}
-use Rattle.std.specs.Global.{Vec}
+use Rattle.smallvec.specs.SmallVec.{SmallVec}
 use Rattle.svn_path.specs.declared.names.NameId.{NameId}
 use Rattle.svn_dump.specs.declared.record.NodeRecord.{NodeRecord}
 use Rattle.path_index.specs.Nodes.{node_of}
@@ -17,18 +17,18 @@ pub record IsEntryOf (children : List Child) (Holds : List NameId → ℕ → Ty
   pub holds : Holds path number
 
 -- the node of the path has the number
-pub record HasEntryOf (children : List Child) (path : List NameId) (number : ℕ) (lists : List (Vec ℕ)) : Type 0 where
+pub record HasEntryOf (children : List Child) (path : List NameId) (number : ℕ) (lists : List (SmallVec ℕ)) : Type 0 where
   pub node : ℕ
   pub found : node_of children path ≡ Some node
   pub within : HasNumber lists node number
 
 -- the nodes of all paths have all numbers of which this holds with the path, and no others
-pub record AreEntriesOf (children : List Child) (Holds : List NameId → ℕ → Type 0) (lists : List (Vec ℕ)) : Type 0 where
+pub record AreEntriesOf (children : List Child) (Holds : List NameId → ℕ → Type 0) (lists : List (SmallVec ℕ)) : Type 0 where
   pub sound : (node number : ℕ) → HasNumber lists node number → IsEntryOf children Holds node number
   pub complete : (path : List NameId) (number : ℕ) → Holds path number → HasEntryOf children path number lists
 
 -- the nodes keep their numbers, and get all of which this holds with their paths, and no others
-pub record AddsEntries (children : List Child) (Holds : List NameId → ℕ → Type 0) (old new : List (Vec ℕ)) : Type 0
+pub record AddsEntries (children : List Child) (Holds : List NameId → ℕ → Type 0) (old new : List (SmallVec ℕ)) : Type 0
   where
     pub kept : (node number : ℕ) → HasNumber old node number → HasNumber new node number
     pub sound : (node number : ℕ) → HasNumber new node number
@@ -61,7 +61,7 @@ abbrev pub NamesPath : NodeRecord → ℕ → List NameId → ℕ → Type 0
 NamesPath each index path number = IsFrontAt each.path (length each.path) each.rev path number
 
 -- the numbers are those of the first records
-pub record AreListed (records : List NodeRecord) (count : ℕ) (nodes : List Child) (added copied named : List (Vec ℕ))
+pub record AreListed (records : List NodeRecord) (count : ℕ) (nodes : List Child) (added copied named : List (SmallVec ℕ))
     : Type 0 where
   pub of_added : AreEntriesOf nodes (IsOfSome AddsPath records count) added
   pub of_copied : AreEntriesOf nodes (IsOfSome CopiesPath records count) copied

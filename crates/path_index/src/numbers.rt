@@ -5,22 +5,26 @@ ghost use Rattle.path_index.specs.Numbers.{IsShifted, IsFrontUpTo, IsWith};
 ghost use Rattle.path_index.specs.Operative.{down_from, hit_at};
 
 use crate::hit::Hit;
+use smallvec::SmallVec;
 use std::alloc::{AllocError, Global};
 use std::marker::Model;
 use std::mem;
 
+/// The numbers of one node. Most nodes have few, which need no memory of their own.
+type List = SmallVec<u32, 4>;
+
 /// The numbers of nodes, each node's in rising order. Nodes past the end of the lists have none.
 #[derive(Drop)]
 pub(crate) struct Numbers {
-    lists: Vec<Vec<u32>>,
+    lists: Vec<List>,
 }
 
 impl Model for Numbers {
     ghost use Rattle.std.specs.Prelude.{ℕ, List};
-    ghost use Rattle.std.specs.Global.{Vec};
+    ghost use Rattle.smallvec.specs.SmallVec.{SmallVec};
     ghost use Rattle.path_index.specs.Numbers.{AreAllRising};
 
-    ghost Value = { List (Vec ℕ) };
+    ghost Value = { List (SmallVec ℕ) };
 
     ghost view = { λ n. n.lists.items };
 
@@ -51,36 +55,37 @@ fn first_not_below(numbers: &[u32], number: u32) -> usize
 }
 
 /// Inserts a number in its order, if it is not there.
-fn insert_number(numbers: &mut Vec<u32>, number: u32) -> Result<(), AllocError>
+fn insert_number(numbers: &mut List, number: u32) -> Result<(), AllocError>
     requires { IsRising numbers.old.items }
     ensures rising { IsRising numbers.new.items }
     ensures with { OnOk result (IsWith number numbers.old.items numbers.new.items) }
 {
-    let first = first_not_below(numbers.as_slice(), number);
-    if first == numbers.len() || numbers[first] != number {
+    let known = numbers.as_slice();
+    let first = first_not_below(known, number);
+    if first == known.len() || known[first] != number {
         numbers.insert(first, number)?;
     }
     Ok(())
 }
 
 /// Appends empty lists, so that the node has one.
-fn extend_to(lists: &mut Vec<Vec<u32>>, node: usize) -> Result<(), AllocError>
+fn extend_to(lists: &mut Vec<List>, node: usize) -> Result<(), AllocError>
     ensures same { HaveSameNumbers lists.old.items lists.new.items }
     ensures within { OnOk result (node < length lists.new.items) }
 {
     let alloc = *lists.allocator();
     while lists.len() <= node {
-        lists.push(Vec::new(alloc))?;
+        lists.push(List::new(alloc))?;
     }
     Ok(())
 }
 
 /// Takes the list of a node away. An empty one stands in its place.
-fn take_list(lists: &mut Vec<Vec<u32>>, node: usize) -> Vec<u32>
+fn take_list(lists: &mut Vec<List>, node: usize) -> List
     ensures taken { result.items ≡ numbers_of lists.old.items node }
     ensures others { (other : ℕ) → other ≢ node → numbers_of lists.new.items other ≡ numbers_of lists.old.items other }
 {
-    let none = Vec::new(*lists.allocator());
+    let none = List::new(*lists.allocator());
     if node >= lists.len() {
         return none;
     }
@@ -88,7 +93,7 @@ fn take_list(lists: &mut Vec<Vec<u32>>, node: usize) -> Vec<u32>
 }
 
 /// Gives back the memory that the lists keep for more numbers.
-fn shrink_all(lists: &mut Vec<Vec<u32>>)
+fn shrink_all(lists: &mut Vec<List>)
     ensures { HaveSameNumbers lists.old.items lists.new.items }
 {
     for list in lists.iter_mut() {
@@ -114,7 +119,7 @@ impl Numbers {
         let alloc = *self.lists.allocator();
         let mut lists = Vec::with_capacity(alloc, self.lists.len())?;
         for list in &self.lists {
-            lists.push(Vec::from_slice(alloc, list.as_slice())?)?;
+            lists.push(List::from_slice(alloc, list.as_slice())?)?;
         }
         Ok(Numbers { lists })
     }

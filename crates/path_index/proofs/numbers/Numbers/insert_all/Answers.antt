@@ -9,7 +9,7 @@ pub insert_shifted-requires : goal.insert_shifted-requires
 insert_shifted-requires c =
     let from = c.loop-from.from in
     let numbers = numbers_of c.args.later from in
-    let is : c.as_slice.result.now ≡ numbers = c.as_slice.ensures.value ∙ c.take_list-list.ensures.taken ∙ c.loop-from.invariant.rest from (omega arith) in
+    let is : c.as_slice.result.now ≡ numbers = c.as_slice.ensures ∙ c.take_list-list.ensures.taken ∙ c.loop-from.invariant.rest from (omega arith) in
     subst (All (λ number. number + c.args.shift < 2 ^ 32)) (sym is)
     (λ k d within. c.requires.fits from (get_or numbers k d) (k, within, get_or_default numbers k _ d within))
 
@@ -19,7 +19,7 @@ loop-from-preserved c =
     let later = c.args.later in
     let nodes = c.args.nodes.now in
     let node = get_or nodes from 0 in
-    let is : c.as_slice.result.now ≡ numbers_of later from = c.as_slice.ensures.value ∙ c.take_list-list.ensures.taken ∙ c.loop-from.invariant.rest from (omega arith) in
+    let is : c.as_slice.result.now ≡ numbers_of later from = c.as_slice.ensures ∙ c.take_list-list.ensures.taken ∙ c.loop-from.invariant.rest from (omega arith) in
     record {
       added =
           AddsNumbers-next_node c.args.self.now c.loop-from.self c.insert_shifted.new.self later nodes from c.args.shift node (slice_get-get_or nodes from 0 c.loop-from-test.true) c.loop-from.invariant.added

@@ -1,5 +1,5 @@
 use Rattle.std.proofs.Common.{◌≡◌, ℕ, ◌<◌, length, sym, subst, ap, ◌∙◌}
-use Rattle.std.specs.Global.{Vec}
+use Rattle.smallvec.specs.SmallVec.{SmallVec}
 use Rattle.std.proofs.lemmas.Bool.{ltb-true}
 use Rattle.path_index.specs.Numbers.{numbers_of, IsRising}
 use Rattle.path_index.proofs.ListsOfNodes.{numbers_of-past, numbers_of-within}
@@ -10,7 +10,7 @@ returns-in-Some-clause-rising c =
     let lists = c.deref.result.now in
     let within : c.args.node < length lists = ltb-true c.args.node (length lists) (sym c.in-Some.ensures.lookup.0) in
     let at : numbers_of lists c.args.node ≡ c.as_slice.result.now =
-    numbers_of-within lists c.args.node c.in-Some.list.now within ∙ ap (λ (list : Vec ℕ). list.items) (sym c.in-Some.ensures.lookup.1) ∙ sym c.as_slice.ensures.value in
+    numbers_of-within lists c.args.node c.in-Some.list.now within ∙ ap (λ (list : SmallVec ℕ). list.items) (sym c.in-Some.ensures.lookup.1) ∙ sym c.as_slice.ensures in
     subst IsRising at (subst (λ all. IsRising (numbers_of all c.args.node)) (sym c.deref.ensures.value) (c.self.invariant c.args.node))
 
 pub returns-in-None-clause-numbers : goal.returns-in-None-clause-numbers
