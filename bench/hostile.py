@@ -10,10 +10,9 @@ A run is ended after two minutes, or where it would take 12 GB. It counts as not
 shape is a function that makes a dump in large pieces, one that makes queries, or both. Their names are the title of a
 row. Queries alone are about the example.
 
-Keys that collide are names and texts of mergeinfo of 16 bytes. The hasher combines each half of such a key with a number
-and multiplies the two. A second half that becomes 0 makes all products 0. One that becomes 1 leaves the first half as it
-is. A table that adds the two halves of that without carry has two equal ones in one place. As many keys that do not
-collide stand beside them.
+Keys that collide are names, texts of mergeinfo, and pairs of a directory and a file in it, which `colliding.c` finds for
+the fixed seed of the hashes. A run takes a random seed, so as many others must take as long. What they take under the
+fixed seed stands beside them, to show that they do collide there.
 """
 import math
 import os
@@ -22,6 +21,7 @@ import subprocess
 import sys
 from collections import namedtuple
 
+from colliding import Finder, side
 from measure import HERE, Failed
 from wide import BEGIN, revision
 
@@ -47,11 +47,6 @@ MOST_COMPONENTS = 1024
 # The bits of the numbers of distant names.
 BITS = 13
 GREATEST_LENGTH = (1 << 63) - 1
-# The second halves of keys: those that the hasher makes 0 and 1, and one whose number has bits in all bytes. Where only
-# the last byte differs from that of 0, keys still collide, though less.
-ZERO = bytes.fromhex("157c4a7fb979379e")
-ONE = bytes.fromhex("147c4a7fb979379e")
-ORDINARY = b"ordinary"
 
 # Runs the command after its first three arguments, which are the seconds and the bytes of memory that the command may
 # take and the file for what it prints. Prints the seconds, the kilobytes at most and the exit status. A process that
@@ -408,47 +403,60 @@ def many_empty_lines(count):
 
 # ---- keys that collide
 
-def first_half(number):
+FINDERS = []
+
+
+def finder():
+    """What finds keys that collide. `run_hostile` makes it."""
+    return FINDERS[-1]
+
+
+def name_of(number):
     return b"%08x" % number
 
 
-def equal_quarters(number):
-    """Eight bytes of two equal halves without a newline or a slash."""
-    return bytes(0x30 + (number >> 6 * place & 63) for place in range(4)) * 2
-
-
-def added_names(keys):
+def added_names(numbers):
     yield BEGIN + revision(1)
-    yield from joined(map(added, keys))
+    yield from joined(added(name_of(number)) for number in numbers)
 
 
-def names_that_hash_to_zero(count):
-    return added_names(first_half(number) + ZERO for number in range(count))
+def names_that_collide(count):
+    return added_names(finder().names(count))
 
 
 def ordinary_names(count):
-    return added_names(first_half(number) + ORDINARY for number in range(count))
+    return added_names(range(count))
 
 
-def names_whose_halves_cancel(count):
-    return added_names(equal_quarters(number) + ONE for number in range(count))
-
-
-def names_of_equal_quarters(count):
-    return added_names(equal_quarters(number) + ORDINARY for number in range(count))
-
-
-def changes_to_values(keys):
+def changes_to_values(numbers):
     yield one_file()
-    yield from joined(piece for key in keys for piece in changed_mergeinfo(b"a", [key]))
+    yield from joined(piece for number in numbers for piece in changed_mergeinfo(b"a", [name_of(number)]))
 
 
-def mergeinfo_that_hashes_to_zero(count):
-    return changes_to_values(first_half(number) + ZERO for number in range(count))
+def mergeinfo_that_collides(count):
+    return changes_to_values(finder().names(count))
 
 
 def ordinary_mergeinfo(count):
-    return changes_to_values(first_half(number) + ORDINARY for number in range(count))
+    return changes_to_values(range(count))
+
+
+def files_in_directories(count, pairs):
+    """Directories and files, which have the first nodes and names, and then the files of these pairs."""
+    many = side(count)
+    yield BEGIN + revision(1)
+    yield from joined(added(name_of(number), b"dir") for number in range(many))
+    yield from joined(added(b"f%07x" % number) for number in range(many))
+    yield from joined(added(b"%s/f%07x" % (name_of(directory), file)) for directory, file in pairs)
+
+
+def nodes_that_collide(count):
+    return files_in_directories(count, finder().pairs(count))
+
+
+def ordinary_nodes(count):
+    many, each = side(count), -(-count // side(count))
+    return files_in_directories(count, ((number // each, number * 7 % many) for number in range(count)))
 
 
 # ---- the shapes
@@ -521,9 +529,9 @@ SHAPES = [
 ]
 # Keys that collide, and as many that do not.
 COLLIDING = [
-    (of_dump(names_that_hash_to_zero, 100000), of_dump(ordinary_names, 100000)),
-    (of_dump(mergeinfo_that_hashes_to_zero, 100000), of_dump(ordinary_mergeinfo, 100000)),
-    (of_dump(names_whose_halves_cancel, 100000), of_dump(names_of_equal_quarters, 100000)),
+    (of_dump(names_that_collide, 100000), of_dump(ordinary_names, 100000)),
+    (of_dump(mergeinfo_that_collides, 100000), of_dump(ordinary_mergeinfo, 100000)),
+    (of_dump(nodes_that_collide, 100000), of_dump(ordinary_nodes, 100000)),
 ]
 
 
@@ -544,15 +552,15 @@ class Input:
                 file.writelines(make(size))
         self.bytes = os.path.getsize(self.dump) + os.path.getsize(self.queries)
         self.command = [program, self.dump, self.queries, str(shape.block), str(shape.workers)]
-        self.wall = math.inf
+        self.wall = self.fixed = math.inf
         self.peak = 0
         self.is_ended = False
         self.is_repeated = False
 
-    def run(self, report):
-        """Runs the program once. Returns its seconds, its exit status and its errors."""
+    def run(self, report, before=()):
+        """Runs the program once, after these words. Returns its seconds, its exit status and its errors."""
         words = [sys.executable, "-I", "-S", "-c", STARTER, str(MOST_SECONDS), str(self.shape.room), report]
-        done = subprocess.run(words + self.command, stdin=subprocess.DEVNULL, stdout=subprocess.PIPE,
+        done = subprocess.run(words + [*before, *self.command], stdin=subprocess.DEVNULL, stdout=subprocess.PIPE,
                               stderr=subprocess.PIPE, check=True)
         seconds, kilobytes, status = done.stdout.split()
         self.peak = max(self.peak, int(kilobytes) * 1024)
@@ -576,6 +584,10 @@ class Input:
             if status != self.status:
                 raise Failed("%s ended with %d, and before with %d: %s" % (self.title, status, self.status, errors))
             self.wall = min(self.wall, seconds)
+
+    def run_fixed(self, entropy):
+        """A run under the fixed seed, since the object that is loaded gives no random bytes."""
+        self.fixed, _, _ = self.run(os.devnull, ["/usr/bin/env", "LD_PRELOAD=" + entropy])
 
     def check(self, errors):
         if self.shape.refusal is None:
@@ -604,8 +616,8 @@ class Input:
         return "ended, %.0f" % self.wall if self.is_ended else "%.3f" % self.wall
 
 
-def measured(program, folder, given, shape):
-    """The measured inputs of a shape, in its size and in twice that."""
+def measured(program, folder, given, shape, entropy=None):
+    """The measured inputs of a shape, in its size and in twice that; also under the fixed seed, given what to load."""
     size = shape.size // QUICK if given.quick else shape.size
     once, twice = [Input(program, folder, shape, times * size) for times in (1, 2)]
     once.run_first()
@@ -616,6 +628,9 @@ def measured(program, folder, given, shape):
     for _ in range(given.times):
         once.run_again()
         twice.run_again()
+    if entropy is not None:
+        once.run_fixed(entropy)
+        twice.run_fixed(entropy)
     once.remove()
     twice.remove()
     return once, twice
@@ -641,9 +656,9 @@ def print_shape(once, twice, spared):
 
 
 def print_collision(colliding, others):
-    print("| %s | %s | %s | %s | %s |" % (
+    print("| %s | %s | %s | %s | %s | %.3f |" % (
         colliding.title, format(colliding.size, ","), colliding.shown_wall(), others.shown_wall(),
-        verdict(colliding.wall / others.wall, MOST_OF_OTHERS, colliding.is_ended)), flush=True)
+        verdict(colliding.wall / others.wall, MOST_OF_OTHERS, colliding.is_ended), colliding.fixed), flush=True)
 
 
 def run_hostile(program, folder, given):
@@ -658,10 +673,12 @@ def run_hostile(program, folder, given):
           % (MOST_FOR_TWICE, MOST_MEMORY_FOR_TWICE, MOST_PER_BYTE))
     for shape in SHAPES:
         print_shape(*measured(program, folder, given, shape), spared)
-    print("\n| keys | number | seconds | seconds, others | relative, at most %g |\n|---|---|---|---|---|"
-          % MOST_OF_OTHERS)
+    print("\n| keys | number | seconds | seconds, others | relative, at most %g | seconds under the fixed seed |\n"
+          "|---|---|---|---|---|---|" % MOST_OF_OTHERS)
+    FINDERS.append(Finder(folder))
     for colliding, others in COLLIDING:
-        for pair in zip(measured(program, folder, given, colliding), measured(program, folder, given, others)):
+        for pair in zip(measured(program, folder, given, colliding, finder().path),
+                        measured(program, folder, given, others)):
             print_collision(*pair)
     print(flush=True)
     return 0
