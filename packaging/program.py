@@ -75,18 +75,40 @@ def link(to: str) -> None:
     printed(STRIP + [to])
 
 
-def ports() -> List[str]:
-    """The ported crates that are linked into the program: those of the kit that its crates name."""
+def named_ports() -> List[str]:
+    """The ported crates of the kit that the crates of the program name."""
     lines = [line.partition(":") for line in content(os.path.join(ROOT, "crates.txt")).decode("ascii").splitlines()
              if not line.startswith("#")]
     return sorted({name for line in lines for name in line[2].split()} - {line[0] for line in lines})
 
 
+def below(port: str) -> List[str]:
+    """The crates of the kit on which a ported crate stands."""
+    lines = content(os.path.join(kit(), "rlibs", port + ".rlib", "format")).decode("utf-8", "replace").splitlines()
+    return [line.partition(" ")[2] for line in lines if line.startswith("dep ")]
+
+
+def licences_of(port: str) -> List[str]:
+    return sorted(glob.glob(os.path.join(glob.escape(kit()), "rattle", port, "LICENSE*")))
+
+
+def linked_ports() -> List[str]:
+    """The ported crates that are linked into the program: those that are named, and those below them that have a licence
+    of their own. The others are the kit's."""
+    found, left = set(), named_ports()
+    while left:
+        port = left.pop()
+        if port not in found:
+            found.add(port)
+            left += [each for each in below(port) if licences_of(each)]
+    return sorted(found)
+
+
 def licences() -> Dict[str, bytes]:
     """The licences of what is linked into the program."""
     found = {"LGPL-2.1": content(LGPL), "glibc-copyright": content(NOTICES_OF_GLIBC)}
-    for port in ports():
-        paths = sorted(glob.glob(os.path.join(glob.escape(kit()), "rattle", port, "LICENSE*")))
+    for port in linked_ports():
+        paths = licences_of(port)
         if not paths:
             raise NotMade("the kit has no licence of %s" % port)
         found.update({"%s-%s" % (port, os.path.basename(path)): content(path) for path in paths})
