@@ -2,6 +2,7 @@
 use crate::cut_off::records_are_first;
 use sample_dumps::MERGED;
 use std::alloc::Global;
+use std::hash::BuildHasher;
 use std::io;
 use std::random::RandomSource;
 use std::test::Fail;
@@ -49,5 +50,22 @@ fn the_seed_does_not_show_in_a_dump(rt: HostRuntime) -> Result<(), Fail> {
             "{byte}"
         );
     }
+    Ok(())
+}
+
+// What a seed gives to one key. Different seeds hardly ever agree in it.
+fn hash_with(seed: Seed) -> u64 {
+    seed.hash_one(0u8)
+}
+
+#[test]
+fn a_dump_has_the_seed_that_it_is_given(rt: HostRuntime) -> Result<(), Fail> {
+    let seed = Seed::random(&Same(1));
+    assert!(rt; hash_with(seed) != hash_with(Seed::fixed()));
+    assert!(rt; hash_with(seed) != hash_with(Seed::random(&Same(2))));
+    let dump = read_with_seed(rt.alloc(), seed, MERGED)?;
+    let kept = hash_with(dump.names().seed());
+    drop(dump);
+    assert_eq!(rt; kept, hash_with(seed));
     Ok(())
 }

@@ -2,8 +2,8 @@
 --
 -- 0: the report went out whole (`IsDone`)
 -- 1: the queries or the dump are refused, as the line says (`IsRefused`)
--- 2: nothing was asked for, as the line says
--- 3: the output failed (`IsCut`), or an input was not read (`IsRefused`), as the line says
+-- 2: nothing was asked for (`IsMisused` of `Asked.antt`), as the line says
+-- 3: the output failed (`IsCut`), or an input could not be opened or read (`IsRefused`), as the line says
 -- 4: memory ran out, as the line says (`IsRefused`)
 use Rattle.std.specs.Prelude.{◌≡◌, ◌⊎◌, ℕ, ◌<◌, IsFalse, IsTrue, List, take}
 use Rattle.std.specs.Io.KnownBytes.{Appends}

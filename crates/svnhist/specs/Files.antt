@@ -11,35 +11,35 @@ use Rattle.svnhist.specs.Arguments.{ArgumentsValue}
 -- all bytes of an input that a path opens
 pub record IsFileRead {D : Type 0} (opens : List ℕ → D → Type 0) (state : D → PullState) (path bytes : List ℕ) : Type 0 where
   pub input : D
-  pub after : PullState
+  pub after : D
   pub opened : opens path input
-  pub read : IsReadWhole (state input) after bytes
+  pub read : IsReadWhole (state input) (state after) bytes
 
--- an input that a path opens was not read to its end
-pub record IsFileUnread {D : Type 0} (opens : List ℕ → D → Type 0) (state : D → PullState) (path : List ℕ) : Type 0 where
+-- the queries that a path opens were not read to their end, or memory ran out
+pub record IsUnreadQueries {D : Type 0} (opens : List ℕ → D → Type 0) (state : D → PullState) (path : List ℕ) (error : RunError) : Type 0 where
   pub input : D
-  pub after : PullState
+  pub after : D
   pub opened : opens path input
-  pub unread : IsUnread (state input) after
+  pub why : (error ≡ Memory) ⊎ ((error ≡ Read Queries) × IsUnread (state input) (state after))
 
 -- the report on the dump that a path opens
 pub record IsReportOnDump {D : Type 0} (opens : List ℕ → D → Type 0) (state : D → PullState) (path queries report : List ℕ) : Type 0 where
   pub input : D
-  pub after : PullState
+  pub after : D
   pub opened : opens path input
-  pub right : IsReportFrom (state input) after queries report
+  pub right : IsReportFrom (state input) (state after) queries report
 
 -- why there is none on it
 pub record IsRefusedDump {D : Type 0} (opens : List ℕ → D → Type 0) (state : D → PullState) (path queries : List ℕ) (error : RunError) : Type 0 where
   pub input : D
-  pub after : PullState
+  pub after : D
   pub opened : opens path input
-  pub why : IsRunErrorFrom (state input) after queries error
+  pub why : IsRunErrorFrom (state input) (state after) queries error
 
 -- why the queries of a path are not there
 abbrev pub IsErrorOnQueries : {D : Type 0} → (List ℕ → D → Type 0) → (List ℕ → Type 0) → (D → PullState) → List ℕ → RunError → Type 0
 IsErrorOnQueries opens refuses state path error =
-    (error ≡ Memory) ⊎ ((error ≡ Read Queries) × (refuses path ⊎ IsFileUnread opens state path))
+    ((error ≡ Read Queries) × refuses path) ⊎ IsUnreadQueries opens state path error
 
 -- why there is no report on the dump of a path
 abbrev pub IsErrorOnDump : {D : Type 0} → (List ℕ → D → Type 0) → (List ℕ → Type 0) → (D → PullState) → List ℕ → List ℕ → RunError → Type 0

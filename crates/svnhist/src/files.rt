@@ -1,5 +1,6 @@
 //! Answering the queries of one file on the dump of another.
-ghost use Rattle.std.specs.Prelude.{◌<◌, ◌≤◌, IfErr, IfOk};
+ghost use Rattle.std.specs.Prelude.{◌<◌, ◌≤◌, IfErr, IfOk, IsErrOf};
+ghost use Rattle.svn_report.specs.Report.{AreFew};
 ghost use Rattle.query_pool.specs.Serving.{most_workers};
 ghost use Rattle.svnhist.specs.Arguments.{arguments_view};
 ghost use Rattle.svnhist.specs.Files.{IsErrorOnDump, IsErrorOnFiles, IsErrorOnQueries, IsFileRead, IsReportOnDump, IsReportOnFiles};
@@ -62,6 +63,7 @@ fn answer_dump<R: RandomSource + Threads + Wait + Sync, F: Open<D>, D: Pull + Dr
         (λ report. IsReportOnDump (F.opens files.now) D.state asked.now.dump.0.now queries.now report.items) }
     ensures error { IfErr result
         (IsErrorOnDump (F.opens files.now) (F.refuses files.now) D.state asked.now.dump.0.now queries.now) }
+    ensures few { IsErrOf result RunError.Memory → AreFew queries.now }
 {
     match files.open(asked.dump.0) {
         Some(mut input) => report_from(

@@ -1,7 +1,8 @@
 //! The program: a bundle or two files in, their report out.
-ghost use Rattle.std.specs.Prelude.{◌≡◌, ◌≢◌, ◌<◌, ◌≤◌, ◌⊎◌, IfErr, IfOk, IsFalse, IsTrue, MatchOption};
+ghost use Rattle.std.specs.Prelude.{◌≡◌, ◌≢◌, ◌<◌, ◌≤◌, ◌⊎◌, [], Some, IfErr, IfOk, IsOkAnd, IsNone, IsErrOf, IsFalse, IsTrue, MatchOption};
 ghost use Rattle.std.specs.Io.KnownBytes.{Appends};
 ghost use Rattle.std.specs.Process.{exit_status};
+ghost use Rattle.std.specs.IoError.{error_kind};
 ghost use Rattle.svn_report.specs.RunError.{line_of};
 ghost use Rattle.svnhist.specs.Asked.{IsErrorAsked, IsErrorOnInput, IsMisused, IsNoBundle, IsReportAsked, IsReportOnInput, texts_of};
 ghost use Rattle.svnhist.specs.ExitStatus.{IsCut, IsDone, IsErrorLine, IsPartSent, IsRefused, PrintsLine};
@@ -66,6 +67,9 @@ pub(crate) fn run<
     ensures silent { exit_status result ≡ 0 → errors.new ≡ errors.old }
     ensures quiet { (exit_status result ≡ 0) ⊎ (exit_status result ≡ 3) ⊎ (output.new ≡ output.old) }
     ensures untouched { (output.new ≡ output.old) ⊎ ((O.state output.old).calls < (O.state output.new).calls) }
+    ensures unread { (texts_of arguments ≡ Some []) ⊎ (input.new ≡ input.old) }
+    ensures no_texts { IfErr arguments (λ e. error_kind e ≢ ErrorKind.OutOfMemory → exit_status result ≡ 2) }
+    ensures no_memory { IfErr arguments (λ e. error_kind e ≡ ErrorKind.OutOfMemory → exit_status result ≡ 4) }
 {
     match answer(rt, alloc, files, arguments, input) {
         Ok(Some(report)) => deliver(output, errors, report.as_slice()),
@@ -155,6 +159,9 @@ fn answer<R: RandomSource + Threads + Wait + Sync, F: Open<D>, D: Pull + Drop, I
         (I.state input.new) report.items)) }
     ensures error { IfErr result (IsErrorAsked (F.opens files.now) (F.refuses files.now) D.state (texts_of arguments)
         (I.state input.old) (I.state input.new)) }
+    ensures unread { (texts_of arguments ≡ Some []) ⊎ (input.new ≡ input.old) }
+    ensures no_texts { IfErr arguments (λ e. error_kind e ≢ ErrorKind.OutOfMemory → IsOkAnd result IsNone) }
+    ensures no_memory { IfErr arguments (λ e. error_kind e ≡ ErrorKind.OutOfMemory → IsErrOf result RunError.Memory) }
 {
     match arguments {
         Ok(texts) if texts.is_empty() => answer_input(rt, alloc, input),
