@@ -1,8 +1,8 @@
 """Questions about all branches and tags at once."""
 from typing import Dict, Iterable, Iterator, List, NamedTuple, Optional, Sequence, Tuple
 
-from . import mergeinfo
-from .answers import Inherited, Log, Logged, Mergeinfo
+from . import log, mergeinfo
+from .answers import Inherited, Log, Logged, Mergeinfo, Query, Segments, Where
 from .changes import is_at_or_below
 from .history import History
 from .lives import PATTERNS, Life, all_lives
@@ -62,12 +62,16 @@ def holders(history: History, patterns: Sequence[bytes], rev: int) -> Iterator[H
     """The branches and tags of today that have a revision of one of them."""
     changed = [change.path for change in history.changes(rev)]
     alive = [life for life in lives_of(history, patterns) if life.is_alive]
-    logs = history.ask([Log(life.path, history.head, (rev, rev)) for life in alive])
-    values = history.ask([Mergeinfo(life.path, history.head) for life in alive])
-    for life, logged, value in zip(alive, logs, values):
-        if logged.text:
+    asked: List[Query] = []
+    for life in alive:
+        asked += [Where(life.path, history.head), Log(life.path, history.head, (rev, rev)),
+                  Mergeinfo(life.path, history.head)]
+    answers = list(history.ask(asked))
+    for life, where, logged, value in zip(alive, answers[::3], answers[1::3], answers[2::3]):
+        assert isinstance(where, Segments) and isinstance(logged, Logged) and isinstance(value, Inherited)
+        if rev in log.revisions_of(history, log.Trace(where.segments, logged.revisions), life.path == b"/"):
             yield Holder(life.path, "history")
-        elif isinstance(value, Inherited) and value.ok:
+        elif value.ok:
             how = merged_how(value.value, changed, rev)
             if how is not None:
                 yield Holder(life.path, how)

@@ -5,9 +5,9 @@ import os
 import signal
 import sys
 import time
-from typing import BinaryIO, Iterator, List, NoReturn, Optional
+from typing import BinaryIO, Iterable, Iterator, List, NoReturn, Optional
 
-from .errors import Error, Failed, Refused, Usage
+from .errors import Denied, Error, Failed, Refused, Usage
 from .history import History
 from .refusals import about_record, explained
 from .verbs import VERBS
@@ -87,10 +87,11 @@ def lines_of(history: History, words: argparse.Namespace) -> Iterator[bytes]:
     verb = next(verb for verb in VERBS if verb.name == words.verb)
     if verb.judges and not history.is_whole:
         history.check()
-    if words.json:
-        return (json.dumps(each, ensure_ascii=False).encode("utf-8", "backslashreplace") + b"\n"
-                for each in verb.objects(history, words))
-    return verb.text(history, words)
+    if not words.json:
+        yield from verb.text(history, words)
+        return
+    for each in verb.objects(history, words):
+        yield json.dumps(each, ensure_ascii=False).encode("utf-8", "backslashreplace") + b"\n"
 
 
 def answer(words: argparse.Namespace, file: BinaryIO) -> None:
@@ -101,11 +102,20 @@ def answer(words: argparse.Namespace, file: BinaryIO) -> None:
         progress.close()
     with history:
         try:
-            for line in lines_of(history, words):
-                sys.stdout.buffer.write(line)
-            sys.stdout.buffer.flush()
+            write(lines_of(history, words), history)
         except Refused as refused:
             raise Failed("\n".join([str(refused)] + advice(refused, history, words.dump)), refused.status) from refused
+
+
+def write(lines: Iterable[bytes], history: History) -> None:
+    try:
+        for line in lines:
+            sys.stdout.buffer.write(line)
+        sys.stdout.buffer.flush()
+    except Denied:
+        # A dump that is refused has no answer, not even that there is no such path or revision.
+        history.check()
+        raise
 
 
 def advice(refused: Refused, history: History, dump: str) -> List[str]:

@@ -2,11 +2,12 @@
 import os
 import re
 import shutil
+import signal
 import subprocess
 import sys
 import tempfile
 import threading
-from typing import IO, Iterable, Iterator, List
+from typing import IO, Iterator, List, Optional
 
 from .answers import Answer, Query
 from .errors import Failed, Refused
@@ -16,6 +17,8 @@ PIECE = 1 << 20
 MOST_WORKERS = 64
 MOST_QUERIES = 1000000
 BUILDING = re.compile(r"svnhist: (?:building|\d+ %)")
+# The first line of an answer, but for its `#`.
+HEAD = re.compile(rb"#?([0-9]{1,18}) ([a-z-]+)\Z")
 REFUSED = re.compile(r"svnhist: dump refused: (\d+) (\w+) at (byte|record) (\d+)")
 
 
@@ -51,22 +54,42 @@ def _run(dump: str, queries: List[Query]) -> Iterator[Answer]:
         try:
             process = subprocess.Popen(command, stdin=subprocess.DEVNULL, stdout=subprocess.PIPE,
                                        stderr=subprocess.PIPE)
-        except OSError as error:
-            raise Failed("cannot run %s: %s" % (command[0], error.strerror)) from error
-        assert process.stdout is not None and process.stderr is not None
-        messages = Messages(process.stderr)
-        try:
-            yield from answers_of(process.stdout, queries)
-        except BaseException:
+        except (OSError, ValueError) as error:
+            raise Failed("cannot run %s: %s" % (command[0], getattr(error, "strerror", None) or error)) from error
+        yield from checked(process, queries)
+
+
+def checked(process: "subprocess.Popen[bytes]", queries: List[Query]) -> Iterator[Answer]:
+    """The answers of a run of the program, one for each query. Each is held back until the next one has begun, and the
+    last one until the program has ended well."""
+    assert process.stdout is not None and process.stderr is not None
+    messages = Messages(process.stderr)
+    held: Optional[bytes] = None
+    place = 0
+    is_read = False
+    try:
+        for text in texts_of(process.stdout):
+            if held is not None:
+                if place + 1 >= len(queries):
+                    raise Failed("svnhist printed more answers than queries")
+                yield answer_of(held, queries, place)
+                place += 1
+            held = text
+        is_read = True
+    finally:
+        if not is_read:
             # Nobody wants the rest.
             process.terminate()
-            raise
-        finally:
-            process.stdout.close()
-            status = process.wait()
-            messages.join()
-        if status:
-            raise refusal(status, messages.last)
+        process.stdout.close()
+        status = process.wait()
+        messages.join()
+    if status:
+        raise refusal(status, messages.last)
+    if held is None and not queries:
+        return
+    if held is None or not held.endswith(b"\n") or place + 1 != len(queries):
+        raise Failed("svnhist ended before it had answered all queries")
+    yield answer_of(held[:-1], queries, place)
 
 
 class Messages(threading.Thread):
@@ -90,21 +113,28 @@ class Messages(threading.Thread):
         self._stream.close()
 
 
-def answers_of(report: IO[bytes], queries: Iterable[Query]) -> Iterator[Answer]:
-    """The answers in a report. No result line begins with `#`, so that begins the next answer."""
-    rest = iter(queries)
-    left = b""
+def texts_of(report: IO[bytes]) -> Iterator[bytes]:
+    """The text of each answer in a report, once the next one has begun, and what comes after that. No result line
+    begins with `#`, so that begins the next answer."""
+    left = report.read(PIECE)
+    if left and not left.startswith(b"#"):
+        raise Failed("svnhist printed something other than a report")
     for piece in iter(lambda: report.read(PIECE), b""):
         *whole, left = (left + piece).split(b"\n#")
-        for text in whole:
-            yield answer_of(text, next(rest))
+        yield from whole
+    *whole, left = left.split(b"\n#")
+    yield from whole
     if left:
-        yield answer_of(left[:-1], next(rest))
+        yield left
 
 
-def answer_of(text: bytes, query: Query) -> Answer:
+def answer_of(text: bytes, queries: List[Query], place: int) -> Answer:
+    """The answer in a text to the query at a place."""
     head, _, body = text.partition(b"\n")
-    return query.answer(head[head.index(b" ") + 1:].decode("ascii"), body)
+    found = HEAD.match(head)
+    if found is None or int(found[1]) != place + 1:
+        raise Failed("svnhist printed something other than a report")
+    return queries[place].answer(found[2].decode("ascii"), body)
 
 
 def refusal(status: int, line: str) -> Exception:
@@ -113,4 +143,15 @@ def refusal(status: int, line: str) -> Exception:
     if status == 1 and found:
         number, name, unit, place = found.groups()
         return Refused(int(number), name, unit, int(place))
-    return Failed(line.partition("svnhist: ")[2] or line or "svnhist ended with status %d" % status, status)
+    if status < 0:
+        return Failed("svnhist was ended by %s" % name_of(-status))
+    said = line.partition("svnhist: ")[2]
+    return Failed(said, status) if said else Failed("svnhist ended with status %d%s" % (status, line and ": " + line))
+
+
+def name_of(number: int) -> str:
+    """The name of a signal."""
+    try:
+        return signal.Signals(number).name
+    except ValueError:
+        return "signal %d" % number

@@ -30,6 +30,8 @@ class History:
         self._store = store
         # The descriptor of the dump, where it is a file.
         self._file = file
+        # Whether svnhist has answered, so that it does not refuse the dump.
+        self._is_accepted = False
         self._revisions: Dict[int, Revision] = {}
         self._changes: Dict[int, List[Change]] = {}
 
@@ -53,7 +55,7 @@ class History:
 
     @property
     def is_whole(self) -> bool:
-        """Whether the dump has its form from its first byte to its last one, and a revision.
+        """Whether the dump has its form from its first byte to its last one, and revisions from 0 on.
 
         >>> history.is_whole
         True
@@ -101,10 +103,14 @@ class History:
         ('no-such-path', [])
         """
         asked = list(queries)
+        if not asked:
+            self.check()
+            return
         try:
             yield from engine.run(self._store.dump, asked)
         except Refused as refused:
             raise self._placed(refused) from refused
+        self._is_accepted = True
 
     def front(self) -> bytes:
         """The first bytes of the dump, without texts.
@@ -123,8 +129,9 @@ class History:
         Traceback (most recent call last):
         svnask.errors.Refused: dump refused: 1 Magic at byte 0
         """
-        for _ in self.ask([]):
-            pass
+        if not self._is_accepted:
+            # A program that prints no answer to this one is not svnhist.
+            one(self.ask([Locate(b"/", 0, 0)]), Located)
 
     def _placed(self, refused: Refused) -> Refused:
         """The refusal with the offset of the given dump, which is longer than the copy that svnhist read."""
@@ -234,6 +241,6 @@ def of_file(file: BinaryIO) -> Optional[int]:
 
 
 def one(answers: Iterator[Answer], kind: Type[Asked]) -> Asked:
-    found = list(answers)
-    assert len(found) == 1 and isinstance(found[0], kind)
-    return found[0]
+    found, = answers
+    assert isinstance(found, kind)
+    return found

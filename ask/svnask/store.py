@@ -207,8 +207,8 @@ def make(file: BinaryIO, folder: str, seen: Callable[[int], object]) -> Index:
     with open(os.path.join(folder, "dump"), "wb", 1 << 20) as copy:
         stripper = Stripper(source, copy.write, places=True, people=True)
         found = stripper.run(seen)
-    index = Index(found.format, found.uuid or b"", found.records, found.read, found.fault is None, found.revisions,
-                  found.renewals)
+    index = Index(found.format, found.uuid or b"", found.records, found.read, found.fault is None and found.is_from_0,
+                  found.revisions, found.renewals)
     with open(os.path.join(folder, "index"), "wb") as file_of_index:
         file_of_index.write(index.text())
     return index

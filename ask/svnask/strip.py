@@ -61,6 +61,8 @@ class Copy:
     records: int = 0
     # The offset in the copy of each revision.
     revisions: List[int] = field(default_factory=list)
+    # Whether these are the revisions from 0 on, each once.
+    is_from_0: bool = True
     # The revision and the path of each copy of a path of the revision before to itself.
     renewals: List[Tuple[int, bytes]] = field(default_factory=list)
     # How many bytes the copy has, and how many of the given dump were read.
@@ -340,6 +342,8 @@ class Stripper:
         return at
 
     def _put_revision(self, head: bytes, section: bytes) -> None:
+        if not head.startswith(b"Revision-number: %d\n" % len(self.copy.revisions)):
+            self.copy.is_from_0 = False
         self.copy.revisions.append(self.copy.length)
         # svnhist does not judge the properties of revisions, so they are kept as they are.
         self._put(head + (body_of(section) if self._people and section else b"\n"))

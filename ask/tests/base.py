@@ -1,11 +1,15 @@
 """What the tests have in common. They ask the program that `$SVNHIST` names."""
+import contextlib
 import glob
+import io
 import os
+import signal
 import subprocess
 import sys
 import tempfile
 import unittest
 from typing import List, NamedTuple, Optional, Tuple
+from unittest import mock
 
 TESTS = os.path.dirname(os.path.abspath(__file__))
 ROOT = os.path.dirname(os.path.dirname(TESTS))
@@ -14,7 +18,7 @@ COMMAND = os.path.join(ROOT, "svnask")
 sys.path[:0] = [os.path.join(ROOT, "ask"), INTEROP]
 os.environ["TZ"] = "UTC"
 
-from svnask import engine  # noqa: E402
+from svnask import cli, engine  # noqa: E402
 from svnask.history import History  # noqa: E402
 
 
@@ -35,11 +39,26 @@ def names() -> List[str]:
     return sorted(os.path.basename(path)[:-4] for path in glob.glob(os.path.join(INTEROP, "*.svn")))
 
 
-def run(*words: str, given: bytes = b"") -> Done:
-    """Runs the command on these arguments and this standard input."""
+def run(*words: str, given: bytes = b"", **variables: str) -> Done:
+    """Runs the command on these arguments and this standard input, with these variables of the environment."""
     done = subprocess.run([sys.executable, COMMAND, *words], input=given, stdout=subprocess.PIPE,
-                          stderr=subprocess.PIPE)
+                          stderr=subprocess.PIPE, env=dict(os.environ, **variables))
     return Done(done.returncode, done.stdout, done.stderr.decode("utf-8", "replace"))
+
+
+def called(*words: str, **variables: str) -> Done:
+    """The same without a process of its own, which is faster, and without standard input."""
+    kept = {number: signal.getsignal(number) for number in (signal.SIGINT, signal.SIGTERM, signal.SIGHUP)}
+    output, said = io.TextIOWrapper(io.BytesIO()), io.StringIO()
+    try:
+        with mock.patch.dict(os.environ, variables), contextlib.redirect_stdout(output), contextlib.redirect_stderr(said):
+            status = cli.main(list(words))
+    finally:
+        for number, handler in kept.items():
+            signal.signal(number, handler)
+    output.flush()
+    assert isinstance(output.buffer, io.BytesIO)
+    return Done(status, output.buffer.getvalue(), said.getvalue())
 
 
 def refusal_of_engine(dump: str) -> str:
@@ -90,6 +109,12 @@ class Case(unittest.TestCase):
         path = os.path.join(self.folder, name)
         with open(path, "wb") as file:
             file.write(content)
+        return path
+
+    def script(self, name: str, *lines: str) -> str:
+        """The path of a shell script."""
+        path = self.made(name, "\n".join(("#!/bin/sh", *lines, "")).encode())
+        os.chmod(path, 0o700)
         return path
 
     def history(self, dump: str) -> History:
