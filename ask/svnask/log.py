@@ -74,6 +74,15 @@ def renewed(history: History, segments: List[Segment]) -> Iterator[int]:
                 yield rev
 
 
+def copied_in(history: History, found: Trace) -> int:
+    """The revision that made the path by a copy, or that made it first: where `--stop-on-copy` stops. A copy of a path
+    to itself begins no segment, and all that is below was copied, too."""
+    newest = found.segments[0]
+    path = newest.path or b"/"
+    return max([newest.lo] + [rev for rev, top in history.index.renewals
+                              if newest.lo < rev <= newest.hi and is_at_or_below(path, top)])
+
+
 def of_root(segments: List[Segment]) -> Iterator[int]:
     for segment in segments:
         if segment.path == b"/":
@@ -126,10 +135,7 @@ def entries(history: History, target: Target, options: Options) -> Iterator[int]
         start = start_of(history, target, max(first, last))
         if start not in traces:
             found = trace(history, start)
-            least = found.segments[0].lo if options.stops_on_copy else 0
-            if options.stops_on_copy:
-                least = max([least] + [rev for rev, path in history.index.renewals
-                                       if path == start.path and rev <= start.rev])
+            least = copied_in(history, found) if options.stops_on_copy else 0
             listed = revisions_of(history, found, start.path == b"/")
             traces[start] = [rev for rev in listed if rev >= least]
         low = min(first, last)
