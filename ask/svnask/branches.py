@@ -69,7 +69,7 @@ def holders(history: History, patterns: Sequence[bytes], rev: int) -> Iterator[H
     answers = list(history.ask(asked))
     for life, where, logged, value in zip(alive, answers[::3], answers[1::3], answers[2::3]):
         assert isinstance(where, Segments) and isinstance(logged, Logged) and isinstance(value, Inherited)
-        if rev in log.revisions_of(history, log.Trace(where.segments, logged.revisions), life.path == b"/"):
+        if rev in log.listed(history, log.Trace(where.segments, logged.revisions)):
             yield Holder(life.path, "history")
         elif value.ok:
             how = merged_how(value.value, changed, rev)

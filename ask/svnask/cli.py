@@ -12,7 +12,7 @@ from .history import History
 from .refusals import about_record, explained
 from .verbs import VERBS
 
-FRONT = 4096
+VALUED = frozenset(("-r", "--revision", "-c", "--change", "-l", "--limit", "-o", "--output", "--into", "--show-revs"))
 
 
 class Parser(argparse.ArgumentParser):
@@ -47,6 +47,19 @@ def with_dump(arguments: List[str]) -> List[str]:
     """The arguments with a dump, which `svnask VERB --help` needs none of."""
     is_help = arguments[1:] in (["-h"], ["--help"])
     return ["-"] + arguments if is_help and arguments[0] in [verb.name for verb in VERBS] else arguments
+
+
+def joined(arguments: List[str]) -> List[str]:
+    """The arguments with each option that takes a value in one word with that, which may begin with a minus: `-c -3,5`
+    is what `svn` takes."""
+    found: List[str] = []
+    left = iter(arguments)
+    for word in left:
+        if word == "--":
+            return [*found, word, *left]
+        value = next(left, None) if word in VALUED else None
+        found.append(word if value is None else word + ("=" if word.startswith("--") else "") + value)
+    return found
 
 
 class Progress:
@@ -145,7 +158,7 @@ def main(arguments: Optional[List[str]] = None) -> int:
         if signal.getsignal(number) != signal.SIG_IGN:
             signal.signal(number, stop)
     try:
-        words = parser().parse_args(with_dump(sys.argv[1:] if arguments is None else arguments))
+        words = parser().parse_args(joined(with_dump(sys.argv[1:] if arguments is None else arguments)))
         with opened(words.dump) as file:
             answer(words, file)
     except Error as error:

@@ -1,7 +1,8 @@
 """`log`: what `svn log` prints of a path."""
+import bisect
 import re
 from dataclasses import dataclass
-from typing import Dict, Iterator, List, NamedTuple, Optional, Tuple
+from typing import Iterator, List, NamedTuple, Optional, Tuple
 
 from . import dates
 from .answers import Log, Logged, Segment, Segments, Where
@@ -26,18 +27,19 @@ class Options:
     stops_on_copy: bool = False
 
 
-class Entry(NamedTuple):
-    """A revision of a log, and where the path was in it."""
-
-    rev: int
-    path: bytes
-
-
 class Trace(NamedTuple):
     """Where a path was, the newest segment first, and the revisions that svnhist calls operative."""
 
     segments: List[Segment]
     revisions: List[int]
+
+    def at(self, rev: int) -> Optional[Segment]:
+        """The segment that has a revision, if the path was anywhere in it."""
+        return next((each for each in self.segments if each.lo <= rev <= each.hi and each.path is not None), None)
+
+    def is_gap(self, rev: int) -> bool:
+        """Whether the path was nowhere in a revision, between a copy and its source."""
+        return self.at(rev) is None and any(each.lo <= rev <= each.hi for each in self.segments)
 
 
 def not_found(target: Target, rev: int) -> Denied:
@@ -55,13 +57,15 @@ def not_reached(history: History, target: Target) -> Denied:
     return not_found(target, target.rev)
 
 
-def trace(history: History, target: Target) -> Trace:
-    asked = list(history.ask([Where(*target), Log(*target)]))
-    where, logged = asked
+def not_located(target: Target, rev: int) -> Denied:
+    return Denied("E195012", "Unable to find repository location for '%s' in revision %d" % (decoded(target.path), rev))
+
+
+def trace(history: History, target: Target) -> Optional[Trace]:
+    """Where a path was and when it changed, if it is there."""
+    where, logged = history.ask([Where(*target), Log(*target)])
     assert isinstance(where, Segments) and isinstance(logged, Logged)
-    if not where.ok:
-        raise not_found(target, target.rev)
-    return Trace(where.segments, logged.revisions)
+    return Trace(where.segments, logged.revisions) if where.ok else None
 
 
 def renewed(history: History, segments: List[Segment]) -> Iterator[int]:
@@ -74,13 +78,12 @@ def renewed(history: History, segments: List[Segment]) -> Iterator[int]:
                 yield rev
 
 
-def copied_in(history: History, found: Trace) -> int:
-    """The revision that made the path by a copy, or that made it first: where `--stop-on-copy` stops. A copy of a path
-    to itself begins no segment, and all that is below was copied, too."""
-    newest = found.segments[0]
-    path = newest.path or b"/"
-    return max([newest.lo] + [rev for rev, top in history.index.renewals
-                              if newest.lo < rev <= newest.hi and is_at_or_below(path, top)])
+def copied_in(history: History, segment: Segment, rev: int) -> int:
+    """The revision that made a path by a copy, or that made it first: where `--stop-on-copy` stops, from a revision of
+    its segment on. A copy of a path to itself begins no segment, and all that is below was copied, too."""
+    path = segment.path or b"/"
+    return max([segment.lo] + [each for each, top in history.index.renewals
+                               if segment.lo < each <= rev and is_at_or_below(path, top)])
 
 
 def of_root(segments: List[Segment]) -> Iterator[int]:
@@ -89,58 +92,72 @@ def of_root(segments: List[Segment]) -> Iterator[int]:
             yield from range(segment.lo, segment.hi + 1)
 
 
-def revisions_of(history: History, found: Trace, is_root: bool) -> List[int]:
-    """All revisions that `svn log` lists, the newest first."""
-    all_of = set(found.revisions)
-    all_of.update(renewed(history, found.segments))
-    all_of.update(of_root(found.segments))
-    if not is_root:
-        all_of.discard(0)
-    return sorted(all_of, reverse=True)
+def listed(history: History, found: Trace) -> List[int]:
+    """All revisions that `svn log` lists, rising. Revision 0 is listed for the root alone."""
+    return sorted({*found.revisions, *renewed(history, found.segments), *of_root(found.segments)})
 
 
-def start_of(history: History, target: Target, youngest: int) -> Target:
-    """The target in the youngest revision of a range."""
-    if youngest == target.rev:
-        return target
+def reached(history: History, target: Target, youngest: int) -> Trace:
+    """The trace of a target from the youngest revision of some ranges, or from its peg if that is later."""
+    later = Target(target.path, max(target.rev, youngest))
+    found = trace(history, later)
+    if found is None:
+        raise not_reached(history, target) if youngest < target.rev else not_found(later, later.rev)
     if youngest > target.rev:
-        return continued(history, target, youngest)
-    answer = history.locate(target.path, target.rev, youngest)
-    if not answer.ok:
-        raise not_reached(history, target)
-    if answer.path is None:
-        raise Denied("E195012", "Unable to find repository location for '%s' in revision %d"
-                     % (decoded(target.path), youngest))
-    return Target(answer.path, youngest)
+        # The path of the peg must be the same node.
+        at_peg = next((each for each in found.segments if each.path is not None and each.lo <= target.rev), None)
+        if at_peg is None or at_peg.path != target.path:
+            raise not_located(target, youngest)
+    elif found.at(youngest) is None:
+        raise not_located(target, youngest)
+    return found
 
 
-def continued(history: History, target: Target, rev: int) -> Target:
-    """The same path in a later revision, which must be the same node."""
-    later = Target(target.path, rev)
-    answer = history.segments(*later)
-    if not answer.ok:
-        raise not_found(later, rev)
-    at_peg = next((each for each in answer.segments if each.path is not None and each.lo <= target.rev), None)
-    if at_peg is None or at_peg.path != target.path:
-        raise Denied("E195012", "Unable to find repository location for '%s' in revision %d"
-                     % (decoded(target.path), rev))
-    return later
+class Walk(NamedTuple):
+    """A trace, and all revisions that `svn log` lists of it."""
+
+    found: Trace
+    revisions: List[int]
+
+    def between(self, history: History, low: int, high: int, stops_on_copy: bool) -> List[int]:
+        """The revisions of a range, rising, from where the path was in the last one."""
+        segment = self.found.at(high)
+        assert segment is not None
+        low = max(low, 0 if segment.path == b"/" else 1, copied_in(history, segment, high) if stops_on_copy else 0)
+        return self.revisions[bisect.bisect_left(self.revisions, low):bisect.bisect_right(self.revisions, high)]
 
 
-def entries(history: History, target: Target, options: Options) -> Iterator[int]:
-    """The revisions of a log, range after range."""
-    traces: Dict[Target, List[int]] = {}
-    for first, last in options.ranges or [(target.rev, 0)]:
-        known(history, max(first, last))
-        start = start_of(history, target, max(first, last))
-        if start not in traces:
-            found = trace(history, start)
-            least = copied_in(history, found) if options.stops_on_copy else 0
-            listed = revisions_of(history, found, start.path == b"/")
-            traces[start] = [rev for rev in listed if rev >= least]
-        low = min(first, last)
-        chosen = [rev for rev in traces[start] if rev >= low]
-        yield from reversed(chosen) if first < last else chosen
+def entries(history: History, target: Target, options: Options) -> List[int]:
+    """The revisions of a log, range after range. The target is looked up in the youngest revision of all ranges, and
+    each one begins where it was in its own."""
+    ranges = options.ranges or [(target.rev, 0)]
+    for bounds in ranges:
+        known(history, max(bounds))
+    found = reached(history, target, max(max(bounds) for bounds in ranges))
+    walk = Walk(found, listed(history, found))
+    path = target.path
+    revisions: List[int] = []
+    for first, last in ranges:
+        if options.limit is not None and len(revisions) >= options.limit:
+            break
+        high = max(first, last)
+        segment = found.at(high)
+        if segment is None and not found.is_gap(high):
+            # The path was not made yet.
+            continue
+        # Between a copy and its source it is looked for where it was in the range before.
+        path = segment.path or path if segment is not None else path
+        here = walk if segment is not None else walk_of(history, Target(path, high))
+        chosen = here.between(history, min(first, last), high, options.stops_on_copy)
+        revisions += chosen if first < last else chosen[::-1]
+    return revisions[:options.limit]
+
+
+def walk_of(history: History, target: Target) -> Walk:
+    found = trace(history, target)
+    if found is None:
+        raise not_found(target, target.rev)
+    return Walk(found, listed(history, found))
 
 
 def cut(text: bytes) -> bytes:
@@ -175,11 +192,13 @@ def is_shown(history: History, rev: int, options: Options) -> bool:
     return rev > 0 or (history.revision(0).message is not None and not options.is_quiet)
 
 
+def shown(history: History, target: Target, options: Options) -> List[int]:
+    """The revisions of a log that are printed."""
+    return [rev for rev in entries(history, target, options) if is_shown(history, rev, options)]
+
+
 def log_text(history: History, target: Target, options: Options) -> Iterator[bytes]:
     """The output of `svn log`, piece after piece."""
-    for count, rev in enumerate(entries(history, target, options)):
-        if count == options.limit:
-            break
-        if is_shown(history, rev, options):
-            yield entry_text(history, rev, options)
+    for rev in shown(history, target, options):
+        yield entry_text(history, rev, options)
     yield RULE

@@ -186,7 +186,9 @@ def show_revs(history: History, explicit: Explicit, source: Target, target: Targ
         add_own_history(catalog, own, there)
     found = sort_out(catalog, there)
     chosen = found.whole | found.partial if is_merged else set().union(*there.values()) - found.whole
-    listed = set(log.revisions_of(history, log.trace(history, source), source.path == b"/"))
+    traced = log.trace(history, source)
+    assert traced is not None
+    listed = set(log.listed(history, traced))
     coverage = Coverage(history, catalog, there)
     shown = []
     for rev in sorted(chosen & listed):

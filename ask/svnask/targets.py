@@ -2,14 +2,16 @@
 import re
 from typing import List, NamedTuple, Optional, Tuple
 
+from .digits import number
 from .errors import Denied
 from .history import History
 
-NUMBER = re.compile(r"r?(\d+)\Z")
+NUMBER = re.compile(r"r*([0-9]+)\Z")
+# A word of `-c`: a minus for the way back, and one number or two.
+CHANGE = re.compile(r"(-?)r*\+?([0-9]+)(?:(-)r*\+?([0-9]*))?\Z")
 DATE = re.compile(r"\{(.*)\}\Z", re.DOTALL)
 WORDS = re.compile(r"(?:BASE|PREV|COMMITTED)\Z", re.IGNORECASE)
 URL = re.compile(r"[A-Za-z][A-Za-z0-9+.-]*://")
-GREATEST = 2147483647
 
 
 class Target(NamedTuple):
@@ -50,8 +52,8 @@ def path_of(text: str) -> bytes:
 def revision_of(history: History, text: str) -> int:
     """A revision by its number, `HEAD` or `{DATE}`. It may be above the youngest one."""
     found = NUMBER.match(text)
-    if found and int(found[1]) <= GREATEST:
-        return int(found[1])
+    if found:
+        return number(found[1])
     if text.upper() == "HEAD":
         return history.head
     date = DATE.match(text)
@@ -97,22 +99,29 @@ def split_range(text: str) -> Tuple[str, str, str]:
     return text, "", ""
 
 
-def changes_of_option(history: History, texts: List[str]) -> List[Tuple[int, int]]:
-    """The ranges of `-c`: numbers joined by commas, ranges `N-M`, and a minus for the way back."""
-    found = []
-    for text in ",".join(texts).split(","):
-        back = text.startswith("-")
-        lo, dash, hi = text[back:].partition("-")
-        first = revision_of(history, lo)
-        last = revision_of(history, hi) if dash else first
-        found.append((last, first) if back else (first, last))
-    return found
+def change_of_option(word: str) -> Tuple[int, int]:
+    """The range of a word of `-c`: `N`, `N-M`, or `-N`, which is N, too, for what is printed."""
+    found = CHANGE.match(word)
+    if found is None:
+        raise Denied("E205000", "Non-numeric change argument (%s) given to -c" % word)
+    back, first, dash, last = found[1], number(found[2]), found[3], number(found[4] or "0")
+    if back and dash:
+        raise Denied("E205000", "Negative number in range (%s) not supported with -c" % word)
+    if first == 0:
+        raise Denied("E205000", "There is no change 0")
+    return first, last if dash else first
+
+
+def changes_of_option(texts: List[str]) -> List[Tuple[int, int]]:
+    """The ranges of `-c`, which are words between commas and white space."""
+    return [change_of_option(word) for text in texts for word in re.split("[, \n\r\t\v]+", text) if word]
 
 
 def ranges_of(history: History, ranges: List[str], changes: List[str]) -> Optional[List[Tuple[int, int]]]:
     """The ranges of `-r` and `-c`, or none where neither is given."""
-    if ranges and changes:
+    changed = changes_of_option(changes)
+    if ranges and changed:
         raise Denied("E195002", "-c and -r are mutually exclusive")
-    if changes:
-        return changes_of_option(history, changes)
+    if changed:
+        return changed
     return [range_of(history, text) for text in ranges] or None

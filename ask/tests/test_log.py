@@ -36,6 +36,40 @@ class Log(base.Case):
         done = base.called(dump, "contains", "6", "/trunk/*", "/tags/*/*")
         self.assertEqual(done.output, b"/trunk/a\thistory\n")
 
+    def test_ranges_are_printed_one_after_another(self) -> None:
+        """As `svn` 1.14 printed it of the repository."""
+        for words, wanted in (("-c -2,10 tags/one-1.0@7", [2]), ("-c -3,-10,7-3 -l 4 tags/one-1.0/main.c@7", [3, 6, 3]),
+                              ("-r 1 -r 4:9 -r 3:2 branches/two", [1, 5, 9, 2]), ("-r 9 -r 1 -r 13 branches/two", [9, 1]),
+                              ("-c 9-11,2 branches/two", [9, 11, 2]), ("-c r11-r9 branches/two", [11, 9]),
+                              ("-c , -l 2 trunk", [5, 2]), ("-c rr5 trunk", [5]), ("-c +5 trunk", [5]),
+                              ("-c 5- trunk", [5, 2, 1]), ("-r rr5 trunk", [5]), ("-l +1 trunk", [5])):
+            self.assertEqual(self.revisions(base.dump_of("branches"), *words.split()), wanted, words)
+
+    def test_a_range_before_the_path_was_made_is_left_out(self) -> None:
+        dump = base.dump_of("branches")
+        self.assertEqual(self.revisions(dump, *"-r 1 -r 9:13 branches/two/lib/two.c".split()), [9])
+        done = base.called(dump, *"log -q -r 1 branches/two/lib/two.c".split())
+        self.assertEqual((done.status, done.output, done.said[:15]), (1, b"", "svnask: E195012"))
+
+    def test_nothing_is_printed_before_an_error(self) -> None:
+        """`svn` prints the first range of the last two."""
+        for words in ("-r 1 -r 99 trunk", "-c 1,99 trunk", "-r 14 -r 1 -r 16 b/two@14"):
+            done = base.called(base.dump_of("again"), "log", "-q", *words.split())
+            self.assertEqual((done.status, done.output), (1, b""), words)
+
+    def test_ranges_that_svn_refuses(self) -> None:
+        for words, code in (("-c 0", "E205000"), ("-c HEAD", "E205000"), ("-c -3-5", "E205000"), ("-c 3x", "E205000"),
+                            ("-c {2024-01-01}", "E205000"), ("-c 0-2", "E205000"), ("-c 3--5", "E205000"),
+                            ("-c --5", "E205000"), ("-c 99", "E160006"), ("-r 1 -r 99", "E160006"),
+                            ("-c " + "9" * 5000, "E160006"), ("-r " + "9" * 5000, "E160006"), ("-r -1", "E205000"),
+                            ("-r r", "E205000"), ("-r \u0663", "E205000"), ("-c 3 -r 3", "E195002"),
+                            ("-r 99999999999", "E160006"), ("-l --5", "E205000"), ("-l \u00b2", "E205000"),
+                            ("-l -5", "E200004"), ("-l 0", "E200004"), ("-c 0 -r x", "E205000"),
+                            ("trunk@" + "9" * 5000, "E160006"), ("trunk@\u0663", "E205000")):
+            done = base.called(base.dump_of("branches"), "log", "-q", *words.split(" "))
+            self.assertEqual((done.status, done.output, done.said[:15]), (1, b"", "svnask: %s" % code), words)
+            self.assertEqual(done.said.count("\n"), 1)
+
 
 if __name__ == "__main__":
     unittest.main()

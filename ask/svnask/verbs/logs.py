@@ -1,12 +1,16 @@
 """`log` and `show`."""
+import re
 from argparse import ArgumentParser, Namespace
 from typing import Iterator
 
 from .. import log
+from ..digits import number
 from ..errors import Denied
 from ..history import History
 from ..targets import ranges_of, target_of
 from .base import Object, Verb, existing, object_of_revision
+
+LIMIT = re.compile(r"\s*([-+]?)([0-9]+)\Z")
 
 
 class LogVerb(Verb):
@@ -25,10 +29,11 @@ class LogVerb(Verb):
     def options(self, history: History, words: Namespace) -> log.Options:
         limit = None
         if words.limit is not None:
-            if not words.limit.lstrip("-").isdigit():
+            found = LIMIT.match(words.limit)
+            if found is None:
                 raise Denied("E205000", "Non-numeric limit argument given")
-            limit = int(words.limit)
-            if limit <= 0:
+            limit = number(found[2])
+            if limit == 0 or found[1] == "-":
                 raise Denied("E200004", "Argument to --limit must be positive")
         return log.Options(ranges_of(history, words.ranges, words.changes), limit, words.quiet, words.verbose,
                            words.stop_on_copy)
@@ -37,12 +42,8 @@ class LogVerb(Verb):
         return log.log_text(history, target_of(history, words.target), self.options(history, words))
 
     def objects(self, history: History, words: Namespace) -> Iterator[Object]:
-        options = self.options(history, words)
-        for count, rev in enumerate(log.entries(history, target_of(history, words.target), options)):
-            if count == options.limit:
-                return
-            if log.is_shown(history, rev, options):
-                yield object_of_revision(history, rev)
+        for rev in log.shown(history, target_of(history, words.target), self.options(history, words)):
+            yield object_of_revision(history, rev)
 
 
 class ShowVerb(Verb):

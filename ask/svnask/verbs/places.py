@@ -5,8 +5,8 @@ from typing import Iterator, Optional
 from .. import log
 from ..answers import Segments
 from ..history import History
-from ..targets import revision_of, target_of
-from .base import Object, Verb, shown
+from ..targets import target_of
+from .base import Object, Verb, existing, shown
 
 
 class WhereVerb(Verb):
@@ -19,7 +19,7 @@ class WhereVerb(Verb):
 
     def answer(self, history: History, words: Namespace) -> Optional[bytes]:
         target = target_of(history, words.target)
-        answer = history.locate(target.path, target.rev, revision_of(history, words.revision))
+        answer = history.locate(target.path, target.rev, existing(history, words.revision))
         if not answer.ok:
             raise log.not_found(target, target.rev)
         return answer.path
