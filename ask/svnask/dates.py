@@ -10,6 +10,7 @@ import re
 import time
 from typing import Callable, Optional, Tuple
 
+from .digits import number
 from .errors import Denied
 
 # Seconds since 1970, and microseconds.
@@ -19,26 +20,34 @@ WEEKDAYS = ("Mon", "Tue", "Wed", "Thu", "Fri", "Sat", "Sun")
 MONTHS = ("Jan", "Feb", "Mar", "Apr", "May", "Jun", "Jul", "Aug", "Sep", "Oct", "Nov", "Dec")
 STORED = re.compile(rb"(\d+)-(\d+)-(\d+)T(\d+):(\d+):(\d+)\.(\d+)Z")
 OLD = re.compile(rb"\w{3} (\d+) (\w{3}) (\d+) (\d+):(\d+):(\d+)\.(\d+) \(day \d+, dst \d+, gmt_off (-?\d+)\)")
+MICROS = 1000000
+# Subversion keeps each part of a date in 32 bits, and a moment in microseconds in 64. What does not fit is unreadable.
+MOST_OF_PART, MOST_SECONDS = (1 << 31) - 1, (1 << 63) // MICROS
+# The calendar comes back after so many years, which have so many seconds.
+CYCLE, SECONDS_OF_CYCLE = 400, 146097 * 86400
 
 
 def moment(year: int, month: int, day: int, hour: int, minute: int, second: int, micros: int) -> Optional[Moment]:
     """A moment by UTC. A day or a second too many is one of the next month or minute."""
-    if year < 1970 or not 1 <= month <= 12:
+    if year < 1970 or not 1 <= month <= 12 or max(year, day, hour, minute, second, micros) > MOST_OF_PART:
         return None
-    return calendar.timegm((year, month, day, hour, minute, second)), micros
+    cycles, rest = divmod(year - 1970, CYCLE)
+    seconds = calendar.timegm((1970 + rest, month, day, hour, minute, second)) + cycles * SECONDS_OF_CYCLE
+    return None if not 0 <= seconds < MOST_SECONDS else (seconds + micros // MICROS, micros % MICROS)
 
 
 def read(date: bytes) -> Optional[Moment]:
     """The moment of a value of `svn:date`."""
     found = STORED.match(date)
     if found:
-        year, month, day, hour, minute, second, micros = map(int, found.groups())
+        year, month, day, hour, minute, second, micros = map(number, found.groups())
         return moment(year, month, day, hour, minute, second, micros)
     found = OLD.match(date)
     if found and found[2].decode("ascii") in MONTHS:
-        day, year, hour, minute, second, micros, offset = (int(found[each]) for each in (1, 3, 4, 5, 6, 7, 8))
+        day, year, hour, minute, second, micros = (number(found[each]) for each in (1, 3, 4, 5, 6, 7))
+        offset = number(found[8].lstrip(b"-")) * (-1 if found[8].startswith(b"-") else 1)
         when = moment(year, MONTHS.index(found[2].decode("ascii")) + 1, day, hour, minute, second, micros)
-        return when and (when[0] - offset, micros)
+        return None if when is None or abs(offset) > MOST_OF_PART else (when[0] - offset, when[1])
     return None
 
 
@@ -57,13 +66,15 @@ def shown(date: Optional[bytes], zone: Optional[str] = None) -> str:
                      MONTHS[local.tm_mon - 1], local.tm_year))
 
 
-TIME = r"(\d{1,2}):(\d\d)(?::(\d\d)(?:[.,](\d+))?)?"
+TIME = r"(\d{1,2}):(\d\d)(?::(\d\d)(?:[.,](\d{1,6}))?)?"
+BASIC_TIME = r"(\d\d)(\d\d)(?:(\d\d)(?:[.,](\d{1,6}))?)?"
 ZONE = r"(?:(Z)|([+-])(\d\d)(?::?(\d\d))?)?"
-FORMS = [re.compile(form) for form in (
-    r"(\d{4})-(\d{1,2})-(\d{1,2})(?:T" + TIME + ZONE + r")?\Z",
-    r"(\d{4})-(\d{1,2})-(\d{1,2}) " + TIME + r"(?: ?" + ZONE + r")?\Z",
-    r"(\d{4})(\d\d)(\d\d)(?:T(\d\d)(\d\d)(?:(\d\d)(?:[.,](\d+))?)?" + ZONE + r")?\Z")]
-TODAY = re.compile(TIME + r"\Z")
+BASIC_ZONE = r"(?:(Z)|([+-])(\d\d)(\d\d)?)?"
+FORMS = [re.compile(form + r"\Z", re.ASCII) for form in (
+    r"(\d{4})-(\d{1,2})-(\d{1,2})(?:T" + TIME + ZONE + r")?",
+    r"(\d{4})-(\d{1,2})-(\d{1,2}) " + TIME + r"()(?: ([+-])(\d\d)(\d\d)?)?",
+    r"(\d{4})(\d\d)(\d\d)(?:T" + BASIC_TIME + BASIC_ZONE + r")?")]
+TODAY = re.compile(TIME + r"\Z", re.ASCII)
 
 
 def given(text: str, now: Callable[[], float] = time.time) -> Moment:
@@ -84,17 +95,26 @@ def given(text: str, now: Callable[[], float] = time.time) -> Moment:
         raise unreadable(text)
     if hour > 23 or minute > 59 or second > 60:
         raise unreadable(text)
-    return when_of((year, month, day, hour, minute, second), zone), micros
+    if int(zone[2] or 0) > 23 or int(zone[3] or 0) > 59:
+        raise unreadable(text)
+    return when_of((year, month, day, hour, minute, second), zone, now()), micros
 
 
-def when_of(fields: Tuple[int, int, int, int, int, int], zone: Tuple[Optional[str], ...]) -> int:
+def when_of(fields: Tuple[int, int, int, int, int, int], zone: Tuple[Optional[str], ...], now: float) -> int:
+    """The seconds of a date in a zone. Of two moments with one local time it is the one with the offset of today."""
     utc, sign, hours, minutes = zone
+    seconds = calendar.timegm(fields)
     if utc:
-        return calendar.timegm(fields)
+        return seconds
     if sign:
         offset = int(hours or 0) * 3600 + int(minutes or 0) * 60
-        return calendar.timegm(fields) - (offset if sign == "+" else -offset)
-    return int(time.mktime(fields + (0, 0, -1)))
+        return seconds - (offset if sign == "+" else -offset)
+    return seconds - offset_at(seconds - offset_at(now))
+
+
+def offset_at(seconds: float) -> int:
+    """By how much local time is ahead of UTC."""
+    return time.localtime(seconds).tm_gmtoff
 
 
 def unreadable(text: str) -> Denied:
