@@ -108,7 +108,7 @@ class Tree:
                 found = [joined(top, part) for top in found]
             else:
                 found = [joined(top, name) for top in found for name in sorted(self.names(top))
-                         if fnmatch.fnmatchcase(name.decode("latin-1"), part.decode("latin-1"))]
+                         if fnmatch.fnmatchcase(letters(name), letters(part))]
         return found
 
     def lives(self, path: bytes, head: int) -> Iterator[Life]:
@@ -147,6 +147,11 @@ def tops_of(path: bytes) -> Iterator[bytes]:
 def moved(path: bytes, top: bytes, source: Place) -> Place:
     """Where a path came from with a copy of a path at or above it."""
     return joined(source[0], rest_below(path, top)), source[1]
+
+
+def letters(name: bytes) -> str:
+    """A name as letters. A byte that is not UTF-8 is one, too."""
+    return name.decode("utf-8", "surrogateescape")
 
 
 def is_plain(part: bytes) -> bool:

@@ -97,7 +97,20 @@ class Command(base.Case):
         with open(DUMP, "rb") as file:
             whole = file.read()
         part = whole[:whole.index(b"Revision-number: 0")] + whole[whole.index(b"Revision-number: 5"):]
-        self.assertIn("from revision 5 on", base.run(self.made("part", part), "log").said)
+        part_of_dump = self.made("part", part)
+        for words in (["log"], ["log", "trunk@13"], ["log", "-r", "12"], ["where", "trunk", "99"], ["show", "13"],
+                      ["log", "-r", "{2024-01-01}"], ["contains", "13"], ["segments", "none"], ["unmerged"]):
+            done = base.called(part_of_dump, *words)
+            self.assertEqual((done.status, done.output), (1, b""), words)
+            self.assertIn("from revision 5 on", done.said, words)
+
+    def test_of_a_dump_that_is_refused_nothing_else_is_said(self) -> None:
+        with open(DUMP, "rb") as file:
+            dump = self.made("faulty", file.read().replace(b"Node-path: trunk\n", b"Node-path: other\n", 1))
+        for words in (["log", "-r", "99"], ["log", "trunk@99"], ["log", "-c", "0"], ["where", "none", "99"]):
+            done = base.called(dump, *words)
+            self.assertEqual((done.status, done.output), (1, b""), words)
+            self.assertIn("dump refused: 16 NoParent at record", done.said, words)
 
     def test_a_faulty_record_is_described(self) -> None:
         with open(DUMP, "rb") as file:

@@ -29,6 +29,16 @@ class Lives(base.Case):
             (b"/b/one", 16, 17, (b"/b/two", 14)), (b"/b/two", 11, 14, (b"/trunk", 10)), (b"/b/two", 17, 17,
             (b"/b/one", 2))])
 
+    def test_a_pattern_matches_letters(self) -> None:
+        names = ["caf\u00e9", "cafe", "\u6f22", "\udcff", "a"]
+        blocks = [base.revision(0), base.revision(1), base.node("b", "add")]
+        blocks += [base.node("b/" + name, "add") for name in names]
+        tree = Tree(self.history(self.made("dump", base.dump(blocks))).records())
+        for pattern, wanted in (("caf?", [1, 0]), ("caf[\u00e9\u00e8]", [0]), ("[!a]", [2, 3]), ("?", [4, 2, 3]),
+                                ("\u6f22", [2]), ("[\udcff]", [3]), ("*\u00e9", [0])):
+            found = tree.matching(b"/b/" + pattern.encode("utf-8", "surrogateescape"))
+            self.assertEqual(found, [b"/b/" + names[each].encode("utf-8", "surrogateescape") for each in wanted], pattern)
+
 
 if __name__ == "__main__":
     unittest.main()
