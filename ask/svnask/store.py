@@ -1,25 +1,19 @@
 """A dump without its texts, with what is asked of its revisions, in a folder of a cache or of a run."""
-import contextlib
-import hashlib
 import mmap
 import os
 import re
 import shutil
 import stat
 import tempfile
-import time
-from typing import BinaryIO, Callable, Dict, Iterator, List, NamedTuple, Optional, Tuple
+from typing import BinaryIO, Callable, Dict, Iterator, List, NamedTuple, Optional, Tuple, Union
 
+from . import cache, digits
 from .errors import Failed
 from .source import Source
-from .strip import MERGEINFO, Stripper, clean, entries_of
+from .strip import MERGEINFO, Malformed, Stripper, clean, entries_of
 
-VERSION = b"svnask 1"
+VERSION = b"svnask 2"
 FIRST_LINE = b"SVN-fs-dump-format-version: 2\n\n"
-END = 1 << 16
-# How the folders in the making begin. They are given up after a day, and others are where they were not used for 30.
-NEW = "new-"
-UNFINISHED, UNUSED = 86400, 30 * 86400
 # A block of the copy. `Stripper` writes the headers in this order.
 BLOCK = re.compile(
     rb"\n*(?:Revision-number: (?P<rev>[0-9]+)\n|Node-path: (?P<path>[^\n]*)\n(?:Node-kind: (?P<kind>[^\n]*)\n)?"
@@ -68,7 +62,9 @@ class Index(NamedTuple):
     format: int
     uuid: bytes
     records: int
+    # How many bytes the dump has, and how many the copy.
     size: int
+    length: int
     is_whole: bool
     # The offset in the copy of each revision.
     revisions: List[int]
@@ -76,19 +72,24 @@ class Index(NamedTuple):
     renewals: List[Tuple[int, bytes]]
 
     def text(self) -> bytes:
-        lines = [VERSION, b"%d %d %d %d" % (self.format, self.records, self.size, len(self.revisions)), self.uuid]
+        counts = self.format, self.records, self.size, self.length, len(self.revisions)
+        lines = [b"%d %d %d %d %d" % counts, self.uuid]
         lines += [b"%d" % place for place in self.revisions]
         lines += [b"%d %s" % renewal for renewal in self.renewals]
-        return b"\n".join(lines)
+        rest = b"\n".join(lines)
+        return b"%s %d\n%s" % (VERSION, len(rest), rest)
 
 
 def index_of(text: bytes) -> Index:
-    lines = text.split(b"\n")
-    if lines[0] != VERSION:
-        raise ValueError("another version")
-    version, records, size, count = map(int, lines[1].split())
-    pairs = [line.split(b" ", 1) for line in lines[3 + count:]]
-    return Index(version, lines[2], records, size, True, list(map(int, lines[3:3 + count])),
+    """The index in a text, which begins with the version and the length of what follows. `ValueError` or `IndexError`
+    where it is not one."""
+    head, _, rest = text.partition(b"\n")
+    if head != b"%s %d" % (VERSION, len(rest)):
+        raise ValueError("another version, or not the whole of an index")
+    lines = rest.split(b"\n")
+    version, records, size, length, count = map(int, lines[0].split())
+    pairs = [line.split(b" ", 1) for line in lines[2 + count:]]
+    return Index(version, lines[1], records, size, length, True, list(map(int, lines[2:2 + count])),
                  [(int(rev), path) for rev, path in pairs])
 
 
@@ -115,9 +116,13 @@ class Store:
         return len(self.index.revisions) - 1
 
     @property
-    def data(self) -> mmap.mmap:
+    def data(self) -> Union[mmap.mmap, bytes]:
+        """The copy, which is no one else's, so that it can be mapped."""
         if self._map is None:
             with open(self.dump, "rb") as file:
+                # An empty file can't be mapped.
+                if not os.path.getsize(self.dump):
+                    return b""
                 self._map = mmap.mmap(file.fileno(), 0, access=mmap.ACCESS_READ)
         return self._map
 
@@ -125,10 +130,10 @@ class Store:
         found = BLOCK.match(self.data, self.index.revisions[rev])
         if found is None:
             raise Failed("the cache is damaged: --no-cache reads the dump anew")
-        length = int(found["length"] or 0)
+        length = digits.number(found["length"] or b"0")
         values = properties_of(self.data[found.end():found.end() + length]) if length else {}
         author, date, message = (values.get(name) for name in (b"svn:author", b"svn:date", b"svn:log"))
-        return Revision(rev, author, date, message, int(found["at"]))
+        return Revision(rev, author, date, message, digits.number(found["at"]))
 
     def records(self, first: int = 0, last: Optional[int] = None) -> Iterator[Record]:
         """The records of revisions, in the order of the dump. They are numbered from 1 in the first one."""
@@ -136,9 +141,9 @@ class Store:
         at = self.index.revisions[first]
         rev = number = 0
         for found in iter(lambda: BLOCK.match(data, at), None):
-            at = found.end() + int(found["length"] or 0)
+            at = found.end() + digits.number(found["length"] or b"0")
             if found["rev"] is not None:
-                rev = int(found["rev"])
+                rev = digits.number(found["rev"])
                 if last is not None and rev > last:
                     return
             elif found["path"] is not None:
@@ -150,24 +155,24 @@ class Store:
         data, rev, number = self.data, -1, 0
         at = len(FIRST_LINE)
         for found in iter(lambda: BLOCK.match(data, at), None):
-            at = found.end() + int(found["length"] or 0)
+            at = found.end() + digits.number(found["length"] or b"0")
             record = None
             if found["rev"] is not None:
-                rev = int(found["rev"])
+                rev = digits.number(found["rev"])
             elif found["path"] is not None:
                 number += 1
                 record = record_of(found, number, rev, self.index.format)
-            yield int(found["at"]), record
+            yield digits.number(found["at"]), record
         last = MARK.match(data, at)
         if last:
-            yield int(last[1]), None
+            yield digits.number(last[1]), None
 
     def block_at(self, place: int) -> int:
         """The offset in the given dump of what stands at an offset in the copy."""
         if place == 0:
             return 0
         found = MARK.match(self.data, place)
-        return int(found[1]) if found else self.index.size
+        return digits.number(found[1]) if found else self.index.size
 
 
 def properties_of(section: bytes) -> Dict[bytes, bytes]:
@@ -175,27 +180,31 @@ def properties_of(section: bytes) -> Dict[bytes, bytes]:
     values = {}
     at = 0
     while found := ENTRY.match(section, at):
-        at = found.end() + int(found[2])
+        at = found.end() + digits.number(found[2])
         values[found[1]] = section[found.end():at]
         at += 1
     return values
 
 
 def record_of(found: "re.Match[bytes]", number: int, rev: int, version: int) -> Record:
-    section = found.string[found.end():found.end() + int(found["length"] or 0)]
+    section = found.string[found.end():found.end() + digits.number(found["length"] or b"0")]
     source = None
     if found["from_path"] is not None and found["from_rev"]:
-        source = clean(found["from_path"]), int(found["from_rev"])
+        source = clean(found["from_path"]), digits.number(found["from_rev"])
     return Record(number, rev, clean(found["path"]), (found["action"] or b"").decode("latin-1"),
                   None if found["kind"] is None else found["kind"].decode("latin-1"), source,
-                  setting_of(section, version == 3 and found["delta"] is not None), int(found["at"]))
+                  setting_of(section, version == 3 and found["delta"] is not None), digits.number(found["at"]))
 
 
 def setting_of(section: bytes, is_delta: bool) -> Optional[Setting]:
     """What a property section does to mergeinfo."""
     if not section:
         return None
-    values = [value for name, value in entries_of(section, is_delta) if name == MERGEINFO]
+    try:
+        values = [value for name, value in entries_of(section, is_delta) if name == MERGEINFO]
+    except Malformed:
+        # For this svnhist refuses the dump.
+        return None
     if values:
         return Setting(values[-1])
     return None if is_delta else Setting(None)
@@ -203,74 +212,70 @@ def setting_of(section: bytes, is_delta: bool) -> Optional[Setting]:
 
 def make(file: BinaryIO, folder: str, seen: Callable[[int], object]) -> Index:
     """Copies a dump to a folder, with its index."""
-    source = Source(file)
+    before = state_of(file)
     with open(os.path.join(folder, "dump"), "wb", 1 << 20) as copy:
-        stripper = Stripper(source, copy.write, places=True, people=True)
+        stripper = Stripper(Source(file), copy.write, places=True, people=True)
         found = stripper.run(seen)
-    index = Index(found.format, found.uuid or b"", found.records, found.read, found.fault is None and found.is_from_0,
-                  found.revisions, found.renewals)
+    after = state_of(file)
+    if after != before:
+        raise Failed("the dump was changed while it was read")
+    size = found.read if after is None else max(after.size, found.read)
+    index = Index(found.format, found.uuid or b"", found.records, size, found.length,
+                  found.fault is None and found.is_from_0, found.revisions, found.renewals)
     with open(os.path.join(folder, "index"), "wb") as file_of_index:
         file_of_index.write(index.text())
     return index
 
 
-def cache_folder() -> str:
-    base = os.environ.get("XDG_CACHE_HOME") or os.path.join(os.path.expanduser("~"), ".cache")
-    return os.path.join(base, "svnhist")
+class State(NamedTuple):
+    """What tells cheaply whether a file was changed: its size and the time of its content."""
+
+    size: int
+    time: int
 
 
-def key_of(file: BinaryIO) -> str:
-    """A name for the content of a file, by what tells it apart cheaply: where it is, its size and its time, and what
-    stands at both its ends."""
+def state_of(file: BinaryIO) -> Optional[State]:
+    """The state of a regular file."""
     status = os.fstat(file.fileno())
-    place = status.st_dev, status.st_ino, status.st_size, status.st_mtime_ns
-    digest = hashlib.sha256(b"%d %d %d %d\n" % place)
-    for begin in (0, max(status.st_size - END, 0)):
-        digest.update(os.pread(file.fileno(), END, begin))
-    return digest.hexdigest()
+    return State(status.st_size, status.st_mtime_ns) if stat.S_ISREG(status.st_mode) else None
+
+
+def opened(file: BinaryIO, is_cached: bool, seen: Callable[[int], object]) -> Store:
+    """The store of a dump. A regular file is looked for in the cache, and kept there."""
+    state = state_of(file)
+    top = cache.folder()
+    if not is_cached or state is None or not state.size or file.tell() or top is None:
+        return in_folder(file, tempfile.mkdtemp(prefix="svnask-"), seen)
+    name = cache.key_of(file)
+    kept = load(os.path.join(top, name))
+    if kept is not None:
+        return kept
+    try:
+        made = cache.new_folder(top)
+        store = in_folder(file, made, seen)
+        if not store.index.is_whole:
+            return store
+        cache.flush(made)
+    except OSError:
+        # The cache can't be written, perhaps since its disk is full.
+        file.seek(0)
+        return in_folder(file, tempfile.mkdtemp(prefix="svnask-"), seen)
+    return keep(store, made, os.path.join(top, name))
 
 
 def load(folder: str) -> Optional[Store]:
     """The store of a folder of the cache, if it is there and as it was made."""
     try:
+        if not cache.is_own(folder):
+            return None
         with open(os.path.join(folder, "index"), "rb") as file:
             store = Store(folder, index_of(file.read()), True)
-        os.utime(folder)
-        return store
+        if os.path.getsize(store.dump) != store.index.length:
+            return None
     except (OSError, ValueError, IndexError):
         return None
-
-
-def opened(file: BinaryIO, is_cached: bool, seen: Callable[[int], object]) -> Store:
-    """The store of a dump. A regular file is looked for in the cache, and kept there."""
-    status = os.fstat(file.fileno())
-    if not is_cached or not stat.S_ISREG(status.st_mode) or not status.st_size:
-        return in_folder(file, tempfile.mkdtemp(prefix="svnask-"), seen)
-    top = cache_folder()
-    folder = os.path.join(top, key_of(file))
-    kept = load(folder)
-    if kept is not None:
-        return kept
-    try:
-        os.makedirs(top, mode=0o700, exist_ok=True)
-        forget(top)
-        made = tempfile.mkdtemp(prefix=NEW, dir=top)
-        store = in_folder(file, made, seen)
-    except OSError:
-        # The cache can't be written, perhaps since its disk is full.
-        file.seek(0)
-        return in_folder(file, tempfile.mkdtemp(prefix="svnask-"), seen)
-    return keep(store, made, folder) if store.index.is_whole else store
-
-
-def forget(top: str) -> None:
-    """Takes out of the cache what was not used for long, and what a run that was killed left half made."""
-    now = time.time()
-    for name in os.listdir(top):
-        folder = os.path.join(top, name)
-        with contextlib.suppress(OSError):
-            if now - os.stat(folder).st_mtime > (UNFINISHED if name.startswith(NEW) else UNUSED):
-                shutil.rmtree(folder)
+    cache.touch(folder)
+    return store
 
 
 def in_folder(file: BinaryIO, folder: str, seen: Callable[[int], object]) -> Store:
@@ -282,13 +287,13 @@ def in_folder(file: BinaryIO, folder: str, seen: Callable[[int], object]) -> Sto
 
 
 def keep(store: Store, made: str, folder: str) -> Store:
-    """Gives a folder its name in the cache. Where another run was faster, its folder is the same."""
-    try:
-        os.rename(made, folder)
-    except OSError:
-        other = load(folder)
-        if other is None:
-            return store
+    """Gives a folder its name in the cache. Where another run was faster, its folder is the same; one that is damaged
+    or of another version makes room."""
+    if cache.put(made, folder):
+        return Store(folder, store.index, True)
+    other = load(folder)
+    if other is not None:
         store.close()
         return other
-    return Store(folder, store.index, True)
+    cache.remove(folder)
+    return Store(folder, store.index, True) if cache.put(made, folder) else store

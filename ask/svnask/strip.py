@@ -8,6 +8,7 @@ import re
 from dataclasses import dataclass, field
 from typing import Callable, Dict, List, Optional, Tuple
 
+from .digits import number
 from .source import Source
 
 Write = Callable[[bytes], object]
@@ -80,7 +81,7 @@ def clean(path: bytes) -> bytes:
 def number_of(digits: bytes) -> int:
     if not digits.isdigit():
         raise Malformed("a length is not a number")
-    return int(digits)
+    return number(digits)
 
 
 def text_at(section: bytes, at: int, letter: bytes) -> Tuple[bytes, int]:
@@ -165,9 +166,11 @@ class Stripper:
                 turn += 1
                 if turn & 0xfff == 0:
                     seen(self.source.base + at)
+            if self.source.is_cut:
+                raise Malformed("the dump was cut while it was read")
         except Malformed as fault:
             self.copy.fault = str(fault)
-        self.copy.read = self.source.base + len(self.source.data)
+        self.copy.read = self.source.read
         return self.copy
 
     def _put(self, piece: bytes) -> None:

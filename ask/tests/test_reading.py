@@ -9,9 +9,9 @@ from typing import BinaryIO, Callable, List
 from unittest import mock
 
 import base
-from svnask import store
+from svnask import cache, store
 from svnask.answers import Line
-from svnask.errors import Refused
+from svnask.errors import Failed, Refused
 from svnask.history import History
 from svnask.source import Source
 from svnask.strip import Stripper
@@ -101,14 +101,89 @@ class Reading(base.Case):
         folder = os.path.join(os.environ["XDG_CACHE_HOME"], "svnhist")
         self.assertEqual((len(os.listdir(folder)), os.stat(folder).st_mode & 0o777), (1, 0o700))
 
-    def test_a_damaged_cache_is_made_anew(self) -> None:
-        dump = base.dump_of("branches")
-        self.history(dump)
+    def kept(self) -> str:
+        """The only folder of the cache."""
         folder = os.path.join(os.environ["XDG_CACHE_HOME"], "svnhist")
-        index = os.path.join(folder, os.listdir(folder)[0], "index")
-        with open(index, "wb") as file:
-            file.write(b"svnask 0")
-        self.assertEqual(self.history(dump).head, 13)
+        name, = os.listdir(folder)
+        return os.path.join(folder, name)
+
+    def test_a_damaged_cache_is_made_anew(self) -> None:
+        with self.history(base.dump_of("branches")):
+            folder = self.kept()
+        for name in ("dump", "index"):
+            with open(os.path.join(folder, name), "rb") as file:
+                whole = file.read()
+            ends = [whole.rindex(b"Revision-number") - 1, whole.rindex(b"Node-path")] if name == "dump" else []
+            wrong = [whole[:end] for end in (*ends, 0, 9, len(whole) // 2, len(whole) - 1)] + [whole + b"\n7"]
+            for content in wrong + [whole.replace(b"svnask 2 ", b"svnask 1 ")]:
+                with open(os.path.join(folder, name), "wb") as file:
+                    file.write(content)
+                with self.history(base.dump_of("branches")) as history:
+                    self.assertEqual((history.head, history.log(b"trunk", 13).revisions), (13, [5, 2, 1]))
+                with open(os.path.join(self.kept(), name), "rb") as file:
+                    self.assertEqual(file.read(), whole)
+
+    def test_a_dump_whose_middle_was_changed_is_read_anew(self) -> None:
+        with open(base.dump_of("branches"), "rb") as file:
+            whole = file.read()
+        dump = self.made("dump", whole)
+        status = os.stat(dump)
+        with mock.patch.object(cache, "END", 8):
+            self.assertEqual(self.history(dump).revision(9).author, b"alice")
+            with open(dump, "r+b") as file:
+                file.write(whole.replace(b"alice", b"malic"))
+            os.utime(dump, ns=(status.st_atime_ns, status.st_mtime_ns))
+            self.assertEqual(self.history(dump).revision(9).author, b"malic")
+
+    def test_a_copy_is_on_the_disk_before_it_has_its_name(self) -> None:
+        done: List[str] = []
+        kept = {name: getattr(os, name) for name in ("fsync", "rename")}
+
+        def noted(name: str) -> Callable[..., object]:
+            return lambda *words: done.append(name) or kept[name](*words)
+
+        with mock.patch.object(os, "fsync", noted("fsync")), mock.patch.object(os, "rename", noted("rename")):
+            self.history(base.dump_of("branches"))
+        self.assertEqual(done, ["fsync"] * 3 + ["rename"])
+
+    def test_a_cache_that_cannot_be_written_is_read(self) -> None:
+        self.history(base.dump_of("branches"))
+        with mock.patch.object(os, "utime", side_effect=OSError), mock.patch.object(store, "make", side_effect=OSError):
+            self.assertEqual(self.history(base.dump_of("branches")).head, 13)
+
+    def test_a_cache_of_another_user_is_not_read(self) -> None:
+        self.history(base.dump_of("branches"))
+        with mock.patch.object(os, "geteuid", return_value=os.geteuid() + 1), mock.patch.object(cache, "ROOT", -1):
+            self.assertIsNone(store.load(self.kept()))
+
+    def test_without_a_home_there_is_no_cache(self) -> None:
+        self.addCleanup(os.chdir, os.getcwd())
+        os.chdir(self.folder)
+        with mock.patch.dict(os.environ), mock.patch.object(os.path, "expanduser", lambda path: path):
+            del os.environ["XDG_CACHE_HOME"]
+            os.environ.pop("HOME", None)
+            self.assertEqual(self.history(base.dump_of("branches")).head, 13)
+            os.environ["XDG_CACHE_HOME"] = "relative"
+            self.assertEqual(self.history(base.dump_of("branches")).head, 13)
+        self.assertEqual(os.listdir("."), [])
+
+    def test_a_dump_that_is_cut_while_it_is_read_is_not_answered(self) -> None:
+        blocks = [base.revision(0), base.revision(1)]
+        blocks += [base.node("f%d" % number, "add", kind="file") + b"\n" * 50000 for number in range(60)]
+        filled = Source._fill
+
+        for content in (base.dump(blocks), base.dump(blocks[:3])):
+            dump = self.made("dump", content)
+
+            def cut(source: Source, at: int, count: int) -> int:
+                os.truncate(dump, len(base.dump(blocks[:2])))
+                return filled(source, at, count)
+
+            for is_cached in (True, False):
+                dump = self.made("dump", content)
+                with mock.patch.object(Source, "_fill", cut), self.assertRaises(Failed):
+                    History.open(dump, is_cached)
+                self.assertEqual(glob.glob(os.path.join(os.environ["XDG_CACHE_HOME"], "svnhist", "*")), [])
 
     def test_a_cache_that_cannot_be_written_is_done_without(self) -> None:
         os.environ["XDG_CACHE_HOME"] = "/dev/null"
@@ -118,7 +193,7 @@ class Reading(base.Case):
         written = store.make
 
         def fail_in_cache(file: BinaryIO, folder: str, seen: Callable[[int], object]) -> store.Index:
-            if store.NEW in folder:
+            if cache.NEW in folder:
                 raise OSError(errno.ENOSPC, "no space")
             return written(file, folder, seen)
 
