@@ -10,6 +10,8 @@ import re
 from dataclasses import dataclass
 from typing import Dict, List, NamedTuple, Optional, Tuple
 
+from .errors import Denied
+
 Range = Tuple[int, int]
 # A line of an answer to `log`.
 LOGGED = re.compile(rb"r([0-9]+) [^\n]*\n?")
@@ -121,6 +123,11 @@ def numbers_in(log: bytes) -> Optional[List[int]]:
 
 
 def peg_text(path: bytes, rev: int) -> bytes:
+    """A path and its peg in a line of fields between tabs."""
+    for letter in b"\t\n":
+        if letter in path:
+            raise Denied("E160005", "svnhist can't be asked about a path with the character 0x%02x: '%s'"
+                         % (letter, path.decode("utf-8", "surrogateescape")))
     return b"%s@%d" % (path, rev)
 
 

@@ -1,18 +1,23 @@
 """The command `svnask`."""
 import argparse
+import contextlib
 import json
 import os
 import signal
 import sys
 import time
+import traceback
 from typing import BinaryIO, Iterable, Iterator, List, NoReturn, Optional
 
 from .errors import Denied, Error, Failed, Refused, Usage
 from .history import History
 from .refusals import about_record, explained
+from .texts import say
 from .verbs import VERBS
 
 VALUED = frozenset(("-r", "--revision", "-c", "--change", "-l", "--limit", "-o", "--output", "--into", "--show-revs"))
+# The status where svnask itself is at fault.
+FAULT = 5
 
 
 class Parser(argparse.ArgumentParser):
@@ -72,7 +77,7 @@ class Progress:
 
     def __call__(self, read: int) -> None:
         now = time.monotonic()
-        if now - self._begun < 1 or now - self._shown < 0.1 or not sys.stderr.isatty():
+        if now - self._begun < 1 or now - self._shown < 0.1 or sys.stderr is None or not sys.stderr.isatty():
             return
         self._shown, self._is_open = now, True
         share = "%3d %%, " % (100 * read // self._size) if self._size else ""
@@ -87,13 +92,15 @@ class Progress:
 
 
 def opened(name: str) -> BinaryIO:
+    if name == "-" and sys.stdin is None:
+        raise Failed("cannot read the standard input: it is closed")
     try:
         return sys.stdin.buffer if name == "-" else open(name, "rb")
     except IsADirectoryError as error:
         advice = ": svnadmin dump -q %s | svnask - .." % name if os.path.isdir(os.path.join(name, "db")) else ""
         raise Failed("%s is a directory%s" % (name, advice)) from error
-    except OSError as error:
-        raise Failed("cannot read %s: %s" % (name, error.strerror)) from error
+    except (OSError, ValueError) as error:
+        raise Failed("cannot read %s: %s" % (name, getattr(error, "strerror", error))) from error
 
 
 def lines_of(history: History, words: argparse.Namespace) -> Iterator[bytes]:
@@ -117,7 +124,7 @@ def answer(words: argparse.Namespace, file: BinaryIO) -> None:
         try:
             write(lines_of(history, words), history)
         except Refused as refused:
-            raise Failed("\n".join([str(refused)] + advice(refused, history, words.dump)), refused.status) from refused
+            raise Failed(str(refused), refused.status, advice(refused, history, words.dump)) from refused
 
 
 def write(lines: Iterable[bytes], history: History) -> None:
@@ -158,11 +165,9 @@ def main(arguments: Optional[List[str]] = None) -> int:
         if signal.getsignal(number) != signal.SIG_IGN:
             signal.signal(number, stop)
     try:
-        words = parser().parse_args(joined(with_dump(sys.argv[1:] if arguments is None else arguments)))
-        with opened(words.dump) as file:
-            answer(words, file)
+        run(sys.argv[1:] if arguments is None else arguments)
     except Error as error:
-        print("svnask: %s" % error, file=sys.stderr)
+        say("svnask: %s" % error, *error.advice)
         return error.status
     except Stopped as stopped:
         end_by(stopped.args[0])
@@ -170,9 +175,35 @@ def main(arguments: Optional[List[str]] = None) -> int:
         # Like other filters it says nothing where nobody reads what it writes.
         end_by(signal.SIGPIPE)
     except OSError as error:
-        print("svnask: cannot write: %s" % error.strerror, file=sys.stderr)
+        say("svnask: cannot write: %s" % error.strerror)
+        drop_output()
         return 3
     except MemoryError:
-        print("svnask: out of memory", file=sys.stderr)
+        say("svnask: out of memory")
         return 4
+    except Exception as error:
+        if os.environ.get("SVNASK_DEBUG") == "1":
+            say(*traceback.format_exc().splitlines())
+        say("svnask: a fault of svnask: %s: %s. Please report it, with what it prints where SVNASK_DEBUG=1 is set"
+            % (type(error).__name__, error))
+        return FAULT
     return 0
+
+
+def run(arguments: List[str]) -> None:
+    if sys.stdout is None:
+        raise Failed("cannot write: the standard output is closed")
+    try:
+        words = parser().parse_args(joined(with_dump(arguments)))
+    except SystemExit:
+        # The help was printed, or the version.
+        sys.stdout.flush()
+        return
+    with opened(words.dump) as file:
+        answer(words, file)
+
+
+def drop_output() -> None:
+    """Has what could not be written not be tried again at the end."""
+    with contextlib.suppress(OSError, ValueError):
+        os.dup2(os.open(os.devnull, os.O_WRONLY), sys.stdout.fileno())

@@ -4,13 +4,13 @@ import re
 import shutil
 import signal
 import subprocess
-import sys
 import tempfile
 import threading
 from typing import IO, Iterator, List, Optional
 
 from .answers import Answer, Query
 from .errors import Failed, Refused
+from .texts import say
 
 HERE = os.path.dirname(os.path.abspath(__file__))
 PIECE = 1 << 20
@@ -105,10 +105,10 @@ class Messages(threading.Thread):
     def run(self) -> None:
         for line in self._stream:
             if self.last:
-                print(self.last, file=sys.stderr, flush=True)
+                say(self.last)
             self.last = line.decode("utf-8", "replace").rstrip("\n")
             if BUILDING.match(self.last):
-                print(self.last, file=sys.stderr, flush=True)
+                say(self.last)
                 self.last = ""
         self._stream.close()
 

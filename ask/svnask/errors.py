@@ -1,19 +1,21 @@
 """Why there is no answer."""
+from typing import Sequence
 
 
 class Error(Exception):
-    """Why there is no answer, with the status with which the command ends."""
+    """Why there is no answer, with the status with which the command ends, and further lines that help."""
 
-    def __init__(self, text: str, status: int) -> None:
+    def __init__(self, text: str, status: int, advice: Sequence[str] = ()) -> None:
         super().__init__(text)
         self.status = status
+        self.advice = advice
 
 
 class Failed(Error):
     """Something could not be read, run or written."""
 
-    def __init__(self, text: str, status: int = 3) -> None:
-        super().__init__(text, status)
+    def __init__(self, text: str, status: int = 3, advice: Sequence[str] = ()) -> None:
+        super().__init__(text, status, advice)
 
 
 class Usage(Error):

@@ -51,7 +51,8 @@ class History:
             with sys.stdin.buffer if dump == "-" else open(dump, "rb") as file:
                 return cls(opened(file, is_cached, seen), of_file(file))
         except OSError as error:
-            raise Failed("cannot read %s: %s" % (dump, error.strerror)) from error
+            name = dump if isinstance(dump, str) else dump.name
+            raise Failed("cannot read %s, or copy what is needed of it: %s" % (name, error.strerror)) from error
 
     @property
     def is_whole(self) -> bool:
@@ -118,7 +119,7 @@ class History:
         >>> history.front()[:31]
         b'SVN-fs-dump-format-version: 2\\n\\n'
         """
-        return self._store.data[:1 << 12] if os.path.getsize(self._store.dump) else b""
+        return self._store.data[:1 << 12]
 
     def check(self) -> None:
         """Raises `Refused` where svnhist refuses the dump.

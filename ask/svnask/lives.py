@@ -60,22 +60,35 @@ class Tree:
         return sorted(found, key=lambda each: each[1].number)
 
     def exists(self, path: bytes, rev: int) -> bool:
-        """Whether a path is in the tree of a revision."""
-        if path == b"/":
-            return True
-        place = (path, rev)
-        if place not in self._known:
-            self._known[place] = self._is_there(path, rev)
-        return self._known[place]
+        """Whether a path is in the tree of a revision: in its own, or in that which it was copied from, and so on."""
+        place: Optional[Place] = (path, rev)
+        passed: List[Place] = []
+        is_there = False
+        while place is not None and place not in self._known:
+            passed.append(place)
+            is_there, place = self._step(*place)
+        if place is not None:
+            is_there = self._known[place]
+        self._known.update((each, is_there) for each in passed)
+        return is_there
 
-    def _is_there(self, path: bytes, rev: int) -> bool:
+    def _step(self, path: bytes, rev: int) -> Tuple[bool, Optional[Place]]:
+        """Whether a path is in the tree of a revision, or else the place on which that depends."""
+        if path == b"/":
+            return True, None
         newest: Optional[Tuple[bytes, Event]] = None
         for top in tops_of(path):
             events = self._events.get(top, [])
             at = count_up_to(events, rev)
             if at and (newest is None or newest[1].number < events[at - 1].number):
                 newest = (top, events[at - 1])
-        return newest is not None and self.after(path, *newest)
+        if newest is None or newest[1].action == "delete":
+            return False, None
+        top, event = newest
+        if event.source is None:
+            return path == top, None
+        # Where a copy is not from an older revision, svnhist refuses the dump.
+        return False, moved(path, top, event.source) if event.source[1] < event.rev else None
 
     def after(self, path: bytes, top: bytes, event: Event) -> bool:
         """Whether a path is there after an event of it or of a path above it."""
@@ -86,19 +99,26 @@ class Tree:
         return self.exists(*moved(path, top, event.source))
 
     def names(self, path: bytes) -> Set[bytes]:
-        """The names of all that was ever directly below a path."""
-        return set(self._all_names(path, None, set()))
+        """The names of all that was ever directly below a path, by its own records or those of what it was copied
+        from."""
+        found: Set[bytes] = set()
+        seen: Set[Place] = set()
+        left: List[Tuple[bytes, Optional[int]]] = [(path, None)]
+        while left:
+            place, rev = left.pop()
+            found.update(self._names.get(place, ()))
+            for source in self._sources(place, rev):
+                if source not in seen:
+                    seen.add(source)
+                    left.append(source)
+        return found
 
-    def _all_names(self, path: bytes, rev: Optional[int], seen: Set[Place]) -> Iterator[bytes]:
-        """The names that were below a path, up to a revision if one is given."""
-        yield from self._names.get(path, ())
+    def _sources(self, path: bytes, rev: Optional[int]) -> Iterator[Place]:
+        """Where a path was copied from, up to a revision if one is given."""
         for top in tops_of(path):
             for event in self._events.get(top, ()):
                 if event.source is not None and (rev is None or event.rev <= rev):
-                    source = moved(path, top, event.source)
-                    if source not in seen:
-                        seen.add(source)
-                        yield from self._all_names(*source, seen)
+                    yield moved(path, top, event.source)
 
     def matching(self, pattern: bytes) -> List[bytes]:
         """The paths that ever were and match a pattern, component by component."""
@@ -122,6 +142,12 @@ class Tree:
             begun = (event.rev, source) if is_there else None
         if begun is not None:
             yield Life(path, begun[0], head, begun[1], True)
+
+
+def moved_lives(lives: Sequence[Life]) -> Set[Life]:
+    """Those of some lives that go on with another one of them under a new name."""
+    ends = {(life.path, life.last): life for life in lives}
+    return {life for life in lives if life.source in ends and life.continues(ends[life.source])}
 
 
 def count_up_to(events: Sequence[Event], rev: int) -> int:

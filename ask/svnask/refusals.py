@@ -2,7 +2,7 @@
 import re
 from typing import List, NamedTuple, Optional
 
-from .answers import Query
+from .digits import number
 from .errors import Refused
 from .store import Record
 
@@ -74,9 +74,9 @@ def about_version(front: bytes) -> List[str]:
 
 def about_revisions(front: bytes) -> List[str]:
     found = re.search(rb"^Revision-number: ([0-9]+)$", front, re.MULTILINE)
-    if found and int(found[1]) > 0:
+    if found and number(found[1]) > 0:
         return ["this is a part of a dump, from revision %d on: it needs those before it, see 'svnadmin dump -r 0:HEAD'"
-                % int(found[1])]
+                % number(found[1])]
     return ["the revisions of a dump are all from 0 on, each once"]
 
 
@@ -114,7 +114,7 @@ def bad_peg(field: bytes) -> Optional[str]:
         if shown.partition("@")[2].strip("@"):
             return "the peg revision of '%s' is not a number" % shown
         return "'%s' has no peg revision: '%s@REV'" % (shown, shown.rstrip("@"))
-    if int(found[2]) > 2147483647:
+    if number(found[2]) > 2147483647:
         return "the revision of '%s' is above 2147483647" % shown
     if {b".", b".."} & set(found[1].split(b"/")):
         return "'%s' has a component '.' or '..'" % shown

@@ -3,7 +3,7 @@ import os
 import stat
 from typing import BinaryIO
 
-PIECE = 1 << 20
+PIECE = 1 << 17
 NEWLINE = 10
 
 

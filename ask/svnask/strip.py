@@ -267,7 +267,7 @@ class Stripper:
     def _note_copy(self, front: bytes) -> None:
         found = COPY.search(front)
         rev = len(self.copy.revisions) - 1
-        if found and int(found[2]) == rev - 1 and clean(found[1]) == clean(found[3]):
+        if found and number(found[2]) == rev - 1 and clean(found[1]) == clean(found[3]):
             self.copy.renewals.append((rev, clean(found[1])))
 
     def _any_block(self, at: int) -> int:

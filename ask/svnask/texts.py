@@ -1,5 +1,6 @@
-"""Texts of a repository, which may be any bytes, for a file of XML."""
+"""Texts of a repository, which may be any bytes, for a file of XML or a line on a terminal."""
 import re
+import sys
 
 # What XML can't have, and what no one can read.
 CONTROL = re.compile("[\x00-\x1f\x7f-\x9f\ufffe\uffff]")
@@ -9,3 +10,17 @@ def readable(text: bytes) -> str:
     """Bytes as characters that XML may have. Others are shown as `\\xff`."""
     return CONTROL.sub(lambda found: found[0].encode("unicode_escape").decode("ascii"),
                        text.decode("utf-8", "backslashreplace"))
+
+
+def say(*lines: str) -> None:
+    """Prints lines on standard error, where anybody reads them. Control characters, by which a name could rule the
+    terminal, are shown as `\\x1b`."""
+    if sys.stderr is None:
+        return
+    try:
+        for line in lines:
+            sys.stderr.write(readable(line.encode("utf-8", "surrogateescape")) + "\n")
+        sys.stderr.flush()
+    except OSError:
+        # There is no other place to say that.
+        pass

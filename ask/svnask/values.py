@@ -4,6 +4,7 @@ import re
 from typing import Dict, Iterable, Iterator, List, NamedTuple, Optional, Tuple
 
 from .changes import is_at_or_below
+from .digits import number
 from .store import Record
 
 RANGE = re.compile(rb"([0-9]+)(?:-([0-9]+))?(\*?)\Z")
@@ -27,8 +28,8 @@ def runs_of(text: bytes) -> List[Run]:
         found = RANGE.match(element)
         if found is None:
             raise ValueError("no range of revisions")
-        lo = int(found[1])
-        hi = int(found[2] or lo)
+        lo = number(found[1])
+        hi = number(found[2] or found[1])
         if lo < 1 or hi > GREATEST or (found[2] is not None and lo >= hi):
             raise ValueError("no range of revisions")
         runs.append(Run(lo, hi, not found[3]))

@@ -51,7 +51,8 @@ def called(*words: str, **variables: str) -> Done:
     kept = {number: signal.getsignal(number) for number in (signal.SIGINT, signal.SIGTERM, signal.SIGHUP)}
     output, said = io.TextIOWrapper(io.BytesIO()), io.StringIO()
     try:
-        with mock.patch.dict(os.environ, variables), contextlib.redirect_stdout(output), contextlib.redirect_stderr(said):
+        with mock.patch.dict(os.environ, variables), contextlib.redirect_stdout(output), \
+                contextlib.redirect_stderr(said):
             status = cli.main(list(words))
     finally:
         for number, handler in kept.items():

@@ -1,4 +1,5 @@
 """Lives of branches and tags."""
+import os
 import unittest
 
 import base
@@ -37,7 +38,7 @@ class Lives(base.Case):
         for pattern, wanted in (("caf?", [1, 0]), ("caf[\u00e9\u00e8]", [0]), ("[!a]", [2, 3]), ("?", [4, 2, 3]),
                                 ("\u6f22", [2]), ("[\udcff]", [3]), ("*\u00e9", [0])):
             found = tree.matching(b"/b/" + pattern.encode("utf-8", "surrogateescape"))
-            self.assertEqual(found, [b"/b/" + names[each].encode("utf-8", "surrogateescape") for each in wanted], pattern)
+            self.assertEqual([os.fsdecode(path) for path in found], ["/b/" + names[each] for each in wanted], pattern)
 
 
 if __name__ == "__main__":

@@ -1,8 +1,10 @@
 """What all verbs of the command have in common."""
-from argparse import ArgumentParser, Namespace
+import re
+from argparse import ArgumentParser, ArgumentTypeError, Namespace
 from typing import Any, Dict, Iterator, Optional
 
 from ..changes import Change
+from ..digits import number
 from ..errors import Denied
 from ..history import History
 from ..store import Record
@@ -29,6 +31,13 @@ class Verb:
     def objects(self, history: History, words: Namespace) -> Iterator[Object]:
         """The same for a script, one object a line."""
         raise NotImplementedError
+
+
+def counted(text: str) -> int:
+    """The number that an argument is."""
+    if re.match("[0-9]+\\Z", text) is None:
+        raise ArgumentTypeError("'%s' is not a number" % text)
+    return number(text)
 
 
 def shown(text: Optional[bytes]) -> Optional[str]:

@@ -4,7 +4,7 @@ from typing import Iterator, List
 
 from .. import branches
 from ..history import History
-from ..lives import Life
+from ..lives import Life, moved_lives
 from ..targets import decoded, path_of, target_of
 from .base import Object, Verb, existing
 
@@ -39,9 +39,9 @@ class BranchesVerb(Verb):
     def text(self, history: History, words: Namespace) -> Iterator[bytes]:
         lives = branches.lives_of(history, patterns_of(words))
         changes = branches.last_changes(history, lives)
+        moved = moved_lives(lives)
         for life in lives:
-            moved = any(life.continues(other) for other in lives)
-            origin = (b"moved " if moved else b"") + origin_of(life)
+            origin = (b"moved " if life in moved else b"") + origin_of(life)
             end = b"" if life.is_alive else b"\tended in r%d" % (life.last + 1)
             yield b"%s\tr%d-r%d\t%s\tchanged in r%d%s\n" % (life.path, life.first, life.last, origin, changes[life],
                                                             end)
@@ -49,9 +49,9 @@ class BranchesVerb(Verb):
     def objects(self, history: History, words: Namespace) -> Iterator[Object]:
         lives = branches.lives_of(history, patterns_of(words))
         changes = branches.last_changes(history, lives)
+        moved = moved_lives(lives)
         for life in lives:
-            moved = any(life.continues(other) for other in lives)
-            yield dict(object_of_life(life), last_change=changes[life], is_moved=moved)
+            yield dict(object_of_life(life), last_change=changes[life], is_moved=life in moved)
 
 
 class ContainsVerb(Verb):

@@ -6,11 +6,12 @@ from ..errors import Failed
 from ..history import History
 from ..refusals import about_record
 from ..store import Record
-from .base import Object, Verb, object_of_record, shown
+from ..targets import encoded
+from .base import Object, Verb, counted, object_of_record, shown
 
 
 def described(history: History, record: Record) -> Iterator[bytes]:
-    yield about_record(record).encode("utf-8", "surrogateescape") + b"\n"
+    yield encoded(about_record(record)) + b"\n"
     yield from (b"  " + line + b"\n" for line in history.header(record.at))
 
 
@@ -20,7 +21,7 @@ class RecordVerb(Verb):
     judges = False
 
     def arguments(self, parser: ArgumentParser) -> None:
-        parser.add_argument("number", metavar="K", type=int)
+        parser.add_argument("number", metavar="K", type=counted)
 
     def record(self, history: History, words: Namespace) -> Record:
         for _, record in history.blocks():
@@ -41,7 +42,7 @@ class ByteVerb(Verb):
     judges = False
 
     def arguments(self, parser: ArgumentParser) -> None:
-        parser.add_argument("offset", metavar="B", type=int)
+        parser.add_argument("offset", metavar="B", type=counted)
 
     def block(self, history: History, words: Namespace) -> Tuple[int, Optional[Record]]:
         if not 0 <= words.offset <= history.index.size:
@@ -77,7 +78,7 @@ class InfoVerb(Verb):
     def text(self, history: History, words: Namespace) -> Iterator[bytes]:
         history.check()
         for name, value in self.object(history).items():
-            yield ("%s: %s\n" % (name.replace("_", " "), "-" if value is None else value)).encode()
+            yield encoded("%s: %s\n" % (name.replace("_", " "), "-" if value is None else value))
 
     def objects(self, history: History, words: Namespace) -> Iterator[Object]:
         history.check()
