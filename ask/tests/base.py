@@ -7,8 +7,9 @@ import signal
 import subprocess
 import sys
 import tempfile
+import time
 import unittest
-from typing import List, NamedTuple, Optional, Tuple
+from typing import Callable, Iterator, List, NamedTuple, Optional, Tuple
 from unittest import mock
 
 TESTS = os.path.dirname(os.path.abspath(__file__))
@@ -60,6 +61,28 @@ def called(*words: str, **variables: str) -> Done:
     output.flush()
     assert isinstance(output.buffer, io.BytesIO)
     return Done(status, output.buffer.getvalue(), said.getvalue())
+
+
+@contextlib.contextmanager
+def signals_end() -> Iterator[None]:
+    """Has what is started meanwhile end at a signal, whether or not the caller of the tests ignores it: a handler is
+    not inherited, and a signal that is ignored is."""
+    ending = (signal.SIGINT, signal.SIGTERM, signal.SIGHUP)
+    kept = {number: signal.signal(number, lambda number, frame: None) for number in ending}
+    try:
+        yield
+    finally:
+        for number, handler in kept.items():
+            signal.signal(number, handler)
+
+
+def wait_for(is_so: Callable[[], object]) -> None:
+    """Waits until something is so, which it should be soon."""
+    end = time.monotonic() + 60
+    while not is_so():
+        if time.monotonic() > end:
+            raise AssertionError("it is not so after a minute")
+        time.sleep(0.01)
 
 
 def refusal_of_engine(dump: str) -> str:

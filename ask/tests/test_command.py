@@ -1,17 +1,18 @@
 """The command: what it prints, its statuses, and what it says of input that is no dump."""
+import glob
 import gzip
 import json
 import os
 import signal
 import subprocess
 import sys
-import time
 import unittest
 from typing import List
 
 import base
 
 DUMP = base.dump_of("branches")
+FIRST_LINE = b"SVN-fs-dump-format-version: 2\n\n"
 
 
 class Command(base.Case):
@@ -181,27 +182,41 @@ class Command(base.Case):
             self.check_signal(number)
 
     def test_a_signal_that_is_ignored_stays_ignored(self) -> None:
-        process = subprocess.Popen(["nohup", sys.executable, base.COMMAND, "-", "info"], stdin=subprocess.PIPE,
-                                   stdout=subprocess.PIPE, stderr=subprocess.PIPE)
-        time.sleep(0.5)
+        process = self.reading("nohup")
         process.send_signal(signal.SIGHUP)
         with open(DUMP, "rb") as file:
-            output, _ = process.communicate(file.read())
+            output, _ = process.communicate(file.read()[len(FIRST_LINE):])
         self.assertEqual((process.returncode, output.split(b"\n")[2]), (0, b"youngest: 13"))
 
     def check_signal(self, number: int) -> None:
-        temporary = os.path.join(self.folder, "temporary-%d" % number)
-        os.mkdir(temporary)
-        process = subprocess.Popen([sys.executable, base.COMMAND, "-", "info"], stdin=subprocess.PIPE,
-                                   stderr=subprocess.PIPE,
-                                   env=dict(os.environ, TMPDIR=temporary))
-        assert process.stdin is not None
-        process.stdin.write(b"SVN-fs-dump-format-version: 2\n\n" + b"Revision-number: 0\n\n" * 9)
-        process.stdin.flush()
-        time.sleep(0.5)
+        process = self.reading()
         process.send_signal(number)
         process.communicate()
-        self.assertEqual((process.returncode, os.listdir(temporary)), (-number, []))
+        self.assertEqual((process.returncode, os.listdir(self.temporary())), (-number, []))
+
+    def temporary(self) -> str:
+        folder = os.path.join(self.folder, "temporary")
+        os.makedirs(folder, exist_ok=True)
+        return folder
+
+    def reading(self, *before: str) -> "subprocess.Popen[bytes]":
+        """A command that reads a dump from a pipe. That its copy is there is a sign that it began."""
+        with base.signals_end():
+            process = subprocess.Popen([*before, sys.executable, base.COMMAND, "-", "info"], stdin=subprocess.PIPE,
+                                       stdout=subprocess.PIPE, stderr=subprocess.PIPE,
+                                       env=dict(os.environ, TMPDIR=self.temporary()))
+        assert process.stdin is not None
+        process.stdin.write(FIRST_LINE)
+        process.stdin.flush()
+        base.wait_for(lambda: glob.glob(os.path.join(self.temporary(), "svnask-*", "dump")))
+        return process
+
+    def test_tests_of_signals_pass_where_the_caller_ignores_them(self) -> None:
+        names = ["test_command.Command.test_signals_leave_no_folder",
+                 "test_command.Command.test_a_signal_that_is_ignored_stays_ignored"]
+        done = subprocess.run(["sh", "-c", 'trap "" INT TERM HUP; exec "$@"', "sh", sys.executable, "-m", "unittest",
+                               *names], cwd=base.TESTS, stdout=subprocess.PIPE, stderr=subprocess.STDOUT)
+        self.assertEqual(done.returncode, 0, done.stdout.decode())
 
 
 if __name__ == "__main__":
