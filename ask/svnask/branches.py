@@ -95,10 +95,13 @@ class Left(NamedTuple):
 def unmerged(history: History, patterns: Sequence[bytes], into: Target) -> Iterator[Left]:
     """What of each branch of today is still to be merged into a target: `svn mergeinfo --show-revs eligible`."""
     explicit = Explicit(history.records())
-    for life in lives_of(history, patterns or (b"/branches/*",)):
-        if life.is_alive and life.path != into.path:
-            source = Target(life.path, history.head)
-            yield Left(life.path, mergeinfo.show_revs(history, explicit, source, into, mergeinfo.Question("eligible")))
+    sources = [Target(life.path, history.head) for life in lives_of(history, patterns or (b"/branches/*",))
+               if life.is_alive and life.path != into.path]
+    question = mergeinfo.Question("eligible")
+    answers = history.answers(query for source in sources
+                              for query in mergeinfo.queries_of(explicit, source, into, question))
+    for source in sources:
+        yield Left(source.path, mergeinfo.show_revs(history, explicit, answers, source, into, question))
 
 
 class Touched(NamedTuple):

@@ -113,6 +113,16 @@ class History:
             raise self._placed(refused) from refused
         self._is_accepted = True
 
+    def answers(self, queries: Iterable[Query]) -> Dict[Query, Answer]:
+        """The answer to each of some queries, all in one run of svnhist.
+
+        >>> query = Log(b"trunk", 13)
+        >>> history.answers([query, query])[query].lines
+        [b'r5 /trunk', b'r2 /trunk', b'r1 /trunk']
+        """
+        asked = list(dict.fromkeys(queries))
+        return dict(zip(asked, self.ask(asked)))
+
     def front(self) -> bytes:
         """The first bytes of the dump, without texts.
 

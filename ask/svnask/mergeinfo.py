@@ -1,15 +1,22 @@
-"""`mergeinfo --show-revs`: what `svn mergeinfo` prints of a source and a target."""
+"""`mergeinfo --show-revs`: what `svn mergeinfo` prints of a source and a target.
+
+What svnhist answers is taken from it: where both were, the log of the source, the mergeinfo of the target and of paths
+below it, and, but for `-R`, what was merged and what is eligible. `svn` also looks at the changed paths of a revision,
+lists some revisions that svnhist does not, and reads some texts that are malformed for svnhist; that is added here.
+"""
 from typing import Dict, Iterable, Iterator, List, NamedTuple, Optional, Set, Tuple
 
 from . import log
+from .answers import Answer, Inherited, Log, Logged, Mergeinfo, Merges, Pair, Query, Segments, Where
 from .changes import Change, is_at_or_below, parents_of
 from .errors import Denied
 from .history import History
-from .targets import Target, known
-from .values import Explicit, Run, Value, joined, rest_below, value_of
+from .targets import Target
+from .values import Explicit, Run, Value, joined, rest_below, runs_of, value_of
 
 # For each path the revisions of a history.
 Located = Dict[bytes, Set[int]]
+Answers = Dict[Query, Answer]
 
 
 class Lines(NamedTuple):
@@ -36,8 +43,9 @@ def revisions_in(runs: Iterable[Run], most: int, inheritable: bool) -> Set[int]:
 
 
 def lines_of(value: Value, most: int) -> Lines:
-    return Lines({path: revisions_in(runs, most, True) for path, runs in value.items()},
-                 {path: revisions_in(runs, most, False) for path, runs in value.items()})
+    """What a value says. A revision that is inheritable in one of several lines of a path is inheritable."""
+    whole = {path: revisions_in(runs, most, True) for path, runs in value.items()}
+    return Lines(whole, {path: revisions_in(runs, most, False) - whole[path] for path, runs in value.items()})
 
 
 def inherited(lines: Lines, rest: bytes) -> Lines:
@@ -47,30 +55,38 @@ def inherited(lines: Lines, rest: bytes) -> Lines:
 class Catalog:
     """The mergeinfo of a target, its own or inherited, and, if asked, that of each path below it that has its own."""
 
-    def __init__(self, history: History, explicit: Explicit, target: Target, is_recursive: bool) -> None:
+    def __init__(self, history: History, explicit: Explicit, answers: Answers, target: Target) -> None:
         self.target = target
         self._explicit = explicit
         self._head = history.head
         self.entries: Dict[bytes, Lines] = {}
-        top = self._of_target()
-        if top is not None:
-            self.entries[target.path] = top
-        if is_recursive:
-            for path, text in explicit.below(*target):
-                value = value_of(text)
-                if path != target.path and value is not None:
-                    self.entries[path] = lines_of(value, self._head)
+        for query, answer in answers.items():
+            if isinstance(query, Mergeinfo) and is_at_or_below(query.path, target.path):
+                assert isinstance(answer, Inherited)
+                lines = self._lines(query, answer)
+                if lines is not None:
+                    self.entries[query.path] = lines
 
-    def _of_target(self) -> Optional[Lines]:
-        path, rev = self.target
-        for above in [path, *parents_of(path)]:
-            text = self._explicit.text(above, rev)
+    def _lines(self, query: Mergeinfo, answer: Inherited) -> Optional[Lines]:
+        if answer.ok and (answer.text or self._has_value(query)):
+            value = {path: runs_of(ranges.encode("ascii")) for path, ranges in answer.value.items()}
+            return lines_of(value, self._head)
+        return self._read(query) if answer.status == "malformed-mergeinfo" else None
+
+    def _has_value(self, query: Mergeinfo) -> bool:
+        """Whether a path or one above it has a value. Its effective mergeinfo may be empty even so."""
+        return any(self._explicit.text(path, query.rev) is not None for path in [query.path, *parents_of(query.path)])
+
+    def _read(self, query: Mergeinfo) -> Optional[Lines]:
+        """What a text that is malformed for svnhist says to Subversion, which is less strict."""
+        for above in [query.path, *parents_of(query.path)]:
+            text = self._explicit.text(above, query.rev)
             if text is not None:
                 value = value_of(text)
                 if value is None:
                     return None
                 lines = lines_of(value, self._head)
-                return lines if above == path else inherited(lines, rest_below(path, above))
+                return lines if above == query.path else inherited(lines, rest_below(query.path, above))
         return None
 
     def nearest(self, path: bytes) -> Optional[bytes]:
@@ -78,16 +94,18 @@ class Catalog:
         return next((each for each in [path, *parents_of(path)] if each in self.entries), None)
 
 
-def located(history: History, target: Target, bounds: Tuple[int, int]) -> Located:
+def located(history: History, answers: Answers, target: Target, bounds: Tuple[int, int]) -> Located:
     """Where a path was, from revision 1 on and between the bounds."""
     found: Located = {}
-    answer = history.segments(*target)
+    answer = answers[Where(*target)]
+    assert isinstance(answer, Segments)
     if not answer.ok:
         raise log.not_reached(history, target)
     for segment in answer.segments:
         if segment.path is not None:
             revs = range(max(segment.lo, bounds[0], 1), min(segment.hi, bounds[1]) + 1)
-            found.setdefault(segment.path, set()).update(revs)
+            if revs:
+                found.setdefault(segment.path, set()).update(revs)
     return found
 
 
@@ -168,36 +186,70 @@ def bounds_of(history: History, source: Target, question: Question) -> Tuple[int
     return min(question.range), max(question.range)
 
 
-def show_revs(history: History, explicit: Explicit, source: Target, target: Target,
-              question: Question) -> List[Tuple[int, bool]]:
-    """The revisions of a source, with whether a star follows."""
-    is_merged = question.verb == "merged"
+def queries_of(explicit: Explicit, source: Target, target: Target, question: Question) -> List[Query]:
+    """All that is asked of svnhist for a question. The root is no target of `-R`."""
     if question.is_recursive and target.path == b"/":
         raise Denied("E195002", "-R is not taken for the root, where 'svn' fails itself")
-    own = located(history, target, (1, target.rev))
-    catalog = Catalog(history, explicit, target, question.is_recursive)
+    asked: List[Query] = [Where(*target), Mergeinfo(*target), Where(*source), Log(*source)]
+    if question.is_recursive:
+        return asked + [Mergeinfo(path, target.rev) for path, _ in explicit.below(*target)]
+    return asked + [Pair(*source, verb, *target) for verb in ("merged", "eligible")]
+
+
+def as_answered(answers: Answers, source: Target, target: Target, question: Question, found: Sorted,
+                same: Set[int]) -> Sorted:
+    """What svnhist says of the operative revisions, and of other ones what was found here. `same` are those in which
+    source and target were one path."""
+    if question.is_recursive:
+        return found
+    merged, eligible = answers[Pair(*source, "merged", *target)], answers[Pair(*source, "eligible", *target)]
+    logged = answers[Log(*source)]
+    assert isinstance(merged, Merges) and isinstance(eligible, Merges) and isinstance(logged, Logged)
+    if not merged.ok or not eligible.ok:
+        return found
+    operative = set(logged.revisions)
+    partial = {each.rev for each in merged.revisions if not each.inheritable}
+    if question.verb == "merged":
+        whole = {each.rev for each in merged.revisions if each.inheritable}
+    else:
+        # For svnhist one that was merged in part is not eligible.
+        partial -= same
+        whole = operative - partial - {each.rev for each in eligible.revisions}
+    return Sorted(found.whole - operative | whole, found.partial - operative | partial)
+
+
+def show_revs(history: History, explicit: Explicit, answers: Answers, source: Target, target: Target,
+              question: Question) -> List[Tuple[int, bool]]:
+    """The revisions of a source, with whether a star follows, given the answers to the queries of the question."""
+    is_merged = question.verb == "merged"
+    own = located(history, answers, target, (1, target.rev))
+    catalog = Catalog(history, explicit, answers, target)
     if not catalog.entries:
         if is_merged:
             return []
         catalog.entries[target.path] = Lines({}, {})
     bounds = bounds_of(history, source, question)
-    there = located(history, source, bounds)
+    there = located(history, answers, source, bounds)
     if not is_merged:
         add_own_history(catalog, own, there)
-    found = sort_out(catalog, there)
+    found = as_answered(answers, source, target, question, sort_out(catalog, there), common(own, there))
     chosen = found.whole | found.partial if is_merged else set().union(*there.values()) - found.whole
-    traced = log.trace(history, source)
-    assert traced is not None
-    listed = set(log.listed(history, traced))
     coverage = Coverage(history, catalog, there)
     shown = []
-    for rev in sorted(chosen & listed):
+    for rev in sorted(chosen & set().union(*there.values()) & set(listed_of(history, answers, source))):
         starred = rev in found.partial
         covered = (starred or not is_merged) and coverage.is_covered(rev)
         if covered and not is_merged:
             continue
         shown.append((rev, starred and not covered))
     return shown[::-1] if question.range and question.range[0] > question.range[1] else shown
+
+
+def listed_of(history: History, answers: Answers, source: Target) -> List[int]:
+    """The revisions that `svn log` lists of a source."""
+    where, logged = answers[Where(*source)], answers[Log(*source)]
+    assert isinstance(where, Segments) and isinstance(logged, Logged)
+    return log.listed(history, log.Trace(where.segments, logged.revisions))
 
 
 def show_revs_text(shown: List[Tuple[int, bool]]) -> Iterator[bytes]:

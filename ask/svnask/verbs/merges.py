@@ -42,7 +42,9 @@ class MergeinfoVerb(Verb):
         target = target_of(history, words.target)
         source = target_of(history, words.source)
         question = mergeinfo.Question(words.show_revs, words.recursive, bounds)
-        return mergeinfo.show_revs(history, Explicit(history.records()), source, target, question)
+        explicit = Explicit(history.records())
+        answers = history.answers(mergeinfo.queries_of(explicit, source, target, question))
+        return mergeinfo.show_revs(history, explicit, answers, source, target, question)
 
     def text(self, history: History, words: Namespace) -> Iterator[bytes]:
         if words.show_revs:
