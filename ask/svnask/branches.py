@@ -2,7 +2,7 @@
 from typing import Dict, Iterable, Iterator, List, NamedTuple, Optional, Sequence, Tuple
 
 from . import log, mergeinfo
-from .answers import Inherited, Log, Logged, Mergeinfo, Query, Segments, Where
+from .answers import Answer, Inherited, Log, Logged, Mergeinfo, Query, Segments, Where
 from .changes import is_at_or_below
 from .history import History
 from .lives import PATTERNS, Life, all_lives
@@ -41,13 +41,21 @@ def last_changes(history: History, lives: Iterable[Life]) -> Dict[Life, int]:
     return found
 
 
-def operative(history: History, lives: Sequence[Life]) -> Dict[Life, List[int]]:
-    """The operative revisions of each life, rising. What it was before, under another path, is no part of it."""
-    answers = history.ask([Log(life.path, life.last, (life.first, life.last)) for life in lives])
+def logs_of(lives: Iterable[Life]) -> List[Query]:
+    """The queries for the operative revisions of each life. What it was before, under another path, is no part of
+    it."""
+    return [Log(life.path, life.last, (life.first, life.last)) for life in lives]
+
+
+def operative(lives: Iterable[Life], answers: Iterator[Answer]) -> Dict[Life, List[int]]:
+    """The operative revisions of each life, rising, by the answers to its queries, which are the next ones."""
     found: Dict[Life, List[int]] = {}
     for life, answer in zip(lives, answers):
         assert isinstance(answer, Logged)
-        found[life] = answer.revisions[::-1]
+        revisions = answer.revisions[::-1]
+        # `svn log` lists a copy of a directory above to itself, and for svnhist nothing happens to the path there.
+        is_renewed = life.source == (life.path, life.first - 1) and life.first not in revisions[:1]
+        found[life] = [life.first] * is_renewed + revisions
     return found
 
 

@@ -74,14 +74,16 @@ class Graph(NamedTuple):
 def graph_of(history: History, patterns: Sequence[bytes]) -> Graph:
     """The graph of the lives of all paths that match a pattern."""
     lives = branches.lives_of(history, patterns)
-    operative = branches.operative(history, lives)
+    asked = merges.asked_of(history, lives)
+    answers = history.ask(branches.logs_of(lives) + [query for _, query in asked])
+    operative = branches.operative(lives, answers)
     lanes = ordered([Lane(chain, kind_of(chain[0]), [rev for life in chain for rev in operative[life]])
                      for chain in chains(lives)])
     numbers = {life: number for number, lane in enumerate(lanes) for life in lane.lives}
     finder = Finder(lives)
     copies = [Copy(lane.lives[0], number, finder.lane(lane.lives[0], numbers)) for number, lane in enumerate(lanes)
               if lane.lives[0].source is not None]
-    merged = list(merges_of(merges.gains_of(history, operative), numbers))
+    merged = list(merges_of(merges.gains_of(operative, asked, answers), numbers))
     columns = columns_of(lanes, set(keys_of(lanes, copies, merged)))
     return Graph(lanes, copies, merged, list(dots_of(lanes, columns)), columns)
 

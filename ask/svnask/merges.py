@@ -6,7 +6,7 @@ was only recorded as merged. What the source of a copy had is not gained by the 
 import bisect
 from typing import Dict, Iterable, Iterator, List, NamedTuple, Optional, Sequence, Tuple
 
-from .answers import Inherited, Mergeinfo, Query, Segments, Where
+from .answers import Answer, Inherited, Mergeinfo, Query, Segments, Where
 from .changes import parents_of
 from .history import History
 from .lives import Life
@@ -143,13 +143,25 @@ def queries_of(explicit: Explicit, life: Life) -> List[Query]:
     return asked + [Mergeinfo(life.path, rev) for rev in candidates(explicit, life)]
 
 
-def gains_of(history: History, operative: Dict[Life, List[int]]) -> List[Gain]:
-    """What each of these lives gained from the others, given their operative revisions."""
+class Asked(NamedTuple):
+    """A query about a life."""
+
+    life: Life
+    query: Query
+
+
+def asked_of(history: History, lives: Iterable[Life]) -> List[Asked]:
+    """All queries about what some lives gained."""
     explicit = Explicit(history.records())
+    return [Asked(life, query) for life in lives for query in queries_of(explicit, life)]
+
+
+def gains_of(operative: Dict[Life, List[int]], asked: Iterable[Asked], answers: Iterator[Answer]) -> List[Gain]:
+    """What each of these lives gained from the others, given their operative revisions and the answers, which are the
+    next ones, to the queries about them."""
     sources = Sources(operative)
-    asked = [(life, query) for life in operative for query in queries_of(explicit, life)]
     tallies: Dict[Life, Tally] = {}
-    for (life, query), answer in zip(asked, history.ask([query for _, query in asked])):
+    for (life, query), answer in zip(asked, answers):
         if isinstance(answer, Segments):
             tallies[life] = Tally(sources, own_history(answer))
         elif isinstance(answer, Inherited) and answer.ok:

@@ -14,7 +14,10 @@ Found = Tuple[bytes, List[int], bytes, int, Optional[int], bool]
 
 
 def gains(history: History, patterns: Sequence[bytes] = ()) -> List[Gain]:
-    return merges.gains_of(history, branches.operative(history, branches.lives_of(history, patterns)))
+    lives = branches.lives_of(history, patterns)
+    asked = merges.asked_of(history, lives)
+    answers = history.ask(branches.logs_of(lives) + [query for _, query in asked])
+    return merges.gains_of(branches.operative(lives, answers), asked, answers)
 
 
 def shown(found: List[Gain]) -> List[Found]:
@@ -110,7 +113,7 @@ class Operative(base.Case):
     def test_operative_revisions_are_those_of_the_life_alone(self) -> None:
         history = self.history(base.dump_of("branches"))
         lives = branches.lives_of(history, [])
-        found = branches.operative(history, lives)
+        found = branches.operative(lives, history.ask(branches.logs_of(lives)))
         for life, answer in zip(lives, history.ask([Log(life.path, life.last) for life in lives])):
             assert isinstance(answer, Logged)
             self.assertEqual(found[life], [rev for rev in answer.revisions[::-1] if rev >= life.first])
