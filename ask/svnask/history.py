@@ -227,6 +227,15 @@ class History:
         text = os.pread(self._file, HEADER, at).lstrip(b"\n")
         return text.split(b"\n\n", 1)[0].split(b"\n")
 
+    def is_read_from(self, name: str) -> bool:
+        """Whether the dump is the file of a name.
+
+        >>> history.is_read_from("interop/branches.dump"), history.is_read_from("interop/none.dump")
+        (True, False)
+        """
+        return self._file is not None and os.path.exists(name) and os.path.samestat(os.stat(name),
+                                                                                    os.fstat(self._file))
+
     def changes(self, rev: int) -> List[Change]:
         """The changed paths of a revision, as `svn log -v` lists them.
 

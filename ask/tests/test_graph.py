@@ -1,9 +1,11 @@
 """The graph of branches and tags, and its picture."""
 import json
 import os
+import subprocess
+import sys
 import time
 import unittest
-from typing import List, Sequence
+from typing import BinaryIO, List, Sequence, Tuple
 from xml.etree import ElementTree
 
 import base
@@ -196,6 +198,42 @@ class Verb(base.Case):
         with open(path, "rb") as file:
             self.assertEqual(file.read(), base.run(base.dump_of("merges"), "graph").output)
         self.assertEqual([name for name in os.listdir(self.folder) if "svg" in name], ["merges.svg"])
+
+    def test_the_dump_is_not_overwritten(self) -> None:
+        with open(base.dump_of("merges"), "rb") as file:
+            whole = file.read()
+        dump = self.made("merges.dump", whole)
+        link = os.path.join(self.folder, "link")
+        os.symlink(dump, link)
+        for name in (dump, link, os.path.join(self.folder, ".", "merges.dump")):
+            done = base.called(dump, "graph", "-o", name)
+            self.assertEqual((done.status, done.output, done.said.count("\n")), (2, b"", 1))
+            with open(dump, "rb") as given:
+                done = base.Done(*self.piped(given, "graph", "-o", name))
+            self.assertEqual(done.status, 2)
+        with open(dump, "rb") as file:
+            self.assertEqual(file.read(), whole)
+
+    def piped(self, given: BinaryIO, *words: str) -> Tuple[int, bytes, str]:
+        done = subprocess.run([sys.executable, base.COMMAND, "-", *words], stdin=given, stdout=subprocess.PIPE,
+                              stderr=subprocess.PIPE)
+        return done.returncode, done.stdout, done.stderr.decode()
+
+    def test_no_link_is_followed_and_the_mode_of_the_file_is_kept(self) -> None:
+        path = self.made("merges.svg", b"before")
+        other = self.made("other", b"kept")
+        os.chmod(path, 0o640)
+        os.symlink(other, "%s.%d.new" % (path, os.getpid()))
+        self.assertEqual(base.called(base.dump_of("merges"), "graph", "-o", path).status, 0)
+        self.assertEqual(os.stat(path).st_mode & 0o777, 0o640)
+        with open(other, "rb") as file:
+            self.assertEqual(file.read(), b"kept")
+        new = os.path.join(self.folder, "new.svg")
+        mask = os.umask(0o027)
+        self.addCleanup(os.umask, mask)
+        self.assertEqual(base.called(base.dump_of("merges"), "graph", "-o", new).status, 0)
+        self.assertEqual(os.stat(new).st_mode & 0o777, 0o640)
+        self.assertEqual([name for name in os.listdir(self.folder) if name.startswith(".")], [])
 
     def test_a_file_that_cannot_be_written_has_status_3(self) -> None:
         for path in (os.path.join(self.folder, "none", "x.svg"), "/dev/full", self.folder):

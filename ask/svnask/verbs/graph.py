@@ -1,5 +1,8 @@
 """`graph`."""
+import contextlib
 import os
+import stat
+import tempfile
 from argparse import ArgumentParser, Namespace
 from typing import Iterable, Iterator
 
@@ -19,6 +22,8 @@ class GraphVerb(Verb):
         parser.add_argument("-o", "--output", metavar="FILE", help="where to write it, in place of the standard output")
 
     def text(self, history: History, words: Namespace) -> Iterator[bytes]:
+        if words.output is not None and history.is_read_from(words.output):
+            raise Usage("-o %s would overwrite the dump" % words.output)
         pieces = picture.svg_of(history, graph.graph_of(history, patterns_of(words)))
         if words.output is None:
             yield from pieces
@@ -40,19 +45,37 @@ class GraphVerb(Verb):
 
 
 def write(name: str, pieces: Iterable[bytes]) -> None:
-    """Writes a file whole or not at all, but for a device or a pipe."""
+    """Writes a file, whole or not at all, but for a device or a pipe."""
     final = os.path.realpath(name)
-    is_plain = os.path.isfile(final) or not os.path.exists(final)
-    beside = "%s.%d.new" % (final, os.getpid()) if is_plain else final
     try:
-        try:
-            with open(beside, "wb") as file:
+        if os.path.isfile(final) or not os.path.exists(final):
+            replace(final, pieces)
+        else:
+            with open(final, "wb") as file:
                 file.writelines(pieces)
-            if is_plain:
-                os.replace(beside, final)
-        except BaseException:
-            if is_plain and os.path.exists(beside):
-                os.remove(beside)
-            raise
     except OSError as error:
         raise Failed("cannot write %s: %s" % (name, error.strerror)) from error
+
+
+def replace(final: str, pieces: Iterable[bytes]) -> None:
+    """Writes a file beside another one, by a name that nobody knows before, and puts it in the place of that."""
+    descriptor, beside = tempfile.mkstemp(prefix=".svnask-", dir=os.path.dirname(final))
+    try:
+        with open(descriptor, "wb") as file:
+            file.writelines(pieces)
+            os.fchmod(file.fileno(), mode_of(final))
+        os.replace(beside, final)
+    except BaseException:
+        with contextlib.suppress(OSError):
+            os.remove(beside)
+        raise
+
+
+def mode_of(name: str) -> int:
+    """The mode of a file, or that of a new one."""
+    try:
+        return stat.S_IMODE(os.stat(name).st_mode)
+    except FileNotFoundError:
+        mask = os.umask(0)
+        os.umask(mask)
+        return 0o666 & ~mask
