@@ -120,8 +120,7 @@ class History:
         >>> history.answers([query, query])[query].lines
         [b'r5 /trunk', b'r2 /trunk', b'r1 /trunk']
         """
-        asked = list(dict.fromkeys(queries))
-        return dict(zip(asked, self.ask(asked)))
+        return {answer.query: answer for answer in self.ask(dict.fromkeys(queries))}
 
     def front(self) -> bytes:
         """The first bytes of the dump, without texts.

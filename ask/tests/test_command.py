@@ -108,7 +108,8 @@ class Command(base.Case):
     def test_of_a_dump_that_is_refused_nothing_else_is_said(self) -> None:
         with open(DUMP, "rb") as file:
             dump = self.made("faulty", file.read().replace(b"Node-path: trunk\n", b"Node-path: other\n", 1))
-        for words in (["log", "-r", "99"], ["log", "trunk@99"], ["log", "-c", "0"], ["where", "none", "99"]):
+        for words in (["log", "-r", "99"], ["log", "trunk@99"], ["log", "-c", "0"], ["where", "none", "99"],
+                      ["ask", self.made("queries", b"")], ["unmerged", "/trunk", "--into", "trunk"]):
             done = base.called(dump, *words)
             self.assertEqual((done.status, done.output), (1, b""), words)
             self.assertIn("dump refused: 16 NoParent at record", done.said, words)

@@ -136,15 +136,12 @@ class Reading(base.Case):
             self.assertEqual(self.history(dump).revision(9).author, b"malic")
 
     def test_a_copy_is_on_the_disk_before_it_has_its_name(self) -> None:
-        done: List[str] = []
-        kept = {name: getattr(os, name) for name in ("fsync", "rename")}
-
-        def noted(name: str) -> Callable[..., object]:
-            return lambda *words: done.append(name) or kept[name](*words)
-
-        with mock.patch.object(os, "fsync", noted("fsync")), mock.patch.object(os, "rename", noted("rename")):
+        done = mock.Mock()
+        done.attach_mock(mock.Mock(wraps=os.fsync), "fsync")
+        done.attach_mock(mock.Mock(wraps=os.rename), "rename")
+        with mock.patch.object(os, "fsync", done.fsync), mock.patch.object(os, "rename", done.rename):
             self.history(base.dump_of("branches"))
-        self.assertEqual(done, ["fsync"] * 3 + ["rename"])
+        self.assertEqual([name for name, _, _ in done.mock_calls], ["fsync"] * 3 + ["rename"])
 
     def test_a_cache_that_cannot_be_written_is_read(self) -> None:
         self.history(base.dump_of("branches"))

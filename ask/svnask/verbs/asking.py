@@ -25,7 +25,8 @@ class AskVerb(Verb):
             raise Failed("cannot read %s: %s" % (words.queries, error.strerror)) from error
         if lines[-1] == b"":
             lines.pop()
-        return zip(lines, history.ask([Line(b"/", 0, line) for line in lines]))
+        for answer in history.ask([Line(b"/", 0, line) for line in lines]):
+            yield answer.query.line(), answer
 
     def text(self, history: History, words: Namespace) -> Iterator[bytes]:
         for line, answer in self.answers(history, words):
