@@ -156,9 +156,10 @@ def is_running(group):
 
 @contextlib.contextmanager
 def handled(handler):
-    """Has what is started meanwhile ignore hang-ups and interrupts where the handler is SIG_IGN, and else end at them,
-    whether or not the caller of this check ignores them."""
-    before = {number: signal.signal(number, handler) for number in (signal.SIGHUP, signal.SIGINT)}
+    """Has what is started meanwhile ignore hang-ups and interrupts where the handler is SIG_IGN, and else end at them
+    and at SIGTERM, whether or not the caller of this check ignores them."""
+    ending = (signal.SIGHUP, signal.SIGINT) + ((signal.SIGTERM,) if handler != signal.SIG_IGN else ())
+    before = {number: signal.signal(number, handler) for number in ending}
     try:
         yield
     finally:

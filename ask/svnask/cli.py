@@ -3,6 +3,7 @@ import argparse
 import contextlib
 import json
 import os
+import re
 import signal
 import sys
 import time
@@ -14,8 +15,11 @@ from .history import History
 from .refusals import about_record, explained
 from .texts import say
 from .verbs import VERBS
+from .verbs.base import Object
 
 VALUED = frozenset(("-r", "--revision", "-c", "--change", "-l", "--limit", "-o", "--output", "--into", "--show-revs"))
+# What JSON need not escape, but rules a terminal.
+HIGH_CONTROL = re.compile("[\x7f-\x9f]")
 # The status where svnask itself is at fault.
 FAULT = 5
 
@@ -111,7 +115,13 @@ def lines_of(history: History, words: argparse.Namespace) -> Iterator[bytes]:
         yield from verb.text(history, words)
         return
     for each in verb.objects(history, words):
-        yield json.dumps(each, ensure_ascii=False).encode("utf-8", "backslashreplace") + b"\n"
+        yield object_line(each)
+
+
+def object_line(found: Object) -> bytes:
+    """An object as JSON, without any control character."""
+    line = json.dumps(found, ensure_ascii=False)
+    return HIGH_CONTROL.sub(lambda each: "\\u%04x" % ord(each[0]), line).encode("utf-8", "backslashreplace") + b"\n"
 
 
 def answer(words: argparse.Namespace, file: BinaryIO) -> None:

@@ -136,6 +136,14 @@ class Odd(base.Case):
                 self.assertIsNone(re.search("[\x00-\x09\x0b-\x1f\x7f-\x9f]", done.said), done)
         self.assertIn("\\x1b]0;title\\x07", base.called(dump, "log").said)
 
+    def test_objects_have_no_control_characters(self) -> None:
+        message = "\x00\x1b[2J\x7f\x9b2J\x85\t"
+        blocks = [base.revision(0), base.revision(1, message), base.node("a\x1b\x9b", "add")]
+        done = base.called(self.made("dump", base.dump(blocks)), "log", "--json", "-r", "1")
+        self.assertIsNone(re.search("[\x00-\x09\x0b-\x1f\x7f-\x9f]", done.output.decode()), done)
+        self.assertEqual(json.loads(done.output)["message"], message)
+        self.assertEqual(json.loads(done.output)["changes"][0]["path"], "/a\x1b\x9b")
+
     def test_standard_streams_may_be_closed(self) -> None:
         command = "%s %s " % (sys.executable, base.COMMAND)
         for words, status in (("%s log -q trunk >&-", 3), ("- log <&-", 3), ("%s log -q trunk <&-", 0),
