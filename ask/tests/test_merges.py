@@ -1,10 +1,11 @@
 """What branches gained by merges: as svnhist says it of each pair, and as `svn mergeinfo` prints it."""
 import unittest
-from typing import List, Optional, Sequence, Set, Tuple
+from typing import Iterator, List, Optional, Sequence, Set, Tuple
+from unittest import mock
 
 import base
-from svnask import branches, merges
-from svnask.answers import Logged, Log, Pair, Segments, Where
+from svnask import branches, engine, merges
+from svnask.answers import Answer, Logged, Log, Pair, Query, Segments, Where
 from svnask.answers import Merges as Merged
 from svnask.history import History
 from svnask.lives import Life, Place
@@ -107,6 +108,45 @@ class Gains(base.Case):
             ([], [(1, 2)], [])]
         for these, those, wanted in cases:
             self.assertEqual(minus(these, those), wanted)
+
+
+class ShowRevs(base.Case):
+    def shown(self, name: str, *words: str) -> List[str]:
+        done = base.called(base.dump_of(name), "mergeinfo", "--show-revs", *words)
+        self.assertEqual((done.status, done.said), (0, ""), words)
+        return done.output.decode().split()
+
+    def test_what_was_merged_is_what_svnhist_says(self) -> None:
+        """Another answer of svnhist is another answer of svnask."""
+        run = engine.run
+        lines = {"merged": b"r4\nr5*", "eligible": b"r6\nr11"}
+
+        def other(dump: str, queries: List[Query]) -> Iterator[Answer]:
+            for answer in run(dump, queries):
+                query = answer.query
+                yield query.answer("ok", lines[query.verb]) if isinstance(query, Pair) else answer
+
+        pair = "trunk", "branches/two"
+        self.assertEqual(self.shown("merges", "merged", *pair), ["r4", "r5", "r6"])
+        self.assertEqual(self.shown("merges", "eligible", *pair), ["r11", "r12", "r14"])
+        with mock.patch.object(engine, "run", other):
+            self.assertEqual(self.shown("merges", "merged", *pair), ["r4", "r5"])
+            self.assertEqual(self.shown("merges", "eligible", *pair), ["r11"])
+
+    def test_only_paths_of_the_range_count(self) -> None:
+        """As `svn` 1.14 prints it: revision 13 also changed what the source was before the range."""
+        pair = "branches/two@17", "trunk/a@17"
+        self.assertEqual(self.shown("inherited", "eligible", *pair), ["r1", "r2", "r3", "r13"])
+        self.assertEqual(self.shown("inherited", "eligible", "-r", "13:12", *pair), [])
+
+    def test_a_revision_that_is_inheritable_in_one_line_has_no_star(self) -> None:
+        blocks = [base.revision(0), base.revision(1), base.node("trunk", "add")]
+        blocks += [base.node("trunk/f", "add", kind="file")]
+        blocks += [base.revision(2), base.node("b", "add", source=("trunk", 1))]
+        blocks += [base.revision(3), base.node("trunk/f", "change", kind="file")]
+        blocks += [base.revision(4), base.node("b", "change", mergeinfo="/trunk:3*\n/trunk:3")]
+        done = base.called(self.made("dump", base.dump(blocks)), "mergeinfo", "--show-revs", "merged", "trunk", "b")
+        self.assertEqual(done.output, b"r3\n")
 
 
 class Operative(base.Case):
