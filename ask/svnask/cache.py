@@ -85,6 +85,7 @@ def put(made: str, path: str) -> bool:
 def remove(path: str) -> None:
     """Takes a folder out of the cache. Runs that have it open go on with it."""
     with contextlib.suppress(OSError):
-        away = os.path.join(tempfile.mkdtemp(prefix=NEW, dir=os.path.dirname(path)), "old")
-        os.rename(path, away)
-        shutil.rmtree(os.path.dirname(away), ignore_errors=True)
+        aside = tempfile.mkdtemp(prefix=NEW, dir=os.path.dirname(path))
+        with contextlib.suppress(OSError):
+            os.rename(path, os.path.join(aside, "old"))
+        shutil.rmtree(aside, ignore_errors=True)

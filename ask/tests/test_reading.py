@@ -152,6 +152,10 @@ class Reading(base.Case):
         self.history(base.dump_of("branches"))
         with mock.patch.object(os, "geteuid", return_value=os.geteuid() + 1), mock.patch.object(cache, "ROOT", -1):
             self.assertIsNone(store.load(self.kept()))
+            with mock.patch.object(os, "rename", side_effect=PermissionError), \
+                    self.history(base.dump_of("branches")) as history:
+                self.assertEqual(history.head, 13)
+        self.kept()
 
     def test_without_a_home_there_is_no_cache(self) -> None:
         self.addCleanup(os.chdir, os.getcwd())
