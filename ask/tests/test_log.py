@@ -3,6 +3,8 @@ import unittest
 from typing import List
 
 import base
+from svnask import branches, log
+from svnask.targets import Target
 
 RENEWED = base.dump(
     [base.revision(0), base.revision(1), base.node("trunk", "add"), base.node("trunk/a", "add")]
@@ -36,6 +38,24 @@ class Log(base.Case):
                          [[path, b"history"] for path in (b"/tags/one", b"/tags/one/a", b"/trunk", b"/trunk/a")])
         done = base.called(dump, "contains", "6", "/trunk/*", "/tags/*/*")
         self.assertEqual(done.output, b"/trunk/a\thistory\n")
+
+    def test_a_life_that_such_a_copy_began_has_it_among_its_revisions(self) -> None:
+        history = self.history(self.made("renewed", RENEWED))
+        lives = branches.lives_of(history, [b"/trunk/a"])
+        found = branches.operative(lives, history.ask(branches.logs_of(lives)))
+        self.assertEqual([(life.first, life.last, found[life]) for life in lives], [(1, 2, [1, 2]), (3, 6, [3, 4, 6])])
+        self.assertIn(b"\tr3-r6\tmoved from /trunk/a@2\tchanged in r6\n",
+                      base.called(self.made("renewed", RENEWED), "branches", "/trunk/a").output)
+
+    def test_what_contains_a_revision_has_it_in_its_log(self) -> None:
+        for name in ("again", "replaced", "copies"):
+            history = self.history(base.dump_of(name))
+            patterns = [b"/*", b"/*/*"]
+            alive = [life.path for life in branches.lives_of(history, patterns) if life.is_alive]
+            logs = {path: log.entries(history, Target(path, history.head), log.Options()) for path in alive}
+            for rev in range(1, history.head + 1):
+                found = [each.path for each in branches.holders(history, patterns, rev) if each.how == "history"]
+                self.assertEqual(found, [path for path in alive if rev in logs[path]], (name, rev))
 
     def test_ranges_are_printed_one_after_another(self) -> None:
         """As `svn` 1.14 printed it of the repository."""
