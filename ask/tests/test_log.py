@@ -75,10 +75,11 @@ class Log(base.Case):
         self.assertEqual((done.status, done.output, done.said[:15]), (1, b"", "svnask: E195012"))
 
     def test_nothing_is_printed_before_an_error(self) -> None:
-        """`svn` prints the first range of the last two."""
-        for words in ("-r 1 -r 99 trunk", "-c 1,99 trunk", "-r 14 -r 1 -r 16 b/two@14"):
-            done = base.called(base.dump_of("again"), "log", "-q", *words.split())
-            self.assertEqual((done.status, done.output), (1, b""), words)
+        """`svn` prints revision 10 in the last one: the path was nowhere in revision 9."""
+        for words, code in (("-r 1 -r 99 trunk", "E160006"), ("-c 1,99 trunk", "E160006"),
+                            ("-r 1 -r x trunk", "E205000"), ("-c 10,9 branches/one-again/new.c", "E160013")):
+            done = base.called(base.dump_of("branches"), "log", "-q", *words.split())
+            self.assertEqual((done.status, done.output, done.said[:15]), (1, b"", "svnask: " + code), words)
 
     def test_ranges_that_svn_refuses(self) -> None:
         for words, code in (("-c 0", "E205000"), ("-c HEAD", "E205000"), ("-c -3-5", "E205000"), ("-c 3x", "E205000"),
