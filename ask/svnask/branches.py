@@ -23,6 +23,14 @@ def lives_of(history: History, patterns: Sequence[bytes]) -> List[Life]:
     return lives
 
 
+def answered(answer: Answer) -> List[int]:
+    """The revisions of an answer to `log` about a life, the newest first. That svnhist has no such path can't be."""
+    assert isinstance(answer, Logged)
+    if not answer.ok:
+        raise RuntimeError("svnhist says %s of %r" % (answer.status, answer.query))
+    return answer.revisions
+
+
 def last_changes(history: History, lives: Iterable[Life]) -> Dict[Life, int]:
     """The newest operative revision of each life. That of a long one would be long, so its end is asked first."""
     found: Dict[Life, int] = {}
@@ -31,9 +39,9 @@ def last_changes(history: History, lives: Iterable[Life]) -> Dict[Life, int]:
     while left:
         queries = [Log(life.path, life.last, (max(life.first, life.last - window), life.last)) for life in left]
         for life, answer in zip(left, history.ask(queries)):
-            assert isinstance(answer, Logged)
-            if answer.text:
-                found[life] = answer.revisions[0]
+            revisions = answered(answer)
+            if revisions:
+                found[life] = revisions[0]
             elif life.last - window <= life.first:
                 found[life] = life.first
         left = [life for life in left if life not in found]
@@ -51,8 +59,7 @@ def operative(lives: Iterable[Life], answers: Iterator[Answer]) -> Dict[Life, Li
     """The operative revisions of each life, rising, by the answers to its queries, which are the next ones."""
     found: Dict[Life, List[int]] = {}
     for life, answer in zip(lives, answers):
-        assert isinstance(answer, Logged)
-        revisions = answer.revisions[::-1]
+        revisions = answered(answer)[::-1]
         # `svn log` lists a copy of a directory above to itself, and for svnhist nothing happens to the path there.
         is_renewed = life.source == (life.path, life.first - 1) and life.first not in revisions[:1]
         found[life] = [life.first] * is_renewed + revisions
@@ -76,8 +83,8 @@ def holders(history: History, patterns: Sequence[bytes], rev: int) -> Iterator[H
                   Mergeinfo(life.path, history.head)]
     answers = list(history.ask(asked))
     for life, where, logged, value in zip(alive, answers[::3], answers[1::3], answers[2::3]):
-        assert isinstance(where, Segments) and isinstance(logged, Logged) and isinstance(value, Inherited)
-        if rev in log.listed(history, log.Trace(where.segments, logged.revisions)):
+        assert isinstance(where, Segments) and isinstance(value, Inherited)
+        if rev in log.listed(history, log.Trace(where.segments, answered(logged))):
             yield Holder(life.path, "history")
         elif value.ok:
             how = merged_how(value.value, changed, rev)
@@ -127,8 +134,7 @@ def touched(history: History, patterns: Sequence[bytes]) -> Iterator[Touched]:
     answers = list(history.ask([Log(life.path, life.last, (life.first + 1, life.last)) for life in later]))
     changed: Dict[Life, List[int]] = {}
     for life, answer in zip(later, answers):
-        assert isinstance(answer, Logged)
-        changed[life] = answer.revisions[::-1]
+        changed[life] = answered(answer)[::-1]
     for life in lives:
         below = any(change.path != life.path and is_at_or_below(change.path, life.path)
                     for change in history.changes(life.first))

@@ -68,10 +68,15 @@ class Catalog:
                     self.entries[query.path] = lines
 
     def _lines(self, query: Mergeinfo, answer: Inherited) -> Optional[Lines]:
-        if answer.ok and (answer.text or self._has_value(query)):
-            value = {path: runs_of(ranges.encode("ascii")) for path, ranges in answer.value.items()}
-            return lines_of(value, self._head)
-        return self._read(query) if answer.status == "malformed-mergeinfo" else None
+        if answer.status == "malformed-mergeinfo":
+            return self._read(query)
+        if not answer.ok:
+            # The target is there, and so is each path below it that has a value.
+            raise RuntimeError("svnhist says %s of %r" % (answer.status, query))
+        if not answer.text and not self._has_value(query):
+            return None
+        value = {path: runs_of(ranges.encode("ascii")) for path, ranges in answer.value.items()}
+        return lines_of(value, self._head)
 
     def _has_value(self, query: Mergeinfo) -> bool:
         """Whether a path or one above it has a value. Its effective mergeinfo may be empty even so."""
