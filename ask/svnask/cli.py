@@ -8,16 +8,18 @@ import signal
 import sys
 import time
 import traceback
-from typing import BinaryIO, Iterable, Iterator, List, NoReturn, Optional
+from typing import Any, BinaryIO, Iterable, Iterator, List, NoReturn, Optional
 
-from .errors import Denied, Error, Failed, Refused, Usage
+from .errors import Damaged, Denied, Error, Failed, Refused, Usage
 from .history import History
 from .refusals import about_record, explained
 from .texts import say
 from .verbs import VERBS
 from .verbs.base import Object
 
-VALUED = frozenset(("-r", "--revision", "-c", "--change", "-l", "--limit", "-o", "--output", "--into", "--show-revs"))
+# The options that take a value, and the names of those that have a short one.
+LONG = {"-r": "--revision", "-c": "--change", "-l": "--limit", "-o": "--output"}
+VALUED = frozenset((*LONG.values(), "--into", "--show-revs"))
 # What JSON need not escape, but rules a terminal.
 HIGH_CONTROL = re.compile("[\x7f-\x9f]")
 # The status where svnask itself is at fault.
@@ -25,7 +27,10 @@ FAULT = 5
 
 
 class Parser(argparse.ArgumentParser):
-    """A parser that tells of wrong arguments in one line."""
+    """A parser that tells of wrong arguments in one line, and takes no part of the name of an option for it."""
+
+    def __init__(self, **words: Any) -> None:
+        super().__init__(allow_abbrev=False, **words)
 
     def error(self, message: str) -> NoReturn:
         raise Usage(message)
@@ -59,15 +64,20 @@ def with_dump(arguments: List[str]) -> List[str]:
 
 
 def joined(arguments: List[str]) -> List[str]:
-    """The arguments with each option that takes a value in one word with that, which may begin with a minus: `-c -3,5`
-    is what `svn` takes."""
+    """The arguments with each option that takes a value as `--name=value`. A value may be empty, or begin with a minus
+    or an equals sign: `-c -3,5` is what `svn` takes, and `-r=5` is not."""
     found: List[str] = []
     left = iter(arguments)
     for word in left:
         if word == "--":
             return [*found, word, *left]
-        value = next(left, None) if word in VALUED else None
-        found.append(word if value is None else word + ("=" if word.startswith("--") else "") + value)
+        name = LONG.get(word[:2], word)
+        value: Optional[str] = None
+        if name != word and len(word) > 2:
+            value = word[2:]
+        elif name in VALUED:
+            value = next(left, None)
+        found.append(word if value is None else "%s=%s" % (name, value))
     return found
 
 
@@ -125,23 +135,44 @@ def object_line(found: Object) -> bytes:
 
 
 def answer(words: argparse.Namespace, file: BinaryIO) -> None:
+    """Answers the question about a dump. What the cache has of it is made anew where it is refused: the disk may have
+    changed it."""
+    for _ in range(2):
+        with read(words, file) as history:
+            try:
+                write(lines_of(history, words), history)
+                return
+            except Stale:
+                history.forget()
+                file.seek(0)
+            except Refused as refused:
+                raise Failed(str(refused), refused.status, advice(refused, history, words.dump)) from refused
+    raise Failed("the cache is damaged again and again: --no-cache reads the dump anew")
+
+
+def read(words: argparse.Namespace, file: BinaryIO) -> History:
     progress = Progress(os.fstat(file.fileno()).st_size)
     try:
-        history = History.open(file, not words.no_cache, progress)
+        return History.open(file, not words.no_cache, progress)
     finally:
         progress.close()
-    with history:
-        try:
-            write(lines_of(history, words), history)
-        except Refused as refused:
-            raise Failed(str(refused), refused.status, advice(refused, history, words.dump)) from refused
+
+
+class Stale(Exception):
+    """What the cache has of a dump is refused or damaged, and nothing was printed."""
 
 
 def write(lines: Iterable[bytes], history: History) -> None:
+    is_begun = False
     try:
         for line in lines:
+            is_begun = True
             sys.stdout.buffer.write(line)
         sys.stdout.buffer.flush()
+    except (Refused, Damaged) as error:
+        if history.is_from_cache and not is_begun:
+            raise Stale from error
+        raise
     except Denied:
         # A dump that is refused has no answer, not even that there is no such path or revision.
         history.check()

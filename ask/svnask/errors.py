@@ -18,6 +18,13 @@ class Failed(Error):
         super().__init__(text, status, advice)
 
 
+class Damaged(Failed):
+    """What is kept of a dump is not as it was made."""
+
+    def __init__(self) -> None:
+        super().__init__("the cache is damaged: --no-cache reads the dump anew")
+
+
 class Usage(Error):
     """The arguments are wrong."""
 

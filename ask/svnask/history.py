@@ -55,6 +55,20 @@ class History:
             raise Failed("cannot read %s, or copy what is needed of it: %s" % (name, error.strerror)) from error
 
     @property
+    def is_from_cache(self) -> bool:
+        """Whether another run read the dump.
+
+        >>> with History.open("interop/merges.dump", is_cached=False) as merges:
+        ...     merges.is_from_cache
+        False
+        """
+        return self._store.is_loaded
+
+    def forget(self) -> None:
+        """Takes what was read out of the cache."""
+        self._store.forget()
+
+    @property
     def is_whole(self) -> bool:
         """Whether the dump has its form from its first byte to its last one, and revisions from 0 on.
 

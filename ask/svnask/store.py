@@ -8,7 +8,7 @@ import tempfile
 from typing import BinaryIO, Callable, Dict, Iterator, List, NamedTuple, Optional, Tuple, Union
 
 from . import cache, digits
-from .errors import Failed
+from .errors import Damaged, Failed
 from .source import Source
 from .strip import MERGEINFO, Malformed, Stripper, clean, entries_of
 
@@ -96,9 +96,11 @@ def index_of(text: bytes) -> Index:
 class Store:
     """The copy of a dump and its index. The folder of a run goes when the store is closed."""
 
-    def __init__(self, folder: str, index: Index, is_kept: bool) -> None:
+    def __init__(self, folder: str, index: Index, is_kept: bool, is_loaded: bool = False) -> None:
         self.dump = os.path.join(folder, "dump")
         self.index = index
+        # Whether another run made it.
+        self.is_loaded = is_loaded
         self._folder = folder
         self._is_kept = is_kept
         self._map: Optional[mmap.mmap] = None
@@ -109,6 +111,11 @@ class Store:
             self._map = None
         if not self._is_kept:
             shutil.rmtree(self._folder, ignore_errors=True)
+
+    def forget(self) -> None:
+        """Takes the folder out of the cache, where it is kept."""
+        if self._is_kept:
+            cache.remove(self._folder)
 
     @property
     def head(self) -> int:
@@ -128,8 +135,8 @@ class Store:
 
     def revision(self, rev: int) -> Revision:
         found = BLOCK.match(self.data, self.index.revisions[rev])
-        if found is None:
-            raise Failed("the cache is damaged: --no-cache reads the dump anew")
+        if found is None or found["rev"] is None or digits.number(found["rev"]) != rev:
+            raise Damaged
         length = digits.number(found["length"] or b"0")
         values = properties_of(self.data[found.end():found.end() + length]) if length else {}
         author, date, message = (values.get(name) for name in (b"svn:author", b"svn:date", b"svn:log"))
@@ -269,7 +276,7 @@ def load(folder: str) -> Optional[Store]:
         if not cache.is_own(folder):
             return None
         with open(os.path.join(folder, "index"), "rb") as file:
-            store = Store(folder, index_of(file.read()), True)
+            store = Store(folder, index_of(file.read()), True, is_loaded=True)
         if os.path.getsize(store.dump) != store.index.length:
             return None
     except (OSError, ValueError, IndexError):

@@ -2,24 +2,29 @@
 import re
 import sys
 
+# What turns the direction in which a terminal writes.
+DIRECTIONS = re.compile("[\u200e\u200f\u202a-\u202e\u2066-\u2069]")
 # What XML can't have, and what no one can read.
 CONTROL = re.compile("[\x00-\x1f\x7f-\x9f\ufffe\uffff]")
 
 
 def readable(text: bytes) -> str:
     """Bytes as characters that XML may have. Others are shown as `\\xff`."""
-    return CONTROL.sub(lambda found: found[0].encode("unicode_escape").decode("ascii"),
-                       text.decode("utf-8", "backslashreplace"))
+    return CONTROL.sub(escaped, text.decode("utf-8", "backslashreplace"))
+
+
+def escaped(found: "re.Match[str]") -> str:
+    return found[0].encode("unicode_escape").decode("ascii")
 
 
 def say(*lines: str) -> None:
     """Prints lines on standard error, where anybody reads them. Control characters, by which a name could rule the
-    terminal, are shown as `\\x1b`."""
+    terminal, are shown as `\\x1b`, and so are those that turn the direction of what follows."""
     if sys.stderr is None:
         return
     try:
         for line in lines:
-            sys.stderr.write(readable(line.encode("utf-8", "surrogateescape")) + "\n")
+            sys.stderr.write(DIRECTIONS.sub(escaped, readable(line.encode("utf-8", "surrogateescape"))) + "\n")
         sys.stderr.flush()
     except OSError:
         # There is no other place to say that.

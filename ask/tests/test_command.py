@@ -59,6 +59,27 @@ class Command(base.Case):
             self.assertEqual((done.status, done.output), (2, b""), words)
             self.assertEqual(done.said.count("\n"), 1)
 
+    def test_an_option_may_have_an_empty_value(self) -> None:
+        dump = base.dump_of("branches")
+        kept = self.made("trunk", b"precious")
+        whole = base.called(dump, "log", "-q", "trunk").output
+        self.assertEqual(base.called(dump, "log", "-q", "-c", "", "trunk").output, whole)
+        self.assertEqual(base.called(dump, "log", "-q", "-c", "", "3").status, 1)
+        self.assertIn("''", base.called(dump, "log", "-q", "-r", "", "trunk").said)
+        done = base.called(dump, "graph", "-o", "", kept)
+        self.assertEqual((done.status, done.output), (2, b""))
+        with open(kept, "rb") as file:
+            self.assertEqual(file.read(), b"precious")
+
+    def test_options_are_written_as_for_svn(self) -> None:
+        dump = base.dump_of("branches")
+        whole = base.called(dump, "log", "-q", "-r", "5:2", "trunk").output
+        self.assertEqual(base.called(dump, "log", "-q", "-r5:2", "trunk").output, whole)
+        self.assertEqual(base.called(dump, "log", "-q", "--revision=5:2", "trunk").output, whole)
+        for words in (["-r=5"], ["--lim", "3"], ["--limit"]):
+            done = base.called(dump, "log", *words, "trunk")
+            self.assertEqual((done.output, done.status in (1, 2)), (b"", True), words)
+
     def test_the_help_of_a_verb_needs_no_dump(self) -> None:
         done = base.run("where", "--help")
         self.assertEqual((done.status, done.said), (0, ""))

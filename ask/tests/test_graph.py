@@ -214,6 +214,13 @@ class Verb(base.Case):
         with open(dump, "rb") as file:
             self.assertEqual(file.read(), whole)
 
+    @unittest.skipUnless(os.geteuid() == 0, "only the administrator gives files to others")
+    def test_a_file_keeps_its_owner(self) -> None:
+        path = self.made("merges.svg", b"before")
+        os.chown(path, 54321, 54322)
+        self.assertEqual(base.called(base.dump_of("merges"), "graph", "-o", path).status, 0)
+        self.assertEqual((os.stat(path).st_uid, os.stat(path).st_gid), (54321, 54322))
+
     def piped(self, given: BinaryIO, *words: str) -> Tuple[int, bytes, str]:
         done = subprocess.run([sys.executable, base.COMMAND, "-", *words], stdin=given, stdout=subprocess.PIPE,
                               stderr=subprocess.PIPE)

@@ -123,6 +123,20 @@ class Reading(base.Case):
                 with open(os.path.join(self.kept(), name), "rb") as file:
                     self.assertEqual(file.read(), whole)
 
+    def test_a_cache_with_other_bytes_is_made_anew(self) -> None:
+        dump = base.dump_of("branches")
+        whole = base.called(dump, "log", "trunk")
+        self.assertEqual(whole.status, 0)
+        for name, place in (("dump", -1000), ("index", -20)):
+            kept, = glob.glob(os.path.join(os.environ["XDG_CACHE_HOME"], "svnhist", "*", name))
+            with open(kept, "r+b") as file:
+                size = file.seek(0, os.SEEK_END)
+                file.seek(place, os.SEEK_END)
+                file.write(b"0" * min(15, -place))
+            self.assertEqual(os.path.getsize(kept), size)
+            self.assertEqual(base.called(dump, "log", "trunk"), whole)
+            self.assertEqual(base.called(dump, "log", "trunk"), whole)
+
     def test_a_dump_whose_middle_was_changed_is_read_anew(self) -> None:
         with open(base.dump_of("branches"), "rb") as file:
             whole = file.read()

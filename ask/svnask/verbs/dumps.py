@@ -27,7 +27,8 @@ class RecordVerb(Verb):
         for _, record in history.blocks():
             if record is not None and record.number == words.number:
                 return record
-        raise Failed("there is no record %d: the dump has %d" % (words.number, history.index.records), 1)
+        has = "the dump has %d" if history.is_whole else "%d could be read of the dump"
+        raise Failed("there is no record %d: %s" % (words.number, has % history.index.records), 1)
 
     def text(self, history: History, words: Namespace) -> Iterator[bytes]:
         return described(history, self.record(history, words))

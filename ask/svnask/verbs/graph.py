@@ -24,6 +24,8 @@ class GraphVerb(Verb):
     def text(self, history: History, words: Namespace) -> Iterator[bytes]:
         if words.output is not None and history.is_read_from(words.output):
             raise Usage("-o %s would overwrite the dump" % words.output)
+        if words.output == "":
+            raise Usage("-o takes the name of a file")
         pieces = picture.svg_of(history, graph.graph_of(history, patterns_of(words)))
         if words.output is None:
             yield from pieces
@@ -63,12 +65,20 @@ def replace(final: str, pieces: Iterable[bytes]) -> None:
     try:
         with open(descriptor, "wb") as file:
             file.writelines(pieces)
+            keep_owner(file.fileno(), final)
             os.fchmod(file.fileno(), mode_of(final))
         os.replace(beside, final)
     except BaseException:
         with contextlib.suppress(OSError):
             os.remove(beside)
         raise
+
+
+def keep_owner(descriptor: int, name: str) -> None:
+    """Gives a file the owner of another one, where there is that, and where this user may."""
+    with contextlib.suppress(OSError):
+        status = os.stat(name)
+        os.fchown(descriptor, status.st_uid, status.st_gid)
 
 
 def mode_of(name: str) -> int:
