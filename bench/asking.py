@@ -7,10 +7,11 @@ and of what they start, and the best of some runs in turns. The program answers 
 import argparse
 import os
 import shutil
+import subprocess
 import sys
 from typing import Callable, Dict, List
 
-from measure import HERE, Failed, Run, generate, run
+from measure import HERE, Failed, Run, generate, peak_of, run
 from reading import load_into_cache, megabytes, verdict
 
 ROOT = os.path.dirname(HERE)
@@ -66,22 +67,25 @@ class Asked:
         self.rev = revisions
         with open(self.dump, "wb") as file:
             generate(["--revisions", str(revisions), "--values", "%d" % (revisions * VALUES)] + GENERATED, file)
-        with open(self.stripped, "wb") as file:
-            file.write(done([sys.executable, STRIP], self.dump).output)
+        with open(self.dump, "rb") as dump, open(self.stripped, "wb") as stripped:
+            subprocess.run([sys.executable, STRIP], stdin=dump, stdout=stripped, check=True)
         load_into_cache(self.dump)
 
     def python(self, *words: str) -> List[str]:
         """A script in Python with the program and the cache of this benchmark, and compiled once, as when installed."""
-        return ["env", "-u", "PYTHONDONTWRITEBYTECODE", "PYTHONPYCACHEPREFIX=" + self.compiled,
+        return ["/usr/bin/env", "-u", "PYTHONDONTWRITEBYTECODE", "PYTHONPYCACHEPREFIX=" + self.compiled,
                 "SVNHIST=" + self.program, "XDG_CACHE_HOME=" + self.cache, sys.executable] + list(words)
 
     def grep(self) -> Run:
         return done(["grep", "-c", "-a", "^Node-path", self.dump])
 
-    def first(self) -> Run:
-        """The first call. Its question is one that the program isn't asked."""
+    def first_words(self) -> List[str]:
+        """The first call, with an empty cache. Its question is one that the program isn't asked."""
         shutil.rmtree(self.cache, ignore_errors=True)
-        return done(self.python(SVNASK, self.dump, "record", "1"))
+        return self.python(SVNASK, self.dump, "record", "1")
+
+    def first(self) -> Run:
+        return done(self.first_words())
 
     def later(self) -> Run:
         return done(self.python(SVNASK, self.dump, "log", "-q", "trunk"))
@@ -105,9 +109,8 @@ def show(best: Dict[str, Run]) -> None:
 
 def run_asking(program: str, folder: str, given: argparse.Namespace) -> int:
     asked = Asked(program, folder, REVISIONS // (QUICK if given.quick else 1))
-    size = os.path.getsize(asked.dump)
     print("svnask: a dump of %s MB, %s MB without texts, %d records" % (
-        megabytes(size), megabytes(os.path.getsize(asked.stripped)), int(asked.grep().output)))
+        megabytes(os.path.getsize(asked.dump)), megabytes(os.path.getsize(asked.stripped)), int(asked.grep().output)))
     best = best_of({"grep -c ^Node-path": asked.grep, "svnask, the first call": asked.first}, given.times)
     best.update(best_of({"svnhist, the log of the trunk": lambda: asked.alone(1), "svnask, the same": asked.later},
                         given.times))
@@ -119,7 +122,7 @@ def run_asking(program: str, folder: str, given: argparse.Namespace) -> int:
     print("lines of the many logs: %s" % best["the module, the same"].output.decode().strip())
     first, grep = best["svnask, the first call"], best["grep -c ^Node-path"]
     verdict("svnask, the first call relative to grep -c", first.processor / grep.processor, MOST_OF_GREP)
-    verdict("svnask, the first call, MB beyond the mapped dump", (first.peak - size) / 1e6, MOST_MEGABYTES)
+    verdict("svnask, the first call, peak MB", peak_of(asked.first_words()) / 1e6, MOST_MEGABYTES)
     most = MOST_OF_PROGRAM * best["svnhist, the log of the trunk"].processor + MOST_MORE
     verdict("svnask, seconds of a later log", best["svnask, the same"].processor, round(most, 3))
     verdict("the module, many answers relative to svnhist",
