@@ -3,6 +3,6 @@ pub mod Bytes
 pub mod Cut
 pub mod Line
 pub mod Number
-pub mod Seed
+pub mod SeededHasher
 pub mod Text
 pub mod TextTable

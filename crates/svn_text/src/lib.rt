@@ -12,10 +12,12 @@
 mod cut;
 mod number;
 mod seed;
+mod seeded_hasher;
 mod text;
 mod text_table;
 
 pub use cut::{split_at_byte, split_at_last};
 pub use number::{GREATEST_REVISION, number_up_to, push_number};
 pub use seed::Seed;
+pub use seeded_hasher::SeededHasher;
 pub use text_table::{TextTable, TextTableError};
