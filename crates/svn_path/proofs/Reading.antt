@@ -35,7 +35,7 @@ IsRead-with_name {names} {all} {left} {path} read name =
     })
 
 -- the next part has the number of parts that were read for its place
-next_at : {names all left more : List (List ℕ)} {path : List NameId} {part : List ℕ} → IsRead names all path left → left ≡ part ∷ more → (length path < length all) × (get_or all (length path) part ≡ part)
+pub next_at : {names all left more : List (List ℕ)} {path : List NameId} {part : List ℕ} → IsRead names all path left → left ≡ part ∷ more → (length path < length all) × (get_or all (length path) part ≡ part)
 next_at {names} {all} {left} {more} {path} {part} read next =
     let front = components_of names path in
     let parts : all ≡ front ++ part ∷ more = read.parts ∙ ap (λ rest. front ++ rest) next in

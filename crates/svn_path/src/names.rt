@@ -10,7 +10,7 @@ use svn_text::{Seed, TextTable, TextTableError};
 use thiserror::Error;
 
 /// The number of a name in a table. Numbers begin at 0 and follow the order in which names came.
-#[derive(Clone, Copy, Debug, PartialEq, Eq, PartialOrd, Ord, Hash)]
+#[derive(Clone, Copy, Debug, Default, PartialEq, Eq, PartialOrd, Ord, Hash)]
 pub struct NameId(pub u32);
 
 /// Why a table didn't take a name.

@@ -13,6 +13,7 @@ ghost use Rattle.svn_path.specs.PathOrder.{name_cmp, paths_equiv, paths_total, p
 
 use crate::names::{NameId, Names, NamesError};
 use crate::parts::{has_dot, next_part};
+use smallvec::SmallVec;
 use std::alloc::{AllocError, AllocFailed, Global};
 use std::cmp::Ordering;
 use std::marker::Model;
@@ -29,10 +30,13 @@ pub enum PathError {
     Memory,
 }
 
+/// The components of most paths are so few, and need no memory of their own.
+type Parts = SmallVec<NameId, 4>;
+
 /// A path from the root of the repository, seen as the list of its components' numbers.
 #[derive(Drop)]
 pub struct Path {
-    parts: Vec<NameId>,
+    parts: Parts,
 }
 
 /// What a search for a path in a table of names gave.
@@ -131,7 +135,7 @@ impl Path {
         ensures { result ≡ [] }
     {
         Path {
-            parts: Vec::new(alloc),
+            parts: Parts::new(alloc),
         }
     }
 
@@ -152,7 +156,26 @@ impl Path {
         if has_dot(bytes) {
             return Err(PathError::Dot);
         }
-        let mut parts = Vec::new(alloc);
+        Path::read_without_dots(alloc, names, bytes)
+    }
+
+    /// Reads a path in which no component is `.` or `..`, for callers that looked for these.
+    pub fn read_without_dots(
+        alloc: Global,
+        names: &mut Names,
+        bytes: &[u8],
+    ) -> Result<Self, PathError>
+        requires { HasDot bytes.now → ⊥ }
+        ensures within { IfOk result (λ path. IsPathOf names.new path) }
+        ensures components { IfOk result (λ path. components_of names.new path ≡ parts_of bytes.now) }
+        ensures table { OnOk result (names.new ≡ with_names names.old (parts_of bytes.now)) }
+
+        // A refusal may leave some leading new components in the table.
+        ensures full { IsErrOf result PathError.Full → HasNoRoomForAll names.new (parts_of bytes.now) }
+        ensures err { OnErr result ((n : ℕ) × (names.new ≡ with_names names.old (take n (parts_of bytes.now)))) }
+        ensures never_dot { IsErrOf result PathError.Dot → ⊥ }
+    {
+        let mut parts = Parts::new(alloc);
         let mut rest = bytes;
         while let Some((part, more)) = next_part(rest) {
             let id = names.add(part)?;
@@ -178,7 +201,7 @@ impl Path {
     pub fn look_up(alloc: Global, names: &Names, bytes: &[u8]) -> Result<Lookup, AllocError>
         ensures { IfOk result (IsLookup names.now (parts_of bytes.now)) }
     {
-        let mut parts = Vec::new(alloc);
+        let mut parts = Parts::new(alloc);
         let mut rest = bytes;
         while let Some((part, more)) = next_part(rest) {
             match names.find(part) {
@@ -202,7 +225,7 @@ impl Path {
         ensures { IfOk result (λ path. path ≡ parts.now) }
     {
         Ok(Path {
-            parts: Vec::from_slice(alloc, parts)?,
+            parts: Parts::from_slice(alloc, parts)?,
         })
     }
 
@@ -248,7 +271,8 @@ impl Path {
     pub fn join(&self, rest: &[NameId]) -> Result<Self, AllocError>
         ensures { IfOk result (λ path. path ≡ self.now ++ rest.now) }
     {
-        let mut parts = Vec::with_capacity(*self.parts.allocator(), self.len() + rest.len())?;
+        let count = self.len().saturating_add(rest.len());
+        let mut parts = Parts::with_capacity(*self.parts.allocator(), count)?;
         parts.extend_from_slice(self.parts())?;
         parts.extend_from_slice(rest)?;
         Ok(Path { parts })

@@ -112,7 +112,7 @@ fn path_of(alloc: Global, names: &mut Names, bytes: &[u8]) -> Result<Path, ReadE
     ensures refused { IfErr result (IsTooLarge (is_path_large names.old bytes.now)) }
     ensures grows { Extends names.old names.new }
 {
-    let path = Path::read(alloc, names, bytes)?;
+    let path = Path::read_without_dots(alloc, names, bytes)?;
     if path.len() > MOST_COMPONENTS {
         return Err(ReadError::Refused(Refusal::TooLarge));
     }

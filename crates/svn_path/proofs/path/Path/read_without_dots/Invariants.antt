@@ -2,7 +2,7 @@ use Rattle.std.proofs.Common.{◌≡◌, length, take}
 use Rattle.svn_path.specs.Components.{parts_of}
 use Rattle.svn_path.specs.Names.{with_names}
 use Rattle.svn_path.proofs.Reading.{IsRead}
-use Rattle.svn_path.proofs.path.Path.read.Given as goal
+use Rattle.svn_path.proofs.path.Path.read_without_dots.Given as goal
 
 abbrev pub invariant-loop-part : goal.invariant-loop-part
 invariant-loop-part l = record {
