@@ -23,6 +23,7 @@ pub mod PartialLine
 pub mod Property
 pub mod ReadError
 pub mod Reader
+pub mod Reading
 pub mod Record
 pub mod Refusal
 pub mod State
