@@ -8,6 +8,7 @@ use Rattle.std.proofs.lemmas.Option.{get_or_from_slice_get, slice_get_within}
 use Rattle.std.specs.List.{position, position_or_len, IsDistinct}
 use Rattle.path_index.specs.Nodes.{same_child, child_of}
 use Rattle.path_index.specs.declared.nodes.Child.{Child}
+use Rattle.path_index.proofs.NodesOfPaths.{child_at, index_from_child}
 
 same_child-self : (a : Child) → same_child a a ≡ true
 same_child-self a = grind (arith, common_steps)
@@ -30,3 +31,15 @@ child_of-distinct children index child distinct at =
     cond-true _ _ _ (lt-ltb (position_or_len (same_child child) children) (length children) (omega (arith, first, within)))
     ∙ ap Some first in
     ap (option_map suc) found
+
+-- and what is found is what stands there
+pub same_child-at : (children : List Child) (index : ℕ) (child wanted : Child) → slice_get children index ≡ Some child
+    → child_of children wanted.parent wanted.name ≡ Some (suc index) → same_child child wanted ≡ true
+same_child-at children index child wanted at found =
+    let (first, where_first, is) = index_from_child (position (same_child wanted) children) (suc index) found in
+    let here : first ≡ index = omega arith in
+    let there : get_or children first child ≡ child =
+    ap (λ n. get_or children n child) here ∙ get_or_from_slice_get children index child child at in
+    let (parents, names) = child_at children wanted.parent wanted.name first child where_first in
+    subst (λ (each : Child). same_child each wanted ≡ true) there
+    ((λ i. same_child (record { parent = sym parents i; name = sym names i }) wanted) ∙ same_child-self wanted)

@@ -1,15 +1,17 @@
 -- The nodes of paths: each is the node of one path, and stays as more are added.
-use Rattle.std.proofs.Common.{◌≡◌, ℕ, zero, suc, ◌+◌, ◌<◌, ◌≤◌, ◌==◌, nat_lt, Bool, true, List, [], ◌∷◌, ◌++◌, length, get_or, take, drop, Option, None, Some, option_map, ◌⊎◌, inl, inr, refl, sym, ap, subst, ◌∙◌, arith, length-append}
+use Rattle.std.proofs.Common.{◌≡◌, ℕ, zero, suc, ◌+◌, ◌<◌, ◌≤◌, ◌==◌, nat_lt, Bool, true, List, [], ◌∷◌, ◌++◌, length, get_or, take, drop, Option, None, Some, IsSome, option_map, ◌⊎◌, inl, inr, refl, sym, ap, subst, ◌∙◌, arith, length-append}
+use Rattle.indexmap.specs.IndexSet.{insert_key}
 use Rattle.std.specs.Option.{option_and_then}
-use Rattle.std.specs.List.{position, position_or_len}
-use Rattle.std.proofs.lemmas.Bool.{and_parts, eqb-true, cases_Bool, cond-true, lt-ltb, ltb-true}
-use Rattle.std.proofs.lemmas.List.{take_more, take-append-drop, take-take, length_push}
+use Rattle.std.specs.List.{list_any, position, position_or_len}
+use Rattle.std.proofs.lemmas.Bool.{and_parts, eqb-true, cases_Bool, cases_lt, cond-true, cond-false, lt-ltb, ltb-true}
+use Rattle.std.proofs.lemmas.List.{take_more, take-append-drop, take-take, length_push, get_or_append_left, get_or_push}
+use Rattle.std.proofs.lemmas.List.Folds.{list_any_at}
 use Rattle.std.proofs.lemmas.List.Quantifiers.{position-Some}
-use Rattle.std.proofs.lemmas.Option.{same_Some, option_and_then_some, cond_some}
+use Rattle.std.proofs.lemmas.Option.{get_or_from_slice_get, slice_get-get_or, slice_get_within, same_Some, option_and_then_some, cond_some}
 use Rattle.svn_path.specs.Path.{same_name}
 use Rattle.svn_path.specs.declared.names.NameId.{NameId}
 use Rattle.svn_path.proofs.Belows.{IsSame-same_name}
-use Rattle.path_index.specs.Nodes.{same_child, child_of, node_below, node_of, ExtendsNodes}
+use Rattle.path_index.specs.Nodes.{same_child, child_of, node_below, node_of, ExtendsNodes, HaveParentsBefore}
 use Rattle.path_index.specs.declared.nodes.Child.{Child}
 
 -- ---- one component
@@ -50,6 +52,48 @@ pub child_of-grown : (children more : List Child) (parent : ℕ) (name : NameId)
 child_of-grown children more parent name node found =
     let (index, at, is) = index_from_child (position (same_child (record { parent = parent; name = name })) children) node found in
     ap (option_map suc) (position-grown (same_child (record { parent = parent; name = name })) children more index at) ∙ ap Some is
+
+-- a child that has a node is among the children
+pub child_of-any : (children : List Child) (parent : ℕ) (name : NameId) → IsSome (child_of children parent name)
+    → list_any (same_child (record { parent = parent; name = name })) children ≡ true
+child_of-any children parent name known = by (position p children) refl
+  where
+    p : Child → Bool
+    p = same_child (record { parent = parent; name = name })
+
+    by : (o : Option ℕ) → position p children ≡ o → list_any p children ≡ true
+    by None none = cc
+    by (Some index) at =
+        let d : Child = record { parent = parent; name = name } in
+        let (within, passes, _) = position-Some p children index d at in
+        list_any_at p children index d within passes
+
+-- a child below a node of the tree leaves each after the one above it
+HaveParentsBefore-push : (children : List Child) (child : Child) → child.parent ≤ length children
+    → HaveParentsBefore children → HaveParentsBefore (children ++ child ∷ [])
+HaveParentsBefore-push children child below ordered index each at =
+    let within = slice_get_within (children ++ child ∷ []) index each at in
+    let stands : get_or (children ++ child ∷ []) index each ≡ each =
+    get_or_from_slice_get (children ++ child ∷ []) index each each at in
+    elim (cases_lt index (length children)) [
+      | inl before ↦
+          ordered index each
+          (slice_get-get_or children index each before
+          ∙ ap Some (sym (get_or_append_left children (child ∷ []) each index before) ∙ stands))
+      | inr last ↦
+          let here : index ≡ length children = omega (arith, within, last, length_push children child) in
+          let is : child ≡ each = sym (get_or_push children child each index (sym here)) ∙ stands in
+          let low : each.parent ≤ length children = subst (λ (e : Child). e.parent ≤ length children) is below in
+          omega (arith, low, here)
+    ]
+
+pub HaveParentsBefore-insert : (children : List Child) (child : Child) → child.parent ≤ length children
+    → HaveParentsBefore children → HaveParentsBefore (insert_key same_child children child)
+HaveParentsBefore-insert children child below ordered = elim (cases_Bool (list_any (same_child child) children)) [
+  | inl there ↦ subst HaveParentsBefore (sym (cond-true _ _ _ there)) ordered
+  | inr new ↦
+      subst HaveParentsBefore (sym (cond-false _ _ _ new)) (HaveParentsBefore-push children child below ordered)
+]
 
 -- a child is below one node alone, by one component
 child_of-one : (children : List Child) (parent parent' : ℕ) (name name' : NameId) (node : ℕ) → child_of children parent name ≡ Some node → child_of children parent' name' ≡ Some node

@@ -1,5 +1,5 @@
 //! The paths of records, each once, as a tree of components.
-ghost use Rattle.std.specs.Prelude.{◌≡◌, ◌≤◌, List, [], Some, length, IfOk, IsTrue, OnOk};
+ghost use Rattle.std.specs.Prelude.{◌≡◌, ◌≤◌, ◌↔◌, List, [], Some, length, IfOk, IsOk, IsSome, IsTrue, OnOk};
 ghost use Rattle.path_index.specs.Nodes.{child_of, node_of, AreNodesOf, ExtendsNodes};
 
 use indexmap::IndexSet;
@@ -79,14 +79,15 @@ impl Nodes {
     }
 
     /// The node of a component below another node, which is added where it is new. A tree of 4,294,967,295 nodes below
-    /// the root takes no other: that is reported as want of memory.
+    /// the root takes no new one: that is reported as want of memory.
     pub(crate) fn add(&mut self, parent: u32, name: NameId) -> Result<u32, AllocError>
         requires { parent ≤ length self.old }
         ensures node { IfOk result (λ node. child_of self.new parent name ≡ Some node) }
         ensures grown { OnOk result (ExtendsNodes self.old self.new) }
+        ensures known { IsSome (child_of self.old parent name) → IsOk result × (self.new ≡ self.old) }
     {
         if self.children.len() == u32::MAX as usize {
-            return Err(AllocError);
+            return self.child(parent, name).ok_or(AllocError);
         }
         let (index, _) = self.children.insert_full(Child { parent, name })?;
         Ok(index as u32 + 1)
@@ -102,6 +103,7 @@ impl Nodes {
         requires { parent ≤ length self.old }
         ensures node { IfOk result (λ node. child_of self.new parent name ≡ Some node) }
         ensures grown { OnOk result (ExtendsNodes self.old self.new) }
+        ensures known { IsSome (child_of self.old parent name) → IsOk result × (self.new ≡ self.old) }
     {
         match likely {
             Some(node) if self.is_child(node, parent, name) => Ok(node),
@@ -111,7 +113,7 @@ impl Nodes {
 
     /// Whether a node is that of a component below another node.
     fn is_child(&self, node: u32, parent: u32, name: NameId) -> bool
-        ensures { IsTrue result → child_of self.now parent name ≡ Some node }
+        ensures { IsTrue result ↔ (child_of self.now parent name ≡ Some node) }
     {
         let Some(index) = node.checked_sub(1) else {
             return false;
