@@ -12,6 +12,7 @@ mod NewestRecords
 mod NodesOfPaths
 mod NumbersOfNodes
 mod Operative
+mod PlacesOfNodes
 mod Prefixes
 mod RangesOfNumbers
 mod RecordEffects

@@ -11,3 +11,4 @@ pub mod Records
 pub mod RecordsByPath
 pub mod Segment
 pub mod Span
+pub mod SparseNumbers

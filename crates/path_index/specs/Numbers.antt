@@ -1,5 +1,5 @@
 -- Rising lists of numbers, one for each node.
-use Rattle.std.specs.Prelude.{◌≡◌, ℕ, ◌+◌, ◌^◌, ◌<◌, ◌≤◌, ◌==◌, ◌⊎◌, max, Bool, List, [], AllPairs, All, Contains, Option, None, Some, slice_get, length, slice_index_or}
+use Rattle.std.specs.Prelude.{◌≡◌, ◌≢◌, ℕ, ◌+◌, ◌^◌, ◌<◌, ◌≤◌, ◌==◌, ◌⊎◌, max, Bool, List, [], AllPairs, All, Contains, Option, None, Some, slice_get, length, slice_index_or}
 use Rattle.smallvec.specs.SmallVec.{SmallVec}
 use Rattle.std.specs.List.{list_any}
 
@@ -26,6 +26,10 @@ AreAllRising lists = (node : ℕ) → IsRising (numbers_of lists node)
 -- each node has the same numbers in both
 abbrev pub HaveSameNumbers : List (SmallVec ℕ) → List (SmallVec ℕ) → Type 0
 HaveSameNumbers old new = (node : ℕ) → numbers_of new node ≡ numbers_of old node
+
+-- the other nodes have the same numbers in both
+abbrev pub KeepOthers : ℕ → List (SmallVec ℕ) → List (SmallVec ℕ) → Type 0
+KeepOthers node old new = (other : ℕ) → other ≢ node → numbers_of new other ≡ numbers_of old other
 
 -- one number more
 pub record IsWith (number : ℕ) (old new : List ℕ) : Type 0 where

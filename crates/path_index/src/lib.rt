@@ -18,6 +18,7 @@ mod records;
 mod records_by_path;
 mod segment;
 mod span;
+mod sparse_numbers;
 
 pub use hit::Hit;
 pub use index::Index;

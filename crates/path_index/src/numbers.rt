@@ -1,7 +1,7 @@
-ghost use Rattle.std.specs.Prelude.{◌≡◌, ◌≢◌, ℕ, ◌+◌, ◌-◌, ◌^◌, ◌<◌, ◌++◌, [], All, filter, length, map, IfOk, OnOk};
+ghost use Rattle.std.specs.Prelude.{◌≡◌, ◌+◌, ◌-◌, ◌^◌, ◌<◌, ◌++◌, [], All, filter, length, map, IfOk, OnOk};
 ghost use Rattle.path_index.specs.Numbers.{has_number, newer_of, numbers_of, AddsNumbers, ArePair, FitShifted};
 ghost use Rattle.path_index.specs.Numbers.{HasNumber, HaveSameNumbers, IsMoved, IsNewestBelow, IsFirstNotBelow, IsRising};
-ghost use Rattle.path_index.specs.Numbers.{IsShifted, IsFrontUpTo, IsWith};
+ghost use Rattle.path_index.specs.Numbers.{IsShifted, IsFrontUpTo, IsWith, KeepOthers};
 ghost use Rattle.path_index.specs.Operative.{down_from, hit_at};
 
 use crate::hit::Hit;
@@ -83,7 +83,7 @@ fn extend_to(lists: &mut Vec<List>, node: usize) -> Result<(), AllocError>
 /// Takes the list of a node away. An empty one stands in its place.
 fn take_list(lists: &mut Vec<List>, node: usize) -> List
     ensures taken { result.items ≡ numbers_of lists.old.items node }
-    ensures others { (other : ℕ) → other ≢ node → numbers_of lists.new.items other ≡ numbers_of lists.old.items other }
+    ensures others { KeepOthers node lists.old.items lists.new.items }
 {
     let none = List::new(*lists.allocator());
     if node >= lists.len() {
@@ -125,7 +125,7 @@ impl Numbers {
     }
 
     /// The numbers of a node.
-    fn of(&self, node: usize) -> &[u32]
+    pub(crate) fn of(&self, node: usize) -> &[u32]
         ensures numbers { result.now ≡ numbers_of self.now node }
         ensures rising { IsRising result.now }
     {
@@ -137,7 +137,8 @@ impl Numbers {
 
     /// Inserts a number of a node, if it is not there.
     pub(crate) fn insert(&mut self, node: u32, number: u32) -> Result<(), AllocError>
-        ensures { OnOk result (AddsNumbers (ArePair node number) self.old self.new) }
+        ensures added { OnOk result (AddsNumbers (ArePair node number) self.old self.new) }
+        ensures others { KeepOthers node self.old self.new }
     {
         extend_to(&mut self.lists, node as usize)?;
         insert_number(&mut self.lists[node as usize], number)
@@ -162,9 +163,15 @@ impl Numbers {
     }
 
     /// Inserts these numbers plus a shift at a node.
-    fn insert_shifted(&mut self, node: u32, numbers: &[u32], shift: u32) -> Result<(), AllocError>
+    pub(crate) fn insert_shifted(
+        &mut self,
+        node: u32,
+        numbers: &[u32],
+        shift: u32,
+    ) -> Result<(), AllocError>
         requires { All (λ number. number + shift < 2 ^ 32) numbers.now }
-        ensures { OnOk result (AddsNumbers (IsShifted numbers.now shift node) self.old self.new) }
+        ensures added { OnOk result (AddsNumbers (IsShifted numbers.now shift node) self.old self.new) }
+        ensures others { KeepOthers node self.old self.new }
     {
         self.reserve(node as usize, numbers.len())?;
         for number in numbers {

@@ -9,6 +9,7 @@ ghost use Rattle.path_index.specs.RecordsByPath.{IsOfBoth, IsOfSameRecords, Sets
 use crate::hit::Hit;
 use crate::nodes::Nodes;
 use crate::numbers::{Numbers, newer};
+use crate::sparse_numbers::SparseNumbers;
 use std::alloc::{AllocError, Global};
 use svn_dump::{Act, NodeRecord};
 use svn_path::Path;
@@ -20,9 +21,9 @@ pub(crate) struct RecordsByPath {
     /// The paths that records name, and all paths above them.
     nodes: Nodes,
     /// For each path the indices of the records that add it without a copy.
-    added: Numbers,
+    added: SparseNumbers,
     /// For each path the indices of the records that copy to it.
-    copied: Numbers,
+    copied: SparseNumbers,
     /// For each path the revisions that name it or a path below it.
     named: Numbers,
 }
@@ -35,8 +36,8 @@ impl RecordsByPath {
     {
         let mut by_path = RecordsByPath {
             nodes: Nodes::new(alloc, seed),
-            added: Numbers::new(alloc),
-            copied: Numbers::new(alloc),
+            added: SparseNumbers::new(alloc),
+            copied: SparseNumbers::new(alloc),
             named: Numbers::new(alloc),
         };
         let mut last = Vec::new(alloc);

@@ -1,4 +1,4 @@
-use Rattle.std.proofs.Common.{◌≡◌, ◌≢◌, ℕ, ◌+◌, ◌<◌, List, Some, IfSome, [], ◌∷◌, ◌++◌, ◌⊎◌, inl, inr, map, refl, sym, ap, subst, ◌∙◌, arith, true≢false, Bool, true, false, not}
+use Rattle.std.proofs.Common.{◌≡◌, ◌≢◌, ℕ, ◌+◌, ◌<◌, ◌≤◌, List, Some, IfSome, [], ◌∷◌, ◌++◌, ◌⊎◌, inl, inr, map, refl, sym, ap, subst, ◌∙◌, arith, true≢false, Bool, true, false, not}
 use Rattle.std.proofs.lemmas.List.{map-append}
 use Rattle.std.specs.Cmp.Lexicographic.{pointwise}
 use Rattle.svn_dump.specs.Location.{location}
@@ -6,12 +6,14 @@ use Rattle.svn_path.specs.Path.{same_name}
 use Rattle.svn_path.specs.declared.names.NameId.{NameId}
 use Rattle.svn_path.proofs.Orders.{paths_eq-Decides}
 use Rattle.path_index.specs.History.{trees_to}
-use Rattle.path_index.specs.Segment.{segments_of}
+use Rattle.path_index.specs.Segment.{Segment, segments_of}
 use Rattle.path_index.specs.Index.{IsThere, gap_between, segment_view}
 use Rattle.svn_dump.specs.declared.origin.Origin.{Origin}
+use Rattle.svn_dump.specs.declared.record.NodeRecord.{NodeRecord}
 use Rattle.path_index.proofs.Segments.{AreSegments-segments_of}
 use Rattle.path_index.proofs.Traces.{IsGathered, IsGathered-none, IsGathered-all, IsGathered-on, IsGathered_push}
-use Rattle.path_index.specs.Span.{location_before}
+use Rattle.path_index.specs.Span.{IsSpan, location_before}
+use Rattle.path_index.specs.declared.span.Span.{Span}
 use Rattle.path_index.proofs.index.Index.segments.Goals as goal
 use Rattle.path_index.proofs.index.Index.segments.Goals.{then-ne-via-then-ne, then-ne-via-else-ne+then-at-lo}
 
@@ -25,6 +27,19 @@ same_by_ne p q e = (paths_eq-Decides p q).0 (by (pointwise same_name p q) e)
     by : (b : Bool) → false ≡ not b → b ≡ true
     by true e = refl
     by false e = absurd (true≢false (sym e))
+
+-- where the path came from itself in the revision before, the walk goes on
+goes_on : (all : List NodeRecord) (path : List NameId) (peg : ℕ) (segments : List (Segment NameId)) (hi : ℕ) (here : List NameId) (at : ℕ)
+    → IsGathered (λ rev. location same_name (trees_to all peg) path peg rev) peg segments hi all here at
+    → (span : Span) → IsSpan all here at span → (origin : Origin) → span.origin ≡ Some origin
+    → false ≡ not (pointwise same_name origin.path here) → span.lo ≤ origin.rev + 1
+    → IsGathered (λ rev. location same_name (trees_to all peg) path peg rev) peg segments hi all here origin.rev
+goes_on all path peg segments hi here at gathered span is origin from same near =
+    let location_at = λ (rev : ℕ). location same_name (trees_to all peg) path peg rev in
+    let there = subst (λ o. IfSome o (λ (o : Origin). IsThere all o.path o.rev)) from is.there in
+    let earlier = subst (λ o. IfSome o (λ (o : Origin). o.rev < span.lo)) from is.earlier in
+    IsGathered-on location_at peg segments hi all here at gathered span.lo is.within is.stays origin there earlier
+    (λ rev past. is.back rev past ∙ ap (location_before all rev) from) (same_by_ne origin.path here same) near
 
 pub loop-here-init : goal.loop-here-init
 loop-here-init c =
@@ -86,12 +101,10 @@ loop-here-smaller c =
 
 pub loop-here-preserved : goal.loop-here-preserved
 loop-here-preserved c =
-    let all = c.args.self.now.records in
-    let location_at = λ (rev : ℕ). location same_name (trees_to all c.args.rev) c.args.path.now c.args.rev rev in
-    let lo = c.in_ok-lo.field-0.lo in
-    let origin = c.in-Some.origin in
-    let there = subst (λ o. IfSome o (λ (o : Origin). IsThere all o.path o.rev)) c.in-Some.is c.in_ok-lo.ensures.there in
-    let earlier = subst (λ o. IfSome o (λ (o : Origin). o.rev < lo)) c.in-Some.is c.in_ok-lo.ensures.earlier in
-    IsGathered-on location_at c.args.rev (map segment_view c.loop-here.segments.items) c.loop-here.hi c.args.self.now.records c.loop-here.here c.loop-here.at
-    c.loop-here.invariant lo c.in_ok-lo.ensures.within c.in_ok-lo.ensures.stays origin there earlier
-    (λ rev past. c.in_ok-lo.ensures.back rev past ∙ ap (location_before all rev) c.in-Some.is) (same_by_ne origin.path c.loop-here.here c.if-ne.ensures) c.if-at-lo.false
+    goes_on c.args.self.now.records c.args.path.now c.args.rev (map segment_view c.loop-here.segments.items) c.loop-here.hi c.loop-here.here c.loop-here.at
+    c.loop-here.invariant c.in_ok-lo.field-0 c.in_ok-lo.ensures c.in-Some.origin c.in-Some.is c.if-ne.ensures c.if-at-lo.false
+
+pub loop-here-preserved-else-at-lo : goal.loop-here-preserved-else-at-lo
+loop-here-preserved-else-at-lo c =
+    goes_on c.args.self.now.records c.args.path.now c.args.rev (map segment_view c.loop-here.segments.items) c.loop-here.hi c.loop-here.here c.loop-here.at
+    c.loop-here.invariant c.in_ok-lo.field-0 c.in_ok-lo.ensures c.in-Some.origin c.in-Some.is c.if-ne.ensures c.if-at-lo.false

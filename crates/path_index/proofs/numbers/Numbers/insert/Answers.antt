@@ -1,11 +1,11 @@
 use Rattle.std.proofs.Common.{◌≡◌, sym, ap, subst, ◌∙◌, set}
 use Rattle.std.proofs.lemmas.Result.{on_ok_weaker}
 use Rattle.path_index.specs.Numbers.{numbers_of, ArePair, HaveSameNumbers, IsWith}
-use Rattle.path_index.proofs.ListsOfNodes.{items_in, numbers_of-within, AddsNumbers-same, AddsNumbers-set}
+use Rattle.path_index.proofs.ListsOfNodes.{items_in, numbers_of-set_other, numbers_of-within, AddsNumbers-same, AddsNumbers-set}
 use Rattle.path_index.proofs.numbers.Numbers.insert.Goals as goal
 
-pub returns : goal.returns
-returns c =
+pub returns-clause-added : goal.returns-clause-added
+returns-clause-added c =
     let lists = c.extend_to.new.lists.items in
     let node = c.args.node in
     let number = c.args.number in
@@ -16,3 +16,9 @@ returns c =
     (λ with. AddsNumbers-same (ArePair node number) c.args.self.now lists (set lists node c.insert_number.new.numbers) same
     (AddsNumbers-set lists node number c.insert_number.new.numbers c.in_ok-extend_to.ensures.within (subst (λ all. IsWith number all c.insert_number.new.numbers.items) (sym own) with)))
     c.insert_number.ensures.with
+
+pub returns-clause-others : goal.returns-clause-others
+returns-clause-others c = λ other differs.
+    let lists = c.extend_to.new.lists.items in
+    let same = subst (λ all. HaveSameNumbers all lists) c.self.view_is c.in_ok-extend_to.ensures.same in
+    numbers_of-set_other lists c.args.node c.insert_number.new.numbers other differs ∙ same other

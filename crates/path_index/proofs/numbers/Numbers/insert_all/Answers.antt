@@ -23,7 +23,7 @@ loop-from-preserved c =
     record {
       added =
           AddsNumbers-next_node c.args.self.now c.loop-from.self c.insert_shifted.new.self later nodes from c.args.shift node (slice_get-get_or nodes from 0 c.loop-from-test.true) c.loop-from.invariant.added
-          (subst (λ numbers. AddsNumbers (IsShifted numbers c.args.shift node) c.loop-from.self c.insert_shifted.new.self) is c.in_ok-insert_shifted.ensures);
+          (subst (λ numbers. AddsNumbers (IsShifted numbers c.args.shift node) c.loop-from.self c.insert_shifted.new.self) is c.in_ok-insert_shifted.ensures.added);
       rest = λ other after. c.take_list-list.ensures.others other (λ same. absurd (omega (arith, after, same))) ∙ c.loop-from.invariant.rest other (omega (arith, after));
     }
 

@@ -1,4 +1,4 @@
-use Rattle.std.proofs.Common.{get_or, take, sym, subst}
+use Rattle.std.proofs.Common.{get_or, take, sym, subst, ◌∙◌}
 use Rattle.std.proofs.lemmas.List.{take_more}
 use Rattle.path_index.specs.Numbers.{AddsNumbers, IsShifted}
 use Rattle.path_index.proofs.ListsOfNodes.{AddsNumbers-next_shifted, AddsNumbers-none_shifted}
@@ -8,8 +8,25 @@ pub loop-number-preserved : goal.loop-number-preserved
 loop-number-preserved c =
     let numbers = c.args.numbers.now in
     let n = c.loop-number.number-index in
-    subst (λ done. AddsNumbers (IsShifted done c.args.shift c.args.node) c.args.self.now c.insert.new.self) (sym (take_more numbers n 0 c.loop-number-test.true))
-    (AddsNumbers-next_shifted c.args.self.now c.loop-number.self c.insert.new.self (take n numbers) (get_or numbers n 0) c.args.shift c.args.node c.loop-number.invariant c.in_ok-insert.ensures)
+    let new = c.insert.new.self in
+    let so = c.loop-number.invariant in
+    let inserted = c.in_ok-insert.ensures in
+    record {
+      added =
+          subst (λ done. AddsNumbers (IsShifted done c.args.shift c.args.node) c.args.self.now new)
+          (sym (take_more numbers n 0 c.loop-number-test.true))
+          (AddsNumbers-next_shifted c.args.self.now c.loop-number.self new (take n numbers) (get_or numbers n 0)
+          c.args.shift c.args.node so.added inserted.added);
+      others = λ other differs. inserted.others other differs ∙ so.others other differs;
+    }
 
 pub loop-number-init : goal.loop-number-init
-loop-number-init c = AddsNumbers-none_shifted c.args.self.now c.reserve.new.self c.args.shift c.args.node (c.in_ok-reserve.ensures)
+loop-number-init c = record {
+  added =
+      AddsNumbers-none_shifted c.args.self.now c.reserve.new.self c.args.shift c.args.node c.in_ok-reserve.ensures;
+  others = λ other differs. c.in_ok-reserve.ensures other;
+}
+
+pub returns-in_err-insert-clause-others : goal.returns-in_err-insert-clause-others
+returns-in_err-insert-clause-others c = λ other differs.
+    c.in_err-insert.ensures.others other differs ∙ c.loop-number.invariant.others other differs

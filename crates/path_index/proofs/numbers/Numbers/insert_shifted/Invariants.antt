@@ -1,6 +1,9 @@
 use Rattle.std.proofs.Common.{take}
-use Rattle.path_index.specs.Numbers.{AddsNumbers, IsShifted}
+use Rattle.path_index.specs.Numbers.{AddsNumbers, IsShifted, KeepOthers}
 use Rattle.path_index.proofs.numbers.Numbers.insert_shifted.Given as goal
 
 abbrev pub invariant-loop-number : goal.invariant-loop-number
-invariant-loop-number l = AddsNumbers (IsShifted (take l.number-index l.numbers) l.shift l.node) l.fn.self l.self
+invariant-loop-number l = record {
+  added : AddsNumbers (IsShifted (take l.number-index l.numbers) l.shift l.node) l.fn.self l.self;
+  others : KeepOthers l.node l.fn.self l.self;
+}

@@ -13,7 +13,7 @@ loop-name-init c =
     record {
       node = refl;
       grown = ExtendsNodes-none old.nodes;
-      named = AddsEntries-root old.nodes parts c.args.rev old.named c.insert.new.self (omega (arith, c.ranges.rev.fits)) c.in_ok-insert.ensures;
+      named = AddsEntries-root old.nodes parts c.args.rev old.named c.insert.new.self (omega (arith, c.ranges.rev.fits)) c.in_ok-insert.ensures.added;
       added = refl;
       copied = refl;
     }
@@ -37,7 +37,7 @@ loop-name-preserved c =
       node = node;
       grown = ExtendsNodes-again old.nodes before.nodes nodes so.grown grown;
       named = AddsEntries-next nodes parts n c.args.rev c.in_ok-node.node old.named before.named c.insert-in-loop-name.new.self
-          (AddsEntries-grown before.nodes nodes grown (IsFrontAt parts n c.args.rev) old.named before.named so.named) node (omega (arith, c.ranges.rev.fits)) c.in_ok-insert-2.ensures;
+          (AddsEntries-grown before.nodes nodes grown (IsFrontAt parts n c.args.rev) old.named before.named so.named) node (omega (arith, c.ranges.rev.fits)) c.in_ok-insert-2.ensures.added;
       added = so.added;
       copied = so.copied;
     }
