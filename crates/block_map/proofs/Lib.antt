@@ -21,5 +21,6 @@ pub mod RevisionEnds
 pub mod RevisionStates
 pub mod Sources
 pub mod Standings
+pub mod StoredChildMaps
 pub mod TreesLooks
 pub mod TreesNodes

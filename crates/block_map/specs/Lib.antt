@@ -11,5 +11,6 @@ pub mod Map
 pub mod Node
 pub mod ChildMaps
 pub mod Standing
+pub mod StoredChildMaps
 pub mod Trees
 pub mod Trie

@@ -4,6 +4,7 @@ ghost use Rattle.block_map.specs.ChildMaps.{child_in, child_map_at, Extends, Are
 use crate::trie::child_map::{ChildMap, ChildMapId};
 use crate::trie::node::NodeId;
 use crate::trie::numbers::next_number;
+use crate::trie::stored_child_map::StoredChildMap;
 use std::alloc::{AllocError, Global};
 use std::marker::Model;
 use svn_path::NameId;
@@ -12,19 +13,20 @@ use svn_path::NameId;
 /// new ones only on the way to the name.
 #[derive(Drop)]
 pub(crate) struct ChildMaps {
-    maps: Vec<ChildMap>,
+    maps: Vec<StoredChildMap>,
 }
 
 impl Model for ChildMaps {
-    ghost use Rattle.std.specs.Prelude.{List};
+    ghost use Rattle.std.specs.Prelude.{List, map};
     ghost use Rattle.block_map.specs.ChildMaps.{AreOrdered};
+    ghost use Rattle.block_map.specs.StoredChildMaps.{child_map_of};
     ghost use Rattle.block_map.specs.declared.trie.child_map.ChildMap.{ChildMap};
 
     ghost Value = { List ChildMap };
 
-    ghost view = { λ c. c.maps.items };
+    ghost view = { λ c. map child_map_of c.maps.items };
 
-    ghost invariant = { λ c. AreOrdered c.maps.items };
+    ghost invariant = { λ c. AreOrdered (map child_map_of c.maps.items) };
 }
 
 /// The one of two maps that the lowest bit tells.
@@ -92,7 +94,10 @@ impl ChildMaps {
     {
         match id.0 {
             0 => None,
-            number => self.maps.get(number as usize - 1).copied(),
+            number => self
+                .maps
+                .get(number as usize - 1)
+                .map(|stored| stored.child_map()),
         }
     }
 
@@ -105,7 +110,7 @@ impl ChildMaps {
         ensures ordered { AreOrdered self.new }
     {
         let before = next_number(self.maps.len())?;
-        self.maps.push(map)?;
+        self.maps.push(StoredChildMap::of(map)?)?;
         Ok(ChildMapId(before + 1))
     }
 
