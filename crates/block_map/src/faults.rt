@@ -177,26 +177,33 @@ fn fault_of_target(
     if replace {
         return fault_if_missing(map, tick, path);
     }
-    if map.standing(tick, path)?.is_some() {
-        return Ok(Some(FaultKind::Exists));
-    }
-    if has_parent(map, tick, path)? {
-        Ok(None)
+    let (parent, entry) = parent_and_entry(map, tick, path)?;
+    Ok(if entry.is_some() {
+        Some(FaultKind::Exists)
+    } else if is_dir(parent) {
+        None
     } else {
-        Ok(Some(FaultKind::NoParent))
-    }
+        Some(FaultKind::NoParent)
+    })
 }
 
-/// Whether the parent of a path is there and is a directory.
-fn has_parent(map: &Map, tick: u32, path: &[NameId]) -> Result<bool, AllocError>
+/// What stands at the parent of a path, of which the root has none, and at the path itself.
+fn parent_and_entry(
+    map: &Map,
+    tick: u32,
+    path: &[NameId],
+) -> Result<(Option<Entry>, Option<Entry>), AllocError>
     requires begins { map.now.lo ≡ 0 }
     requires within { tick ≤ hi_of map.now }
-    ensures { IfOk result (λ there. there ≡ has_parent_standing (standings_in map.now) tick path.now) }
+    ensures parent { IfOk result (λ both.
+        is_dir_standing (option_map entry_view both.0) ≡ has_parent_standing (standings_in map.now) tick path.now) }
+    ensures path { IfOk result (λ both.
+        option_map entry_view both.1 ≡ standings_in map.now tick path.now) }
 {
-    let Some((_, above)) = path.split_last() else {
-        return Ok(false);
-    };
-    Ok(is_dir(map.standing(tick, above)?))
+    match path.split_last() {
+        None => Ok((None, map.standing(tick, path)?)),
+        Some((name, above)) => map.standing_with_child(tick, above, *name),
+    }
 }
 
 /// Whether a directory stands there.

@@ -1,4 +1,4 @@
-ghost use Rattle.std.specs.Prelude.{◌≡◌, ℕ, ◌+◌, ◌^◌, ◌<◌, ◌≤◌, ◌++◌, All, List, length, option_and_then, option_map, IfOk};
+ghost use Rattle.std.specs.Prelude.{◌≡◌, ℕ, ◌+◌, ◌^◌, ◌<◌, ◌≤◌, ◌++◌, ◌∷◌, [], All, List, length, option_and_then, option_map, IfOk, IfSome};
 ghost use Rattle.svn_dump.specs.Dump.{DumpValue, IsDump};
 ghost use Rattle.svn_dump.specs.Record.{most_components};
 ghost use Rattle.svn_dump.specs.declared.record.NodeRecord.{NodeRecord};
@@ -10,7 +10,8 @@ ghost use Rattle.block_map.specs.LookThrough.{IsFoundUpTo, look_through as looke
 ghost use Rattle.block_map.specs.Looked.{looked_view};
 ghost use Rattle.block_map.specs.Map.{AreEntryAndNearest, IsEndIn, IsMapOfFirstRecords, IsNearestOrNone, found_view, hi_of, look_in, most_nodes, nodes_for, records_at_ticks, revision_in, state_in};
 ghost use Rattle.block_map.specs.Standing.{entry_view, mergeinfo_of, own_mergeinfo_at, standing_at, standing_of};
-ghost use Rattle.block_map.specs.Trees.{AreMapTrees};
+ghost use Rattle.block_map.specs.Trees.{AreMapTrees, AreTrees, end_of_trees, look_in_trees};
+ghost use Rattle.svn_path.specs.declared.names.NameId.{NameId};
 
 use crate::ends::Ends;
 use crate::entry::Entry;
@@ -198,7 +199,7 @@ impl Map {
         requires within { tick ≤ hi_of self.now }
         ensures { IfOk result (AreEntryAndNearest (λ above. standing_of (look_in self.now tick above)) path.now) }
     {
-        if let [only] = blocks_before(self.blocks.as_slice(), tick) {
+        if let Some(only) = self.only_block(tick) {
             return Ok(only.entry_and_nearest(tick, path));
         }
         let entry = self.standing(tick, path)?;
@@ -240,8 +241,52 @@ impl Map {
         ensures { IfOk result (λ entry.
             option_map entry_view entry ≡ standing_of (look_in self.now tick path.now)) }
     {
+        if let Some(only) = self.only_block(tick) {
+            return Ok(only.standing(tick, path));
+        }
         let looked = look_in_blocks(self.blocks.as_slice(), 0, tick, path)?;
         Ok(standing_from_beginning(looked, path))
+    }
+
+    /// What stands at a path of these components at a tick, and at the path that goes on from it with a name.
+    pub(crate) fn standing_with_child(
+        &self,
+        tick: u32,
+        path: &[NameId],
+        name: NameId,
+    ) -> Result<(Option<Entry>, Option<Entry>), AllocError>
+        requires begins { self.now.lo ≡ 0 }
+        requires within { tick ≤ hi_of self.now }
+        ensures path { IfOk result (λ both.
+            option_map entry_view both.0 ≡ standing_of (look_in self.now tick path.now)) }
+        ensures child { IfOk result (λ both.
+            option_map entry_view both.1 ≡ standing_of (look_in self.now tick (path.now ++ name ∷ []))) }
+    {
+        if let Some(only) = self.only_block(tick) {
+            return Ok(only.standing_with_child(tick, path, name));
+        }
+        let mut child = Vec::from_slice(*self.blocks.allocator(), path)?;
+        child.push(name)?;
+        Ok((
+            self.standing(tick, path)?,
+            self.standing(tick, child.as_slice())?,
+        ))
+    }
+
+    /// The block of all records before a tick, if they are in one.
+    fn only_block(&self, tick: u32) -> Option<&Trees>
+        requires begins { self.now.lo ≡ 0 }
+        requires within { tick ≤ hi_of self.now }
+        ensures trees { IfSome result (λ only. AreTrees only.now) }
+        ensures after { IfSome result (λ only. only.now.start < tick) }
+        ensures within { IfSome result (λ only. tick ≤ end_of_trees only.now) }
+        ensures look { IfSome result
+            (λ only. (path : List NameId) → look_in_trees only.now tick path ≡ look_in self.now tick path) }
+    {
+        match blocks_before(self.blocks.as_slice(), tick) {
+            [only] => Some(only.as_ref()),
+            _ => None,
+        }
     }
 }
 

@@ -1,4 +1,4 @@
-ghost use Rattle.std.specs.Prelude.{◌≡◌, ◌+◌, ◌^◌, ◌<◌, ◌≤◌, ◌++◌, ◌∷◌, [], length, IfOk, OnOk};
+ghost use Rattle.std.specs.Prelude.{◌≡◌, ◌+◌, ◌^◌, ◌<◌, ◌≤◌, ◌++◌, ◌∷◌, [], length, option_map, IfOk, OnOk};
 ghost use Rattle.std.specs.Prelude.{None};
 ghost use Rattle.svn_dump.specs.Dump.{record_view, setting_view};
 ghost use Rattle.svn_dump.specs.Tree.{mergeinfo_after};
@@ -8,7 +8,7 @@ ghost use Rattle.block_map.specs.LookThrough.{IsFoundUpTo};
 ghost use Rattle.block_map.specs.Ends.{HasSourceBefore, record_at_tick};
 ghost use Rattle.block_map.specs.Looked.{looked_view};
 ghost use Rattle.block_map.specs.Map.{AreEntryAndNearest, found_view};
-ghost use Rattle.block_map.specs.Standing.{standing_of};
+ghost use Rattle.block_map.specs.Standing.{entry_view, standing_of};
 ghost use Rattle.block_map.specs.Trie.{IsNodeOf, IsSound};
 
 use crate::ends::Ends;
@@ -257,6 +257,34 @@ impl Trees {
             }
             known => Ok(known),
         }
+    }
+
+    /// What stands at a path at a tick after `start`, as far as these records say it.
+    pub(crate) fn standing(&self, tick: u32, path: &[NameId]) -> Option<Entry>
+        requires trees { AreTrees self.now }
+        requires after { self.now.start < tick }
+        requires within { tick ≤ end_of_trees self.now }
+        ensures { option_map entry_view result ≡ standing_of (look_in_trees self.now tick path.now) }
+    {
+        self.trie.standing(self.root(tick), path)
+    }
+
+    /// What stands at a path at a tick after `start`, and at the path that goes on from it with a name, as far as these
+    /// records say it.
+    pub(crate) fn standing_with_child(
+        &self,
+        tick: u32,
+        path: &[NameId],
+        name: NameId,
+    ) -> (Option<Entry>, Option<Entry>)
+        requires trees { AreTrees self.now }
+        requires after { self.now.start < tick }
+        requires within { tick ≤ end_of_trees self.now }
+        ensures path { option_map entry_view result.0 ≡ standing_of (look_in_trees self.now tick path.now) }
+        ensures child { option_map entry_view result.1
+            ≡ standing_of (look_in_trees self.now tick (path.now ++ name ∷ [])) }
+    {
+        self.trie.standing_with_child(self.root(tick), path, name)
     }
 
     /// What stands at a path at a tick after `start`, and its nearest mergeinfo, as far as these records say it.

@@ -13,6 +13,7 @@ mod locations;
 mod node;
 mod numbers;
 mod position;
+mod stored_child_map;
 mod stored_location;
 
 use crate::entry::Entry;
@@ -301,6 +302,30 @@ impl Trie {
             ) => Some(Entry { kind, mi }),
             _ => None,
         }
+    }
+
+    /// What is known to stand at a path below a root.
+    pub(crate) fn standing(&self, root: Node, path: &[NameId]) -> Option<Entry>
+        requires { IsNodeOf self.now root }
+        ensures { option_map entry_view result ≡ standing_below self.now root path.now }
+    {
+        self.entry(self.find(root, path))
+    }
+
+    /// What is known to stand at a path below a root, and at the path that goes on from it with a name.
+    pub(crate) fn standing_with_child(
+        &self,
+        root: Node,
+        path: &[NameId],
+        name: NameId,
+    ) -> (Option<Entry>, Option<Entry>)
+        requires { IsNodeOf self.now root }
+        ensures path { option_map entry_view result.0 ≡ standing_below self.now root path.now }
+        ensures child { option_map entry_view result.1 ≡ standing_below self.now root (path.now ++ name ∷ []) }
+    {
+        let position = self.find(root, path);
+        let child = self.step(position, name, path.len());
+        (self.entry(position), self.entry(child))
     }
 
     /// What is known to stand at a path below a root, and the mergeinfo of the path, or of the nearest path above it that
