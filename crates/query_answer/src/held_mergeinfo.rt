@@ -43,7 +43,8 @@ impl<'v, 'p> HeldMergeinfo<'v, 'p> {
             return Ok(None);
         };
         text.clear();
-        Path::of(alloc, above)?.write(names, text)?;
+        let above = Path::of(alloc, above)?;
+        above.write(names, text)?;
         Ok(self.value.ranges(text))
     }
 }

@@ -26,7 +26,13 @@ loop-preserved g c = record {
 }
 
 pub returns-in-Ok-eq0-clause-ok : goal.returns-in-Ok-eq0-clause-ok
-returns-in-Ok-eq0-clause-ok g c = search (rules, c.loop.invariant.front, c.loop.invariant.ends, c.in-Ok-eq0.ensures.bytes, c.in-Ok-eq0.ensures.ends, c.in-Ok-eq0.ensures.failed, c.in_ok-finish-in-Ok-eq0.ensures.ok)
+returns-in-Ok-eq0-clause-ok g c =
+    let read = c.loop.invariant.front in
+    record {
+      bytes = read.front;
+      all = search (rules, read.given, c.loop.invariant.ends, c.in-Ok-eq0.ensures.bytes, c.in-Ok-eq0.ensures.ends, c.in-Ok-eq0.ensures.failed);
+      read = c.in_ok-finish-in-Ok-eq0.ensures.ok read.front read.read;
+    }
 
 pub returns-in_err-finish-in-Ok-eq0-clause-error : goal.returns-in_err-finish-in-Ok-eq0-clause-error
 returns-in_err-finish-in-Ok-eq0-clause-error g c =
