@@ -42,9 +42,9 @@ pub(crate) fn answer_lines<R: Threads + Wait + Sync, G: Gate>(
     answer_batches(rt, alloc, repo, &memo, lines.as_slice(), workers, gate)
 }
 
-/// The answers to these query lines. They are found in batches, so that the texts of at most two batches are held beside
-/// the report. With several workers, a further thread joins the answers to one batch while they answer the next. One
-/// worker joins them in between.
+/// The answers to these query lines. They are found in batches, so that the texts of at most two batches are held
+/// beside the report. With several workers, a further thread joins the answers to one batch while they answer the next.
+/// One worker joins them in between.
 fn answer_batches<'r, R: Threads + Wait + Sync, G: Gate>(
     rt: &R,
     alloc: Global,
@@ -93,7 +93,8 @@ pub(crate) struct PartialReport {
 }
 
 impl PartialReport {
-    /// This report with the answers to a further batch. With several workers, the answers before it are joined meanwhile.
+    /// This report with the answers to a further batch. With several workers, the answers before it are joined
+    /// meanwhile.
     fn with_answers<R: Threads + Wait + Sync, G: Gate>(
         self,
         rt: &R,
@@ -121,8 +122,10 @@ impl PartialReport {
                 after.items ≡ report.items ++ flat_map (λ text. text.items) joined.entry.now) }
         { with_texts(report, joined) };
         let answering = move || -> Result<Vec<Vec<u8>>, AllocError>
-            requires { (0 < workers) × (workers ≤ most_workers) × ((place : ℕ) → place < length batch.now.lines.now
-                → G.watches gate.now (batch.now.first + place)) }
+            requires some_worker { 0 < workers }
+            requires few_workers { workers ≤ most_workers }
+            requires gate { (place : ℕ) → place < length batch.now.lines.now
+                → G.watches gate.now (batch.now.first + place) }
             ensures { IfOk result (λ texts. flat_map (λ text. text.items) texts.items
                 ≡ answers_to_batch batch.entry.now.repo.now batch.entry.now.first batch.entry.now.lines.now) }
         { batch.answers(rt, workers, gate) };
@@ -135,7 +138,7 @@ impl PartialReport {
     }
 }
 
-/// How many bytes all texts have.
+/// How many bytes all texts have, or the greatest `usize` where that is less.
 fn length_of(texts: &[Vec<u8>]) -> usize
     ensures { result ≤ length (flat_map (λ text. text.items) texts.now) }
 {
