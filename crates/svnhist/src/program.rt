@@ -1,5 +1,5 @@
 //! The program: a bundle or two files in, their report out.
-ghost use Rattle.std.specs.Prelude.{◌≡◌, ◌≢◌, ◌<◌, ◌≤◌, ◌⊎◌, [], Some, IfErr, IfOk, IsOkAnd, IsNone, IsErrOf, IsFalse, IsTrue, MatchOption};
+ghost use Rattle.std.specs.Prelude.{◌≡◌, ◌≢◌, ◌+◌, ◌<◌, ◌≤◌, ◌⊎◌, [], Some, IfErr, IfOk, IsOkAnd, IsNone, IsErrOf, IsFalse, IsTrue, MatchOption};
 ghost use Rattle.std.specs.Io.KnownBytes.{Appends};
 ghost use Rattle.std.specs.Process.{exit_status};
 ghost use Rattle.std.specs.IoError.{error_kind};
@@ -29,8 +29,8 @@ const UNSENT: &[u8] = b"svnhist: cannot write the report\n";
 
 const NO_MEMORY: &[u8] = b"svnhist: out of memory\n";
 
-/// Does what the arguments after the program's name ask for, and answers the status with which the program ends. Without
-/// arguments `input` is a bundle. Where there is no report, one line for `errors` says why.
+/// Does what the arguments after the program's name ask for, and answers the status with which the program ends.
+/// Without arguments `input` is a bundle. Where there is no report, one line for `errors` says why.
 pub(crate) fn run<
     R: RandomSource + Threads + Wait + Sync,
     F: Open<D>,
@@ -68,6 +68,7 @@ pub(crate) fn run<
     ensures quiet { (exit_status result ≡ 0) ⊎ (exit_status result ≡ 3) ⊎ (output.new ≡ output.old) }
     ensures untouched { (output.new ≡ output.old) ⊎ ((O.state output.old).calls < (O.state output.new).calls) }
     ensures unread { (texts_of arguments ≡ Some []) ⊎ (input.new ≡ input.old) }
+    ensures fails_once { (I.state input.new).failures ≤ (I.state input.old).failures + 1 }
     ensures no_texts { IfErr arguments (λ e. error_kind e ≢ ErrorKind.OutOfMemory → exit_status result ≡ 2) }
     ensures no_memory { IfErr arguments (λ e. error_kind e ≡ ErrorKind.OutOfMemory → exit_status result ≡ 4) }
 {
@@ -160,6 +161,7 @@ fn answer<R: RandomSource + Threads + Wait + Sync, F: Open<D>, D: Pull + Drop, I
     ensures error { IfErr result (IsErrorAsked (F.opens files.now) (F.refuses files.now) D.state (texts_of arguments)
         (I.state input.old) (I.state input.new)) }
     ensures unread { (texts_of arguments ≡ Some []) ⊎ (input.new ≡ input.old) }
+    ensures fails_once { (I.state input.new).failures ≤ (I.state input.old).failures + 1 }
     ensures no_texts { IfErr arguments (λ e. error_kind e ≢ ErrorKind.OutOfMemory → IsOkAnd result IsNone) }
     ensures no_memory { IfErr arguments (λ e. error_kind e ≡ ErrorKind.OutOfMemory → IsErrOf result RunError.Memory) }
 {
@@ -184,6 +186,7 @@ fn answer_input<R: RandomSource + Threads + Wait + Sync, I: Pull>(
         (IsNoBundle (I.state input.old) (I.state input.new))
         (λ report. IsReportOnInput (I.state input.old) (I.state input.new) report.items)) }
     ensures error { IfErr result (IsErrorOnInput (I.state input.old) (I.state input.new)) }
+    ensures fails_once { (I.state input.new).failures ≤ (I.state input.old).failures + 1 }
 {
     let bytes = load(alloc, input, Source::Input)?;
     match bundle(bytes.as_slice()) {
