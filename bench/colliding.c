@@ -3,7 +3,9 @@
  * object is loaded by LD_PRELOAD, a system that gives no random bytes, with which they do.
  *
  * A table takes the place of a key from the low bits of its hash, of which the upper half was added to the lower one
- * without carry. The hash is SipHash with one round for each word and three at the end. The fixed seed is the keys 0, 0.
+ * without carry. The hash of a key of eight bytes is the product of two factors of 64 bits, of which the upper half was
+ * added to the lower one so: the key and the state of the seed, and the length of the key and the factor of the seed,
+ * each added without carry.
  *
  * The kit has a compiler, a linker and the C library, but no headers, so what is used of the library is declared here.
  */
@@ -15,47 +17,15 @@ extern int *__errno_location(void);
 
 enum { NOT_THERE = 38, NAME = 8 };
 
-struct state {
-    u64 a, b, c, d;
-};
-
-static u64 rotated(u64 word, int bits)
-{
-    return word << bits | word >> (64 - bits);
-}
-
-static void turn(struct state *s)
-{
-    s->a += s->b;
-    s->b = rotated(s->b, 13) ^ s->a;
-    s->a = rotated(s->a, 32);
-    s->c += s->d;
-    s->d = rotated(s->d, 16) ^ s->c;
-    s->a += s->d;
-    s->d = rotated(s->d, 21) ^ s->a;
-    s->c += s->b;
-    s->b = rotated(s->b, 17) ^ s->c;
-    s->c = rotated(s->c, 32);
-}
-
-static void take(struct state *s, u64 word)
-{
-    s->d ^= word;
-    turn(s);
-    s->a ^= word;
-}
+/* The fixed seed. */
+static const u64 STATE = 0x243f6a8885a308d3;
+static const u64 FACTOR = 0x9e3779b97f4a7c15;
 
 /* The place of a key of eight bytes, given as one word. */
 static u32 place(u64 key)
 {
-    struct state s = {0x736f6d6570736575, 0x646f72616e646f6d, 0x6c7967656e657261, 0x7465646279746573};
-    take(&s, key);
-    take(&s, (u64)NAME << 56);
-    s.c ^= 0xff;
-    turn(&s);
-    turn(&s);
-    turn(&s);
-    u64 hash = s.a ^ s.b ^ s.c ^ s.d;
+    unsigned __int128 product = (unsigned __int128)(STATE ^ key) * (FACTOR ^ NAME);
+    u64 hash = (u64)product ^ (u64)(product >> 64);
     return (u32)(hash ^ hash >> 32);
 }
 
