@@ -25,7 +25,7 @@ REFUSED = 1
 # The limits. The time of one worker and of four is relative to `grep` for changes, and to reading for additions.
 COMPARED = {"changes": "grep", "additions": "reading"}
 MOST_TIMES = {"changes": {1: 10, 4: 8}, "additions": {1: 8, 4: 6}}
-MOST_MEGABYTES = {"changes": 700, "additions": 1500}
+MOST_MEGABYTES = {"changes": 700, "additions": 280}
 MOST_FOR_TWICE = 2.3
 MOST_MEMORY_FOR_TWICE = 2.1
 

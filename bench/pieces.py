@@ -27,16 +27,16 @@ DUMPS = {
 GREP = ["grep", "-c", "^Node-path"]
 COUNT = ["wc", "-c"]
 # What a pipe is measured beside, and the limit of the time relative to that.
-PIPES = {"small records": (GREP, 2.2), "mergeinfo": (GREP, 3.5), "large texts": (COUNT, 1.3)}
+PIPES = {"small records": (GREP, 1.9), "mergeinfo": (GREP, 3.5), "large texts": (COUNT, 1.3)}
 MOST_OF_BEFORE = 1
 MOST_OF_HASHING = 0.1
 MOST_FOR_TEXTS = 20
 # What a byte in format 3 may take of the processor time of one in format 2.
 MOST_OF_FORMAT_2 = 1.1
-# What the memory may be of what it was, less the size of the dump.
-MOST_OF_REST = 1.1
+# What the memory may be of that of the program before.
+MOST_OF_MEMORY = 1.03
 # Functions that hash, and those into which hashing is compiled. All that such a function does counts as hashing.
-HASHING = re.compile(r"hash_of|TextTable::(add|find)\b")
+HASHING = re.compile(r"hash_one|Hasher\w*::write|TextTable::(add|find)\b")
 LEAST_SHOWN = 0.05
 
 
@@ -189,7 +189,7 @@ class Memory:
         print("| %s | %.1f | %.1f | %.1f |" % (self.title, self.size / 1e6, self.before / 1e6, self.now / 1e6))
 
     def print_criterion(self):
-        most = round(MOST_OF_REST * (self.before - self.size) / 1e6, 1)
+        most = round(MOST_OF_MEMORY * self.before / 1e6, 1)
         print_criterion("%s, peak MB" % self.title, most, self.now / 1e6)
 
 

@@ -16,7 +16,7 @@ from questions import ask, best_of
 TAGS = 100000
 FEW_TAGS = 10
 # The number of changes of each kind, and the limit of their time.
-CHANGES = {"additions": (10000, 2), "texts": (10000, 2), "mergeinfo": (100000, 3)}
+CHANGES = {"additions": (10000, 1.8), "texts": (10000, 1.8), "mergeinfo": (100000, 3)}
 MOST_MEMORY = 2
 QUICK = 10
 DIRECTORIES = ["src", "lib", "doc"]
@@ -144,8 +144,8 @@ def print_copies(program, folder, given):
 
 def run_wide(program, folder, given):
     print("## Wide directories and copies in copies\n\nThe best of %d measurements.\n" % given.times)
-    print("| changes below tags | tags | changes | seconds | seconds, %d tags | relative, at most 2, or 3 for mergeinfo |"
-          " peak MB | peak MB, %d tags | relative, at most %d |\n|---|---|---|---|---|---|---|---|---|"
+    print("| changes below tags | tags | changes | seconds | seconds, %d tags | relative, at most 1.8, or 3 for mergeinfo"
+          " | peak MB | peak MB, %d tags | relative, at most %d |\n|---|---|---|---|---|---|---|---|---|"
           % (FEW_TAGS, FEW_TAGS, MOST_MEMORY))
     for kind in CHANGES:
         print_tags(program, folder, given, kind)
