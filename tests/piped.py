@@ -1,7 +1,9 @@
 """Runs the program on dumps that come from pipes. What it prints must be what it prints on the same dump as a file."""
+import errno
 import os
 import shutil
 import subprocess
+import time
 
 from tree import ROOT
 
@@ -76,6 +78,47 @@ def run_endless(program, queries):
         yield "an endless pipe, %s" % refusal, wanted, outcome_of(["sh", "-c", ENDLESS, "sh", program, queries, text])
 
 
+def open_to_write(path, seconds):
+    """Opens a named pipe that the program has opened to read, or will within so many seconds. None if it doesn't."""
+    end = time.monotonic() + seconds
+    while True:
+        try:
+            return os.open(path, os.O_WRONLY | os.O_NONBLOCK)
+        except OSError as failed:
+            if failed.errno != errno.ENXIO:
+                raise
+        if time.monotonic() > end:
+            return None
+        time.sleep(0.01)
+
+
+def fill(pipe, text):
+    os.set_blocking(pipe, True)
+    with open(pipe, "wb") as file:
+        file.write(text)
+
+
+def run_named(program, folder, dump, queries):
+    """The outcome of a run on two named pipes, of which that of the queries is opened first, and read to its end."""
+    paths = [os.path.join(folder, name) for name in ("dump.pipe", "queries.pipe")]
+    for path in paths:
+        os.mkfifo(path)
+    with subprocess.Popen([program, *paths, "0", "1"], stdin=subprocess.DEVNULL, stdout=subprocess.PIPE,
+                          stderr=subprocess.PIPE) as running:
+        try:
+            second = open_to_write(paths[1], 10)
+            if second is None or open_to_write(paths[0], 0.1) is not None:
+                return "the dump was opened first"
+            fill(second, queries)
+            fill(open_to_write(paths[0], 10), dump)
+            output, errors = running.communicate(timeout=20)
+            return running.returncode, output, errors
+        finally:
+            running.kill()
+            for path in paths:
+                os.remove(path)
+
+
 def run_piped(program, folder):
     """Of each run its name, what is wanted and what was found."""
     queries = written(folder, "queries", content("branch.queries") + ABOUT_FILES)
@@ -85,4 +128,7 @@ def run_piped(program, folder):
         wanted = outcome_of([program, path, queries, "0", "1"])
         outcomes += [("%s, %s" % (name, way), wanted, outcome_of([shell, "-c", command, shell, program, path, queries]))
                      for way, (shell, command) in ways().items()]
+    example = written(folder, "dump", content("branch.dump"))
+    outcomes.append(("two named pipes", outcome_of([program, example, queries, "0", "1"]),
+                     run_named(program, folder, content("branch.dump"), content("branch.queries") + ABOUT_FILES)))
     return outcomes + list(run_endless(program, queries))
