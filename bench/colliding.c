@@ -21,11 +21,17 @@ enum { NOT_THERE = 38, NAME = 8 };
 static const u64 STATE = 0x243f6a8885a308d3;
 static const u64 FACTOR = 0x9e3779b97f4a7c15;
 
+/* Both halves of the product, joined. */
+static u64 folded(u64 a, u64 b)
+{
+    unsigned __int128 product = (unsigned __int128)a * b;
+    return (u64)product ^ (u64)(product >> 64);
+}
+
 /* The place of a key of eight bytes, given as one word. */
 static u32 place(u64 key)
 {
-    unsigned __int128 product = (unsigned __int128)(STATE ^ key) * (FACTOR ^ NAME);
-    u64 hash = (u64)product ^ (u64)(product >> 64);
+    u64 hash = folded(folded(STATE ^ key, FACTOR ^ NAME), FACTOR);
     return (u32)(hash ^ hash >> 32);
 }
 

@@ -29,5 +29,8 @@ unfoldable pub state_after : ℕ → ℕ → List ℕ → ℕ
 state_after factor state bytes =
     if nat_le (length bytes) 8 then after_short factor state bytes else after_long factor state bytes
 
+abbrev pub finished : SeededHasher → ℕ
+finished h = folded_multiply h.state h.factor
+
 abbrev pub written : SeededHasher → List ℕ → SeededHasher
 written h bytes = record { state = state_after h.factor h.state bytes; factor = h.factor }

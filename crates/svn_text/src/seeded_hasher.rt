@@ -1,12 +1,13 @@
 //! The hash of a seed.
 ghost use Rattle.std.specs.Prelude.{◌≡◌, ◌+◌, ◌≤◌, length};
 ghost use Rattle.std.specs.Hash.FoldHasher as folding;
-ghost use Rattle.svn_text.specs.SeededHasher.{written};
+ghost use Rattle.svn_text.specs.SeededHasher.{finished, written};
 
 use std::hash::Hasher;
 
 /// A hash that multiplies 16 bytes at a time and joins the halves of the product, as `wyhash` and `foldhash` do. Both
-/// factors are mixed with words of a seed. It is quick, and no cryptographic hash.
+/// factors are mixed with words of a seed, and one of them multiplies what comes out once more, since a table takes the
+/// place of a key from few bits. It is quick, and no cryptographic hash.
 #[derive(Clone, Copy)]
 pub struct SeededHasher {
     pub(crate) state: u64,
@@ -16,10 +17,10 @@ pub struct SeededHasher {
 impl Hasher for SeededHasher {
     ghost write = { written };
 
-    ghost finish = { λ h. h.state };
+    ghost finish = { finished };
 
     fn finish(&self) -> u64 {
-        self.state
+        folded_multiply(self.state, self.factor)
     }
 
     fn write(&mut self, bytes: &[u8]) {

@@ -16,7 +16,7 @@ use std::sync::Wait;
 use std::thread::Threads;
 use svn_report::{RunError, load, report_from};
 
-/// The report on two files. The queries are read before the dump is opened.
+/// The report on two files.
 pub(crate) fn answer_files<R: RandomSource + Threads + Wait + Sync, F: Open<D>, D: Pull + Drop>(
     rt: &R,
     alloc: Global,

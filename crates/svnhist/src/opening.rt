@@ -19,15 +19,15 @@ pub(crate) trait Open<D> {
         ensures refused { IfNone result (refuses self.now path.now) };
 }
 
-/// The files of the system. What is in them is not known, only that nothing was read before they are given out.
+/// The files of the system. What is in them is not known, only that none was read or failed before it is given out.
 #[derive(Clone, Copy)]
 pub(crate) struct SystemFiles<'r, R>(pub &'r R);
 
 impl<R: Files> Open<Device<R::File>> for SystemFiles<'_, R> {
-    ghost use Rattle.std.specs.Prelude.{◌≡◌, ⊤};
-    ghost use Rattle.devices.specs.Device.{device_calls};
+    ghost use Rattle.std.specs.Prelude.{◌≡◌, false, ⊤};
+    ghost use Rattle.devices.specs.Device.{device_calls, device_has_failed};
 
-    ghost opens = { λ _ _ input. device_calls input ≡ 0 };
+    ghost opens = { λ _ _ input. (device_calls input ≡ 0) × (device_has_failed input ≡ false) };
 
     ghost refuses = { λ _ _. ⊤ };
 

@@ -69,7 +69,7 @@ impl<'t> Seen<'t> {
         })
     }
 
-    /// How many readings of texts the worker counted, one for each that it made.
+    /// How many readings of texts the worker counted.
     pub fn parses(&self) -> u64
         ensures parses { result ≡ self.now.parses }
         ensures asked { result ≤ asked_of self.now }
