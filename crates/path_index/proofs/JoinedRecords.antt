@@ -1,9 +1,8 @@
 -- The records of two neighbouring parts of a history by their paths.
-use Rattle.std.proofs.Common.{◌≡◌, ℕ, ◌+◌, ◌-◌, ◌^◌, ◌<◌, ◌≤◌, ◌⊎◌, List, ◌++◌, length, get_or, slice_get, Some, inl, inr, refl, sym, ap, subst, ◌∙◌, arith, length-append}
+use Rattle.std.proofs.Common.{◌≡◌, ℕ, ◌+◌, ◌-◌, ◌^◌, ◌<◌, ◌≤◌, ◌⊎◌, List, ◌++◌, length, get_or, inl, inr, refl, sym, subst, ◌∙◌, arith, length-append}
 use Rattle.smallvec.specs.SmallVec.{SmallVec}
 use Rattle.std.proofs.lemmas.Bool.{cases_lt}
-use Rattle.std.proofs.lemmas.List.{get_or_append_left, get_or-append-add}
-use Rattle.std.proofs.lemmas.Option.{get_or_from_slice_get, slice_get-get_or, slice_get_within}
+use Rattle.std.proofs.lemmas.Option.{slice_get-get_or}
 use Rattle.svn_path.specs.declared.names.NameId.{NameId}
 use Rattle.svn_dump.specs.declared.record.NodeRecord.{NodeRecord}
 use Rattle.path_index.specs.Nodes.{AreNodesOf, ExtendsNodes}
@@ -11,6 +10,7 @@ use Rattle.path_index.specs.Numbers.{AddsNumbers, FitShifted, IsMoved}
 use Rattle.path_index.specs.RecordsByPath.{AddsPath, AreByPath, AreEntriesOf, CopiesPath, IsOfSome, NamesPath}
 use Rattle.path_index.specs.declared.nodes.Child.{Child}
 use Rattle.path_index.specs.declared.records_by_path.RecordsByPath.{RecordsByPath}
+use Rattle.path_index.proofs.AppendedLists.{slice_get-first, slice_get-second, slice_get-before, slice_get-after}
 use Rattle.path_index.proofs.EntriesOfPaths.{AreEntriesOf-grown, HasEntryOf-more, IsEntryOf-weaker}
 use Rattle.path_index.proofs.NodesOfPaths.{node_of-within}
 
@@ -56,30 +56,6 @@ AreEntriesOf-both P Q R shift both old_nodes nodes later_nodes mapped old new la
 -- ---- the records of both
 
 module _ (records more : List NodeRecord) where
-  pub slice_get-first : (index : ℕ) (each : NodeRecord) → slice_get records index ≡ Some each → slice_get (records ++ more) index ≡ Some each
-  slice_get-first index each at =
-      let within = slice_get_within records index each at in
-      slice_get-get_or (records ++ more) index each (omega (arith, within, length-append records more))
-      ∙ ap Some (get_or_append_left records more each index within ∙ get_or_from_slice_get records index each each at)
-
-  pub slice_get-second : (index : ℕ) (each : NodeRecord) → slice_get more index ≡ Some each → slice_get (records ++ more) (length records + index) ≡ Some each
-  slice_get-second index each at =
-      let within = slice_get_within more index each at in
-      slice_get-get_or (records ++ more) (length records + index) each (omega (arith, within, length-append records more))
-      ∙ ap Some (get_or-append-add records more index each ∙ get_or_from_slice_get more index each each at)
-
-  pub slice_get-before : (index : ℕ) (each : NodeRecord) → index < length records → slice_get (records ++ more) index ≡ Some each → slice_get records index ≡ Some each
-  slice_get-before index each within at =
-      slice_get-get_or records index each within
-      ∙ ap Some (sym (get_or_append_left records more each index within) ∙ get_or_from_slice_get (records ++ more) index each each at)
-
-  pub slice_get-after : (index : ℕ) (each : NodeRecord) → length records ≤ index → slice_get (records ++ more) index ≡ Some each → slice_get more (index - length records) ≡ Some each
-  slice_get-after index each past at =
-      let within = slice_get_within (records ++ more) index each at in
-      let is : length records + (index - length records) ≡ index = omega arith in
-      slice_get-get_or more (index - length records) each (omega (arith, within, length-append records more))
-      ∙ ap Some (sym (get_or-append-add records more (index - length records) each) ∙ ap (λ n. get_or (records ++ more) n each) is ∙ get_or_from_slice_get (records ++ more) index each each at)
-
   module _ (IsOf : NodeRecord → ℕ → List NameId → ℕ → Type 0) (shift : ℕ)
       (forth : (each : NodeRecord) (index : ℕ) (path : List NameId) (number : ℕ) → IsOf each index path number → IsOf each (length records + index) path (number + shift))
       (back : (each : NodeRecord) (index : ℕ) (path : List NameId) (number : ℕ) → length records ≤ index → IsOf each index path number → (earlier : ℕ) × IsOf each (index - length records) path earlier × (number ≡ earlier + shift))
@@ -90,23 +66,23 @@ module _ (records more : List NodeRecord) where
         index = of.index;
         each = of.each;
         early = (let early = of.early in omega (arith, early, length-append records more));
-        at = slice_get-first of.index of.each of.at;
+        at = slice_get-first records more of.index of.each of.at;
         so = of.so;
       };
       second = λ path number of. record {
         index = length records + of.index;
         each = of.each;
         early = (let early = of.early in omega (arith, early, length-append records more));
-        at = slice_get-second of.index of.each of.at;
+        at = slice_get-second records more of.index of.each of.at;
         so = forth of.each of.index path number of.so;
       };
       small = small;
       either = λ path number of. elim (cases_lt of.index (length records)) [
-        | inl before ↦ inl (record { index = of.index; each = of.each; early = before; at = slice_get-before of.index of.each before of.at; so = of.so })
+        | inl before ↦ inl (record { index = of.index; each = of.each; early = before; at = slice_get-before records more of.index of.each before of.at; so = of.so })
         | inr past ↦
             let (earlier, so, is) = back of.each of.index path number past of.so in
             let rest : of.index - length records < length more = let early = of.early in omega (arith, early, length-append records more, past) in
-            inr (earlier, record { index = of.index - length records; each = of.each; early = rest; at = slice_get-after of.index of.each past of.at; so = so }, is)
+            inr (earlier, record { index = of.index - length records; each = of.each; early = rest; at = slice_get-after records more of.index of.each past of.at; so = so }, is)
       ];
     }
 

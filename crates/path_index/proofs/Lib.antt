@@ -1,3 +1,4 @@
+mod AppendedLists
 mod CameFromItself
 mod ChildrenDistinct
 mod DownFrom

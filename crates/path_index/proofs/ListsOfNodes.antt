@@ -135,15 +135,6 @@ AddsNumbers-same P old middle new same adds = record {
   complete = adds.complete;
 }
 
--- before the lists were copied
-pub AddsNumbers-then_same : (P : ℕ → ℕ → Type 0) (old middle new : List (SmallVec ℕ)) → AddsNumbers P old middle
-    → HaveSameNumbers middle new → AddsNumbers P old new
-AddsNumbers-then_same P old middle new adds same = record {
-  kept = λ node number has. subst (λ all. Contains all number) (sym (same node)) (adds.kept node number has);
-  sound = λ node number has. adds.sound node number (subst (λ all. Contains all number) (same node) has);
-  complete = λ node number so. subst (λ all. Contains all number) (sym (same node)) (adds.complete node number so);
-}
-
 -- one number
 pub AddsNumbers-set : (lists : List (SmallVec ℕ)) (node number : ℕ) (list : SmallVec ℕ) → node < length lists → IsWith number (numbers_of lists node) list.items → AddsNumbers (ArePair node number) lists (set lists node list)
 AddsNumbers-set lists node number list within inserted = record {

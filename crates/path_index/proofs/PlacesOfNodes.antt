@@ -3,19 +3,13 @@ use Rattle.std.proofs.Common.{◌≡◌, ℕ, zero, suc, ◌<◌, ◌++◌, List
 use Rattle.smallvec.specs.SmallVec.{SmallVec}
 use Rattle.std.specs.Option.{unwrap_or}
 use Rattle.std.proofs.lemmas.Bool.{cases_eq}
-use Rattle.std.proofs.lemmas.List.{get_or_append_left, get_or_push, get_or-set_same, get_or-set_other, length_push}
-use Rattle.std.proofs.lemmas.Option.{get_or_from_slice_get, same_Some, slice_get-get_or, slice_get_within}
+use Rattle.std.proofs.lemmas.List.{get_or_push, get_or-set_same, get_or-set_other, length_push}
+use Rattle.std.proofs.lemmas.Option.{same_Some, slice_get-get_or, slice_get_within}
+use Rattle.path_index.proofs.AppendedLists.{slice_get-first}
 use Rattle.path_index.specs.Numbers.{numbers_in, numbers_of, AddsNumbers, HasNumber, HaveSameNumbers, KeepOthers}
 use Rattle.path_index.specs.SparseNumbers.{lists_by_node, no_list, place_of, HaveNoneElsewhere, IsPlaceOf, KeepPlaces, LeadBack}
 
 -- ---- the table
-
-slice_get-grown : (nodes : List ℕ) (index node more : ℕ) → slice_get nodes index ≡ Some node
-    → slice_get (nodes ++ more ∷ []) index ≡ Some node
-slice_get-grown nodes index node more at =
-    let within = slice_get_within nodes index node at in
-    slice_get-get_or (nodes ++ more ∷ []) index node (omega (arith, within, length_push nodes more))
-    ∙ ap Some (get_or_append_left nodes (more ∷ []) node index within ∙ get_or_from_slice_get nodes index node node at)
 
 -- the next place of a node leads back to it
 pub LeadBack-added : (places nodes grown : List ℕ) (node place : ℕ) → LeadBack places nodes → grown ≡ nodes ++ node ∷ []
@@ -30,7 +24,7 @@ LeadBack-added places nodes grown node place back is last within other index at 
       ∙ ap Some (get_or_push nodes node node index (sym end) ∙ sym own)
   | inr differs ↦
       ap (λ all. slice_get all index) is
-      ∙ slice_get-grown nodes index other node
+      ∙ slice_get-first nodes (node ∷ []) index other
       (back other index (sym (get_or-set_other places node other place 0 differs) ∙ at))
 ]
 

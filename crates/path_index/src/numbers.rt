@@ -151,6 +151,13 @@ impl Numbers {
         shrink_all(&mut self.lists);
     }
 
+    /// Gives back the memory that is kept for more nodes.
+    pub(crate) fn shrink_nodes(&mut self)
+        ensures { self.new ≡ self.old }
+    {
+        self.lists.shrink_to_fit();
+    }
+
     /// Makes room for so many more numbers of a node.
     fn reserve(&mut self, node: usize, more: usize) -> Result<(), AllocError>
         ensures { HaveSameNumbers self.old self.new }
@@ -196,7 +203,7 @@ impl Numbers {
             let list = take_list(&mut lists, from);
             self.insert_shifted(*node, list.as_slice(), shift)?;
         }
-        self.lists.shrink_to_fit();
+        self.shrink_nodes();
         Ok(())
     }
 

@@ -118,9 +118,17 @@ impl SparseNumbers {
     pub(crate) fn shrink_to_fit(&mut self)
         ensures { HaveSameNumbers self.old self.new }
     {
+        self.numbers.shrink_to_fit();
+        self.shrink_nodes();
+    }
+
+    /// Gives back the memory that is kept for more nodes.
+    fn shrink_nodes(&mut self)
+        ensures { self.new ≡ self.old }
+    {
         self.places.shrink_to_fit();
         self.nodes.shrink_to_fit();
-        self.numbers.shrink_to_fit();
+        self.numbers.shrink_nodes();
     }
 
     /// Inserts these numbers plus a shift at a node.
@@ -149,7 +157,7 @@ impl SparseNumbers {
         for (from, node) in nodes.iter().enumerate() {
             self.insert_shifted(*node, later.of(from), shift)?;
         }
-        self.shrink_to_fit();
+        self.shrink_nodes();
         Ok(())
     }
 

@@ -30,5 +30,5 @@ loop-from-preserved c =
 pub returns : goal.returns
 returns c =
     let all : c.loop-from.from ≡ length c.args.nodes.now = omega (arith, c.loop-from-test.false, c.loop-from.auto.from-end) in
-    subst (λ count. AddsNumbers (IsMoved c.args.later c.args.nodes.now count c.args.shift) c.args.self.now c.shrink_to_fit.new.self.items) all
-    (subst (AddsNumbers (IsMoved c.args.later c.args.nodes.now c.loop-from.from c.args.shift) c.args.self.now) (sym (c.shrink_to_fit.ensures.items ∙ c.self.view_is)) c.loop-from.invariant.added)
+    subst (λ count. AddsNumbers (IsMoved c.args.later c.args.nodes.now count c.args.shift) c.args.self.now c.shrink_nodes.new.self) all
+    (subst (AddsNumbers (IsMoved c.args.later c.args.nodes.now c.loop-from.from c.args.shift) c.args.self.now) (sym c.shrink_nodes.ensures) c.loop-from.invariant.added)

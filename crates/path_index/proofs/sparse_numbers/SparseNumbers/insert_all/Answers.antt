@@ -2,7 +2,7 @@ use Rattle.std.proofs.Common.{◌≡◌, ℕ, ◌+◌, ◌^◌, ◌<◌, All, ge
 use Rattle.std.proofs.lemmas.List.{get_or_default}
 use Rattle.std.proofs.lemmas.Option.{slice_get-get_or}
 use Rattle.path_index.specs.Numbers.{numbers_of, AddsNumbers, IsMoved, IsShifted}
-use Rattle.path_index.proofs.ListsOfNodes.{AddsNumbers-next_node, AddsNumbers-then_same}
+use Rattle.path_index.proofs.ListsOfNodes.{AddsNumbers-next_node}
 use Rattle.path_index.proofs.sparse_numbers.SparseNumbers.insert_all.Goals as goal
 
 pub insert_shifted-requires : goal.insert_shifted-requires
@@ -27,9 +27,7 @@ loop-from-preserved c =
 pub returns : goal.returns
 returns c =
     let moved = λ (count : ℕ). IsMoved c.args.later c.args.nodes.now count c.args.shift in
-    let new = c.shrink_to_fit.new.self in
     let all : c.loop-from.from ≡ length c.args.nodes.now =
     omega (arith, c.loop-from-test.false, c.loop-from.auto.from-end) in
-    subst (λ count. AddsNumbers (moved count) c.args.self.now new) all
-    (AddsNumbers-then_same (moved c.loop-from.from) c.args.self.now c.loop-from.self new c.loop-from.invariant
-    c.shrink_to_fit.ensures)
+    subst (λ count. AddsNumbers (moved count) c.args.self.now c.shrink_nodes.new.self) all
+    (subst (AddsNumbers (moved c.loop-from.from) c.args.self.now) (sym c.shrink_nodes.ensures) c.loop-from.invariant)

@@ -6,9 +6,8 @@ use Rattle.path_index.proofs.sparse_numbers.SparseNumbers.shrink_to_fit.Goals as
 
 pub returns : goal.returns
 returns c =
-    let old = c.self.inside in
-    let numbers = c.shrink_to_fit-3.new.self in
-    subst (λ all. HaveSameNumbers all (lists_by_node c.shrink_to_fit.new.self.items numbers)) c.self.view_is
-    (subst (λ all. HaveSameNumbers (lists_by_node old.places.items old.numbers) (lists_by_node all numbers))
-    (sym c.shrink_to_fit.ensures.items)
-    (HaveSameNumbers-by_node old.places.items old.numbers numbers c.self.invariant.1.0 c.shrink_to_fit-3.ensures))
+    let places = c.self.inside.places.items in
+    let numbers = c.shrink_to_fit.new.self in
+    subst (HaveSameNumbers c.args.self.now) (sym c.shrink_nodes.ensures)
+    (subst (λ all. HaveSameNumbers all (lists_by_node places numbers)) c.self.view_is
+    (HaveSameNumbers-by_node places c.self.inside.numbers numbers c.self.invariant.1.0 c.shrink_to_fit.ensures))

@@ -1,0 +1,31 @@
+-- The elements of a list and of those that are appended to it.
+use Rattle.std.proofs.Common.{◌≡◌, ℕ, ◌+◌, ◌-◌, ◌<◌, ◌≤◌, List, ◌++◌, length, get_or, slice_get, Some, sym, ap, ◌∙◌, arith, length-append}
+use Rattle.std.proofs.lemmas.List.{get_or_append_left, get_or-append-add}
+use Rattle.std.proofs.lemmas.Option.{get_or_from_slice_get, slice_get-get_or, slice_get_within}
+
+module _ {X : Type 0} (xs more : List X) where
+  -- those of the first keep their indices
+  pub slice_get-first : (index : ℕ) (each : X) → slice_get xs index ≡ Some each → slice_get (xs ++ more) index ≡ Some each
+  slice_get-first index each at =
+      let within = slice_get_within xs index each at in
+      slice_get-get_or (xs ++ more) index each (omega (arith, within, length-append xs more))
+      ∙ ap Some (get_or_append_left xs more each index within ∙ get_or_from_slice_get xs index each each at)
+
+  pub slice_get-before : (index : ℕ) (each : X) → index < length xs → slice_get (xs ++ more) index ≡ Some each → slice_get xs index ≡ Some each
+  slice_get-before index each within at =
+      slice_get-get_or xs index each within
+      ∙ ap Some (sym (get_or_append_left xs more each index within) ∙ get_or_from_slice_get (xs ++ more) index each each at)
+
+  -- those of the second come after them
+  pub slice_get-second : (index : ℕ) (each : X) → slice_get more index ≡ Some each → slice_get (xs ++ more) (length xs + index) ≡ Some each
+  slice_get-second index each at =
+      let within = slice_get_within more index each at in
+      slice_get-get_or (xs ++ more) (length xs + index) each (omega (arith, within, length-append xs more))
+      ∙ ap Some (get_or-append-add xs more index each ∙ get_or_from_slice_get more index each each at)
+
+  pub slice_get-after : (index : ℕ) (each : X) → length xs ≤ index → slice_get (xs ++ more) index ≡ Some each → slice_get more (index - length xs) ≡ Some each
+  slice_get-after index each past at =
+      let within = slice_get_within (xs ++ more) index each at in
+      let is : length xs + (index - length xs) ≡ index = omega arith in
+      slice_get-get_or more (index - length xs) each (omega (arith, within, length-append xs more))
+      ∙ ap Some (sym (get_or-append-add xs more (index - length xs) each) ∙ ap (λ n. get_or (xs ++ more) n each) is ∙ get_or_from_slice_get (xs ++ more) index each each at)
