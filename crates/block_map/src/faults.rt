@@ -202,7 +202,10 @@ fn parent_and_entry(
 {
     match path.split_last() {
         None => Ok((None, map.standing(tick, path)?)),
-        Some((name, above)) => map.standing_with_child(tick, above, *name),
+        Some((name, above)) => match map.only_block(tick) {
+            Some(only) => Ok(only.standing_with_child(tick, above, *name)),
+            None => Ok((map.standing(tick, above)?, map.standing(tick, path)?)),
+        },
     }
 }
 

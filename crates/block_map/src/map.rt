@@ -248,33 +248,8 @@ impl Map {
         Ok(standing_from_beginning(looked, path))
     }
 
-    /// What stands at a path of these components at a tick, and at the path that goes on from it with a name.
-    pub(crate) fn standing_with_child(
-        &self,
-        tick: u32,
-        path: &[NameId],
-        name: NameId,
-    ) -> Result<(Option<Entry>, Option<Entry>), AllocError>
-        requires begins { self.now.lo ≡ 0 }
-        requires within { tick ≤ hi_of self.now }
-        ensures path { IfOk result (λ both.
-            option_map entry_view both.0 ≡ standing_of (look_in self.now tick path.now)) }
-        ensures child { IfOk result (λ both.
-            option_map entry_view both.1 ≡ standing_of (look_in self.now tick (path.now ++ name ∷ []))) }
-    {
-        if let Some(only) = self.only_block(tick) {
-            return Ok(only.standing_with_child(tick, path, name));
-        }
-        let mut child = Vec::from_slice(*self.blocks.allocator(), path)?;
-        child.push(name)?;
-        Ok((
-            self.standing(tick, path)?,
-            self.standing(tick, child.as_slice())?,
-        ))
-    }
-
     /// The block of all records before a tick, if they are in one.
-    fn only_block(&self, tick: u32) -> Option<&Trees>
+    pub(crate) fn only_block(&self, tick: u32) -> Option<&Trees>
         requires begins { self.now.lo ≡ 0 }
         requires within { tick ≤ hi_of self.now }
         ensures trees { IfSome result (λ only. AreTrees only.now) }
