@@ -17,8 +17,6 @@ mod make;
 mod making;
 mod scanning;
 mod sum;
-#[cfg(test)]
-mod tests;
 
 pub use acts::Acts;
 pub use ghost_list::GhostList;

@@ -22,6 +22,3 @@ pub use gathering::gather;
 pub use job::Job;
 pub use part::Part;
 pub use serving::{MOST_PLACES, MOST_WORKERS, serve};
-
-#[cfg(test)]
-mod tests;

@@ -2,44 +2,11 @@
 ghost use Rattle.std.specs.Prelude.{◌<◌, ◌≤◌};
 ghost use Rattle.query_pool.specs.Serving.{most_workers};
 
-use crate::{Job, NoGate, serve};
+use query_pool::{Job, NoGate, serve};
 use std::alloc::{AllocError, Global};
 use std::sync::Wait;
-use std::sync::atomic::{AtomicUsize, Ordering};
-use std::thread::{Threads, yield_now};
-
-// Counts calls, and fails the one with this number, of which the first is 0.
-#[derive(Drop)]
-struct Calls {
-    failing: usize,
-    begun: AtomicUsize,
-    ended: AtomicUsize,
-}
-
-impl Calls {
-    fn of(failing: usize) -> Calls {
-        Calls {
-            failing,
-            begun: AtomicUsize::new(0),
-            ended: AtomicUsize::new(0),
-        }
-    }
-
-    fn call(&self) -> Result<(), AllocError> {
-        let number = self.begun.fetch_add(1, Ordering::SeqCst);
-        yield_now();
-        self.ended.fetch_add(1, Ordering::SeqCst);
-        if number == self.failing {
-            Err(AllocError)
-        } else {
-            Ok(())
-        }
-    }
-
-    fn have_ended(&self) -> bool {
-        self.begun.load(Ordering::SeqCst) == self.ended.load(Ordering::SeqCst)
-    }
-}
+use std::thread::Threads;
+use test_calls::Calls;
 
 // A job whose calls are counted.
 #[derive(Drop)]

@@ -1,5 +1,5 @@
 //! Parts with one letter at each place.
-use crate::{GatherError, Part, gather};
+use query_pool::{GatherError, Part, gather};
 use std::alloc::Global;
 use std::test::Fail;
 

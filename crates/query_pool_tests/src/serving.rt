@@ -2,13 +2,16 @@
 ghost use Rattle.std.specs.Prelude.{ℕ, ◌<◌, ◌≤◌};
 ghost use Rattle.query_pool.specs.Serving.{most_workers};
 
-use crate::tests::meetings::{Meeting, Others};
-use crate::{Gate, Job, MOST_PLACES, MOST_WORKERS, NoGate, Part, gather, serve};
+use query_pool::{Gate, Job, MOST_PLACES, MOST_WORKERS, NoGate, Part, gather, serve};
 use std::alloc::{AllocError, Global};
 use std::sync::Wait;
 use std::sync::atomic::{AtomicUsize, Ordering};
 use std::test::Fail;
 use std::thread::Threads;
+use test_calls::Meeting;
+
+// How often a call looks for the others.
+const MOST_LOOKS: u32 = 100_000_000;
 
 // A job whose calls at the places from `first` on wait for each other. Its results are the places.
 #[derive(Drop)]
@@ -21,7 +24,7 @@ impl Attending {
     fn of(first: u32, wanted: usize) -> Attending {
         Attending {
             first,
-            meeting: Meeting::of(wanted),
+            meeting: Meeting::of(wanted, MOST_LOOKS),
         }
     }
 }
@@ -101,7 +104,7 @@ fn one_worker_serves_all_places(rt: HostRuntime) -> Result<(), Fail> {
 fn more_workers_than_places(rt: HostRuntime) -> Result<(), Fail> {
     let job = Attending::of(0, 3);
     assert!(rt; serves_in_order(&rt, rt.alloc(), &job, 3, 64, &NoGate)?);
-    assert!(rt; job.meeting.all_met());
+    assert!(rt; job.meeting.have_all_met());
     Ok(())
 }
 
@@ -110,7 +113,7 @@ fn more_workers_than_places(rt: HostRuntime) -> Result<(), Fail> {
 fn two_workers_of_three_places_run_at_once(rt: HostRuntime) -> Result<(), Fail> {
     let job = Attending::of(1, 2);
     assert!(rt; serves_in_order(&rt, rt.alloc(), &job, 3, 2, &NoGate)?);
-    assert!(rt; job.meeting.all_met());
+    assert!(rt; job.meeting.have_all_met());
     Ok(())
 }
 
@@ -122,7 +125,7 @@ fn all_run_at_once<R: Threads + Wait + Sync>(
 ) -> Result<bool, Fail> {
     for n in 8..101u32 {
         let job = Attending::of(0, workers);
-        if !serves_in_order(rt, alloc, &job, n, workers, &NoGate)? || !job.meeting.all_met() {
+        if !serves_in_order(rt, alloc, &job, n, workers, &NoGate)? || !job.meeting.have_all_met() {
             return Ok(false);
         }
     }
@@ -300,7 +303,7 @@ fn many_places_are_served_by_many_workers(rt: HostRuntime) -> Result<(), Fail> {
 #[derive(Drop)]
 struct Waiting {
     place: u32,
-    others: Others,
+    others: Meeting,
 }
 
 impl Job for Waiting {
@@ -338,10 +341,10 @@ fn sees_both_others<R: Threads + Wait + Sync>(
 ) -> Result<bool, Fail> {
     let job = Waiting {
         place,
-        others: Others::of(2),
+        others: Meeting::of(2, MOST_LOOKS),
     };
     serve(rt, alloc, &job, 3, 2, &NoGate)?;
-    Ok(job.others.were_seen())
+    Ok(job.others.met() == 1)
 }
 
 // While one worker waits at a place, the other serves both others. With fixed shares one worker has two of the places, and

@@ -3,7 +3,7 @@ ghost use Rattle.std.specs.Prelude.{◌≡◌, ◌+◌, ◌^◌, ◌<◌, IfOk};
 ghost use Rattle.par_scan.specs.Chain.{IsChain};
 ghost use Rattle.par_scan.specs.Sum.{no_border, sum_weight};
 
-use crate::{Acts, Make, Sum, make_all, scan, total};
+use par_scan::{Acts, Make, Sum, make_all, scan, total};
 use std::alloc::{AllocError, Global};
 use std::test::Fail;
 

@@ -4,48 +4,14 @@ ghost use Rattle.par_scan.specs.Chain.{IsChain};
 ghost use Rattle.par_scan.specs.Weightless.{no_weight};
 ghost use Rattle.par_scan.specs.Parts.{most_parts};
 
-use crate::{Acts, Make, make_all, scan, total};
+use par_scan::{Acts, Make, make_all, scan, total};
 use std::alloc::{AllocError, Global};
-use std::sync::atomic::{AtomicUsize, Ordering};
 use std::test::Fail;
-use std::thread::{Threads, yield_now};
+use std::thread::Threads;
+use test_calls::Meeting;
 
-// The first guests wait for each other.
-#[derive(Drop)]
-struct Meeting {
-    guests: usize,
-    came: AtomicUsize,
-    met: AtomicUsize,
-}
-
-impl Meeting {
-    fn new(guests: usize) -> Meeting {
-        Meeting {
-            guests,
-            came: AtomicUsize::new(0),
-            met: AtomicUsize::new(0),
-        }
-    }
-
-    // Those who come after the first guests do not wait. A guest who waited in vain is not counted.
-    fn attend(&self) {
-        let before = self.came.fetch_add(1, Ordering::SeqCst);
-        if before >= self.guests {
-            return;
-        }
-        for _ in 0..1_000_000u32 {
-            if self.came.load(Ordering::SeqCst) >= self.guests {
-                self.met.fetch_add(1, Ordering::SeqCst);
-                return;
-            }
-            yield_now();
-        }
-    }
-
-    fn met(&self) -> usize {
-        self.met.load(Ordering::SeqCst)
-    }
-}
+// How often a call looks for the others.
+const MOST_LOOKS: u32 = 1_000_000;
 
 // An element of so many neighbours, whose joins attend a meeting. Where the neighbours are told apart, only the join of
 // two single ones attends whose first has an even number.
@@ -153,7 +119,7 @@ fn met_in_scan<R: Threads + Sync>(
     requires some { 0 < parts }
     requires few { parts ≤ most_parts }
 {
-    let meeting = Meeting::new(guests);
+    let meeting = Meeting::of(guests, MOST_LOOKS);
     let scanned = scan(rt, alloc, items(alloc, &meeting, n)?, parts)?;
     Ok(if scanned.len() == n { meeting.met() } else { 0 })
 }
@@ -169,7 +135,7 @@ fn met_in_total<R: Threads + Sync>(
     requires some { 0 < parts }
     requires few { parts ≤ most_parts }
 {
-    let meeting = Meeting::new(guests);
+    let meeting = Meeting::of(guests, MOST_LOOKS);
     let all = total(rt, alloc, items(alloc, &meeting, n)?, parts)?;
     Ok(if all.is_some() { meeting.met() } else { 0 })
 }
@@ -186,7 +152,7 @@ fn met_in_makes<R: Threads + Sync>(
     requires some { 0 < parts }
     requires few { parts ≤ most_parts }
 {
-    let meeting = Meeting::new(guests);
+    let meeting = Meeting::of(guests, MOST_LOOKS);
     let makes = Makes {
         meeting: &meeting,
         absent,
