@@ -1,3 +1,4 @@
+mod CanonicalEntries
 mod CanonicalRuns
 mod CanonicalValues
 mod Clashes
@@ -11,11 +12,13 @@ pub mod InheritedRevisions
 mod JoinedBytes
 mod LineReads
 mod LinesRead
+mod Mapped
 mod OneLine
 mod OnlyValues
 mod PathOrder
 pub mod PrintedPaths
 mod ReadsBack
+mod Rising
 mod RunTexts
 mod RunsAt
 mod RunsByPath

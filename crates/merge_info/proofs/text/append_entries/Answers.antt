@@ -25,7 +25,7 @@ loop-entry-preserved c =
     let value = map entry_view entries in
     let i = c.loop-entry.entry-index in
     let entry = c.entry-item.result in
-    let at = entry_view-at entries value i entry refl c.loop-entry-test.true c.entry-item.is in
+    let at = entry_view-at entries i entry c.loop-entry-test.true c.entry-item.is in
     let within : i < length value = omega (arith, c.loop-entry-test.true, length-map entries entry_view) in
     value_text-more value i (entry_view entry) _ _ _ within at c.loop-entry.invariant c.in_ok-append.ensures.ok
 

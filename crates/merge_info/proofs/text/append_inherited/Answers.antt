@@ -1,19 +1,20 @@
-use Rattle.std.proofs.Common.{◌<◌, ◌++◌, length, map, take, sym, ap, refl, ◌∙◌, arith, take_all}
+use Rattle.std.proofs.Common.{◌<◌, ◌++◌, length, map, take, sym, ap, ◌∙◌, arith, take_all, append-nil}
 use Rattle.std.proofs.lemmas.List.{flat_map_more, length-map}
 use Rattle.svn_text.specs.Line.{line_text}
 use Rattle.merge_info.specs.Inherited.{inherited_line}
 use Rattle.svn_text.proofs.Appended.{BeginsWith-append, BeginsWith-trans}
 use Rattle.merge_info.specs.Text.{inherited_text, printed_entry, value_text}
-use Rattle.merge_info.specs.Value.{entry_view}
-use Rattle.merge_info.proofs.Entries.{IsEntry-at, entry_view-at}
-use Rattle.merge_info.proofs.InheritedEntries.{inherited_entries, inherited_entries-canonical, inherited_entries-more, inherited_entries-skip}
+use Rattle.merge_info.specs.Value.{IsEntry, entry_view}
+use Rattle.merge_info.proofs.Entries.{entry_view-at}
+use Rattle.merge_info.proofs.InheritedEntries.{inherited_entries, inherited_entries-canonical, inherited_entries-next}
+use Rattle.merge_info.proofs.Mapped.{All-from_map_at}
 use Rattle.merge_info.proofs.text.append_inherited.Goals as goal
 use Rattle.merge_info.proofs.text.append_inherited.Goals.{then-has_inheritable+in_ok-append_inherited, else-has_inheritable}
 
 -- the entry has a printed path
 pub append_inherited-requires-clause-path : goal.append_inherited-requires-clause-path
 append_inherited-requires-clause-path c =
-    (IsEntry-at c.args.entries.now c.loop-entry.entry-index c.entry-item.result c.requires.value.entries c.loop-entry-test.true c.entry-item.is).path
+    (All-from_map_at IsEntry entry_view c.args.entries.now c.requires.value.entries c.loop-entry.entry-index c.entry-item.result c.loop-entry-test.true c.entry-item.is).path
 
 -- the line of one more entry, if it has inheritable runs
 pub loop-entry-preserved : goal.loop-entry-preserved
@@ -24,21 +25,19 @@ loop-entry-preserved c =
     let value = map entry_view items in
     let i = c.loop-entry.entry-index in
     let entry = c.entry-item.result in
-    let at = entry_view-at items value i entry refl c.loop-entry-test.true c.entry-item.is in
+    let at = entry_view-at items i entry c.loop-entry-test.true c.entry-item.is in
     let within : i < length value = omega (arith, c.loop-entry-test.true, length-map items entry_view) in
+    let next = inherited_entries-next rest value i (entry_view entry) within at in
     elim c.if-has_inheritable.branch [
       | then-has_inheritable+in_ok-append_inherited w ↦
-          ap (λ (each : _). each.items) w.out-is
+          rw (next, sym c.has_inheritable.ensures ∙ w.if-has_inheritable.true)
+          (ap (λ (each : _). each.items) w.out-is
           ∙ w.in_ok-append_inherited.ensures.ok
           ∙ ap (λ text. text ++ inherited_text rest (entry_view entry)) c.loop-entry.invariant
-          ∙ flat_map_more (λ each. line_text (printed_entry each)) old (inherited_entries rest (take i value)) (inherited_line rest (entry_view entry))
-          ∙ ap (λ lines. old ++ value_text lines)
-          (sym (inherited_entries-more rest value i (entry_view entry) within at (sym c.has_inheritable.ensures ∙ w.if-has_inheritable.true)))
+          ∙ flat_map_more (λ each. line_text (printed_entry each)) old (inherited_entries rest (take i value)) (inherited_line rest (entry_view entry)))
       | else-has_inheritable w ↦
-          ap (λ (each : _). each.items) w.out-is
-          ∙ c.loop-entry.invariant
-          ∙ ap (λ lines. old ++ value_text lines)
-          (sym (inherited_entries-skip rest value i (entry_view entry) within at (sym c.has_inheritable.ensures ∙ w.if-has_inheritable.false)))
+          rw (next, sym c.has_inheritable.ensures ∙ w.if-has_inheritable.false, append-nil)
+          (ap (λ (each : _). each.items) w.out-is ∙ c.loop-entry.invariant)
     ]
 
 -- the paths keep their order, so these are the entries of what is inherited
@@ -51,7 +50,7 @@ returns-clause-ok c =
     c.loop-entry.invariant
     ∙ ap (λ lines. c.args.out.now.items ++ value_text (inherited_entries rest lines)) all
     ∙ ap (λ lines. c.args.out.now.items ++ value_text lines)
-    (inherited_entries-canonical rest c.requires.rest value c.requires.value (c.requires.order rest))
+    (inherited_entries-canonical rest value c.requires.rest c.requires.value (c.requires.order rest))
 
 pub returns-in_err-append_inherited-clause-begins : goal.returns-in_err-append_inherited-clause-begins
 returns-in_err-append_inherited-clause-begins c =

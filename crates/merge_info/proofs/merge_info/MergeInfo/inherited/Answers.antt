@@ -1,6 +1,6 @@
 use Rattle.std.proofs.Common.{All, map}
 use Rattle.merge_info.specs.Value.{IsEntry, entry_view}
-use Rattle.merge_info.proofs.Entries.{IsEntry-at}
+use Rattle.merge_info.proofs.Mapped.{All-from_map_at}
 use Rattle.merge_info.proofs.Inheriting.{AreLines-inherited}
 use Rattle.merge_info.proofs.merge_info.MergeInfo.inherited.Goals as goal
 
@@ -9,7 +9,7 @@ pub inherited-requires-clause-path : goal.inherited-requires-clause-path
 inherited-requires-clause-path c =
     let items = c.deref-entry-items.result.now in
     let entries : All IsEntry (map entry_view items) = rw c.deref-entry-items.ensures.value c.self.invariant.entries in
-    (IsEntry-at items c.loop-entry.entry-index c.entry-item.result entries c.loop-entry-test.true c.entry-item.is).path
+    (All-from_map_at IsEntry entry_view items entries c.loop-entry.entry-index c.entry-item.result c.loop-entry-test.true c.entry-item.is).path
 
 -- what was inherited are lines
 pub of_lines-requires : goal.of_lines-requires

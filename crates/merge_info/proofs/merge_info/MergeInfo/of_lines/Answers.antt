@@ -1,16 +1,22 @@
-use Rattle.std.proofs.Common.{◌≢◌, [], map, sym, ap, subst, ◌∙◌, rules}
+use Rattle.std.proofs.Common.{◌≡◌, [], map, sym, ap, subst, ◌∙◌, append-nil, rules}
 use Rattle.std.proofs.lemmas.Bool.{both_ways}
 use Rattle.std.proofs.lemmas.List.{map_push}
 use Rattle.std.proofs.lemmas.List.Elements.{All-head}
 use Rattle.std.proofs.lemmas.Map.Iter.{rest_more}
-use Rattle.range_list.specs.Rangelist.{HasSameNumbers, IsCanonical}
+use Rattle.range_list.specs.Canonical.{canonical_runs}
+use Rattle.merge_info.specs.CanonicalValue.{canonical_value}
 use Rattle.merge_info.specs.Line.{IsLine, line_view}
-use Rattle.merge_info.specs.Value.{entry_view}
+use Rattle.merge_info.specs.Value.{HasSameRevisions, IsMergeInfo, entry_view}
 use Rattle.merge_info.specs.declared.entry.Entry.{Entry}
-use Rattle.merge_info.proofs.CanonicalValues.{canonical_value-only}
-use Rattle.merge_info.proofs.Entries.{IsSoFar, IsSoFar-all, IsSoFar-push, IsSoFar-skip}
+use Rattle.merge_info.proofs.CanonicalEntries.{IsSoFar, IsSoFar-all, IsSoFar-none, IsSoFar-push, IsSoFar-skip}
+use Rattle.merge_info.proofs.CanonicalValues.{HasSameRevisions-canonical_value, IsMergeInfo-canonical_value}
 use Rattle.merge_info.proofs.RunsByPath.{MapEntry, line_in}
 use Rattle.merge_info.proofs.merge_info.MergeInfo.of_lines.Goals as goal
+
+pub loop-path-init : goal.loop-path-init
+loop-path-init c =
+    rw (c.new-entries.ensures.items, c.into_iter-path-iterator.ensures.into_iter_gives.0)
+    (IsSoFar-none (map line_view c.args.lines.items) c.in_ok-items.items c.requires c.in_ok-items.ensures)
 
 -- what the map has at the next path are runs
 pub of_runs-requires : goal.of_runs-requires
@@ -25,35 +31,26 @@ of_runs-requires c =
 pub loop-path-preserved-then-is_empty : goal.loop-path-preserved-then-is_empty
 loop-path-preserved-then-is_empty c =
     let entry : MapEntry = (c.in-Some.path, c.in-Some.runs) in
-    let lines = map line_view c.args.lines.items in
-    let entries = map entry_view c.loop-path.entries.items in
     let next = rest_more (λ (each : MapEntry). each) c.loop-path.path-iterator c.next.new.self
     c.next.result entry c.in-Some.is c.next.ensures.steps in
-    let so_far = subst (λ rest. IsSoFar lines entries (map line_in rest)) next c.loop-path.invariant in
-    let none = subst (λ ranges. HasSameNumbers ranges c.in-Some.runs.items)
-    (c.is_empty.ensures.0 c.if-is_empty.true) c.in_ok-ranges.ensures.same in
-    IsSoFar-skip lines entries (map line_in c.next.new.self) (line_in entry) so_far none
+    IsSoFar-skip c.loop-path.invariant (ap (map line_in) next)
+    (sym c.in_ok-ranges.ensures.exact ∙ c.is_empty.ensures.0 c.if-is_empty.true)
 
 -- there are some
 pub loop-path-preserved : goal.loop-path-preserved
 loop-path-preserved c =
     let entry : MapEntry = (c.in-Some.path, c.in-Some.runs) in
-    let lines = map line_view c.args.lines.items in
-    let entries = map entry_view c.loop-path.entries.items in
-    let ranges = c.in_ok-ranges.ranges in
     let next = rest_more (λ (each : MapEntry). each) c.loop-path.path-iterator c.next.new.self
     c.next.result entry c.in-Some.is c.next.ensures.steps in
-    let so_far = subst (λ rest. IsSoFar lines entries (map line_in rest)) next c.loop-path.invariant in
-    let canonical : IsCanonical ranges = rw (← c.ranges-in-loop-path.view_is) c.ranges-in-loop-path.invariant in
-    let some : ranges ≢ [] = λ none. both_ways c.is_empty.result c.if-is_empty.false (c.is_empty.ensures.1 none) in
-    let pushed : Entry = record { path = c.in-Some.path; ranges = ranges } in
-    subst (λ all. IsSoFar lines all (map line_in c.next.new.self))
-    (sym (ap (map entry_view) c.in_ok-push.ensures.items ∙ map_push entry_view c.loop-path.entries.items pushed))
-    (IsSoFar-push lines entries (map line_in c.next.new.self) (line_in entry)
-    ranges so_far c.in_ok-ranges.ensures.same canonical some)
+    let exact : c.in_ok-ranges.ranges ≡ canonical_runs c.in-Some.runs.items = c.in_ok-ranges.ensures.exact in
+    rw (c.in_ok-push.ensures.items, map_push, exact)
+    (IsSoFar-push c.loop-path.invariant (ap (map line_in) next)
+    (λ none. both_ways c.is_empty.result c.if-is_empty.false (c.is_empty.ensures.1 (exact ∙ none))))
 
-pub returns-clause-exact : goal.returns-clause-exact
-returns-clause-exact c =
-    let so_far : IsSoFar (map line_view c.args.lines.items) (map entry_view c.loop-path.entries.items) [] = search rules in
-    let (value, same) = IsSoFar-all _ _ so_far in
-    canonical_value-only (map line_view c.args.lines.items) c.requires (map entry_view c.loop-path.entries.items) value same
+pub invariant_of-result : goal.invariant_of-result
+invariant_of-result c = (IsSoFar-all c.loop-path.invariant (ap (map line_in) c.in-None.ensures.steps.0) c.requires).0
+
+pub returns : goal.returns
+returns c =
+    let (canonical, same, exact) = IsSoFar-all c.loop-path.invariant (ap (map line_in) c.in-None.ensures.steps.0) c.requires in
+    record { same = same; canonical = canonical; exact = exact }

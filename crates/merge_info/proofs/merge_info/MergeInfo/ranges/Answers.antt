@@ -19,7 +19,7 @@ returns-in-Some c =
     let same : bytes_eq entry.path.items path ≡ true =
     ap (λ at. bytes_eq at path) (sym c.as_slice.ensures.value) ∙ sym c.eq.ensures ∙ c.if-eq.true in
     rw (← c.self.view_is)
-    (sym (ranges_of-found items c.partition_point-index.result entry path c.self.invariant lookup.3.0 lookup.1 same))
+    (sym (ranges_of-found items path c.partition_point-index.result entry c.self.invariant lookup.3.0 lookup.1 same))
 
 -- it has another path, or there is none
 pub returns-in_default : goal.returns-in_default
@@ -34,7 +34,7 @@ returns-in_default c =
     c.partition_point-index.ensures.partitioned parted (λ a r q k. search (rules, is_lt-slice_partial_cmp))) in
     let none = λ (other : (d : Entry) → index < length items → bytes_eq (get_or items index d).path.items path ≡ false).
     sym (ap (λ value. ranges_of value path) (sym c.self.view_is)
-    ∙ ranges_of-not_found items index path c.self.invariant point other) in
+    ∙ ranges_of-not_found items path c.self.invariant.rising index point other) in
     elim c.in_default.branch [
       | in_default-via-in-Some+else-eq w ↦
           let lookup = rw c.deref-2.ensures.value at w.in-Some.ensures.lookup in
