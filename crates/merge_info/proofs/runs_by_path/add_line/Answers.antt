@@ -15,7 +15,7 @@ returns-in_ok-extend_from_slice-in-Some c =
     (subst (λ more. AddsLine (record { path = path; runs = more }) old new) c.deref.ensures.value
     (AreRunsByPath-write old new path c.in-Some.all.now longer runs (rw c.deref.ensures.value c.requires.runs)
     (sym c.in-Some.ensures.value) c.in_ok-extend_from_slice-in-Some.ensures.items
-    c.get_mut.ensures.ordered (c.get_mut.follows.holds longer)))
+    (c.get_mut.follows.holds longer)))
 
 -- the path is new
 pub returns-in_ok-insert-in-None : goal.returns-in_ok-insert-in-None
@@ -27,4 +27,4 @@ returns-in_ok-insert-in-None c =
     let same = c.get_mut.follows.holds-at-none in
     let absent : runs_found old line.path.items ≡ None = rw (same, ← c.as_slice.ensures.value) (sym c.in-None.ensures.value) in
     subst (λ before. AddsLine (record { path = line.path.items; runs = line.runs.items }) before new) same
-    (AreRunsByPath-insert old new line.path line.runs c.requires absent inserted.entries inserted.ordered)
+    (AreRunsByPath-insert old new line.path line.runs c.requires absent inserted.entries inserted.updates inserted.ordered)

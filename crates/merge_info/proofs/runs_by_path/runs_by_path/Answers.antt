@@ -2,9 +2,9 @@ use Rattle.std.proofs.Common.{map, sym, subst, arith}
 use Rattle.std.proofs.lemmas.Iterator.Adapters.{YieldsList-from_vec}
 use Rattle.std.proofs.lemmas.Iterator.Consumers.{YieldsList-turn}
 use Rattle.std.proofs.lemmas.List.{map_push}
-use Rattle.merge_info.specs.Line.{line_view}
+use Rattle.merge_info.specs.Line.{IsLine, line_view}
 use Rattle.merge_info.specs.RunsByPath.{AreRunsByPath}
-use Rattle.merge_info.proofs.RunsByPath.{IsLine-at}
+use Rattle.merge_info.proofs.Mapped.{All-from_map_at}
 use Rattle.merge_info.proofs.runs_by_path.runs_by_path.Goals as goal
 
 -- each line is one
@@ -14,7 +14,7 @@ add_line-requires c =
     let all = YieldsList-from_vec c.args.lines.items given.0 (omega (arith, given.1, c.args.lines.ok.0)) in
     let turn = YieldsList-turn all c.loop-line.yielded c.loop-line.line-iterator c.loop-line.yielded_by
     c.next.result c.next.new.self c.in-Some.line c.in-Some.is c.next.ensures.steps in
-    IsLine-at c.args.lines.items _ c.in-Some.line c.requires turn.0 turn.1
+    All-from_map_at IsLine line_view c.args.lines.items c.requires _ c.in-Some.line turn.0 turn.1
 
 -- the line stands after those before it
 pub loop-line-preserved : goal.loop-line-preserved
