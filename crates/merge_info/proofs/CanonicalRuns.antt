@@ -1,16 +1,13 @@
 -- Canonical lists of runs: the runs rise, and so no two of them clash.
-use Rattle.std.proofs.Common.{◌≡◌, ℕ, zero, suc, ◌<◌, Bool, true, false, not, nat_le, ◌&&◌, List, [], ◌∷◌, length, get_or, All}
-use Rattle.std.proofs.Common.{inl, inr, refl, sym, ap, ◌∙◌, arith}
-use Rattle.std.specs.List.{list_any}
-use Rattle.std.proofs.lemmas.Bool.{cases_order}
-use Rattle.std.proofs.lemmas.List.{get_or_default}
+use Rattle.std.proofs.Common.{◌≡◌, ℕ, ◌<◌, false, List, [], ◌∷◌, get_or, All, refl, ◌∙◌, arith}
+use Rattle.std.proofs.lemmas.Bool.Decides.{nat_tests}
 use Rattle.std.proofs.lemmas.List.Elements.{All-cons, All-nil}
 use Rattle.std.proofs.lemmas.List.Folds.{list_any_none}
 use Rattle.range_list.specs.Rangelist.{IsCanonical}
 use Rattle.range_list.specs.declared.run.Run.{Run}
-use Rattle.merge_info.proofs.Clashes.{clashes-after, clashes-before}
 use Rattle.range_list.proofs.Canonical.{IsCanonical-head, IsCanonical-tail}
-use Rattle.merge_info.specs.Line.{clashes, has_clash}
+use Rattle.merge_info.specs.Line.{has_clash}
+use Rattle.merge_info.proofs.Clashes.{clash, has_clash-cons}
 
 -- the first ends before the others begin
 IsCanonical-first : (run : Run) (runs : List Run) → IsCanonical (run ∷ runs) → All (λ next. run.hi < next.lo) runs
@@ -21,38 +18,15 @@ IsCanonical-first run (next ∷ runs) canonical =
     All-cons (λ each. run.hi < each.lo) next runs canonical.1.after
     (λ k d below. omega (arith, rest k d below, canonical.1.after, is_next.ordered))
 
--- each ends before those after it begin
-IsCanonical-rises : (runs : List Run) (k m : ℕ) (d e : Run) → IsCanonical runs → k < m → m < length runs
-    → (get_or runs k d).hi < (get_or runs m e).lo
-IsCanonical-rises [] k m d e canonical before within = absurd (omega arith)
-IsCanonical-rises (run ∷ runs) k zero d e canonical before within = absurd (omega arith)
-IsCanonical-rises (run ∷ runs) zero (suc m) d e canonical before within =
-    IsCanonical-first run runs canonical m e (omega arith)
-IsCanonical-rises (run ∷ runs) (suc k) (suc m) d e canonical before within =
-    IsCanonical-rises runs k m d e (IsCanonical-tail run runs canonical) (omega arith) (omega arith)
-
--- a run is not of both sorts
-clashes-itself : (a : Run) → clashes a a ≡ false
-clashes-itself a = by a.inheritable (nat_le a.lo a.hi)
-  where
-    by : (inheritable some : Bool) → (inheritable && not inheritable && some && some) ≡ false
-    by true some = refl
-    by false some = refl
+-- runs of which one ends before the other begins
+clash-before : (a b : Run) → a.hi < b.lo → clash a b ≡ false
+clash-before a b before = grind (arith, nat_tests)
 
 -- no number is given both ways
 pub has_clash-canonical : (runs : List Run) → IsCanonical runs → has_clash runs ≡ false
 unfolding has_clash
-has_clash-canonical runs canonical =
-    list_any_none (λ a. list_any (λ b. clashes a b) runs) runs (λ k d within.
-    list_any_none (λ b. clashes (get_or runs k d) b) runs (λ m e below. by k m d e within below))
-  where
-    by : (k m : ℕ) (d e : Run) → k < length runs → m < length runs → clashes (get_or runs k d) (get_or runs m e) ≡ false
-    by k m d e within below =
-        let a = get_or runs k d in
-        let b = get_or runs m e in
-        elim (cases_order k m) [
-          | inl same ↦
-              ap (clashes a) (ap (λ n. get_or runs n e) (sym same) ∙ get_or_default runs k e d within) ∙ clashes-itself a
-          | inr (inl before) ↦ clashes-before a b (IsCanonical-rises runs k m d e canonical before below)
-          | inr (inr after) ↦ clashes-after a b (IsCanonical-rises runs m k e d canonical after within)
-        ]
+has_clash-canonical [] canonical = refl
+has_clash-canonical (run ∷ runs) canonical =
+    let none = list_any_none (λ each. clash run each) runs
+    (λ k d below. clash-before run (get_or runs k d) (IsCanonical-first run runs canonical k d below)) in
+    has_clash-cons run runs ∙ rw none (has_clash-canonical runs (IsCanonical-tail run runs canonical))
