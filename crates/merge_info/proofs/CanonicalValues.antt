@@ -1,10 +1,10 @@
 -- The canonical value of lines has their runs, and is the only value that has.
 use Rattle.std.proofs.Common.{◌≡◌, ℕ, false, List, [], ◌∷◌, All, filter, map, bytes_eq, get_or, inl, inr, refl, sym, ap, subst, ◌∙◌, arith, Ordering}
-use Rattle.std.proofs.lemmas.Bool.{both_ways, cases_Bool, false_from_ne_true}
+use Rattle.std.proofs.lemmas.Bool.{both_ways, cases_Bool}
 use Rattle.std.proofs.lemmas.Cmp.{nat_list_cmp_total}
 use Rattle.std.proofs.lemmas.List.{get_or-map, length-map}
 use Rattle.std.proofs.lemmas.List.Elements.{All-nil, All-cons, All-head, All-tail, All-append, All-filter, All-map, filter_passes}
-use Rattle.std.proofs.lemmas.List.Folds.{Any-from_list_any, list_any_at}
+use Rattle.std.proofs.lemmas.List.Folds.{Any-from_list_any}
 use Rattle.std.proofs.lemmas.Map.Lookups.{exact_bytes}
 use Rattle.std.proofs.lemmas.Slice.Eq.{bytes_eq-Decides}
 use Rattle.std.specs.Cmp.Lexicographic.{slice_cmp}
@@ -18,7 +18,7 @@ use Rattle.range_list.proofs.Same.{HasSameNumbers-refl, HasSameNumbers-sym, HasS
 use Rattle.merge_info.specs.CanonicalValue.{canonical_value, has_runs, insert_path, is_some_run, entry_at, paths_of}
 use Rattle.merge_info.specs.Line.{IsLine, IsPrintedPath, Line}
 use Rattle.merge_info.specs.Value.{AreRising, HasSameRevisions, IsMergeInfo, runs_at}
-use Rattle.merge_info.proofs.Mapped.{All-from_map}
+use Rattle.merge_info.proofs.Each.{All-from_list_any, All-from_map}
 use Rattle.merge_info.proofs.OnlyValues.{same_values}
 use Rattle.merge_info.proofs.Rising.{AreRising-cons, AreRising-filter, AreRising-first, AreRising-tail, IsPathBefore, runs_at-line}
 use Rattle.merge_info.proofs.RunsAt.{runs_at-none}
@@ -158,8 +158,7 @@ module _ (lines : List Line) where
               rw (← (bytes_eq-Decides each path).0 same, runs)
               (canonical_runs-HasSameNumbers (runs_at lines each) (AreRuns-runs_at lines each all))
           | inr absent ↦
-              let apart : All (λ each. bytes_eq each path ≡ false) paths = λ k d below.
-              false_from_ne_true _ (λ hit. both_ways _ absent (list_any_at (λ each. bytes_eq each path) paths k d below hit)) in
+              let apart = All-from_list_any (λ each. bytes_eq each path) paths absent in
               rw (runs_at-none (entries_at paths) path (All-map (λ line. bytes_eq line.path path ≡ false) (entry_at lines) paths apart), runs_at-none lines path (All-paths_of (λ each. bytes_eq each path ≡ false) lines apart))
               (HasSameNumbers-refl [])
         ])

@@ -12,7 +12,7 @@ use Rattle.std.specs.declared.cmp.Ordering.TheVariants.{Less, Equal, Greater}
 use Rattle.range_list.specs.declared.run.Run.{Run}
 use Rattle.merge_info.specs.Value.{AreRising, IsEntry, IsMergeInfo, entry_view, ranges_of, some_runs}
 use Rattle.merge_info.specs.declared.entry.Entry.{Entry}
-use Rattle.merge_info.proofs.Mapped.{All-from_map_at}
+use Rattle.merge_info.proofs.Each.{All-from_map_at}
 use Rattle.merge_info.proofs.Rising.{AreRising-at, bytes_eq-before, runs_at-line}
 use Rattle.merge_info.proofs.RunsAt.{runs_at-none}
 

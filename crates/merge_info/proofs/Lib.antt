@@ -4,6 +4,7 @@ mod CanonicalValues
 mod Clashes
 mod Collected
 mod Decimals
+mod Each
 mod Elements
 mod Entries
 mod InheritedEntries
@@ -12,7 +13,6 @@ pub mod InheritedRevisions
 mod JoinedBytes
 mod LineReads
 mod LinesRead
-mod Mapped
 mod OneLine
 mod OnlyValues
 mod PathOrder

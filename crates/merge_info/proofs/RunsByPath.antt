@@ -19,7 +19,7 @@ use Rattle.range_list.specs.declared.run.Run.{Run}
 use Rattle.merge_info.specs.Line.{IsLine, IsPrintedPath, Line}
 use Rattle.merge_info.specs.RunsByPath.{AddsLine, RunsByPath, lines_in}
 use Rattle.merge_info.specs.Value.{AreRising, runs_at}
-use Rattle.merge_info.proofs.Mapped.{All-from_map}
+use Rattle.merge_info.proofs.Each.{All-from_map}
 use Rattle.merge_info.proofs.Rising.{AreRising-first, AreRising-tail, runs_at-before}
 use Rattle.merge_info.proofs.RunsAt.{runs_at-push, runs_of}
 

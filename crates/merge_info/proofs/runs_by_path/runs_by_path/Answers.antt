@@ -4,7 +4,7 @@ use Rattle.std.proofs.lemmas.Iterator.Consumers.{YieldsList-turn}
 use Rattle.std.proofs.lemmas.List.{map_push}
 use Rattle.merge_info.specs.Line.{IsLine, line_view}
 use Rattle.merge_info.specs.RunsByPath.{AreRunsByPath}
-use Rattle.merge_info.proofs.Mapped.{All-from_map_at}
+use Rattle.merge_info.proofs.Each.{All-from_map_at}
 use Rattle.merge_info.proofs.runs_by_path.runs_by_path.Goals as goal
 
 -- each line is one

@@ -7,7 +7,7 @@ use Rattle.merge_info.specs.Text.{inherited_text, printed_entry, value_text}
 use Rattle.merge_info.specs.Value.{IsEntry, entry_view}
 use Rattle.merge_info.proofs.Entries.{entry_view-at}
 use Rattle.merge_info.proofs.InheritedEntries.{inherited_entries, inherited_entries-canonical, inherited_entries-next}
-use Rattle.merge_info.proofs.Mapped.{All-from_map_at}
+use Rattle.merge_info.proofs.Each.{All-from_map_at}
 use Rattle.merge_info.proofs.text.append_inherited.Goals as goal
 use Rattle.merge_info.proofs.text.append_inherited.Goals.{then-has_inheritable+in_ok-append_inherited, else-has_inheritable}
 

@@ -1,6 +1,6 @@
 use Rattle.std.proofs.Common.{All, map}
 use Rattle.merge_info.specs.Value.{IsEntry, entry_view}
-use Rattle.merge_info.proofs.Mapped.{All-from_map_at}
+use Rattle.merge_info.proofs.Each.{All-from_map_at}
 use Rattle.merge_info.proofs.Inheriting.{AreLines-inherited}
 use Rattle.merge_info.proofs.merge_info.MergeInfo.inherited.Goals as goal
 
