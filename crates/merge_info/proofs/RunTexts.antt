@@ -5,6 +5,7 @@ use Rattle.std.specs.Prelude.{Some, None, option_and_then, option_map, if◌then
 use Rattle.std.specs.List.{list_any, before_first, after_first, prefix_len}
 use Rattle.std.proofs.lemmas.Bool.{cases_Bool, cond-false, cond-true, eqb-false, eqb-true, lt-ltb, ne_eqb, or_from}
 use Rattle.std.proofs.lemmas.Fmt.{decimal_nonempty}
+use Rattle.std.proofs.lemmas.Grind.{common_steps}
 use Rattle.std.proofs.lemmas.List.{append-nil, append_assoc, length-append}
 use Rattle.std.proofs.lemmas.List.Elements.{All-head, All-map}
 use Rattle.std.proofs.lemmas.List.Folds.{list_any_none}
@@ -63,18 +64,10 @@ pub Lacks-rangelist_text : (byte : ℕ) (runs : List Run) → IsOther byte → (
 Lacks-rangelist_text byte runs other no_comma are_runs =
     Lacks-join byte 44 (map run_text runs) no_comma (AllLack-runs byte runs other are_runs)
 
-length-range_text : (run : Run) → IsRun run → 0 < length (range_text run)
-length-range_text run is_run =
-    let some = decimal_nonempty run.lo (omega (arith, is_run.ordered, is_run.last)) in
-    elim (run.lo == run.hi) as (λ single. 0 < length (range_text_if single run)) [
-      | true ↦ some
-      | false ↦
-          omega (arith, length-append (decimal run.lo) (45 ∷ []), length-append (decimal run.lo ++ 45 ∷ []) (decimal run.hi))
-    ]
-
 length-run_text : (run : Run) → IsRun run → 0 < length (run_text run)
 length-run_text run is_run =
-    omega (arith, length-append (range_text run) (star_unless run.inheritable), length-range_text run is_run)
+    let some = decimal_nonempty run.lo (omega (arith, is_run.ordered, is_run.last)) in
+    grind (arith, common_steps)
 
 -- ---- one run
 
@@ -82,22 +75,9 @@ length-run_text run is_run =
 run_of-decimal : (inheritable : Bool) (n : ℕ) → 1 ≤ n → n ≤ greatest_revision
     → run_of inheritable (decimal n) ≡ Some (record { lo = n; hi = n; inheritable = inheritable })
 run_of-decimal inheritable n first last =
-    cond-false _ _ _ (list_any_none is_dash (decimal n) (Lacks-decimal 45 n refl (omega arith)))
-    ∙ ap (option_map (λ number. record { lo = number; hi = number; inheritable = inheritable }))
-    (revision_of-decimal n first last)
+    rw (list_any_none is_dash (decimal n) (Lacks-decimal 45 n refl (omega arith)), revision_of-decimal n first last) refl
 
 -- two numbers round a dash
-run_of-parts : (inheritable : Bool) (bytes front back : List ℕ) (lo hi : ℕ) → list_any is_dash bytes ≡ true
-    → before_first is_dash bytes ≡ front → after_first is_dash bytes ≡ back
-    → revision_of front ≡ Some lo → revision_of back ≡ Some hi → lo < hi
-    → run_of inheritable bytes ≡ Some (record { lo = lo; hi = hi; inheritable = inheritable })
-run_of-parts inheritable bytes front back lo hi dash at_front at_back first last ordered =
-    let upper = revision_of (after_first is_dash bytes) in
-    cond-true _ _ _ dash
-    ∙ ap (option_and_then (λ n. option_and_then (run_between inheritable n) upper)) (ap revision_of at_front ∙ first)
-    ∙ ap (option_and_then (run_between inheritable lo)) (ap revision_of at_back ∙ last)
-    ∙ cond-true _ _ _ (lt-ltb lo hi ordered)
-
 run_of-range : (inheritable : Bool) (lo hi : ℕ) → 1 ≤ lo → lo < hi → hi ≤ greatest_revision
     → run_of inheritable (decimal lo ++ 45 ∷ [] ++ decimal hi)
     ≡ Some (record { lo = lo; hi = hi; inheritable = inheritable })
@@ -105,32 +85,25 @@ run_of-range inheritable lo hi first ordered last =
     let front = decimal lo in
     let back = decimal hi in
     let none = Lacks-decimal 45 lo refl (omega arith) in
-    ap (run_of inheritable) (append_assoc front (45 ∷ []) back)
-    ∙ run_of-parts inheritable (front ++ 45 ∷ back) front back lo hi (list_any-whole 45 front back)
-    (before_first-whole 45 front back none) (after_first-whole 45 front back none)
-    (revision_of-decimal lo first (omega arith)) (revision_of-decimal hi (omega arith) last) ordered
+    rw (append_assoc front (45 ∷ []) back, list_any-whole 45 front back, before_first-whole 45 front back none,
+    after_first-whole 45 front back none, revision_of-decimal lo first (omega arith),
+    revision_of-decimal hi (omega arith) last, lt-ltb lo hi ordered) refl
 
 run_of-range_text : (run : Run) → IsRun run → run_of run.inheritable (range_text run) ≡ Some run
-run_of-range_text run is_run =
-    elim (cases_Bool (run.lo == run.hi)) [
-      | inl single ↦
-          ap (run_of run.inheritable) (cond-true _ _ _ single)
-          ∙ run_of-decimal run.inheritable run.lo is_run.first (omega (arith, is_run.ordered, is_run.last))
-          ∙ ap (λ (hi : ℕ). let each : Run = record run { hi = hi } in Some each) (eqb-true run.lo run.hi single)
-      | inr more ↦
-          let differ = eqb-false run.lo run.hi more in
-          ap (run_of run.inheritable) (cond-false _ _ _ more)
-          ∙ run_of-range run.inheritable run.lo run.hi is_run.first (omega (arith, is_run.ordered)) is_run.last
-    ]
+run_of-range_text run is_run = elim (cases_Bool (run.lo == run.hi)) [
+  | inl single ↦
+      rw single (run_of-decimal run.inheritable run.lo is_run.first (omega (arith, is_run.ordered, is_run.last)))
+      ∙ ap (λ (hi : ℕ). let each : Run = record run { hi = hi } in Some each) (eqb-true run.lo run.hi single)
+  | inr more ↦
+      let differ = eqb-false run.lo run.hi more in
+      rw more (run_of-range run.inheritable run.lo run.hi is_run.first (omega (arith, is_run.ordered)) is_run.last)
+]
 
 -- a star follows
 element_of-append_star : (bytes : List ℕ) → Lacks 42 bytes → element_of (bytes ++ 42 ∷ []) ≡ run_of false bytes
 unfolding element_of
 element_of-append_star bytes none =
-    let front = before_first is_star (bytes ++ 42 ∷ []) in
-    cond-true _ _ _ (list_any-whole 42 bytes [])
-    ∙ ap (λ after. cond (is_not_empty after) None (run_of false front)) (after_first-whole 42 bytes [] none)
-    ∙ ap (run_of false) (before_first-whole 42 bytes [] none)
+    rw (list_any-whole 42 bytes [], after_first-whole 42 bytes [] none, before_first-whole 42 bytes [] none) refl
 
 -- a printed run is read as the run
 pub element_of-run_text : (run : Run) → IsRun run → element_of (run_text run) ≡ Some run
@@ -139,14 +112,8 @@ element_of-run_text run is_run =
     let none = Lacks-range_text 42 run refl refl is_run in
     let read = run_of-range_text run is_run in
     elim (cases_Bool run.inheritable) [
-      | inl inherits ↦
-          ap (λ inheritable. element_of (text ++ star_unless inheritable)) inherits
-          ∙ ap element_of (append-nil text) ∙ element_of-no_star text none
-          ∙ ap (λ inheritable. run_of inheritable text) (sym inherits) ∙ read
-      | inr non_inheritable ↦
-          ap (λ inheritable. element_of (text ++ star_unless inheritable)) non_inheritable
-          ∙ element_of-append_star text none
-          ∙ ap (λ inheritable. run_of inheritable text) (sym non_inheritable) ∙ read
+      | inl inherits ↦ rw (inherits, append-nil, element_of-no_star text none) (rw inherits at read)
+      | inr other ↦ rw (other, element_of-append_star text none) (rw other at read)
     ]
 
 -- ---- a rangelist
