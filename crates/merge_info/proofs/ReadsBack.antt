@@ -29,9 +29,7 @@ use Rattle.merge_info.proofs.RunTexts.{Lacks-rangelist_text, elements_of-rangeli
 line_from-entry : (path : List ℕ) (runs : List Run) → IsPrintedPath path → IsCanonical runs
     → line_from path runs ≡ Some (record { path = path; runs = runs })
 line_from-entry path runs is_path canonical =
-    cond-false _ _ _ (list_any_none is_dot (parts_of path) is_path.no_dot)
-    ∙ cond-false _ _ _ (has_clash-canonical runs canonical)
-    ∙ ap (λ (printed : List ℕ). let line : Line = record { path = printed; runs = runs } in Some line) is_path.printed
+    rw (list_any_none is_dot (parts_of path) is_path.no_dot, has_clash-canonical runs canonical, is_path.printed) refl
 
 -- the last colon stands before the rangelist
 line_of-joined : (path : List ℕ) (runs : List Run) → IsPrintedPath path → IsCanonical runs → runs ≢ []
@@ -41,19 +39,14 @@ line_of-joined path runs is_path canonical some =
     let text = rangelist_text runs in
     let are_runs = AreRuns-from_canonical runs canonical in
     let none = Lacks-rangelist_text 58 runs (refl, refl, refl) refl are_runs in
-    let read =
-    ap (λ after. elements_of (without_blanks after)) (after_last-whole 58 path text none)
-    ∙ ap elements_of (without_blanks-rangelist_text runs are_runs) ∙ elements_of-rangelist_text runs some are_runs in
-    cond-true _ _ _ (list_any-whole 58 path text)
-    ∙ ap (option_and_then (line_from (before_last is_colon (path ++ 58 ∷ text)))) read
-    ∙ ap (λ front. line_from front runs) (before_last-whole 58 path text none)
-    ∙ line_from-entry path runs is_path canonical
+    rw (list_any-whole 58 path text, after_last-whole 58 path text none, before_last-whole 58 path text none,
+    without_blanks-rangelist_text runs are_runs, elements_of-rangelist_text runs some are_runs)
+    (line_from-entry path runs is_path canonical)
 
 -- a printed line is read as the entry
 pub line_of-printed_entry : (line : Line) → IsEntry line → line_of (printed_entry line) ≡ Some line
 line_of-printed_entry line is_entry =
-    ap line_of (append_assoc line.path (58 ∷ []) (rangelist_text line.runs))
-    ∙ line_of-joined line.path line.runs is_entry.path is_entry.canonical is_entry.some
+    rw append_assoc (line_of-joined line.path line.runs is_entry.path is_entry.canonical is_entry.some)
 
 -- it has no newline, if its path has none
 Lacks-printed_entry : (line : Line) → IsEntry line → IsOnOneLine line → Lacks 10 (printed_entry line)
@@ -76,9 +69,8 @@ strip_last-push byte bytes =
     let all = bytes ++ byte ∷ [] in
     let some : 0 < length all = omega (arith, length-append bytes (byte ∷ [])) in
     let rest_length : length all - 1 ≡ length bytes = omega (arith, length-append bytes (byte ∷ [])) in
-    let last = ap (λ n. get_or all n 0) rest_length ∙ get_or_at bytes byte [] 0 (length bytes) refl in
-    cond-true _ _ _ (and_from _ _ (lt-ltb 0 (length all) some) (eq-eqb _ byte last))
-    ∙ ap (λ n. take n all) rest_length ∙ take_at bytes (byte ∷ []) (length bytes) refl
+    rw (lt-ltb 0 (length all) some, rest_length, get_or_at bytes byte [] 0 (length bytes) refl, eq-eqb byte byte refl)
+    (take_at bytes (byte ∷ []) (length bytes) refl)
 
 -- newlines join the lines, and one more follows
 value_text-joined : (line : Line) (lines : List Line)
@@ -104,16 +96,14 @@ text_lines-value_text (line ∷ lines) entries one_line =
     let some = length-join 10 (printed_entry line) (map printed_entry lines) (length-printed_entry line) in
     let none = All-map (Lacks 10) printed_entry (line ∷ lines)
     (λ k d below. Lacks-printed_entry (get_or (line ∷ lines) k d) (entries k d below) (one_line k d below)) in
-    ap text_lines (value_text-joined line lines)
-    ∙ ap lines_between (strip_last-push 10 joined)
-    ∙ lines_between-some joined some
-    ∙ slice_split-join 10 (printed_entry line) (map printed_entry lines) none
+    rw (value_text-joined line lines, strip_last-push 10 joined, lines_between-some joined some)
+    (slice_split-join 10 (printed_entry line) (map printed_entry lines) none)
 
 -- a printed value is read as the value
 pub lines_of-value_text : (value : List Line) → IsMergeInfo value → All IsOnOneLine value
     → lines_of (value_text value) ≡ Some value
 unfolding lines_of
 lines_of-value_text value is_value one_line =
-    ap (λ lines. all_of (map line_of lines)) (text_lines-value_text value is_value.entries one_line)
-    ∙ all_of-map line_of printed_entry value
-    (λ k d below. line_of-printed_entry (get_or value k d) (is_value.entries k d below))
+    rw (text_lines-value_text value is_value.entries one_line)
+    (all_of-map line_of printed_entry value
+    (λ k d below. line_of-printed_entry (get_or value k d) (is_value.entries k d below)))

@@ -125,18 +125,16 @@ elements_of-rangelist_text [] some are_runs = absurd (some refl)
 elements_of-rangelist_text (run ∷ runs) some are_runs =
     let first = length-run_text run (All-head IsRun run runs are_runs) in
     let none = AllLack-runs 44 (run ∷ runs) (refl, refl, refl) are_runs in
-    elements_of-some (rangelist_text (run ∷ runs))
-    (sym (ne_eqb (length (rangelist_text (run ∷ runs))) 0 (λ empty. omega (arith, length-join 44 (run_text run) (map run_text runs) first))))
-    ∙ ap (λ parts. all_of (map element_of parts)) (slice_split-join 44 (run_text run) (map run_text runs) none)
-    ∙ all_of-map element_of run_text (run ∷ runs)
-    (λ k d below. element_of-run_text (get_or (run ∷ runs) k d) (are_runs k d below))
+    let some_bytes = length-join 44 (run_text run) (map run_text runs) first in
+    rw (elements_of-some (rangelist_text (run ∷ runs)) (sym (ne_eqb _ 0 (λ empty. omega arith))),
+    slice_split-join 44 (run_text run) (map run_text runs) none)
+    (all_of-map element_of run_text (run ∷ runs)
+    (λ k d below. element_of-run_text (get_or (run ∷ runs) k d) (are_runs k d below)))
 
 -- bytes without any blank begin with none
 without_blanks-none : (bytes : List ℕ) → All (λ byte. is_blank byte ≡ false) bytes → without_blanks bytes ≡ bytes
 without_blanks-none [] none = refl
-without_blanks-none (byte ∷ bytes) none =
-    ap (λ blank. drop (cond blank (1 + prefix_len is_blank bytes) 0) (byte ∷ bytes))
-    (All-head (λ each. is_blank each ≡ false) byte bytes none)
+without_blanks-none (byte ∷ bytes) none = rw (none 0 byte (omega arith)) refl
 
 pub without_blanks-rangelist_text : (runs : List Run) → All IsRun runs
     → without_blanks (rangelist_text runs) ≡ rangelist_text runs
