@@ -12,7 +12,7 @@ use Rattle.merge_info.specs.Inherited.{inherited_line, inherited_lines}
 use Rattle.merge_info.specs.Line.{IsLine, IsPrintedPath, Line}
 use Rattle.merge_info.specs.Value.{AreRising, IsMergeInfo, MergeInfoValue, runs_at}
 use Rattle.merge_info.proofs.CanonicalValues.{IsMergeInfo-filter, canonical_value-only, runs_at-filter}
-use Rattle.merge_info.proofs.Inheriting.{IsLine-inherited}
+use Rattle.merge_info.proofs.Inheriting.{AreLines-inherited}
 use Rattle.range_list.proofs.Same.{HasSameNumbers-refl}
 
 -- ---- what is inherited
@@ -25,8 +25,7 @@ pub inherited_entries-canonical : (rest : List ℕ) (value : MergeInfoValue) →
     → AreRising (inherited_lines rest value) → inherited_entries rest value ≡ inherited_value rest value
 inherited_entries-canonical rest value printed is rising =
     let lines = inherited_lines rest value in
-    let are_lines = All-map IsLine (inherited_line rest) value
-    (λ k d below. IsLine-inherited rest (get_or value k d) printed (is.entries k d below)) in
+    let are_lines = AreLines-inherited rest value printed is.entries in
     let canonical = All-map (λ line. IsCanonical line.runs) (inherited_line rest) value
     (λ k d below. IsCanonical-filter (get_or value k d).runs (is.entries k d below).canonical) in
     canonical_value-only lines are_lines (inherited_entries rest value)

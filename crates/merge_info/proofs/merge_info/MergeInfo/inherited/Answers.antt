@@ -1,4 +1,6 @@
-use Rattle.std.proofs.Common.{All, map}
+use Rattle.std.proofs.Common.{All, map, take}
+use Rattle.std.proofs.lemmas.List.{take-map}
+use Rattle.std.proofs.lemmas.List.Elements.{All-take}
 use Rattle.merge_info.specs.Value.{IsEntry, entry_view}
 use Rattle.merge_info.proofs.Each.{All-from_map_at}
 use Rattle.merge_info.proofs.Inheriting.{AreLines-inherited}
@@ -15,5 +17,7 @@ inherited-requires-clause-path c =
 pub of_lines-requires : goal.of_lines-requires
 of_lines-requires c =
     let items = c.deref-entry-items.result.now in
+    let i = c.loop-entry.entry-index in
     let entries : All IsEntry (map entry_view items) = rw c.deref-entry-items.ensures.value c.self.invariant.entries in
-    rw c.loop-entry.invariant (AreLines-inherited c.args.rest.now items c.loop-entry.entry-index c.requires entries)
+    rw c.loop-entry.invariant (AreLines-inherited c.args.rest.now (map entry_view (take i items)) c.requires
+    (rw (← take-map entry_view i items) (All-take IsEntry i (map entry_view items) entries)))
