@@ -1,5 +1,5 @@
 -- The entries of a value, made of the lines of a map one after another.
-use Rattle.std.proofs.Common.{◌≡◌, ◌≢◌, ℕ, true, List, [], ◌∷◌, ◌++◌, All, filter, map, bytes_eq, get_or, inl, inr, refl, sym, ◌∙◌, append_assoc, append-nil}
+use Rattle.std.proofs.Common.{◌≡◌, ◌≢◌, true, List, [], ◌∷◌, ◌++◌, All, filter, map, bytes_eq, get_or, inl, inr, refl, sym, ◌∙◌, append_assoc, append-nil}
 use Rattle.std.proofs.lemmas.Bool.{cases_Bool}
 use Rattle.std.proofs.lemmas.List.Elements.{All-head, All-map, All-rest, All-tail}
 use Rattle.range_list.specs.Canonical.{canonical_runs}

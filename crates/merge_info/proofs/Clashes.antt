@@ -1,12 +1,12 @@
 -- Runs in which some number is given both with and without `*`, and a scan that finds such a number.
-use Rattle.std.proofs.Common.{◌≡◌, ℕ, ◌<◌, ◌≤◌, nat_le, Bool, true, false, not, ◌&&◌, ◌||◌, cond, List, [], ◌∷◌, All, get_or, inl, inr, Some, refl, sym, ◌∙◌, arith, max, suc}
+use Rattle.std.proofs.Common.{◌≡◌, ℕ, ◌≤◌, nat_le, Bool, true, false, not, ◌&&◌, ◌||◌, cond, List, [], ◌∷◌, All, get_or, Some, refl, sym, ◌∙◌, arith, max, suc}
 use Rattle.std.specs.Prelude.{if◌then◌else◌}
 use Rattle.std.specs.Bool.{OnTrue}
 use Rattle.std.specs.List.{IsAllAdjacentAnswer, list_any}
 use Rattle.std.specs.List.Sorted.{IsNonDecreasingBy, IsPermutation}
-use Rattle.std.proofs.lemmas.Bool.{cases_Bool, lt-leb}
+use Rattle.std.proofs.lemmas.Bool.{lt-leb}
 use Rattle.std.proofs.lemmas.Bool.Decides.{nat_tests}
-use Rattle.std.proofs.lemmas.List.Elements.{All-head, All-tail}
+use Rattle.std.proofs.lemmas.List.Elements.{All-tail}
 use Rattle.std.proofs.lemmas.List.Folds.{list_any_none}
 use Rattle.std.proofs.lemmas.List.Sorted.{IsNonDecreasingBy-from_all_adjacent, list_any-IsPermutation}
 use Rattle.std.specs.Ordering.{is_le, is_some_and, nat_cmp}
@@ -58,9 +58,11 @@ pub has_clash-cons : (run : Run) (runs : List Run)
     → has_clash (run ∷ runs) ≡ (list_any (λ each. clash run each) runs || has_clash runs)
 unfolding has_clash
 has_clash-cons run runs =
-    rw (clashes-itself run,
-    list_any-or (λ a. clashes a run || list_any (λ b. clashes a b) runs) (λ a. clashes a run) (λ a. list_any (λ b. clashes a b) runs) runs (λ k d below. refl),
-    list_any-or (λ each. clash run each) (λ each. clashes run each) (λ each. clashes each run) runs (λ k d below. refl))
+    rw (
+      clashes-itself run,
+      list_any-or (λ a. clashes a run || list_any (λ b. clashes a b) runs) (λ a. clashes a run) (λ a. list_any (λ b. clashes a b) runs) runs (λ k d below. refl),
+      list_any-or (λ each. clash run each) (λ each. clashes run each) (λ each. clashes each run) runs (λ k d below. refl),
+    )
     (simp or_assoc)
 
 -- ---- the scan

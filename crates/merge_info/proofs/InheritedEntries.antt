@@ -9,7 +9,7 @@ use Rattle.range_list.specs.declared.run.Run.{Run}
 use Rattle.range_list.proofs.Canonical.{IsCanonical-filter}
 use Rattle.merge_info.specs.CanonicalValue.{has_runs, inherited_value, is_some_run}
 use Rattle.merge_info.specs.Inherited.{inherited_line, inherited_lines}
-use Rattle.merge_info.specs.Line.{IsLine, IsPrintedPath, Line}
+use Rattle.merge_info.specs.Line.{IsPrintedPath, Line}
 use Rattle.merge_info.specs.Value.{AreRising, IsMergeInfo, MergeInfoValue, runs_at}
 use Rattle.merge_info.proofs.CanonicalValues.{IsMergeInfo-filter, canonical_value-only, runs_at-filter}
 use Rattle.merge_info.proofs.Inheriting.{AreLines-inherited}

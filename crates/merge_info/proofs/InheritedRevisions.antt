@@ -4,9 +4,8 @@ use Rattle.std.proofs.lemmas.Bool.{cases_Bool, false_from_ne_true}
 use Rattle.std.specs.Cmp.{both_ways}
 use Rattle.std.proofs.lemmas.Slice.Eq.{bytes_eq-Decides}
 use Rattle.std.proofs.lemmas.List.{append_cancel_right}
-use Rattle.std.proofs.lemmas.List.Elements.{All-append, All-head, All-map, All-tail, All-weaker, filter-append}
+use Rattle.std.proofs.lemmas.List.Elements.{All-append, All-head, All-map, All-tail, filter-append}
 use Rattle.svn_path.specs.Components.{IsComponent, parts_of, path_text}
-use Rattle.svn_path.proofs.Belows.{IsSame-bytes_eq}
 use Rattle.svn_path.proofs.Components.{parts_of-path_text}
 use Rattle.range_list.specs.Rangelist.{inheritability_of, inheritable_runs, is_in, is_inheritable}
 use Rattle.range_list.specs.declared.run.Run.{Run}
@@ -14,7 +13,7 @@ use Rattle.range_list.proofs.Canonical.{IsInheritablePart-filter}
 use Rattle.range_list.proofs.Maximal.{is_inheritable-out}
 use Rattle.merge_info.specs.CanonicalValue.{inherited_value}
 use Rattle.merge_info.specs.Inherited.{inherited_line, inherited_lines, inherited_revision, path_below}
-use Rattle.merge_info.specs.Line.{IsLine, IsPrintedPath, Line}
+use Rattle.merge_info.specs.Line.{IsPrintedPath, Line}
 use Rattle.merge_info.specs.Value.{IsEntry, IsMergeInfo, MergeInfoValue, runs_at}
 use Rattle.merge_info.proofs.CanonicalValues.{HasSameRevisions-canonical_value}
 use Rattle.merge_info.proofs.Inheriting.{AreLines-inherited, components-printed}

@@ -1,10 +1,10 @@
 -- The text of a value, as it is read again.
-use Rattle.std.proofs.Common.{◌≡◌, ◌≢◌, ℕ, ◌-◌, ◌<◌, List, [], ◌∷◌, ◌++◌, length, get_or, take, map, All}
+use Rattle.std.proofs.Common.{◌≡◌, ◌≢◌, ℕ, ◌-◌, ◌<◌, List, [], ◌∷◌, ◌++◌, length, get_or, map, All}
 use Rattle.std.proofs.Common.{refl, sym, ap, ◌∙◌, arith, eq-eqb}
-use Rattle.std.specs.Prelude.{Some, option_and_then}
+use Rattle.std.specs.Prelude.{Some}
 use Rattle.std.specs.Io.BufRead.{strip_last}
-use Rattle.std.specs.List.{before_last, join_with_byte, slice_split}
-use Rattle.std.proofs.lemmas.Bool.{and_from, cond-false, cond-true, lt-ltb}
+use Rattle.std.specs.List.{join_with_byte, slice_split}
+use Rattle.std.proofs.lemmas.Bool.{lt-ltb}
 use Rattle.std.proofs.lemmas.List.{append-nil, append_assoc, get_or_at, length-append, take_at}
 use Rattle.std.proofs.lemmas.List.Elements.{All-map}
 use Rattle.std.proofs.lemmas.List.Folds.{list_any_none}
@@ -15,8 +15,7 @@ use Rattle.svn_text.proofs.Cuts.{after_last-whole, before_last-whole}
 use Rattle.range_list.specs.Rangelist.{IsCanonical}
 use Rattle.range_list.specs.Text.{rangelist_text}
 use Rattle.range_list.specs.declared.run.Run.{Run}
-use Rattle.merge_info.specs.Line.{IsPrintedPath, Line, all_of, elements_of, line_from, line_of, without_blanks}
-use Rattle.svn_text.specs.Bytes.{is_colon}
+use Rattle.merge_info.specs.Line.{IsPrintedPath, Line, line_from, line_of}
 use Rattle.merge_info.specs.Text.{printed_entry, value_text}
 use Rattle.merge_info.specs.Value.{IsEntry, IsMergeInfo, IsOnOneLine, lines_between, lines_of, text_lines}
 use Rattle.range_list.proofs.Canonical.{AreRuns-from_canonical}
@@ -39,8 +38,13 @@ line_of-joined path runs is_path canonical some =
     let text = rangelist_text runs in
     let are_runs = AreRuns-from_canonical runs canonical in
     let none = Lacks-rangelist_text 58 runs (refl, refl, refl) refl are_runs in
-    rw (list_any-whole 58 path text, after_last-whole 58 path text none, before_last-whole 58 path text none,
-    without_blanks-rangelist_text runs are_runs, elements_of-rangelist_text runs some are_runs)
+    rw (
+      list_any-whole 58 path text,
+      after_last-whole 58 path text none,
+      before_last-whole 58 path text none,
+      without_blanks-rangelist_text runs are_runs,
+      elements_of-rangelist_text runs some are_runs,
+    )
     (line_from-entry path runs is_path canonical)
 
 -- a printed line is read as the entry

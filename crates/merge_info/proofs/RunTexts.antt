@@ -1,23 +1,21 @@
 -- Printed rangelists, as they are read again.
-use Rattle.std.proofs.Common.{◌≡◌, ◌≢◌, ℕ, ◌+◌, ◌<◌, ◌≤◌, ◌==◌, Bool, true, false, cond, List, [], ◌∷◌, ◌++◌, length, get_or}
-use Rattle.std.proofs.Common.{drop, map, All, decimal, inl, inr, refl, sym, ap, ◌∙◌, arith}
-use Rattle.std.specs.Prelude.{Some, None, option_and_then, option_map, if◌then◌else◌}
-use Rattle.std.specs.List.{list_any, before_first, after_first, prefix_len}
-use Rattle.std.proofs.lemmas.Bool.{cases_Bool, cond-false, cond-true, eqb-false, eqb-true, lt-ltb, ne_eqb, or_from}
+use Rattle.std.proofs.Common.{◌≡◌, ◌≢◌, ℕ, ◌<◌, ◌≤◌, ◌==◌, Bool, true, false, List, [], ◌∷◌, ◌++◌, length, get_or}
+use Rattle.std.proofs.Common.{map, All, decimal, inl, inr, refl, sym, ap, ◌∙◌, arith}
+use Rattle.std.specs.Prelude.{Some, if◌then◌else◌}
+use Rattle.std.proofs.lemmas.Bool.{cases_Bool, eqb-false, eqb-true, lt-ltb, ne_eqb, or_from}
 use Rattle.std.proofs.lemmas.Fmt.{decimal_nonempty}
 use Rattle.std.proofs.lemmas.Grind.{common_steps}
-use Rattle.std.proofs.lemmas.List.{append-nil, append_assoc, length-append}
+use Rattle.std.proofs.lemmas.List.{append-nil, append_assoc}
 use Rattle.std.proofs.lemmas.List.Elements.{All-head, All-map}
 use Rattle.std.proofs.lemmas.List.Folds.{list_any_none}
-use Rattle.svn_text.specs.Bytes.{is_not_empty}
 use Rattle.svn_text.specs.Cut.{Lacks}
 use Rattle.svn_text.specs.Number.{is_digit}
 use Rattle.range_list.specs.Rangelist.{IsRun}
 use Rattle.svn_text.specs.Number.{greatest_revision}
 use Rattle.range_list.specs.Text.{range_text, rangelist_text, run_text}
 use Rattle.range_list.specs.declared.run.Run.{Run}
-use Rattle.merge_info.specs.Element.{element_of, is_dash, is_star, revision_of, run_between, run_of}
-use Rattle.merge_info.specs.Line.{all_of, elements_of, is_blank, without_blanks}
+use Rattle.merge_info.specs.Element.{element_of, is_dash, run_of}
+use Rattle.merge_info.specs.Line.{elements_of, is_blank, without_blanks}
 use Rattle.merge_info.proofs.Decimals.{Lacks-decimal, revision_of-decimal}
 use Rattle.merge_info.proofs.Elements.{element_of-no_star, elements_of-some}
 use Rattle.merge_info.proofs.JoinedBytes.{Lacks-append, Lacks-cons, Lacks-join, Lacks-nil, after_first-whole, all_of-map}
@@ -85,9 +83,15 @@ run_of-range inheritable lo hi first ordered last =
     let front = decimal lo in
     let back = decimal hi in
     let none = Lacks-decimal 45 lo refl (omega arith) in
-    rw (append_assoc front (45 ∷ []) back, list_any-whole 45 front back, before_first-whole 45 front back none,
-    after_first-whole 45 front back none, revision_of-decimal lo first (omega arith),
-    revision_of-decimal hi (omega arith) last, lt-ltb lo hi ordered) refl
+    rw (
+      append_assoc front (45 ∷ []) back,
+      list_any-whole 45 front back,
+      before_first-whole 45 front back none,
+      after_first-whole 45 front back none,
+      revision_of-decimal lo first (omega arith),
+      revision_of-decimal hi (omega arith) last,
+      lt-ltb lo hi ordered,
+    ) refl
 
 run_of-range_text : (run : Run) → IsRun run → run_of run.inheritable (range_text run) ≡ Some run
 run_of-range_text run is_run = elim (cases_Bool (run.lo == run.hi)) [
@@ -126,8 +130,10 @@ elements_of-rangelist_text (run ∷ runs) some are_runs =
     let first = length-run_text run (All-head IsRun run runs are_runs) in
     let none = AllLack-runs 44 (run ∷ runs) (refl, refl, refl) are_runs in
     let some_bytes = length-join 44 (run_text run) (map run_text runs) first in
-    rw (elements_of-some (rangelist_text (run ∷ runs)) (sym (ne_eqb _ 0 (λ empty. omega arith))),
-    slice_split-join 44 (run_text run) (map run_text runs) none)
+    rw (
+      elements_of-some (rangelist_text (run ∷ runs)) (sym (ne_eqb _ 0 (λ empty. omega arith))),
+      slice_split-join 44 (run_text run) (map run_text runs) none,
+    )
     (all_of-map element_of run_text (run ∷ runs)
     (λ k d below. element_of-run_text (get_or (run ∷ runs) k d) (are_runs k d below)))
 

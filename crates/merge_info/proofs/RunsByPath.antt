@@ -1,5 +1,5 @@
 -- The map from paths to runs as lines, and what a line put into it makes of them.
-use Rattle.std.proofs.Common.{◌≡◌, ℕ, Bool, true, false, IfSome, List, [], ◌∷◌, ◌++◌, Option, None, Some, All, map, bytes_eq, refl, sym, ap, subst, ◌∙◌, inl, inr, append-nil, Ordering, get_or}
+use Rattle.std.proofs.Common.{◌≡◌, ℕ, Bool, false, IfSome, List, [], ◌∷◌, ◌++◌, Option, None, Some, All, map, bytes_eq, refl, sym, ap, subst, ◌∙◌, inl, inr, append-nil, Ordering}
 use Rattle.std.proofs.lemmas.Bool.{cases_Bool}
 use Rattle.std.proofs.lemmas.Cmp.{eq_by_cmp_equiv, nat_list_cmp_total, nat_list_eq_equiv}
 use Rattle.std.proofs.lemmas.List.Elements.{All-append, All-map}
@@ -21,7 +21,7 @@ use Rattle.merge_info.specs.RunsByPath.{AddsLine, RunsByPath, lines_in}
 use Rattle.merge_info.specs.Value.{AreRising, runs_at}
 use Rattle.merge_info.proofs.Each.{All-from_map}
 use Rattle.merge_info.proofs.Rising.{AreRising-first, AreRising-tail, runs_at-before}
-use Rattle.merge_info.proofs.RunsAt.{runs_at-push, runs_of}
+use Rattle.merge_info.proofs.RunsAt.{runs_at-push}
 
 -- a path of the map with its runs
 abbrev pub MapEntry : Type 0

@@ -1,4 +1,4 @@
-use Rattle.std.proofs.Common.{false, drop, sym, ap, refl, ◌∙◌}
+use Rattle.std.proofs.Common.{false, sym, ap, refl, ◌∙◌}
 use Rattle.std.proofs.lemmas.Bool.{le-leb, lt-leb}
 use Rattle.std.proofs.lemmas.List.{drop_all, drop_more}
 use Rattle.range_list.specs.declared.run.Run.{Run}

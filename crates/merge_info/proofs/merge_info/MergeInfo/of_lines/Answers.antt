@@ -1,15 +1,11 @@
-use Rattle.std.proofs.Common.{◌≡◌, [], map, sym, ap, subst, ◌∙◌, append-nil, rules}
+use Rattle.std.proofs.Common.{◌≡◌, map, sym, ap, ◌∙◌}
 use Rattle.std.proofs.lemmas.Bool.{both_ways}
 use Rattle.std.proofs.lemmas.List.{map_push}
 use Rattle.std.proofs.lemmas.List.Elements.{All-head}
 use Rattle.std.proofs.lemmas.Map.Iter.{rest_more}
 use Rattle.range_list.specs.Canonical.{canonical_runs}
-use Rattle.merge_info.specs.CanonicalValue.{canonical_value}
 use Rattle.merge_info.specs.Line.{IsLine, line_view}
-use Rattle.merge_info.specs.Value.{HasSameRevisions, IsMergeInfo, entry_view}
-use Rattle.merge_info.specs.declared.entry.Entry.{Entry}
-use Rattle.merge_info.proofs.CanonicalEntries.{IsSoFar, IsSoFar-all, IsSoFar-none, IsSoFar-push, IsSoFar-skip}
-use Rattle.merge_info.proofs.CanonicalValues.{HasSameRevisions-canonical_value, IsMergeInfo-canonical_value}
+use Rattle.merge_info.proofs.CanonicalEntries.{IsSoFar-all, IsSoFar-none, IsSoFar-push, IsSoFar-skip}
 use Rattle.merge_info.proofs.RunsByPath.{MapEntry, line_in}
 use Rattle.merge_info.proofs.merge_info.MergeInfo.of_lines.Goals as goal
 
