@@ -11,6 +11,7 @@ use Rattle.svn_text.specs.Cut.{Lacks}
 use Rattle.svn_text.specs.Number.{is_digit, number_of, value_of_digits}
 use Rattle.svn_text.specs.Number.{greatest_revision}
 use Rattle.merge_info.specs.Element.{revision_of}
+use Rattle.merge_info.proofs.Elements.{is_not_empty-some}
 use Rattle.svn_text.proofs.Lines.{Lacks-digits}
 
 abbrev AreDigits : List ℕ → Type 0
@@ -26,32 +27,16 @@ numbers_of_digits = numerals_by_fold AreDigits (search rules) value_after (searc
 decimal-digits : (n : ℕ) → n < 2 ^ 64 → AreDigits (decimal n)
 decimal-digits n small = digits_decimal numbers_of_digits n small
 
-is_not_empty-length : (bytes : List ℕ) → 0 < length bytes → is_not_empty bytes ≡ true
-is_not_empty-length [] some = absurd (omega arith)
-is_not_empty-length (byte ∷ bytes) some = refl
-
 -- a printed number is read as the number
 pub number_of-decimal : (n : ℕ) → n < 2 ^ 64 → number_of (decimal n) ≡ Some n
 number_of-decimal n small =
-    let some = is_not_empty-length (decimal n) (decimal_nonempty n small) in
-    let value = value_of_digits (decimal n) in
-    ap (λ test. cond (test && list_all is_digit (decimal n)) (Some value) None) some
-    ∙ ap (λ test. cond test (Some value) None) (decimal-digits n small)
-    ∙ ap Some (digits_value-decimal numbers_of_digits n small)
-
-abbrev not_above : ℕ → ℕ → Option ℕ
-not_above most n = cond (leb n most) (Some n) None
-
-abbrev not_zero : ℕ → Option ℕ
-not_zero n = cond (n == 0) None (Some n)
+    rw (is_not_empty-some (decimal n) (decimal_nonempty n small), decimal-digits n small,
+    digits_value-decimal numbers_of_digits n small) refl
 
 -- a printed revision is read as the revision
 pub revision_of-decimal : (n : ℕ) → 1 ≤ n → n ≤ greatest_revision → revision_of (decimal n) ≡ Some n
 revision_of-decimal n first last =
-    ap (λ read. option_and_then not_zero (option_and_then (not_above greatest_revision) read))
-    (number_of-decimal n (omega arith))
-    ∙ ap (λ fits. option_and_then not_zero (cond fits (Some n) None)) (le-leb n greatest_revision last)
-    ∙ cond-false _ _ _ (ne_eqb n 0 (omega arith))
+    rw (number_of-decimal n (omega arith), le-leb n greatest_revision last, ne_eqb n 0 (omega arith)) refl
 
 -- a printed number lacks every byte but digits
 pub Lacks-decimal : (byte n : ℕ) → is_digit byte ≡ false → n < 2 ^ 64 → Lacks byte (decimal n)

@@ -30,7 +30,7 @@ is_not_empty-none [] none = refl
 is_not_empty-none (byte ∷ bytes) none = absurd (omega arith)
 
 -- a length of at least 1
-is_not_empty-some : (bytes : List ℕ) → 1 ≤ length bytes → is_not_empty bytes ≡ true
+pub is_not_empty-some : (bytes : List ℕ) → 1 ≤ length bytes → is_not_empty bytes ≡ true
 is_not_empty-some [] some = absurd (omega arith)
 is_not_empty-some (byte ∷ bytes) some = refl
 
@@ -38,14 +38,13 @@ is_not_empty-some (byte ∷ bytes) some = refl
 pub element_of-star : (bytes range rest : List ℕ) → IsCutAt 42 bytes range rest → length rest < 1 → element_of bytes ≡ run_of false range
 unfolding element_of
 element_of-star bytes range rest cut none =
-    cond-true _ _ _ cut.there ∙ cond-false _ _ _ (ap is_not_empty (sym cut.after) ∙ is_not_empty-none rest none)
-    ∙ ap (run_of false) (sym cut.before)
+    rw (cut.there, ← cut.after, is_not_empty-none rest none, ← cut.before) refl
 
 -- `*` before the end
 pub element_of-more : (bytes range rest : List ℕ) → IsCutAt 42 bytes range rest → 1 ≤ length rest → element_of bytes ≡ None
 unfolding element_of
 element_of-more bytes range rest cut some =
-    cond-true _ _ _ cut.there ∙ cond-true _ _ _ (ap is_not_empty (sym cut.after) ∙ is_not_empty-some rest some)
+    rw (cut.there, ← cut.after, is_not_empty-some rest some) refl
 
 -- ---- rangelists
 
@@ -77,8 +76,7 @@ not_and_nots false false = refl
 position_or_len-blanks : (bytes : List ℕ) → position_or_len is_no_blank bytes ≡ prefix_len is_blank bytes
 position_or_len-blanks [] = refl
 position_or_len-blanks (byte ∷ bytes) =
-    ap (λ test. if test then 1 + position_or_len is_no_blank bytes else 0) (not_and_nots (byte == 32) (byte == 9))
-    ∙ ap (λ n. if is_blank byte then 1 + n else 0) (position_or_len-blanks bytes)
+    rw (not_and_nots (byte == 32) (byte == 9), position_or_len-blanks bytes) refl
 
 -- what such a search finds, or else the end
 pub prefix_len-found : (bytes : List ℕ) (found : Option ℕ) → found ≡ (if nat_lt (position_or_len is_no_blank bytes) (length bytes) then Some (position_or_len is_no_blank bytes) else None) → unwrap_or found (length bytes) ≡ prefix_len is_blank bytes
@@ -86,10 +84,6 @@ prefix_len-found bytes found at =
     let end : position_or_len is_no_blank bytes ≤ length bytes =
     prefix_len-le-length (λ byte. not (is_no_blank byte)) bytes in
     elim (cases_lt (position_or_len is_no_blank bytes) (length bytes)) [
-      | inl before ↦
-          ap (λ o. unwrap_or o (length bytes)) (at ∙ cond-true _ _ _ (lt-ltb _ _ before))
-          ∙ position_or_len-blanks bytes
-      | inr after ↦
-          ap (λ o. unwrap_or o (length bytes)) (at ∙ cond-false _ _ _ (le-ltb _ _ after)) ∙ omega (arith, end)
-          ∙ position_or_len-blanks bytes
+      | inl before ↦ rw (at, lt-ltb _ _ before) (position_or_len-blanks bytes)
+      | inr after ↦ rw (at, le-ltb _ _ after) (omega (arith, end, position_or_len-blanks bytes))
     ]

@@ -1,5 +1,5 @@
 -- Paths that are in the same order whatever follows them.
-use Rattle.std.proofs.Common.{◌≡◌, ◌≢◌, ℕ, suc, ◌+◌, ◌<◌, ◌==◌, nat_lt, Bool, true, false, cond, List, [], ◌∷◌, ◌++◌, All, get_or, length, map, inl, inr, refl, sym, ap, subst, ◌∙◌, arith}
+use Rattle.std.proofs.Common.{◌≡◌, ◌≢◌, ℕ, suc, ◌+◌, ◌<◌, ◌==◌, nat_lt, Bool, true, false, cond, List, [], ◌∷◌, ◌++◌, All, get_or, length, map, inl, inr, refl, sym, ap, subst, ◌∙◌, add-one, arith}
 use Rattle.std.specs.Bool.{OnTrue}
 use Rattle.std.specs.Cmp.Lexicographic.{slice_cmp}
 use Rattle.std.specs.List.{AllAdjacentBelow, IsAllAdjacentAnswer}
@@ -29,31 +29,19 @@ path_below-parts_text path rest printed other = by (parts_of path) printed.print
 
 -- ---- two paths
 
--- the first byte of both decides, or what follows it
-slice_cmp-same : (byte : ℕ) (path next : List ℕ) → slice_cmp nat_cmp path next ≡ Less → slice_cmp nat_cmp (byte ∷ path) (byte ∷ next) ≡ Less
-slice_cmp-same byte path next before =
-    ap (λ first. ordering_then first (slice_cmp nat_cmp path next)) (sym (nat_cmp_is byte byte Equal refl)) ∙ before
-
-slice_cmp-less : (byte other : ℕ) (path next : List ℕ) → byte < other → slice_cmp nat_cmp (byte ∷ path) (other ∷ next) ≡ Less
-slice_cmp-less byte other path next less =
-    ap (λ first. ordering_then first (slice_cmp nat_cmp path next)) (sym (nat_cmp_is byte other Less less))
-
 -- whatever components follow
 slice_cmp-stays_before : (path next : List ℕ) (rest : List (List ℕ)) → stays_before path next ≡ true
     → slice_cmp nat_cmp (path ++ parts_text rest) (next ++ parts_text rest) ≡ Less
 slice_cmp-stays_before [] [] rest tested = cc
 slice_cmp-stays_before [] (byte ∷ next) [] tested = refl
 slice_cmp-stays_before [] (byte ∷ next) (part ∷ rest) tested =
-    slice_cmp-less 47 byte (part ++ parts_text rest) (next ++ parts_text (part ∷ rest)) (ltb-true 47 byte tested)
+    rw (← nat_cmp_is 47 byte Less (ltb-true 47 byte tested)) refl
 slice_cmp-stays_before (byte ∷ path) [] rest tested = cc
 slice_cmp-stays_before (byte ∷ path) (other ∷ next) rest tested = elim (cases_Bool (byte == other)) [
   | inl same ↦
-      let more : stays_before path next ≡ true = sym (ap (λ b. cond b (stays_before path next) (nat_lt byte other)) same) ∙ tested in
-      subst (λ each. slice_cmp nat_cmp (byte ∷ path ++ parts_text rest) (each ∷ next ++ parts_text rest) ≡ Less) (eqb-true byte other same)
-      (slice_cmp-same byte (path ++ parts_text rest) (next ++ parts_text rest) (slice_cmp-stays_before path next rest more))
-  | inr differs ↦
-      let less : nat_lt byte other ≡ true = sym (ap (λ b. cond b (stays_before path next) (nat_lt byte other)) differs) ∙ tested in
-      slice_cmp-less byte other (path ++ parts_text rest) (next ++ parts_text rest) (ltb-true byte other less)
+      rw (← nat_cmp_is byte other Equal (eqb-true byte other same))
+      (slice_cmp-stays_before path next rest (rw same at tested))
+  | inr differs ↦ rw (← nat_cmp_is byte other Less (ltb-true byte other (rw differs at tested))) refl
 ]
 
 -- the next path is not the root
@@ -89,10 +77,7 @@ AreRising-adjacent rest (entry ∷ next ∷ entries) are_entries adjacent =
       slice_cmp-is_before_below entry.path.items next.path.items rest
           (All-head IsEntry (entry_view entry) (map entry_view (next ∷ entries)) are_entries).path
           (All-head IsEntry (entry_view next) (map entry_view entries) others).path (adjacent 0 entry (omega arith)),
-      AreRising-adjacent rest (next ∷ entries) others (λ k d within.
-          let second : suc k + 1 ≡ suc (k + 1) = omega arith in
-          subst (λ j. is_before_below (get_or (next ∷ entries) k d).path.items (get_or (entry ∷ next ∷ entries) j d).path.items ≡ true) second
-          (adjacent (suc k) d (omega arith))),
+      AreRising-adjacent rest (next ∷ entries) others (λ k d within. rw add-one (rw add-one at (adjacent (suc k) d (omega arith)))),
     )
 
 pub KeepTheirOrder-tested : (entries : List Entry) (answer : Bool) → All IsEntry (map entry_view entries)
