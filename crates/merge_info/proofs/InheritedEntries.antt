@@ -1,5 +1,5 @@
 -- The entries that a path inherits of a value whose paths keep their order.
-use Rattle.std.proofs.Common.{◌≡◌, ℕ, ◌+◌, ◌<◌, cond, List, [], ◌∷◌, ◌++◌, filter, take, get_or, length, refl, inl, inr}
+use Rattle.std.proofs.Common.{◌≡◌, ℕ, ◌+◌, ◌<◌, cond, List, [], ◌∷◌, ◌++◌, filter, take, get_or, length, map, refl, inl, inr}
 use Rattle.std.specs.List.{list_any}
 use Rattle.std.proofs.lemmas.Bool.{cases_Bool}
 use Rattle.std.proofs.lemmas.List.{map-append, take_more}
@@ -10,7 +10,8 @@ use Rattle.range_list.proofs.Canonical.{IsCanonical-filter}
 use Rattle.merge_info.specs.CanonicalValue.{has_runs, inherited_value, is_some_run}
 use Rattle.merge_info.specs.Inherited.{inherited_line, inherited_lines}
 use Rattle.merge_info.specs.Line.{IsPrintedPath, Line}
-use Rattle.merge_info.specs.Value.{AreRising, IsMergeInfo, MergeInfoValue, runs_at}
+use Rattle.merge_info.specs.Value.{entry_view, AreRising, IsMergeInfo, MergeInfoValue, runs_at}
+use Rattle.merge_info.specs.declared.entry.Entry.{Entry}
 use Rattle.merge_info.proofs.CanonicalValues.{IsMergeInfo-filter, canonical_value-only, runs_at-filter}
 use Rattle.merge_info.proofs.Inheriting.{AreLines-inherited}
 use Rattle.range_list.proofs.Same.{HasSameNumbers-refl}
@@ -42,9 +43,9 @@ is_some_run-inheritable (run ∷ runs) = elim (cases_Bool run.inheritable) [
   | inr other ↦ rw other (is_some_run-inheritable runs)
 ]
 
-pub inherited_entries-next : (rest : List ℕ) (value : List Line) (i : ℕ) (entry : Line) → i < length value
-    → get_or value i entry ≡ entry
-    → inherited_entries rest (take (i + 1) value) ≡ inherited_entries rest (take i value)
-    ++ cond (list_any (λ run. run.inheritable) entry.runs) (inherited_line rest entry ∷ []) []
-inherited_entries-next rest value i entry within at =
-    rw (take_more value i entry within, at, map-append, filter-append, is_some_run-inheritable entry.runs) refl
+pub inherited_entries-next : (rest : List ℕ) (entries : List Entry) (i : ℕ) (entry : Entry) → i < length entries
+    → entry ≡ get_or entries i entry
+    → inherited_entries rest (map entry_view (take (i + 1) entries)) ≡ inherited_entries rest (map entry_view (take i entries))
+    ++ cond (list_any (λ run. run.inheritable) entry.ranges) (inherited_line rest (entry_view entry) ∷ []) []
+inherited_entries-next rest entries i entry within is =
+    rw (take_more entries i entry within, ← is, map-append, map-append, filter-append, is_some_run-inheritable entry.ranges) refl

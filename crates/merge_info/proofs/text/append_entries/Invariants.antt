@@ -4,4 +4,4 @@ use Rattle.merge_info.specs.Value.{entry_view}
 use Rattle.merge_info.proofs.text.append_entries.Given as goal
 
 abbrev pub invariant-loop-entry : goal.invariant-loop-entry
-invariant-loop-entry l = l.out.items ≡ l.fn.out.items ++ value_text (take l.entry-index (map entry_view l.entries))
+invariant-loop-entry l = l.out.items ≡ l.fn.out.items ++ value_text (map entry_view (take l.entry-index l.entries))

@@ -1,4 +1,4 @@
-use Rattle.std.proofs.Common.{◌<◌, ◌++◌, length, map, take, sym, ap, ◌∙◌, arith, take_all, append-nil}
+use Rattle.std.proofs.Common.{◌<◌, ◌++◌, length, map, take, sym, ap, refl, ◌∙◌, arith, take_all, append-nil}
 use Rattle.std.proofs.lemmas.List.{flat_map_more, length-map}
 use Rattle.svn_text.specs.Line.{line_text}
 use Rattle.merge_info.specs.Inherited.{inherited_line}
@@ -19,22 +19,19 @@ append_inherited-requires-clause-path c =
 -- the line of one more entry, if it has inheritable runs
 pub loop-entry-preserved : goal.loop-entry-preserved
 loop-entry-preserved c =
-    let items = c.args.entries.now in
     let rest = c.args.rest.now in
-    let old = c.args.out.now.items in
-    let value = map entry_view items in
     let i = c.loop-entry.entry-index in
     let entry = c.entry-item.result in
-    let at = entry_view-at items i entry c.loop-entry-test.true c.entry-item.is in
-    let within : i < length value = omega (arith, c.loop-entry-test.true, length-map items entry_view) in
-    let next = inherited_entries-next rest value i (entry_view entry) within at in
+    let so_far = inherited_entries rest (map entry_view (take i c.args.entries.now)) in
+    let next = inherited_entries-next rest c.args.entries.now i entry c.loop-entry-test.true c.entry-item.is in
     elim c.if-has_inheritable.branch [
       | then-has_inheritable+in_ok-append_inherited w ↦
           rw (next, sym c.has_inheritable.ensures ∙ w.if-has_inheritable.true)
           (ap (λ (each : _). each.items) w.out-is
           ∙ w.in_ok-append_inherited.ensures.ok
           ∙ ap (λ text. text ++ inherited_text rest (entry_view entry)) c.loop-entry.invariant
-          ∙ flat_map_more (λ each. line_text (printed_entry each)) old (inherited_entries rest (take i value)) (inherited_line rest (entry_view entry)))
+          ∙ flat_map_more (λ each. line_text (printed_entry each)) c.args.out.now.items so_far
+          (inherited_line rest (entry_view entry)))
       | else-has_inheritable w ↦
           rw (next, sym c.has_inheritable.ensures ∙ w.if-has_inheritable.false, append-nil)
           (ap (λ (each : _). each.items) w.out-is ∙ c.loop-entry.invariant)
@@ -43,14 +40,11 @@ loop-entry-preserved c =
 -- the paths keep their order, so these are the entries of what is inherited
 pub returns-clause-ok : goal.returns-clause-ok
 returns-clause-ok c =
-    let items = c.args.entries.now in
     let rest = c.args.rest.now in
-    let value = map entry_view items in
-    let all = take_all c.loop-entry.entry-index value (omega (arith, c.loop-entry-test.false, length-map items entry_view)) in
+    let value = map entry_view c.args.entries.now in
     c.loop-entry.invariant
-    ∙ ap (λ lines. c.args.out.now.items ++ value_text (inherited_entries rest lines)) all
-    ∙ ap (λ lines. c.args.out.now.items ++ value_text lines)
-    (inherited_entries-canonical rest value c.requires.rest c.requires.value (c.requires.order rest))
+    ∙ rw (take_all c.loop-entry.entry-index c.args.entries.now c.loop-entry-test.false,
+    inherited_entries-canonical rest value c.requires.rest c.requires.value (c.requires.order rest)) refl
 
 pub returns-in_err-append_inherited-clause-begins : goal.returns-in_err-append_inherited-clause-begins
 returns-in_err-append_inherited-clause-begins c =
