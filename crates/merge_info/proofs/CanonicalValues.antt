@@ -6,7 +6,9 @@ use Rattle.std.proofs.lemmas.List.{get_or-map, length-map}
 use Rattle.std.proofs.lemmas.List.Elements.{All-nil, All-cons, All-head, All-tail, All-append, All-filter, All-map, filter_passes}
 use Rattle.std.proofs.lemmas.List.Folds.{Any-from_list_any}
 use Rattle.std.proofs.lemmas.Map.Lookups.{exact_bytes}
+use Rattle.std.proofs.lemmas.Map.Views.{All-insert_key}
 use Rattle.std.proofs.lemmas.Slice.Eq.{bytes_eq-Decides}
+use Rattle.std.specs.BTreeSet.{insert_key}
 use Rattle.std.specs.Cmp.Lexicographic.{slice_cmp}
 use Rattle.std.specs.List.{list_any}
 use Rattle.std.specs.Ordering.{match_ordering, nat_cmp, ordering_reverse}
@@ -57,16 +59,15 @@ IsMergeInfo-filter lines paths runs rising = record {
 
 -- ---- paths in order
 
+insert_path-insert_key : (path : List ℕ) (paths : List (List ℕ))
+    → insert_path path paths ≡ insert_key (slice_cmp nat_cmp) paths path
+insert_path-insert_key path [] = refl
+insert_path-insert_key path (first ∷ paths) = rw (insert_path-insert_key path paths) refl
+
 insert_path-All : (P : List ℕ → Type 0) (path : List ℕ) (paths : List (List ℕ)) → P path → All P paths
     → All P (insert_path path paths)
-insert_path-All P path [] new all = All-cons P path [] new all
-insert_path-All P path (first ∷ paths) new all =
-    let rest = insert_path-All P path paths new (All-tail P first paths all) in
-    elim (slice_cmp nat_cmp path first) as (λ order. All P (match_ordering order (path ∷ first ∷ paths) (first ∷ paths) (first ∷ insert_path path paths))) [
-      | Less ↦ All-cons P path (first ∷ paths) new all
-      | Equal ↦ all
-      | Greater ↦ All-cons P first (insert_path path paths) (All-head P first paths all) rest
-    ]
+insert_path-All P path paths new all =
+    rw (insert_path-insert_key path paths) (All-insert_key (slice_cmp nat_cmp) path P paths all new)
 
 -- and back
 All-insert_path : (P : List ℕ → Type 0) (path : List ℕ) (paths : List (List ℕ)) → All P (insert_path path paths)

@@ -16,12 +16,6 @@ use Rattle.merge_info.proofs.Each.{All-from_map_at}
 use Rattle.merge_info.proofs.Rising.{AreRising-at, bytes_eq-before, runs_at-line}
 use Rattle.merge_info.proofs.RunsAt.{runs_at-none}
 
--- the entry of an index in the value
-pub entry_view-at : (entries : List Entry) (i : ℕ) (entry : Entry) → i < length entries → entry ≡ get_or entries i entry
-    → get_or (map entry_view entries) i (entry_view entry) ≡ entry_view entry
-entry_view-at entries i entry within is =
-    get_or-map entry_view entries i entry (entry_view entry) within ∙ ap entry_view (sym is)
-
 -- what a test for `Less` says
 before_from-is_lt : (order : Ordering) → is_lt order ≡ true → order ≡ Less
 before_from-is_lt Less tested = refl
@@ -49,8 +43,8 @@ module _ (entries : List Entry) (path : List ℕ) where
       → ranges_of (map entry_view entries) path ≡ Some entry.ranges
   ranges_of-found i entry value below is same =
       let within : i < length (map entry_view entries) = omega (arith, length-map entries entry_view) in
-      let runs = rw (entry_view-at entries i entry below is) at
-      (runs_at-line (map entry_view entries) i (entry_view entry) value.rising within) in
+      let at = get_or-map entry_view entries i entry (entry_view entry) below ∙ ap entry_view (sym is) in
+      let runs = rw at at (runs_at-line (map entry_view entries) i (entry_view entry) value.rising within) in
       rw (← (bytes_eq-Decides entry.path.items path).0 same, runs)
       (some_runs-some entry.ranges (All-from_map_at IsEntry entry_view entries value.entries i entry below is).some)
 

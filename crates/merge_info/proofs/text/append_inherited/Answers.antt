@@ -5,7 +5,6 @@ use Rattle.merge_info.specs.Inherited.{inherited_line}
 use Rattle.svn_text.proofs.Appended.{BeginsWith-append, BeginsWith-trans}
 use Rattle.merge_info.specs.Text.{inherited_text, printed_entry, value_text}
 use Rattle.merge_info.specs.Value.{IsEntry, entry_view}
-use Rattle.merge_info.proofs.Entries.{entry_view-at}
 use Rattle.merge_info.proofs.InheritedEntries.{inherited_entries, inherited_entries-canonical, inherited_entries-next}
 use Rattle.merge_info.proofs.Each.{All-from_map_at}
 use Rattle.merge_info.proofs.text.append_inherited.Goals as goal
