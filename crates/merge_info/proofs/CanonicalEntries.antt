@@ -24,13 +24,16 @@ AreRising-canonical_line [] rising = tt
 AreRising-canonical_line (line ∷ []) rising = tt
 AreRising-canonical_line (line ∷ next ∷ lines) rising = (rising.0, AreRising-canonical_line (next ∷ lines) rising.1)
 
-HasSameRevisions-canonical_line : (lines : List Line) → All IsLine lines → HasSameRevisions (map canonical_line lines) lines
+HasSameRevisions-canonical_line : (lines : List Line) → All IsLine lines
+    → HasSameRevisions (map canonical_line lines) lines
 HasSameRevisions-canonical_line [] are_lines path = HasSameNumbers-refl []
 HasSameRevisions-canonical_line (line ∷ lines) are_lines path =
     let rest = HasSameRevisions-canonical_line lines (All-tail IsLine line lines are_lines) path in
     let first = canonical_runs-HasSameNumbers line.runs (All-head IsLine line lines are_lines).runs in
     elim (cases_Bool (bytes_eq line.path path)) [
-      | inl same ↦ rw same (HasSameNumbers-append (canonical_runs line.runs) line.runs (runs_at (map canonical_line lines) path) (runs_at lines path) first rest)
+      | inl same ↦
+          rw same (HasSameNumbers-append (canonical_runs line.runs) line.runs
+          (runs_at (map canonical_line lines) path) (runs_at lines path) first rest)
       | inr other ↦ rw other rest
     ]
 
@@ -66,7 +69,7 @@ module _ {lines entries rest : List Line} (so_far : IsSoFar lines entries rest) 
       → IsMergeInfo entries × HasSameRevisions entries lines × (entries ≡ canonical_value lines)
   IsSoFar-all none are_lines =
       let exact : entries ≡ canonical_value lines = sym (so_far.value ∙ rw none (append-nil entries)) in
-      (rw exact (IsMergeInfo-canonical_value lines are_lines), rw exact (HasSameRevisions-canonical_value lines are_lines), exact)
+      rw exact (IsMergeInfo-canonical_value lines are_lines, HasSameRevisions-canonical_value lines are_lines, refl)
 
   module _ {line : Line} {others : List Line} (next : rest ≡ line ∷ others) where
     -- the next line has no number

@@ -27,6 +27,6 @@ pub has_clash-canonical : (runs : List Run) → IsCanonical runs → has_clash r
 unfolding has_clash
 has_clash-canonical [] canonical = refl
 has_clash-canonical (run ∷ runs) canonical =
-    let none = list_any_none (λ each. clash run each) runs
+    let none = list_any_none (clash run) runs
     (λ k d below. clash-before run (get_or runs k d) (IsCanonical-first run runs canonical k d below)) in
     has_clash-cons run runs ∙ rw none (has_clash-canonical runs (IsCanonical-tail run runs canonical))

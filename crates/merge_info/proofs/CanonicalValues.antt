@@ -122,13 +122,15 @@ module _ (lines : List Line) where
       (slice_cmp nat_cmp path first) refl
     where
       by : AreRising (entries_at (insert_path path paths)) → (order : Ordering) → slice_cmp nat_cmp path first ≡ order
-          → AreRising (entries_at (match_ordering order (path ∷ first ∷ paths) (first ∷ paths) (first ∷ insert_path path paths)))
+          → AreRising (entries_at
+          (match_ordering order (path ∷ first ∷ paths) (first ∷ paths) (first ∷ insert_path path paths)))
       by rest Less is = (is, rising)
       by rest Equal is = rising
       by rest Greater is =
           let others = AreRising-first (entry_at lines first) (entries_at paths) rising in
           let before = insert_path-All (λ each. IsPathBefore first (entry_at lines each)) path paths
-          (nat_list_cmp_total.antisymm first path ∙ ap ordering_reverse is) (All-from_map (IsPathBefore first) (entry_at lines) paths others) in
+          (nat_list_cmp_total.antisymm first path ∙ ap ordering_reverse is)
+          (All-from_map (IsPathBefore first) (entry_at lines) paths others) in
           AreRising-cons (entry_at lines first) (entries_at (insert_path path paths))
           (All-map (IsPathBefore first) (entry_at lines) (insert_path path paths) before) rest
 
@@ -155,17 +157,24 @@ module _ (lines : List Line) where
           | inl there ↦
               let (k, each, below, is, same) = Any-from_list_any (λ each. bytes_eq each path) paths there in
               let at = get_or-map (entry_at lines) paths k each (entry_at lines each) below ∙ ap (entry_at lines) is in
-              let runs = rw at at (runs_at-line (entries_at paths) k (entry_at lines each) (AreRising-paths_of lines) (omega (arith, length-map paths (entry_at lines), below))) in
+              let runs = rw at at (runs_at-line (entries_at paths) k (entry_at lines each) (AreRising-paths_of lines)
+              (omega (arith, length-map paths (entry_at lines), below))) in
               rw (← (bytes_eq-Decides each path).0 same, runs)
               (canonical_runs-HasSameNumbers (runs_at lines each) (AreRuns-runs_at lines each all))
           | inr absent ↦
               let apart = All-from_list_any (λ each. bytes_eq each path) paths absent in
-              rw (runs_at-none (entries_at paths) path (All-map (λ line. bytes_eq line.path path ≡ false) (entry_at lines) paths apart), runs_at-none lines path (All-paths_of (λ each. bytes_eq each path ≡ false) lines apart))
+              rw (
+                runs_at-none (entries_at paths) path
+                    (All-map (λ line. bytes_eq line.path path ≡ false) (entry_at lines) paths apart),
+                runs_at-none lines path (All-paths_of (λ each. bytes_eq each path ≡ false) lines apart),
+              )
               (HasSameNumbers-refl [])
         ])
 
     -- no other value has them
-    pub canonical_value-only : (value : List Line) → IsMergeInfo value → HasSameRevisions value lines → value ≡ canonical_value lines
+    pub canonical_value-only : (value : List Line) → IsMergeInfo value → HasSameRevisions value lines
+        → value ≡ canonical_value lines
     canonical_value-only value is same =
         same_values value (canonical_value lines) is IsMergeInfo-canonical_value
-        (λ path. HasSameNumbers-trans _ _ _ (same path) (HasSameNumbers-sym _ _ (HasSameRevisions-canonical_value path)))
+        (λ path. HasSameNumbers-trans _ (runs_at lines path) _ (same path)
+        (HasSameNumbers-sym _ _ (HasSameRevisions-canonical_value path)))

@@ -55,13 +55,14 @@ clash a b = clashes a b || clashes b a
 
 -- one more run
 pub has_clash-cons : (run : Run) (runs : List Run)
-    → has_clash (run ∷ runs) ≡ (list_any (λ each. clash run each) runs || has_clash runs)
+    → has_clash (run ∷ runs) ≡ (list_any (clash run) runs || has_clash runs)
 unfolding has_clash
 has_clash-cons run runs =
     rw (
       clashes-itself run,
-      list_any-or (λ a. clashes a run || list_any (λ b. clashes a b) runs) (λ a. clashes a run) (λ a. list_any (λ b. clashes a b) runs) runs (λ k d below. refl),
-      list_any-or (λ each. clash run each) (λ each. clashes run each) (λ each. clashes each run) runs (λ k d below. refl),
+      list_any-or (λ a. list_any (clashes a) (run ∷ runs)) (λ a. clashes a run) (λ a. list_any (clashes a) runs) runs
+          (λ k d below. refl),
+      list_any-or (clash run) (clashes run) (λ a. clashes a run) runs (λ k d below. refl),
     )
     (simp or_assoc)
 
@@ -69,7 +70,8 @@ has_clash-cons run runs =
 
 -- whether a run begins at or before the end of those of the other sort
 abbrev is_reached : ℕ → ℕ → Run → Bool
-is_reached inheritable_to non_inheritable_to run = nat_le run.lo (if run.inheritable then non_inheritable_to else inheritable_to)
+is_reached inheritable_to non_inheritable_to run =
+    nat_le run.lo (if run.inheritable then non_inheritable_to else inheritable_to)
 
 -- whether one is, where the runs before them end at these numbers
 abbrev pub scan : ℕ → ℕ → List Run → Bool
@@ -79,30 +81,30 @@ scan inheritable_to non_inheritable_to (run ∷ runs) =
     || scan (if run.inheritable then max inheritable_to run.hi else inheritable_to)
     (if run.inheritable then non_inheritable_to else max non_inheritable_to run.hi) runs
 
-module _ (inheritable_to non_inheritable_to : ℕ) (run later : Run) (is_run : IsRun later) (order : run.lo ≤ later.lo) where
-  -- a later run is reached after a run, if it was before or they clash
-  is_reached-next : is_reached (if run.inheritable then max inheritable_to run.hi else inheritable_to)
-      (if run.inheritable then non_inheritable_to else max non_inheritable_to run.hi) later
-      ≡ (is_reached inheritable_to non_inheritable_to later || clash run later)
-  is_reached-next = grind (arith, nat_tests)
+-- a later run is reached after a run, if it was before or they clash
+is_reached-next : (inheritable_to non_inheritable_to : ℕ) (run later : Run) → IsRun later → run.lo ≤ later.lo
+    → is_reached (if run.inheritable then max inheritable_to run.hi else inheritable_to)
+    (if run.inheritable then non_inheritable_to else max non_inheritable_to run.hi) later
+    ≡ (is_reached inheritable_to non_inheritable_to later || clash run later)
+is_reached-next inheritable_to non_inheritable_to run later is_run order = grind (arith, nat_tests)
 
 scan-has_clash : (runs : List Run) → All IsRun runs → IsRisingByFirst runs → (inheritable_to non_inheritable_to : ℕ)
     → scan inheritable_to non_inheritable_to runs
-    ≡ (list_any (λ run. is_reached inheritable_to non_inheritable_to run) runs || has_clash runs)
+    ≡ (list_any (is_reached inheritable_to non_inheritable_to) runs || has_clash runs)
 unfolding has_clash
 scan-has_clash [] are_runs rising inheritable_to non_inheritable_to = refl
 scan-has_clash (run ∷ runs) are_runs rising inheritable_to non_inheritable_to =
     let a = if run.inheritable then max inheritable_to run.hi else inheritable_to in
     let b = if run.inheritable then non_inheritable_to else max non_inheritable_to run.hi in
     let later = All-tail IsRun run runs are_runs in
-    let next = list_any-or (λ each. is_reached a b each) (λ each. is_reached inheritable_to non_inheritable_to each) (λ each. clash run each) runs
-    (λ k d below. is_reached-next inheritable_to non_inheritable_to run (get_or runs k d) (later k d below) (rising.0 k d below)) in
+    let next = list_any-or (is_reached a b) (is_reached inheritable_to non_inheritable_to) (clash run) runs (λ k d below.
+    is_reached-next inheritable_to non_inheritable_to run (get_or runs k d) (later k d below) (rising.0 k d below)) in
     rw (scan-has_clash runs later rising.1 a b, next, has_clash-cons run runs) (simp or_assoc)
 
 -- no run begins at or before 0
 pub has_clash-scan : (runs : List Run) → All IsRun runs → IsRisingByFirst runs → has_clash runs ≡ scan 0 0 runs
 has_clash-scan runs are_runs rising =
-    sym (scan-has_clash runs are_runs rising 0 0 ∙ rw (list_any_none (λ run. is_reached 0 0 run) runs none) refl)
+    sym (scan-has_clash runs are_runs rising 0 0 ∙ rw (list_any_none (is_reached 0 0) runs none) refl)
   where
     none : All (λ run. is_reached 0 0 run ≡ false) runs
     none k d below = elim (get_or runs k d).inheritable as (λ b. nat_le (get_or runs k d).lo (cond b 0 0) ≡ false) [
@@ -124,7 +126,9 @@ le-tested : (a b : ℕ) → is_some_and is_le (Some (nat_cmp a b)) ≡ true → 
 le-tested a b found = grind (arith, nat_tests)
 
 -- what a test of the first numbers finds
-pub IsRisingByFirst-tested : (runs : List Run) (rises : Bool) → IsAllAdjacentAnswer (λ a b r. r ≡ is_some_and is_le (Some (nat_cmp a.lo b.lo))) runs rises → OnTrue rises (IsRisingByFirst runs)
+pub IsRisingByFirst-tested : (runs : List Run) (rises : Bool)
+    → IsAllAdjacentAnswer (λ a b r. r ≡ is_some_and is_le (Some (nat_cmp a.lo b.lo))) runs rises
+    → OnTrue rises (IsRisingByFirst runs)
 IsRisingByFirst-tested runs true each =
     IsRisingByFirst-sorted runs (IsNonDecreasingBy-from_all_adjacent (λ run. run.lo) runs
     (λ k d within. le-tested _ _ (sym (each k d within))))

@@ -30,8 +30,11 @@ decimal-digits n small = digits_decimal numbers_of_digits n small
 -- a printed number is read as the number
 pub number_of-decimal : (n : ℕ) → n < 2 ^ 64 → number_of (decimal n) ≡ Some n
 number_of-decimal n small =
-    rw (is_not_empty-some (decimal n) (decimal_nonempty n small), decimal-digits n small,
-    digits_value-decimal numbers_of_digits n small) refl
+    rw (
+      is_not_empty-some (decimal n) (decimal_nonempty n small),
+      decimal-digits n small,
+      digits_value-decimal numbers_of_digits n small,
+    ) refl
 
 -- a printed revision is read as the revision
 pub revision_of-decimal : (n : ℕ) → 1 ≤ n → n ≤ greatest_revision → revision_of (decimal n) ≡ Some n

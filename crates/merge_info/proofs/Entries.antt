@@ -53,8 +53,9 @@ module _ (entries : List Entry) (path : List ℕ) where
     before_later : (i k : ℕ) (d : Entry) → i < k → k < length entries
         → slice_cmp nat_cmp (get_or entries i d).path.items (get_or entries k d).path.items ≡ Less
     before_later i k d later below =
-        rw (get_or-map entry_view entries i d (entry_view d) (omega arith), get_or-map entry_view entries k d (entry_view d) below) at
-        (AreRising-at (map entry_view entries) rising i k (entry_view d) later (omega (arith, length-map entries entry_view)))
+        let at = λ (j : ℕ) (within : j < length entries). get_or-map entry_view entries j d (entry_view d) within in
+        let within : k < length (map entry_view entries) = omega (arith, length-map entries entry_view) in
+        rw (at i (omega arith), at k below) at (AreRising-at (map entry_view entries) rising i k (entry_view d) later within)
 
     -- the entries before a path stand first
     pub IsPartitionedBy-is_before : IsPartitionedBy (is_before path) entries
@@ -73,7 +74,8 @@ module _ (entries : List Entry) (path : List ℕ) where
     ranges_of-not_found i point other =
         ap some_runs (runs_at-none (map entry_view entries) path
         (All-map (λ line. bytes_eq line.path path ≡ false) entry_view entries (λ k d below. elim (cases_order k i) [
-          | inl same ↦ subst (λ j. bytes_eq (get_or entries j d).path.items path ≡ false) (sym same) (other d (omega arith))
+          | inl same ↦
+              subst (λ j. bytes_eq (get_or entries j d).path.items path ≡ false) (sym same) (other d (omega arith))
           | inr (inl earlier) ↦ bytes_eq-before _ path (before_from-is_lt _ (point.0 k d (omega arith) earlier))
           | inr (inr later) ↦ false_from_ne_true _ (λ found. both_ways _ (point.1 i d (omega arith) (omega arith))
               (ap is_lt (subst (λ at. slice_cmp nat_cmp (get_or entries i d).path.items at ≡ Less)

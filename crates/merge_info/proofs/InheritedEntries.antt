@@ -36,7 +36,8 @@ inherited_entries-canonical rest value printed is rising =
 -- ---- entry by entry
 
 -- the test for inheritable runs
-is_some_run-inheritable : (runs : List Run) → is_some_run (inheritable_runs runs) ≡ list_any (λ run. run.inheritable) runs
+is_some_run-inheritable : (runs : List Run)
+    → is_some_run (inheritable_runs runs) ≡ list_any (λ run. run.inheritable) runs
 is_some_run-inheritable [] = refl
 is_some_run-inheritable (run ∷ runs) = elim (cases_Bool run.inheritable) [
   | inl inherits ↦ rw inherits refl
@@ -45,7 +46,15 @@ is_some_run-inheritable (run ∷ runs) = elim (cases_Bool run.inheritable) [
 
 pub inherited_entries-next : (rest : List ℕ) (entries : List Entry) (i : ℕ) (entry : Entry) → i < length entries
     → entry ≡ get_or entries i entry
-    → inherited_entries rest (map entry_view (take (i + 1) entries)) ≡ inherited_entries rest (map entry_view (take i entries))
+    → inherited_entries rest (map entry_view (take (i + 1) entries))
+    ≡ inherited_entries rest (map entry_view (take i entries))
     ++ cond (list_any (λ run. run.inheritable) entry.ranges) (inherited_line rest (entry_view entry) ∷ []) []
 inherited_entries-next rest entries i entry within is =
-    rw (take_more entries i entry within, ← is, map-append, map-append, filter-append, is_some_run-inheritable entry.ranges) refl
+    rw (
+      take_more entries i entry within,
+      ← is,
+      map-append,
+      map-append,
+      filter-append,
+      is_some_run-inheritable entry.ranges,
+    ) refl

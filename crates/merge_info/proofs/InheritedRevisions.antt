@@ -23,7 +23,8 @@ use Rattle.merge_info.proofs.RunsAt.{runs_at-none}
 -- ---- revisions
 
 -- of the inheritable runs a number has the sort that is inherited
-inheritability_of-inheritable : (runs : List Run) (n : ℕ) → inheritability_of (inheritable_runs runs) n ≡ inherited_revision (inheritability_of runs n)
+inheritability_of-inheritable : (runs : List Run) (n : ℕ)
+    → inheritability_of (inheritable_runs runs) n ≡ inherited_revision (inheritability_of runs n)
 inheritability_of-inheritable runs n =
     rw ((IsInheritablePart-filter runs n).0, (IsInheritablePart-filter runs n).1)
     (by (is_in runs n) (is_inheritable runs n) (is_inheritable-out runs n))
@@ -52,7 +53,8 @@ module _ (rest : List (List ℕ)) (components : All IsComponent rest) where
       → bytes_eq (path_below path (path_text rest)) (path_text (above ++ rest)) ≡ bytes_eq path (path_text above)
   path_below-same path above printed parts = both_ways _ _
       (λ both.
-      let all = path_below-parts path (above ++ rest) printed (All-append IsComponent above rest parts components) both in
+      let are = All-append IsComponent above rest parts components in
+      let all = path_below-parts path (above ++ rest) printed are both in
       let same = append_cancel_right (parts_of path) above rest (sym all) in
       (bytes_eq-Decides path (path_text above)).1 (sym printed.printed ∙ ap path_text same))
       (λ same.
@@ -60,7 +62,8 @@ module _ (rest : List (List ℕ)) (components : All IsComponent rest) where
       (bytes_eq-Decides _ _).1 (λ i. path_text (above_is i ++ parts_of-path_text rest components i)))
 
   -- a path that does not end with the rest is none followed by it
-  path_below-other : (path : List ℕ) (parts : List (List ℕ)) → IsPrintedPath path → All IsComponent parts → ((above : List (List ℕ)) → parts ≡ above ++ rest → ⊥)
+  path_below-other : (path : List ℕ) (parts : List (List ℕ)) → IsPrintedPath path → All IsComponent parts
+      → ((above : List (List ℕ)) → parts ≡ above ++ rest → ⊥)
       → bytes_eq (path_below path (path_text rest)) (path_text parts) ≡ false
   path_below-other path parts printed are none =
       false_from_ne_true _ (λ both. none (parts_of path) (path_below-parts path parts printed are both))
@@ -68,7 +71,8 @@ module _ (rest : List (List ℕ)) (components : All IsComponent rest) where
   -- ---- the runs of lines
 
   runs_at-below : (lines : List Line) (above : List (List ℕ)) → All IsEntry lines → All IsComponent above
-      → runs_at (inherited_lines (path_text rest) lines) (path_text (above ++ rest)) ≡ inheritable_runs (runs_at lines (path_text above))
+      → runs_at (inherited_lines (path_text rest) lines) (path_text (above ++ rest))
+      ≡ inheritable_runs (runs_at lines (path_text above))
   runs_at-below [] above entries parts = refl
   runs_at-below (line ∷ lines) above entries parts =
       let same_test = path_below-same line.path above (All-head IsEntry line lines entries).path parts in
@@ -78,7 +82,8 @@ module _ (rest : List (List ℕ)) (components : All IsComponent rest) where
         | inr other ↦ rw (same_test, other) later
       ]
 
-  runs_at-other : (lines : List Line) (parts : List (List ℕ)) → All IsEntry lines → All IsComponent parts → ((above : List (List ℕ)) → parts ≡ above ++ rest → ⊥)
+  runs_at-other : (lines : List Line) (parts : List (List ℕ)) → All IsEntry lines → All IsComponent parts
+      → ((above : List (List ℕ)) → parts ≡ above ++ rest → ⊥)
       → runs_at (inherited_lines (path_text rest) lines) (path_text parts) ≡ []
   runs_at-other lines parts entries are none =
       runs_at-none (inherited_lines (path_text rest) lines) (path_text parts)
@@ -89,7 +94,9 @@ module _ (rest : List (List ℕ)) (components : All IsComponent rest) where
 
   module _ (value : MergeInfoValue) (is : IsMergeInfo value) where
     -- the value has the revisions of its lines
-    inheritability_of-lines : (path : List ℕ) (n : ℕ) → inheritability_of (runs_at (inherited_value (path_text rest) value) path) n ≡ inheritability_of (runs_at (inherited_lines (path_text rest) value) path) n
+    inheritability_of-lines : (path : List ℕ) (n : ℕ)
+        → inheritability_of (runs_at (inherited_value (path_text rest) value) path) n
+        ≡ inheritability_of (runs_at (inherited_lines (path_text rest) value) path) n
     inheritability_of-lines path n =
         let lines = AreLines-inherited (path_text rest) value (IsPrintedPath-path_text rest components) is.entries in
         let same = HasSameRevisions-canonical_value (inherited_lines (path_text rest) value) lines path n in
@@ -97,14 +104,17 @@ module _ (rest : List (List ℕ)) (components : All IsComponent rest) where
 
     -- what is inherited for a path that ends with the rest
     pub inherited-below : (above : List (List ℕ)) (n : ℕ) → All IsComponent above
-        → inheritability_of (runs_at (inherited_value (path_text rest) value) (path_text (above ++ rest))) n ≡ inherited_revision (inheritability_of (runs_at value (path_text above)) n)
+        → inheritability_of (runs_at (inherited_value (path_text rest) value) (path_text (above ++ rest))) n
+        ≡ inherited_revision (inheritability_of (runs_at value (path_text above)) n)
     inherited-below above n parts =
         inheritability_of-lines (path_text (above ++ rest)) n
         ∙ ap (λ runs. inheritability_of runs n) (runs_at-below value above is.entries parts)
         ∙ inheritability_of-inheritable (runs_at value (path_text above)) n
 
     -- and for any other path
-    pub inherited-other : (parts : List (List ℕ)) (n : ℕ) → All IsComponent parts → ((above : List (List ℕ)) → parts ≡ above ++ rest → ⊥)
+    pub inherited-other : (parts : List (List ℕ)) (n : ℕ) → All IsComponent parts
+        → ((above : List (List ℕ)) → parts ≡ above ++ rest → ⊥)
         → inheritability_of (runs_at (inherited_value (path_text rest) value) (path_text parts)) n ≡ None
     inherited-other parts n are none =
-        inheritability_of-lines (path_text parts) n ∙ ap (λ runs. inheritability_of runs n) (runs_at-other value parts is.entries are none)
+        inheritability_of-lines (path_text parts) n
+        ∙ ap (λ runs. inheritability_of runs n) (runs_at-other value parts is.entries are none)

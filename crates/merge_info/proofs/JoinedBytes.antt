@@ -85,5 +85,7 @@ pub all_of-map : {A B : Type 0} (read : B → Option A) (print : A → B) (items
     → All (λ item. read (print item) ≡ Some item) items → all_of (map read (map print items)) ≡ Some items
 all_of-map read print [] each = refl
 all_of-map read print (item ∷ items) each =
-    rw (each 0 item (omega arith),
-    all_of-map read print items (All-tail (λ each. read (print each) ≡ Some each) item items each)) refl
+    rw (
+      each 0 item (omega arith),
+      all_of-map read print items (All-tail (λ each. read (print each) ≡ Some each) item items each),
+    ) refl

@@ -22,14 +22,16 @@ use Rattle.merge_info.proofs.RunsAt.{runs_at-none}
 
 module _ (P : ℕ → Type 0) where
   onto_first-All : (byte : ℕ) (parts : List (List ℕ)) → P byte → All (All P) parts → All (All P) (onto_first byte parts)
-  onto_first-All byte [] first all = All-cons (All P) (byte ∷ []) [] (All-cons P byte [] first (All-nil P)) (All-nil (All P))
+  onto_first-All byte [] first all = All-cons (All P) (byte ∷ []) [] (All-cons P byte [] first (All-nil P)) all
   onto_first-All byte (part ∷ parts) first all =
-      All-cons (All P) (byte ∷ part) parts (All-cons P byte part first (All-head (All P) part parts all)) (All-tail (All P) part parts all)
+      All-cons (All P) (byte ∷ part) parts (All-cons P byte part first (All-head (All P) part parts all))
+      (All-tail (All P) part parts all)
 
   parts_text-All : P 47 → (parts : List (List ℕ)) → All (All P) parts → All P (parts_text parts)
   parts_text-All slash [] all = All-nil P
   parts_text-All slash (part ∷ parts) all =
-      All-append P (47 ∷ part) (parts_text parts) (All-cons P 47 part slash (All-head (All P) part parts all)) (parts_text-All slash parts (All-tail (All P) part parts all))
+      All-append P (47 ∷ part) (parts_text parts) (All-cons P 47 part slash (All-head (All P) part parts all))
+      (parts_text-All slash parts (All-tail (All P) part parts all))
 
   path_text-All : P 47 → (parts : List (List ℕ)) → All (All P) parts → All P (path_text parts)
   path_text-All slash [] all = All-cons P 47 [] slash (All-nil P)
@@ -65,7 +67,8 @@ line_from-one_line path runs all = by (list_any is_dot (parts_of path)) (has_cla
     by false false =
         path_text-All (λ byte. is_newline byte ≡ false) refl (parts_of path)
         (All-filter is_not_empty LacksNewline (slice_split is_slash path)
-        (λ k d below j e within. (slice_split-All (λ byte. is_newline byte ≡ false) is_slash path all k d below j e within).0))
+        (λ k d below j e within.
+        (slice_split-All (λ byte. is_newline byte ≡ false) is_slash path all k d below j e within).0))
 
 line_of-one_line : (bytes : List ℕ) → LacksNewline bytes → IfSome (line_of bytes) IsOnOneLine
 unfolding line_of
@@ -74,7 +77,8 @@ line_of-one_line bytes all = by (list_any is_colon bytes) (elements_of (without_
     path : List ℕ
     path = before_last is_colon bytes
 
-    by : (cut : Bool) (list : Option (List Run)) → IfSome (if cut then option_and_then (line_from path) list else None) IsOnOneLine
+    by : (cut : Bool) (list : Option (List Run))
+        → IfSome (if cut then option_and_then (line_from path) list else None) IsOnOneLine
     by true None = tt
     by true (Some runs) = line_from-one_line path runs (All-take (λ byte. is_newline byte ≡ false) _ bytes all)
     by false list = tt
@@ -105,20 +109,23 @@ text_lines-one_line text = between (strip_last 10 text)
 pub lines_of-one_line : (text : List ℕ) (lines : List Line) → lines_of text ≡ Some lines → All IsOnOneLine lines
 unfolding lines_of
 lines_of-one_line text lines is =
-    subst (λ read. IfSome read (All IsOnOneLine)) is (all_of-All line_of IsOnOneLine (text_lines text)
-    (All-weaker LacksNewline (λ bytes. IfSome (line_of bytes) IsOnOneLine) line_of-one_line (text_lines text) (text_lines-one_line text)))
+    subst (λ read. IfSome read (All IsOnOneLine)) is
+    (all_of-All line_of IsOnOneLine (text_lines text)
+    (λ k d below. line_of-one_line (get_or (text_lines text) k d) (text_lines-one_line text k d below)))
 
 -- the paths of a value that has the revisions of lines are paths of lines
-pub IsOnOneLine-value : (value lines : List Line) → IsMergeInfo value → HasSameRevisions value lines → All IsOnOneLine lines → All IsOnOneLine value
+pub IsOnOneLine-value : (value lines : List Line) → IsMergeInfo value → HasSameRevisions value lines
+    → All IsOnOneLine lines → All IsOnOneLine value
 IsOnOneLine-value value lines is same all k d below =
     let entry : Line = get_or value k d in
     let fine : IsEntry entry = is.entries k d below in
-    elim (cases_Bool (list_any (λ line. bytes_eq line.path entry.path) lines)) [
+    let has_path = λ (line : Line). bytes_eq line.path entry.path in
+    elim (cases_Bool (list_any has_path lines)) [
       | inl there ↦
-          let (j, line, within, at, found) = Any-from_list_any (λ line. bytes_eq line.path entry.path) lines there in
-          subst LacksNewline ((bytes_eq-Decides line.path entry.path).0 found) (subst IsOnOneLine at (all j line within))
+          let (j, line, within, at, found) = Any-from_list_any has_path lines there in
+          rw (← (bytes_eq-Decides line.path entry.path).0 found, ← at) (all j line within)
       | inr absent ↦
-          let none = runs_at-none lines entry.path (All-from_list_any (λ line. bytes_eq line.path entry.path) lines absent) in
+          let none = runs_at-none lines entry.path (All-from_list_any has_path lines absent) in
           absurd (fine.some (only_canonical entry.runs [] fine.canonical tt
           (rw (runs_at-line value k d is.rising below, none) at (same entry.path))))
     ]

@@ -27,7 +27,8 @@ first_lacks line lines others value before same =
     let none = rw (runs_at-first line lines value.rising, runs_at-before others line.path before) at (same line.path) in
     entry.some (only_canonical line.runs [] entry.canonical tt none)
 
-module _ (a b : Line) (more_a more_b : List Line) (value_a : IsMergeInfo (a ∷ more_a)) (value_b : IsMergeInfo (b ∷ more_b)) (same : HasSameRevisions (a ∷ more_a) (b ∷ more_b)) where
+module _ (a b : Line) (more_a more_b : List Line) (value_a : IsMergeInfo (a ∷ more_a))
+    (value_b : IsMergeInfo (b ∷ more_b)) (same : HasSameRevisions (a ∷ more_a) (b ∷ more_b)) where
   -- neither begins with a path before the first of the other
   same_path : a.path ≡ b.path
   same_path = by (slice_cmp nat_cmp a.path b.path) refl
@@ -55,8 +56,11 @@ same_rest : (line : Line) (a b : List Line) → AreRising (line ∷ a) → AreRi
     → HasSameRevisions (line ∷ a) (line ∷ b) → HasSameRevisions a b
 same_rest line a b rising_a rising_b same path = elim (cases_Bool (bytes_eq line.path path)) [
   | inl first ↦
-      rw (← (bytes_eq-Decides line.path path).0 first, runs_at-before a line.path (AreRising-first line a rising_a), runs_at-before b line.path (AreRising-first line b rising_b))
-      (HasSameNumbers-refl [])
+      rw (
+        ← (bytes_eq-Decides line.path path).0 first,
+        runs_at-before a line.path (AreRising-first line a rising_a),
+        runs_at-before b line.path (AreRising-first line b rising_b),
+      ) (HasSameNumbers-refl [])
   | inr other ↦ rw other at (same path)
 ]
 

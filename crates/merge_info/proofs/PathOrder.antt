@@ -19,13 +19,16 @@ use Rattle.merge_info.specs.declared.entry.Entry.{Entry}
 -- ---- what follows a path
 
 -- a path that is not the root is followed by components
-path_below-parts_text : (path rest : List ℕ) → IsPrintedPath path → path ≢ 47 ∷ [] → path_below path rest ≡ path ++ parts_text (parts_of rest)
+path_below-parts_text : (path rest : List ℕ) → IsPrintedPath path → path ≢ 47 ∷ []
+    → path_below path rest ≡ path ++ parts_text (parts_of rest)
 path_below-parts_text path rest printed other = by (parts_of path) printed.printed
   where
-    by : (parts : List (List ℕ)) → path_text parts ≡ path → path_text (parts ++ parts_of rest) ≡ path ++ parts_text (parts_of rest)
+    by : (parts : List (List ℕ)) → path_text parts ≡ path
+        → path_text (parts ++ parts_of rest) ≡ path ++ parts_text (parts_of rest)
     by [] is = absurd (other (sym is))
     by (part ∷ parts) is =
-        flat_map-append (λ each. 47 ∷ each) (part ∷ parts) (parts_of rest) ∙ ap (λ front. front ++ parts_text (parts_of rest)) is
+        flat_map-append (λ each. 47 ∷ each) (part ∷ parts) (parts_of rest)
+        ∙ ap (λ front. front ++ parts_text (parts_of rest)) is
 
 -- ---- two paths
 
@@ -46,7 +49,8 @@ slice_cmp-stays_before (byte ∷ path) (other ∷ next) rest tested = elim (case
 
 -- the next path is not the root
 stays_before-root : (path : List ℕ) → IsPrintedPath path → stays_before path (47 ∷ []) ≡ true → ⊥
-stays_before-root path printed tested = by (parts_of path) (ap (λ each. stays_before each (47 ∷ [])) printed.printed ∙ tested)
+stays_before-root path printed tested =
+    by (parts_of path) (ap (λ each. stays_before each (47 ∷ [])) printed.printed ∙ tested)
   where
     none : (bytes : List ℕ) → stays_before bytes [] ≡ true → ⊥
     none [] is = cc
@@ -56,12 +60,14 @@ stays_before-root path printed tested = by (parts_of path) (ap (λ each. stays_b
     by [] is = none [] is
     by (part ∷ parts) is = none (part ++ parts_text parts) is
 
-slice_cmp-is_before_below : (path next rest : List ℕ) → IsPrintedPath path → IsPrintedPath next → is_before_below path next ≡ true
+slice_cmp-is_before_below : (path next rest : List ℕ) → IsPrintedPath path → IsPrintedPath next
+    → is_before_below path next ≡ true
     → slice_cmp nat_cmp (path_below path rest) (path_below next rest) ≡ Less
 slice_cmp-is_before_below path next rest first second tested =
     let (other, stays) = and_parts _ _ tested in
     let no_root : path ≢ 47 ∷ [] = λ root. both_ways _ (not-true _ other) ((bytes_eq-Decides path (47 ∷ [])).1 root) in
-    let next_no_root : next ≢ 47 ∷ [] = λ root. stays_before-root path first (ap (stays_before path) (sym root) ∙ stays) in
+    let next_no_root : next ≢ 47 ∷ [] =
+    λ root. stays_before-root path first (ap (stays_before path) (sym root) ∙ stays) in
     rw (path_below-parts_text path rest first no_root, path_below-parts_text next rest second next_no_root)
     (slice_cmp-stays_before path next (parts_of rest) stays)
 
@@ -77,7 +83,8 @@ AreRising-adjacent rest (entry ∷ next ∷ entries) are_entries adjacent =
       slice_cmp-is_before_below entry.path.items next.path.items rest
           (All-head IsEntry (entry_view entry) (map entry_view (next ∷ entries)) are_entries).path
           (All-head IsEntry (entry_view next) (map entry_view entries) others).path (adjacent 0 entry (omega arith)),
-      AreRising-adjacent rest (next ∷ entries) others (λ k d within. rw add-one (rw add-one at (adjacent (suc k) d (omega arith)))),
+      AreRising-adjacent rest (next ∷ entries) others
+          (λ k d within. rw add-one (rw add-one at (adjacent (suc k) d (omega arith)))),
     )
 
 pub KeepTheirOrder-tested : (entries : List Entry) (answer : Bool) → All IsEntry (map entry_view entries)

@@ -73,7 +73,10 @@ length-run_text run is_run =
 run_of-decimal : (inheritable : Bool) (n : ℕ) → 1 ≤ n → n ≤ greatest_revision
     → run_of inheritable (decimal n) ≡ Some (record { lo = n; hi = n; inheritable = inheritable })
 run_of-decimal inheritable n first last =
-    rw (list_any_none is_dash (decimal n) (Lacks-decimal 45 n refl (omega arith)), revision_of-decimal n first last) refl
+    rw (
+      list_any_none is_dash (decimal n) (Lacks-decimal 45 n refl (omega arith)),
+      revision_of-decimal n first last,
+    ) refl
 
 -- two numbers round a dash
 run_of-range : (inheritable : Bool) (lo hi : ℕ) → 1 ≤ lo → lo < hi → hi ≤ greatest_revision

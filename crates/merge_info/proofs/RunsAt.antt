@@ -26,10 +26,8 @@ runs_at-cons line lines path = by (bytes_eq line.path path)
 pub runs_at-push : (lines : List Line) (line : Line) (path : List ℕ)
     → runs_at (lines ++ line ∷ []) path ≡ runs_at lines path ++ runs_of line path
 runs_at-push lines line path =
-    ap (flat_map (λ (each : Line). each.runs)) (filter-append (λ (each : Line). bytes_eq each.path path) lines (line ∷ []))
-    ∙ flat_map-append (λ (each : Line). each.runs) (filter (λ each. bytes_eq each.path path) lines)
-    (filter (λ each. bytes_eq each.path path) (line ∷ []))
-    ∙ ap (λ last. runs_at lines path ++ last) (runs_at-cons line [] path ∙ append-nil (runs_of line path))
+    rw (filter-append, flat_map-append)
+    (ap (λ last. runs_at lines path ++ last) (runs_at-cons line [] path ∙ append-nil (runs_of line path)))
 
 -- lines of other paths give it none
 pub runs_at-none : (lines : List Line) (path : List ℕ) → All (λ line. bytes_eq line.path path ≡ false) lines

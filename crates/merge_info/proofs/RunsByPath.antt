@@ -88,8 +88,9 @@ runs_at-lookup : (entries : List MapEntry) (path : List ℕ) → AreRising (map 
 runs_at-lookup [] path rising = refl
 runs_at-lookup (entry ∷ entries) path rising = elim (cases_Bool (bytes_eq entry.0.items path)) [
   | inl same ↦
+      let later = AreRising-first (line_in entry) (map line_in entries) rising in
       let none = ap (runs_at (map line_in entries)) (sym ((bytes_eq-Decides entry.0.items path).0 same))
-      ∙ runs_at-before (map line_in entries) entry.0.items (AreRising-first (line_in entry) (map line_in entries) rising) in
+      ∙ runs_at-before (map line_in entries) entry.0.items later in
       rw (tested, same, none) (append-nil entry.1.items)
   | inr other ↦
       rw (tested, other) (runs_at-lookup entries path (AreRising-tail (line_in entry) (map line_in entries) rising))
@@ -101,7 +102,9 @@ runs_at-lookup (entry ∷ entries) path rising = elim (cases_Bool (bytes_eq entr
 -- ---- a line put into the map
 
 -- the path's runs are followed by those of the line
-module _ (old new : RunsByPath) (line : Line) (more : Vec Run) (ordered : IsOrdered path_cmp new) (longer : more.items ≡ items_found (runs_found old line.path) ++ line.runs) (updates : UpdatesBy path_cmp (λ (key : Vec ℕ). slice_cmp nat_cmp line.path key.items) old new (Some more)) where
+module _ (old new : RunsByPath) (line : Line) (more : Vec Run) (ordered : IsOrdered path_cmp new)
+    (longer : more.items ≡ items_found (runs_found old line.path) ++ line.runs)
+    (updates : UpdatesBy path_cmp (λ (key : Vec ℕ). slice_cmp nat_cmp line.path key.items) old new (Some more)) where
   others : (path : List ℕ) → bytes_eq line.path path ≡ false → runs_found new path ≡ runs_found old path
   unfolding KeepsOthers
   others path other =
@@ -117,7 +120,12 @@ module _ (old new : RunsByPath) (line : Line) (more : Vec Run) (ordered : IsOrde
         rising = rising;
         kept = kept unites.kept;
         same = λ path.
-            rw (runs_at-lookup new.entries path rising, runs_at-push, ← unites.same path, runs_at-lookup old.entries path unites.rising)
+            rw (
+              runs_at-lookup new.entries path rising,
+              runs_at-push,
+              ← unites.same path,
+              runs_at-lookup old.entries path unites.rising,
+            )
             (elim (cases_Bool (bytes_eq line.path path)) [
               | inl same ↦ rw same
                   (subst (λ each. items_found (runs_found new each) ≡ items_found (runs_found old each) ++ line.runs)

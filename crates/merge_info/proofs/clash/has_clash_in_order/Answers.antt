@@ -15,24 +15,45 @@ loop-run-init c = has_clash-scan c.args.runs.now c.requires.runs c.requires.risi
 pub returns-then-run-non_inheritable_to : goal.returns-then-run-non_inheritable_to
 returns-then-run-non_inheritable_to c =
     sym (c.loop-run.invariant
-    ∙ rw (drop_more c.args.runs.now c.loop-run.run-index none c.loop-run-test.true, c.if-run.true, le-leb _ _ c.if-run-non_inheritable_to.true) refl)
+    ∙ rw (
+      drop_more c.args.runs.now c.loop-run.run-index none c.loop-run-test.true,
+      c.if-run.true,
+      le-leb _ _ c.if-run-non_inheritable_to.true,
+    ) refl)
 
 pub returns-then-run-inheritable_to : goal.returns-then-run-inheritable_to
 returns-then-run-inheritable_to c =
     sym (c.loop-run.invariant
-    ∙ rw (drop_more c.args.runs.now c.loop-run.run-index none c.loop-run-test.true, c.if-run.false, le-leb _ _ c.if-run-inheritable_to.true) refl)
+    ∙ rw (
+      drop_more c.args.runs.now c.loop-run.run-index none c.loop-run-test.true,
+      c.if-run.false,
+      le-leb _ _ c.if-run-inheritable_to.true,
+    ) refl)
 
 pub loop-run-preserved : goal.loop-run-preserved
 loop-run-preserved c =
     let next = drop_more c.args.runs.now c.loop-run.run-index none c.loop-run-test.true in
     c.loop-run.invariant ∙ elim c.if-run.branch [
       | then-run+else-run-non_inheritable_to w ↦
-          rw (next, w.if-run.true, lt-leb _ _ w.if-run-non_inheritable_to.false, w.inheritable_to-is, w.non_inheritable_to-is, w.max-inheritable_to.ensures) refl
+          rw (
+            next,
+            w.if-run.true,
+            lt-leb _ _ w.if-run-non_inheritable_to.false,
+            w.inheritable_to-is,
+            w.non_inheritable_to-is,
+            w.max-inheritable_to.ensures,
+          ) refl
       | else-run+else-run-inheritable_to w ↦
-          rw (next, w.if-run.false, lt-leb _ _ w.if-run-inheritable_to.false, w.inheritable_to-is, w.non_inheritable_to-is, w.max-non_inheritable_to.ensures) refl
+          rw (
+            next,
+            w.if-run.false,
+            lt-leb _ _ w.if-run-inheritable_to.false,
+            w.inheritable_to-is,
+            w.non_inheritable_to-is,
+            w.max-non_inheritable_to.ensures,
+          ) refl
     ]
 
 pub returns : goal.returns
 returns c =
-    sym (c.loop-run.invariant
-    ∙ ap (scan c.loop-run.inheritable_to c.loop-run.non_inheritable_to) (drop_all c.loop-run.run-index c.args.runs.now c.loop-run-test.false))
+    sym (c.loop-run.invariant ∙ rw (drop_all c.loop-run.run-index c.args.runs.now c.loop-run-test.false) refl)

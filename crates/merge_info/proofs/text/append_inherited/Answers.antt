@@ -13,7 +13,8 @@ use Rattle.merge_info.proofs.text.append_inherited.Goals.{then-has_inheritable+i
 -- the entry has a printed path
 pub append_inherited-requires-clause-path : goal.append_inherited-requires-clause-path
 append_inherited-requires-clause-path c =
-    (All-from_map_at IsEntry entry_view c.args.entries.now c.requires.value.entries c.loop-entry.entry-index c.entry-item.result c.loop-entry-test.true c.entry-item.is).path
+    (All-from_map_at IsEntry entry_view c.args.entries.now c.requires.value.entries _ c.entry-item.result
+    c.loop-entry-test.true c.entry-item.is).path
 
 -- the line of one more entry, if it has inheritable runs
 pub loop-entry-preserved : goal.loop-entry-preserved
@@ -42,8 +43,10 @@ returns-clause-ok c =
     let rest = c.args.rest.now in
     let value = map entry_view c.args.entries.now in
     c.loop-entry.invariant
-    ∙ rw (take_all c.loop-entry.entry-index c.args.entries.now c.loop-entry-test.false,
-    inherited_entries-canonical rest value c.requires.rest c.requires.value (c.requires.order rest)) refl
+    ∙ rw (
+      take_all c.loop-entry.entry-index c.args.entries.now c.loop-entry-test.false,
+      inherited_entries-canonical rest value c.requires.rest c.requires.value (c.requires.order rest),
+    ) refl
 
 pub returns-in_err-append_inherited-clause-begins : goal.returns-in_err-append_inherited-clause-begins
 returns-in_err-append_inherited-clause-begins c =

@@ -11,7 +11,7 @@ pub inherited-requires-clause-path : goal.inherited-requires-clause-path
 inherited-requires-clause-path c =
     let items = c.deref-entry-items.result.now in
     let entries : All IsEntry (map entry_view items) = rw c.deref-entry-items.ensures.value c.self.invariant.entries in
-    (All-from_map_at IsEntry entry_view items entries c.loop-entry.entry-index c.entry-item.result c.loop-entry-test.true c.entry-item.is).path
+    (All-from_map_at IsEntry entry_view items entries _ c.entry-item.result c.loop-entry-test.true c.entry-item.is).path
 
 -- what was inherited are lines
 pub of_lines-requires : goal.of_lines-requires

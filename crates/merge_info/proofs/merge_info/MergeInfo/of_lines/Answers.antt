@@ -48,5 +48,6 @@ invariant_of-result c = (IsSoFar-all c.loop-path.invariant (ap (map line_in) c.i
 
 pub returns : goal.returns
 returns c =
-    let (canonical, same, exact) = IsSoFar-all c.loop-path.invariant (ap (map line_in) c.in-None.ensures.steps.0) c.requires in
+    let none = ap (map line_in) c.in-None.ensures.steps.0 in
+    let (canonical, same, exact) = IsSoFar-all c.loop-path.invariant none c.requires in
     record { same = same; canonical = canonical; exact = exact }
