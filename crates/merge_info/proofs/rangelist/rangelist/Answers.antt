@@ -1,4 +1,4 @@
-use Rattle.std.proofs.Common.{Some, length, ap, sym, ◌∙◌, arith, rules, tests}
+use Rattle.std.proofs.Common.{◌≡◌, ◌+◌, ◌∷◌, Some, drop, length, ap, sym, ◌∙◌, arith, rules, tests}
 use Rattle.std.specs.List.{slice_split}
 use Rattle.std.proofs.lemmas.Iterator.Consumers.{YieldsList-at, YieldsList-end, YieldsList-turn}
 use Rattle.std.proofs.lemmas.Iterator.Splits.{YieldsList-from_slice_split}
@@ -7,6 +7,7 @@ use Rattle.merge_info.specs.Line.{is_comma}
 use Rattle.merge_info.proofs.Collected.{AreCollected-all, AreCollected-missing, AreCollected-more, AreCollected-none, drop-next}
 use Rattle.merge_info.proofs.Elements.{elements_of-none, elements_of-some}
 use Rattle.merge_info.proofs.rangelist.rangelist.Goals as goal
+use Rattle.merge_info.proofs.rangelist.rangelist.Goals.{In-Some}
 
 pub returns-then-is_empty-clause-ok : goal.returns-then-is_empty-clause-ok
 returns-then-is_empty-clause-ok c =
@@ -15,22 +16,24 @@ returns-then-is_empty-clause-ok c =
 pub loop-part-init : goal.loop-part-init
 loop-part-init c = rw c.new-runs.ensures.items (AreCollected-none (elements_of-some c.args.bytes.now c.if-is_empty.ensures))
 
-pub returns-in_default-clause-malformed : goal.returns-in_default-clause-malformed
-returns-in_default-clause-malformed c = λ _.
-    let turn = YieldsList-turn (YieldsList-at c.into_iter-part-iterator.ensures.into_iter_gives
+-- the parts that are left
+next : (c : In-Some) → drop (length c.loop-part.yielded) (slice_split is_comma c.args.bytes.now)
+    ≡ c.in-Some.part.now ∷ drop (length c.loop-part.yielded + 1) (slice_split is_comma c.args.bytes.now)
+next c = drop-next _ _ _ (YieldsList-turn (YieldsList-at c.into_iter-part-iterator.ensures.into_iter_gives
     (YieldsList-from_slice_split _ is_comma c.args.bytes.now c.split-part-items.ensures.rest
     c.split-part-items.ensures.done c.split-part-items.ensures.closure (λ x b q k. search (rules, tests))))
-    c.loop-part.yielded _ c.loop-part.yielded_by _ _ c.in-Some.part c.in-Some.is c.next.ensures.steps in
-    AreCollected-missing c.loop-part.invariant (drop-next _ _ _ turn) (sym c.in_default.ensures.value)
+    c.loop-part.yielded _ c.loop-part.yielded_by _ _ c.in-Some.part c.in-Some.is c.next.ensures.steps)
+
+pub returns-in_default-clause-malformed : goal.returns-in_default-clause-malformed
+returns-in_default-clause-malformed c = λ _.
+    AreCollected-missing c.loop-part.invariant (next (goal.at.returns-in_default-clause-malformed c).In-Some)
+    (sym c.in_default.ensures.value)
 
 pub loop-part-preserved : goal.loop-part-preserved
 loop-part-preserved c =
-    let turn = YieldsList-turn (YieldsList-at c.into_iter-part-iterator.ensures.into_iter_gives
-    (YieldsList-from_slice_split _ is_comma c.args.bytes.now c.split-part-items.ensures.rest
-    c.split-part-items.ensures.done c.split-part-items.ensures.closure (λ x b q k. search (rules, tests))))
-    c.loop-part.yielded _ c.loop-part.yielded_by _ _ c.in-Some.part c.in-Some.is c.next.ensures.steps in
     rw (c.in_ok-push.ensures.items, length_push c.loop-part.yielded c.in-Some.part)
-    (AreCollected-more c.loop-part.invariant (drop-next _ _ _ turn) (sym c.in-Some-element.ensures.value) c.in-Some-element.ensures.run)
+    (AreCollected-more c.loop-part.invariant (next (goal.at.loop-part-preserved c).In-Some)
+    (sym c.in-Some-element.ensures.value) c.in-Some-element.ensures.run)
 
 pub returns-clause-ok : goal.returns-clause-ok
 returns-clause-ok c =

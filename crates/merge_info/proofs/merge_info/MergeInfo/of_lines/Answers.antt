@@ -1,4 +1,4 @@
-use Rattle.std.proofs.Common.{◌≡◌, map, sym, ap, ◌∙◌}
+use Rattle.std.proofs.Common.{◌≡◌, ◌∷◌, map, sym, ap, ◌∙◌}
 use Rattle.std.proofs.lemmas.Bool.{both_ways}
 use Rattle.std.proofs.lemmas.List.{map_push}
 use Rattle.std.proofs.lemmas.List.Elements.{All-head}
@@ -8,39 +8,39 @@ use Rattle.merge_info.specs.Line.{IsLine, line_view}
 use Rattle.merge_info.proofs.CanonicalEntries.{IsSoFar-all, IsSoFar-none, IsSoFar-push, IsSoFar-skip}
 use Rattle.merge_info.proofs.RunsByPath.{MapEntry, line_in}
 use Rattle.merge_info.proofs.merge_info.MergeInfo.of_lines.Goals as goal
+use Rattle.merge_info.proofs.merge_info.MergeInfo.of_lines.Goals.{In-Some}
 
 pub loop-path-init : goal.loop-path-init
 loop-path-init c =
     rw (c.new-entries.ensures.items, c.into_iter-path-iterator.ensures.into_iter_gives.0)
     (IsSoFar-none (map line_view c.args.lines.items) c.in_ok-items.items c.requires c.in_ok-items.ensures)
 
--- what the map has at the next path are runs
+-- the next line of the map
+next : (c : In-Some) → map line_in c.loop-path.path-iterator
+    ≡ line_in (c.in-Some.path, c.in-Some.runs) ∷ map line_in c.next.new.self
+next c =
+    let entry : MapEntry = (c.in-Some.path, c.in-Some.runs) in
+    ap (map line_in) (rest_more (λ (each : MapEntry). each) c.loop-path.path-iterator c.next.new.self
+    c.next.result entry c.in-Some.is c.next.ensures.steps)
+
+-- it has runs
 pub of_runs-requires : goal.of_runs-requires
 of_runs-requires c =
-    let entry : MapEntry = (c.in-Some.path, c.in-Some.runs) in
-    let next = rest_more (λ (each : MapEntry). each) c.loop-path.path-iterator c.next.new.self
-    c.next.result entry c.in-Some.is c.next.ensures.steps in
-    let are_lines = rw next at c.loop-path.invariant.are_lines in
-    (All-head IsLine (line_in entry) (map line_in c.next.new.self) are_lines).runs
+    let are_lines = rw (next (goal.at.of_runs-requires c).In-Some) at c.loop-path.invariant.are_lines in
+    (All-head IsLine _ (map line_in c.next.new.self) are_lines).runs
 
--- there are none
+-- of no number
 pub loop-path-preserved-then-is_empty : goal.loop-path-preserved-then-is_empty
 loop-path-preserved-then-is_empty c =
-    let entry : MapEntry = (c.in-Some.path, c.in-Some.runs) in
-    let next = rest_more (λ (each : MapEntry). each) c.loop-path.path-iterator c.next.new.self
-    c.next.result entry c.in-Some.is c.next.ensures.steps in
-    IsSoFar-skip c.loop-path.invariant (ap (map line_in) next)
+    IsSoFar-skip c.loop-path.invariant (next (goal.at.loop-path-preserved-then-is_empty c).In-Some)
     (sym c.in_ok-ranges.ensures.exact ∙ c.is_empty.ensures.0 c.if-is_empty.true)
 
--- there are some
+-- of some numbers
 pub loop-path-preserved : goal.loop-path-preserved
 loop-path-preserved c =
-    let entry : MapEntry = (c.in-Some.path, c.in-Some.runs) in
-    let next = rest_more (λ (each : MapEntry). each) c.loop-path.path-iterator c.next.new.self
-    c.next.result entry c.in-Some.is c.next.ensures.steps in
     let exact : c.in_ok-ranges.ranges ≡ canonical_runs c.in-Some.runs.items = c.in_ok-ranges.ensures.exact in
     rw (c.in_ok-push.ensures.items, map_push, exact)
-    (IsSoFar-push c.loop-path.invariant (ap (map line_in) next)
+    (IsSoFar-push c.loop-path.invariant (next (goal.at.loop-path-preserved c).In-Some)
     (λ none. both_ways c.is_empty.result c.if-is_empty.false (c.is_empty.ensures.1 (exact ∙ none))))
 
 pub invariant_of-result : goal.invariant_of-result
