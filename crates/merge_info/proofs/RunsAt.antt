@@ -1,5 +1,6 @@
 -- The runs that lines give a path.
-use Rattle.std.proofs.Common.{◌≡◌, ℕ, Bool, true, false, cond, List, [], ◌∷◌, ◌++◌, All, filter, flat_map, bytes_eq, refl, ap, ◌∙◌, append-nil, arith, suc}
+use Rattle.std.proofs.Common.{◌≡◌, ℕ, Bool, true, false, cond, List, [], ◌∷◌, ◌++◌, All, filter, flat_map, bytes_eq, refl, ap, ◌∙◌, append-nil, arith, suc, inl, inr}
+use Rattle.std.proofs.lemmas.Bool.{cases_Bool}
 use Rattle.std.proofs.lemmas.List.Concat.{flat_map-append}
 use Rattle.std.proofs.lemmas.List.Elements.{filter-append}
 use Rattle.range_list.specs.declared.run.Run.{Run}
@@ -10,24 +11,15 @@ use Rattle.merge_info.specs.Value.{runs_at}
 abbrev pub runs_of : Line → List ℕ → List Run
 runs_of line path = cond (bytes_eq line.path path) line.runs []
 
--- the first line's runs come first
-pub runs_at-cons : (line : Line) (lines : List Line) (path : List ℕ)
-    → runs_at (line ∷ lines) path ≡ runs_of line path ++ runs_at lines path
-runs_at-cons line lines path = by (bytes_eq line.path path)
-  where
-    by : (b : Bool) → flat_map (λ (each : Line). each.runs)
-        (cond b (line ∷ filter (λ each. bytes_eq each.path path) lines)
-        (filter (λ each. bytes_eq each.path path) lines))
-        ≡ cond b line.runs [] ++ runs_at lines path
-    by true = refl
-    by false = refl
-
 -- a last line's runs come last
 pub runs_at-push : (lines : List Line) (line : Line) (path : List ℕ)
     → runs_at (lines ++ line ∷ []) path ≡ runs_at lines path ++ runs_of line path
 runs_at-push lines line path =
     rw (filter-append, flat_map-append)
-    (ap (λ last. runs_at lines path ++ last) (runs_at-cons line [] path ∙ append-nil (runs_of line path)))
+    (elim (cases_Bool (bytes_eq line.path path)) [
+      | inl same ↦ rw (same, append-nil) refl
+      | inr other ↦ rw other refl
+    ])
 
 -- lines of other paths give it none
 pub runs_at-none : (lines : List Line) (path : List ℕ) → All (λ line. bytes_eq line.path path ≡ false) lines

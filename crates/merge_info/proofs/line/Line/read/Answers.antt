@@ -1,7 +1,7 @@
 use Rattle.std.proofs.Common.{◌≡◌, Err, ap, rules}
 use Rattle.std.proofs.lemmas.Result.{err_from_is_err_and}
 use Rattle.merge_info.specs.declared.error.MergeError.TheVariants.{Malformed}
-use Rattle.std.proofs.lemmas.Bool.{both_ways}
+use Rattle.std.proofs.lemmas.Bool.{iff_false}
 use Rattle.merge_info.proofs.LineReads.{IsPrintedPath-of_bytes, line_of-clash, line_of-dot, line_of-malformed_list, line_of-read, line_of-uncut}
 use Rattle.merge_info.proofs.line.Line.read.Goals as goal
 use Rattle.merge_info.proofs.line.Line.read.Goals.{then-has_dot-via-then-has_dot, then-has_dot-via-else-has_dot+in_ok-has_clash+then-branch}
@@ -20,15 +20,15 @@ returns-then-has_dot-clause-malformed c = λ _.
     elim c.then-has_dot.branch [
       | then-has_dot-via-then-has_dot w ↦ line_of-dot _ _ _ c.in-Some.ensures c.in_ok-runs.runs.items (rw (← c.without_blanks.ensures) c.in_ok-runs.ensures.ok) (c.has_dot.ensures.0 w.if-has_dot.true)
       | then-has_dot-via-else-has_dot+in_ok-has_clash+then-branch w ↦
-          line_of-clash _ _ _ c.in-Some.ensures c.in_ok-runs.runs.items (rw (← c.without_blanks.ensures) c.in_ok-runs.ensures.ok) (λ dot. both_ways _ w.if-has_dot.false (c.has_dot.ensures.1 dot)) (search rules)
+          line_of-clash _ _ _ c.in-Some.ensures c.in_ok-runs.runs.items (rw (← c.without_blanks.ensures) c.in_ok-runs.ensures.ok) (iff_false c.has_dot.ensures w.if-has_dot.false) (search rules)
     ]
 
 pub returns-clause-ok : goal.returns-clause-ok
 returns-clause-ok c =
-    rw c.in_ok-printed_path.ensures (line_of-read _ _ _ c.in-Some.ensures c.in_ok-runs.runs.items (rw (← c.without_blanks.ensures) c.in_ok-runs.ensures.ok) (λ dot. both_ways _ c.if-has_dot.false (c.has_dot.ensures.1 dot)) (search rules))
+    rw c.in_ok-printed_path.ensures (line_of-read _ _ _ c.in-Some.ensures c.in_ok-runs.runs.items (rw (← c.without_blanks.ensures) c.in_ok-runs.ensures.ok) (iff_false c.has_dot.ensures c.if-has_dot.false) (search rules))
 
 pub returns-clause-line : goal.returns-clause-line
 returns-clause-line c = record {
-  path = rw c.in_ok-printed_path.ensures (IsPrintedPath-of_bytes c.in-Some.path.now (λ dot. both_ways _ c.if-has_dot.false (c.has_dot.ensures.1 dot)));
+  path = rw c.in_ok-printed_path.ensures (IsPrintedPath-of_bytes c.in-Some.path.now (iff_false c.has_dot.ensures c.if-has_dot.false));
   runs = c.in_ok-runs.ensures.runs;
 }

@@ -1,5 +1,5 @@
 use Rattle.std.proofs.Common.{◌≡◌, ◌∷◌, map, sym, ap, ◌∙◌}
-use Rattle.std.proofs.lemmas.Bool.{both_ways}
+use Rattle.std.proofs.lemmas.Bool.{iff_false}
 use Rattle.std.proofs.lemmas.List.{map_push}
 use Rattle.std.proofs.lemmas.List.Elements.{All-head}
 use Rattle.std.proofs.lemmas.Map.Iter.{rest_more}
@@ -41,7 +41,7 @@ loop-path-preserved c =
     let exact : c.in_ok-ranges.ranges ≡ canonical_runs c.in-Some.runs.items = c.in_ok-ranges.ensures.exact in
     rw (c.in_ok-push.ensures.items, map_push, exact)
     (IsSoFar-push c.loop-path.invariant (next (goal.at.loop-path-preserved c).In-Some)
-    (λ none. both_ways c.is_empty.result c.if-is_empty.false (c.is_empty.ensures.1 (exact ∙ none))))
+    (λ none. iff_false c.is_empty.ensures c.if-is_empty.false (exact ∙ none)))
 
 pub invariant_of-result : goal.invariant_of-result
 invariant_of-result c = (IsSoFar-all c.loop-path.invariant (ap (map line_in) c.in-None.ensures.steps.0) c.requires).0
