@@ -44,11 +44,7 @@ list_any-or p q r (x ∷ xs) each =
 
 -- a run is not of both sorts
 clashes-itself : (a : Run) → clashes a a ≡ false
-clashes-itself a = by a.inheritable (nat_le a.lo a.hi)
-  where
-    by : (inheritable some : Bool) → (inheritable && not inheritable && some && some) ≡ false
-    by true some = refl
-    by false some = refl
+clashes-itself a = grind (arith, nat_tests)
 
 abbrev pub clash : Run → Run → Bool
 clash a b = clashes a b || clashes b a
@@ -102,15 +98,14 @@ scan-has_clash (run ∷ runs) are_runs rising inheritable_to non_inheritable_to 
     rw (scan-has_clash runs later rising.1 a b, next, has_clash-cons run runs) (simp or_assoc)
 
 -- no run begins at or before 0
+is_reached-none : (run : Run) → IsRun run → is_reached 0 0 run ≡ false
+is_reached-none run is_run = grind (arith, nat_tests)
+
 pub has_clash-scan : (runs : List Run) → All IsRun runs → IsRisingByFirst runs → has_clash runs ≡ scan 0 0 runs
 has_clash-scan runs are_runs rising =
-    sym (scan-has_clash runs are_runs rising 0 0 ∙ rw (list_any_none (is_reached 0 0) runs none) refl)
-  where
-    none : All (λ run. is_reached 0 0 run ≡ false) runs
-    none k d below = elim (get_or runs k d).inheritable as (λ b. nat_le (get_or runs k d).lo (cond b 0 0) ≡ false) [
-      | true ↦ lt-leb _ _ (are_runs k d below).first
-      | false ↦ lt-leb _ _ (are_runs k d below).first
-    ]
+    let none = list_any_none (is_reached 0 0) runs
+    (λ k d below. is_reached-none (get_or runs k d) (are_runs k d below)) in
+    sym (scan-has_clash runs are_runs rising 0 0 ∙ rw none refl)
 
 -- ---- runs in the order of their first numbers
 

@@ -5,6 +5,7 @@ use Rattle.std.specs.Prelude.{Some}
 use Rattle.std.specs.Io.BufRead.{strip_last}
 use Rattle.std.specs.List.{join_with_byte, slice_split}
 use Rattle.std.proofs.lemmas.Bool.{lt-ltb}
+use Rattle.std.proofs.lemmas.Grind.{common_steps}
 use Rattle.std.proofs.lemmas.List.{append-nil, append_assoc, get_or_at, length-append, take_at}
 use Rattle.std.proofs.lemmas.List.Elements.{All-map}
 use Rattle.std.proofs.lemmas.List.Folds.{list_any_none}
@@ -63,7 +64,7 @@ Lacks-printed_entry line is_entry one_line =
 
 length-printed_entry : (line : Line) → 0 < length (printed_entry line)
 length-printed_entry line =
-    omega (arith, length-append line.path (58 ∷ []), length-append (line.path ++ 58 ∷ []) (rangelist_text line.runs))
+    grind (arith, common_steps)
 
 -- ---- the lines
 

@@ -27,30 +27,25 @@ use Rattle.merge_info.proofs.JoinedBytes.{before_first-whole, length-join, list_
 abbrev pub IsOther : ℕ → Type 0
 IsOther byte = (is_digit byte ≡ false) × ((45 == byte) ≡ false) × ((42 == byte) ≡ false)
 
-abbrev range_text_if : Bool → Run → List ℕ
-range_text_if single run = if single then decimal run.lo else decimal run.lo ++ 45 ∷ [] ++ decimal run.hi
-
-abbrev star_unless : Bool → List ℕ
-star_unless inheritable = if inheritable then [] else 42 ∷ []
-
 Lacks-range_text : (byte : ℕ) (run : Run) → is_digit byte ≡ false → (45 == byte) ≡ false → IsRun run
     → Lacks byte (range_text run)
 Lacks-range_text byte run no_digit no_dash is_run =
     let lo = Lacks-decimal byte run.lo no_digit (omega (arith, is_run.ordered, is_run.last)) in
     let hi = Lacks-decimal byte run.hi no_digit (omega (arith, is_run.last)) in
     let lo_dash = Lacks-append byte (decimal run.lo) (45 ∷ []) lo (Lacks-cons byte 45 [] no_dash (Lacks-nil byte)) in
-    elim (run.lo == run.hi) as (λ single. Lacks byte (range_text_if single run)) [
-      | true ↦ lo
-      | false ↦ Lacks-append byte (decimal run.lo ++ 45 ∷ []) (decimal run.hi) lo_dash hi
+    elim (cases_Bool (run.lo == run.hi)) [
+      | inl single ↦ rw single lo
+      | inr more ↦ rw more (Lacks-append byte (decimal run.lo ++ 45 ∷ []) (decimal run.hi) lo_dash hi)
     ]
 
 Lacks-run_text : (byte : ℕ) (run : Run) → IsOther byte → IsRun run → Lacks byte (run_text run)
 Lacks-run_text byte run other is_run =
-    Lacks-append byte (range_text run) (star_unless run.inheritable) (Lacks-range_text byte run other.0 other.1 is_run)
-    (elim run.inheritable as (λ inheritable. Lacks byte (star_unless inheritable)) [
-      | true ↦ Lacks-nil byte
-      | false ↦ Lacks-cons byte 42 [] other.2 (Lacks-nil byte)
-    ])
+    let text = Lacks-range_text byte run other.0 other.1 is_run in
+    elim (cases_Bool run.inheritable) [
+      | inl inherits ↦ rw (inherits, append-nil) text
+      | inr starred ↦
+          rw starred (Lacks-append byte (range_text run) (42 ∷ []) text (Lacks-cons byte 42 [] other.2 (Lacks-nil byte)))
+    ]
 
 AllLack-runs : (byte : ℕ) (runs : List Run) → IsOther byte → All IsRun runs → All (Lacks byte) (map run_text runs)
 AllLack-runs byte runs other are_runs =
