@@ -37,10 +37,7 @@ list_any-or p q r (x ∷ xs) each =
     (by (q x) (r x) (list_any q xs) (list_any r xs))
   where
     by : (a b c d : Bool) → ((a || b) || (c || d)) ≡ ((a || c) || (b || d))
-    by true b c d = refl
-    by false true true d = refl
-    by false true false d = refl
-    by false false c d = refl
+    by a b c d = grind arith
 
 -- a run is not of both sorts
 clashes-itself : (a : Run) → clashes a a ≡ false

@@ -68,9 +68,7 @@ is_no_blank byte = not (byte == 32) && not (byte == 9)
 
 -- neither of two tests passes
 not_and_nots : (a b : Bool) → not (not a && not b) ≡ (a || b)
-not_and_nots true b = refl
-not_and_nots false true = refl
-not_and_nots false false = refl
+not_and_nots a b = grind arith
 
 -- the first byte that is no blank
 position_or_len-blanks : (bytes : List ℕ) → position_or_len is_no_blank bytes ≡ prefix_len is_blank bytes

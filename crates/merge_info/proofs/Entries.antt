@@ -18,9 +18,7 @@ use Rattle.merge_info.proofs.RunsAt.{runs_at-none}
 
 -- what a test for `Less` says
 before_from-is_lt : (order : Ordering) → is_lt order ≡ true → order ≡ Less
-before_from-is_lt Less tested = refl
-before_from-is_lt Equal tested = cc
-before_from-is_lt Greater tested = cc
+before_from-is_lt order tested = grind arith
 
 -- what `<` of bytes tests
 pub is_lt-slice_partial_cmp : (a b : List ℕ)

@@ -3,6 +3,7 @@ use Rattle.std.proofs.Common.{◌≡◌, ℕ, ◌+◌, ◌<◌, ◌==◌, true, 
 use Rattle.std.proofs.Common.{refl, ap, ◌∙◌, arith, eq-eqb}
 use Rattle.std.specs.Prelude.{Option, Some, option_and_then, option_map}
 use Rattle.std.specs.List.{list_any, before_first, after_first, position_or_len, join_with_byte, slice_split}
+use Rattle.std.proofs.lemmas.Grind.{common_steps}
 use Rattle.std.proofs.lemmas.List.{get_or_append_left, get_or_at, length-append, take_at}
 use Rattle.std.proofs.lemmas.List.Elements.{All-append, All-cons, All-head, All-nil, All-tail}
 use Rattle.std.proofs.lemmas.List.Folds.{list_any_at}
@@ -36,21 +37,18 @@ Lacks-join byte joint (part ∷ next ∷ parts) other all =
 -- ---- bytes that one stands between
 
 module _ (byte : ℕ) (front back : List ℕ) where
-  within : length front < length (front ++ byte ∷ back)
-  within = omega (arith, length-append front (byte ∷ back))
-
   between : (get_or (front ++ byte ∷ back) (length front) 0 == byte) ≡ true
   between = ap (λ each. each == byte) (get_or_at front byte back 0 (length front) refl) ∙ eq-eqb byte byte refl
 
   -- the byte is found
   pub list_any-whole : list_any (λ each. each == byte) (front ++ byte ∷ back) ≡ true
-  list_any-whole = list_any_at (λ each. each == byte) (front ++ byte ∷ back) (length front) 0 within between
+  list_any-whole = grind (arith, common_steps)
 
   -- and it is the first, if none stands before it
   module _ (none : Lacks byte front) where
     position_or_len-whole : position_or_len (λ each. each == byte) (front ++ byte ∷ back) ≡ length front
     position_or_len-whole =
-        position_or_len_is (λ each. each == byte) (front ++ byte ∷ back) (length front) 0 (omega (arith, within))
+        position_or_len_is (λ each. each == byte) (front ++ byte ∷ back) (length front) 0 (omega (arith, length-append front (byte ∷ back)))
         (λ k below. ap (λ each. each == byte) (get_or_append_left front (byte ∷ back) 0 k below) ∙ none k 0 below)
         (λ _. between)
 
