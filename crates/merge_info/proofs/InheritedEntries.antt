@@ -1,5 +1,5 @@
 -- The entries that a path inherits of a value whose paths keep their order.
-use Rattle.std.proofs.Common.{◌≡◌, ℕ, ◌+◌, ◌<◌, cond, List, [], ◌∷◌, ◌++◌, filter, take, get_or, length, map, refl, inl, inr}
+use Rattle.std.proofs.Common.{◌≡◌, ℕ, ◌+◌, ◌<◌, cond, List, [], ◌∷◌, ◌++◌, filter, take, get_or, length, map, refl, arith, inl, inr}
 use Rattle.std.specs.List.{list_any}
 use Rattle.std.proofs.lemmas.Bool.{cases_Bool}
 use Rattle.std.proofs.lemmas.List.{map-append, take_more}
@@ -39,10 +39,7 @@ inherited_entries-canonical rest value printed is rising =
 is_some_run-inheritable : (runs : List Run)
     → is_some_run (inheritable_runs runs) ≡ list_any (λ run. run.inheritable) runs
 is_some_run-inheritable [] = refl
-is_some_run-inheritable (run ∷ runs) = elim (cases_Bool run.inheritable) [
-  | inl inherits ↦ rw inherits refl
-  | inr other ↦ rw other (is_some_run-inheritable runs)
-]
+is_some_run-inheritable (run ∷ runs) = grind (arith, is_some_run-inheritable runs)
 
 pub inherited_entries-next : (rest : List ℕ) (entries : List Entry) (i : ℕ) (entry : Entry) → i < length entries
     → entry ≡ get_or entries i entry

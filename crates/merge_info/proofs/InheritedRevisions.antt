@@ -1,5 +1,5 @@
 -- What a path inherits, source path by source path.
-use Rattle.std.proofs.Common.{◌≡◌, ℕ, Bool, true, false, cond, List, [], ◌∷◌, ◌++◌, Some, None, All, bytes_eq, get_or, inl, inr, refl, sym, ap, ◌∙◌}
+use Rattle.std.proofs.Common.{◌≡◌, ℕ, Bool, true, false, cond, List, [], ◌∷◌, ◌++◌, Some, None, All, bytes_eq, get_or, inl, inr, refl, arith, sym, ap, ◌∙◌}
 use Rattle.std.proofs.lemmas.Bool.{cases_Bool, false_from_ne_true}
 use Rattle.std.specs.Cmp.{both_ways}
 use Rattle.std.proofs.lemmas.Slice.Eq.{bytes_eq-Decides}
@@ -31,10 +31,7 @@ inheritability_of-inheritable runs n =
   where
     by : (within inheritable : Bool) → (within ≡ false → inheritable ≡ false)
         → cond inheritable (Some inheritable) None ≡ inherited_revision (cond within (Some inheritable) None)
-    by true true out = refl
-    by true false out = refl
-    by false true out = let no = out refl in cc
-    by false false out = refl
+    by within inheritable out = grind arith
 
 -- ---- source paths
 

@@ -38,7 +38,7 @@ Lacks-join byte joint (part ∷ next ∷ parts) other all =
 
 module _ (byte : ℕ) (front back : List ℕ) where
   between : (get_or (front ++ byte ∷ back) (length front) 0 == byte) ≡ true
-  between = ap (λ each. each == byte) (get_or_at front byte back 0 (length front) refl) ∙ eq-eqb byte byte refl
+  between = grind (arith, common_steps)
 
   -- the byte is found
   pub list_any-whole : list_any (λ each. each == byte) (front ++ byte ∷ back) ≡ true
@@ -48,17 +48,18 @@ module _ (byte : ℕ) (front back : List ℕ) where
   module _ (none : Lacks byte front) where
     position_or_len-whole : position_or_len (λ each. each == byte) (front ++ byte ∷ back) ≡ length front
     position_or_len-whole =
-        position_or_len_is (λ each. each == byte) (front ++ byte ∷ back) (length front) 0 (omega (arith, length-append front (byte ∷ back)))
+        position_or_len_is (λ each. each == byte) (front ++ byte ∷ back) (length front) 0
+        (omega (arith, length-append front (byte ∷ back)))
         (λ k below. ap (λ each. each == byte) (get_or_append_left front (byte ∷ back) 0 k below) ∙ none k 0 below)
         (λ _. between)
 
     pub before_first-whole : before_first (λ each. each == byte) (front ++ byte ∷ back) ≡ front
     before_first-whole =
-        ap (λ n. take n (front ++ byte ∷ back)) position_or_len-whole ∙ take_at front (byte ∷ back) (length front) refl
+        rw position_or_len-whole (take_at front (byte ∷ back) (length front) refl)
 
     pub after_first-whole : after_first (λ each. each == byte) (front ++ byte ∷ back) ≡ back
     after_first-whole =
-        ap (λ n. drop (n + 1) (front ++ byte ∷ back)) position_or_len-whole ∙ drop-append-add front (byte ∷ back) 1
+        rw position_or_len-whole (drop-append-add front (byte ∷ back) 1)
 
 -- ---- parts that were joined
 

@@ -71,11 +71,7 @@ length-printed_entry line =
 -- the last byte, which was put behind the others, is taken off
 strip_last-push : (byte : ℕ) (bytes : List ℕ) → strip_last byte (bytes ++ byte ∷ []) ≡ bytes
 strip_last-push byte bytes =
-    let all = bytes ++ byte ∷ [] in
-    let some : 0 < length all = omega (arith, length-append bytes (byte ∷ [])) in
-    let rest_length : length all - 1 ≡ length bytes = omega (arith, length-append bytes (byte ∷ [])) in
-    rw (lt-ltb 0 (length all) some, rest_length, get_or_at bytes byte [] 0 (length bytes) refl, eq-eqb byte byte refl)
-    (take_at bytes (byte ∷ []) (length bytes) refl)
+    grind (arith, common_steps)
 
 -- newlines join the lines, and one more follows
 value_text-joined : (line : Line) (lines : List Line)

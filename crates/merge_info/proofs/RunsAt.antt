@@ -1,6 +1,6 @@
 -- The runs that lines give a path.
 use Rattle.std.proofs.Common.{◌≡◌, ℕ, Bool, true, false, cond, List, [], ◌∷◌, ◌++◌, All, filter, flat_map, bytes_eq, refl, ap, ◌∙◌, append-nil, arith, suc, inl, inr}
-use Rattle.std.proofs.lemmas.Bool.{cases_Bool}
+use Rattle.std.proofs.lemmas.Grind.{common_steps}
 use Rattle.std.proofs.lemmas.List.Concat.{flat_map-append}
 use Rattle.std.proofs.lemmas.List.Elements.{filter-append}
 use Rattle.range_list.specs.declared.run.Run.{Run}
@@ -15,11 +15,7 @@ runs_of line path = cond (bytes_eq line.path path) line.runs []
 pub runs_at-push : (lines : List Line) (line : Line) (path : List ℕ)
     → runs_at (lines ++ line ∷ []) path ≡ runs_at lines path ++ runs_of line path
 runs_at-push lines line path =
-    rw (filter-append, flat_map-append)
-    (elim (cases_Bool (bytes_eq line.path path)) [
-      | inl same ↦ rw (same, append-nil) refl
-      | inr other ↦ rw other refl
-    ])
+    grind (arith, common_steps)
 
 -- lines of other paths give it none
 pub runs_at-none : (lines : List Line) (path : List ℕ) → All (λ line. bytes_eq line.path path ≡ false) lines
