@@ -78,10 +78,8 @@ value_text-joined : (line : Line) (lines : List Line)
     → value_text (line ∷ lines) ≡ join_with_byte 10 (map printed_entry (line ∷ lines)) ++ 10 ∷ []
 value_text-joined line [] = append-nil (printed_entry line ++ 10 ∷ [])
 value_text-joined line (next ∷ lines) =
-    let rest = join_with_byte 10 (map printed_entry (next ∷ lines)) in
-    ap (λ text. line_text (printed_entry line) ++ text) (value_text-joined next lines)
-    ∙ append_assoc (printed_entry line) (10 ∷ []) (rest ++ 10 ∷ [])
-    ∙ sym (append_assoc (printed_entry line) (10 ∷ rest) (10 ∷ []))
+    let more = value_text-joined next lines in
+    grind (arith, common_steps)
 
 -- bytes that are not empty are a line or more
 lines_between-some : (bytes : List ℕ) → 0 < length bytes → lines_between bytes ≡ slice_split is_newline bytes

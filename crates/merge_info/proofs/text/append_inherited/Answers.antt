@@ -1,5 +1,6 @@
 use Rattle.std.proofs.Common.{◌<◌, ◌++◌, length, map, take, sym, ap, refl, ◌∙◌, arith, take_all, append-nil}
 use Rattle.std.proofs.lemmas.List.{flat_map_more, length-map}
+use Rattle.std.proofs.lemmas.Grind.{common_steps}
 use Rattle.svn_text.specs.Line.{line_text}
 use Rattle.merge_info.specs.Inherited.{inherited_line}
 use Rattle.svn_text.proofs.Appended.{BeginsWith-append, BeginsWith-trans}
@@ -19,23 +20,9 @@ append_inherited-requires-clause-path c =
 -- the line of one more entry, if it has inheritable runs
 pub loop-entry-preserved : goal.loop-entry-preserved
 loop-entry-preserved c =
-    let rest = c.args.rest.now in
-    let i = c.loop-entry.entry-index in
-    let entry = c.entry-item.result in
-    let so_far = inherited_entries rest (map entry_view (take i c.args.entries.now)) in
-    let next = inherited_entries-next rest c.args.entries.now i entry c.loop-entry-test.true c.entry-item.is in
-    elim c.if-has_inheritable.branch [
-      | then-has_inheritable+in_ok-append_inherited w ↦
-          rw (next, sym c.has_inheritable.ensures ∙ w.if-has_inheritable.true)
-          (ap (λ (each : _). each.items) w.out-is
-          ∙ w.in_ok-append_inherited.ensures.ok
-          ∙ ap (λ text. text ++ inherited_text rest (entry_view entry)) c.loop-entry.invariant
-          ∙ flat_map_more (λ each. line_text (printed_entry each)) c.args.out.now.items so_far
-          (inherited_line rest (entry_view entry)))
-      | else-has_inheritable w ↦
-          rw (next, sym c.has_inheritable.ensures ∙ w.if-has_inheritable.false, append-nil)
-          (ap (λ (each : _). each.items) w.out-is ∙ c.loop-entry.invariant)
-    ]
+    let next = inherited_entries-next c.args.rest.now c.args.entries.now c.loop-entry.entry-index c.entry-item.result
+    c.loop-entry-test.true c.entry-item.is in
+    grind (arith, common_steps)
 
 -- the paths keep their order, so these are the entries of what is inherited
 pub returns-clause-ok : goal.returns-clause-ok
