@@ -63,15 +63,13 @@ Lacks-printed_entry line is_entry one_line =
     Lacks-append 10 (line.path ++ 58 ∷ []) (rangelist_text line.runs) path runs
 
 length-printed_entry : (line : Line) → 0 < length (printed_entry line)
-length-printed_entry line =
-    grind (arith, common_steps)
+length-printed_entry line = grind (arith, common_steps)
 
 -- ---- the lines
 
 -- the last byte, which was put behind the others, is taken off
 strip_last-push : (byte : ℕ) (bytes : List ℕ) → strip_last byte (bytes ++ byte ∷ []) ≡ bytes
-strip_last-push byte bytes =
-    grind (arith, common_steps)
+strip_last-push byte bytes = grind (arith, common_steps)
 
 -- newlines join the lines, and one more follows
 value_text-joined : (line : Line) (lines : List Line)

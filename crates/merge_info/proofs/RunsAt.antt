@@ -14,8 +14,7 @@ runs_of line path = cond (bytes_eq line.path path) line.runs []
 -- a last line's runs come last
 pub runs_at-push : (lines : List Line) (line : Line) (path : List ℕ)
     → runs_at (lines ++ line ∷ []) path ≡ runs_at lines path ++ runs_of line path
-runs_at-push lines line path =
-    grind (arith, common_steps)
+runs_at-push lines line path = grind (arith, common_steps)
 
 -- lines of other paths give it none
 pub runs_at-none : (lines : List Line) (path : List ℕ) → All (λ line. bytes_eq line.path path ≡ false) lines
