@@ -35,16 +35,8 @@ pub runs_at-filter : (lines : List Line) (path : List ℕ) → runs_at (filter h
 runs_at-filter [] path = refl
 runs_at-filter (line ∷ lines) path =
     let rest = runs_at-filter lines path in
-    elim (cases_Bool (bytes_eq line.path path)) [
-      | inl same ↦ elim (cases_Bool (has_runs line)) [
-        | inl some ↦ rw (some, same, rest) refl
-        | inr none ↦ rw (none, same, is_some_run-none line.runs none) rest
-      ]
-      | inr other ↦ elim (cases_Bool (has_runs line)) [
-        | inl some ↦ rw (some, other) rest
-        | inr none ↦ rw (none, other) rest
-      ]
-    ]
+    let none = is_some_run-none line.runs in
+    grind arith
 
 pub IsMergeInfo-filter : (lines : List Line) → All (λ line. IsPrintedPath line.path) lines
     → All (λ line. IsCanonical line.runs) lines → AreRising lines → IsMergeInfo (filter has_runs lines)

@@ -2,6 +2,7 @@
 use Rattle.std.proofs.Common.{◌≡◌, ℕ, ◌+◌, ◌<◌, cond, List, [], ◌∷◌, ◌++◌, filter, take, get_or, length, map, refl, arith, inl, inr}
 use Rattle.std.specs.List.{list_any}
 use Rattle.std.proofs.lemmas.Bool.{cases_Bool}
+use Rattle.std.proofs.lemmas.Grind.{common_steps}
 use Rattle.std.proofs.lemmas.List.{map-append, take_more}
 use Rattle.std.proofs.lemmas.List.Elements.{All-map, filter-append}
 use Rattle.range_list.specs.Rangelist.{IsCanonical, inheritable_runs}
@@ -47,11 +48,5 @@ pub inherited_entries-next : (rest : List ℕ) (entries : List Entry) (i : ℕ) 
     ≡ inherited_entries rest (map entry_view (take i entries))
     ++ cond (list_any (λ run. run.inheritable) entry.ranges) (inherited_line rest (entry_view entry) ∷ []) []
 inherited_entries-next rest entries i entry within is =
-    rw (
-      take_more entries i entry within,
-      ← is,
-      map-append,
-      map-append,
-      filter-append,
-      is_some_run-inheritable entry.ranges,
-    ) refl
+    let same = is_some_run-inheritable entry.ranges in
+    grind (arith, common_steps)

@@ -6,7 +6,7 @@ use Rattle.std.specs.List.{AllAdjacentBelow, IsAllAdjacentAnswer}
 use Rattle.std.specs.Ordering.{nat_cmp, ordering_then}
 use Rattle.std.specs.declared.cmp.Ordering.TheVariants.{Less, Equal}
 use Rattle.std.proofs.lemmas.Bool.{and_parts, both_ways, cases_Bool, eqb-true, ltb-true, not-true}
-use Rattle.std.proofs.lemmas.List.Concat.{flat_map-append}
+use Rattle.std.proofs.lemmas.Grind.{common_steps}
 use Rattle.std.proofs.lemmas.List.Elements.{All-head, All-tail}
 use Rattle.std.proofs.lemmas.Slice.Eq.{bytes_eq-Decides}
 use Rattle.std.specs.Cmp.{nat_cmp_is}
@@ -26,9 +26,7 @@ path_below-parts_text path rest printed other = by (parts_of path) printed.print
     by : (parts : List (List ℕ)) → path_text parts ≡ path
         → path_text (parts ++ parts_of rest) ≡ path ++ parts_text (parts_of rest)
     by [] is = absurd (other (sym is))
-    by (part ∷ parts) is =
-        flat_map-append (λ each. 47 ∷ each) (part ∷ parts) (parts_of rest)
-        ∙ ap (λ front. front ++ parts_text (parts_of rest)) is
+    by (part ∷ parts) is = grind (arith, common_steps)
 
 -- ---- two paths
 

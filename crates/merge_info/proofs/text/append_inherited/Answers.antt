@@ -29,11 +29,8 @@ pub returns-clause-ok : goal.returns-clause-ok
 returns-clause-ok c =
     let rest = c.args.rest.now in
     let value = map entry_view c.args.entries.now in
-    c.loop-entry.invariant
-    ∙ rw (
-      take_all c.loop-entry.entry-index c.args.entries.now c.loop-entry-test.false,
-      inherited_entries-canonical rest value c.requires.rest c.requires.value (c.requires.order rest),
-    ) refl
+    let exact = inherited_entries-canonical rest value c.requires.rest c.requires.value (c.requires.order rest) in
+    grind (arith, common_steps)
 
 pub returns-in_err-append_inherited-clause-begins : goal.returns-in_err-append_inherited-clause-begins
 returns-in_err-append_inherited-clause-begins c =
