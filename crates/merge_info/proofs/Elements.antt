@@ -3,6 +3,7 @@ use Rattle.std.proofs.Common.{◌≡◌, ℕ, ◌+◌, ◌<◌, ◌≤◌, ◌==
 use Rattle.std.specs.Prelude.{option_map}
 use Rattle.std.specs.List.{position_or_len, prefix_len, slice_split}
 use Rattle.std.proofs.lemmas.Bool.{cases_lt, cond-false, cond-true, eqb-true, false≢true, le-ltb, lt-ltb}
+use Rattle.std.proofs.lemmas.Bool.Decides.{nat_tests}
 use Rattle.std.proofs.lemmas.List.Sums.{prefix_len-le-length}
 use Rattle.svn_text.specs.Bytes.{is_not_empty}
 use Rattle.svn_text.specs.Cut.{IsCutAt, Lacks}
@@ -66,22 +67,15 @@ elements_of-some (byte ∷ bytes) some = refl
 abbrev pub is_no_blank : ℕ → Bool
 is_no_blank byte = not (byte == 32) && not (byte == 9)
 
--- neither of two tests passes
-not_and_nots : (a b : Bool) → not (not a && not b) ≡ (a || b)
-not_and_nots a b = grind arith
-
 -- the first byte that is no blank
 position_or_len-blanks : (bytes : List ℕ) → position_or_len is_no_blank bytes ≡ prefix_len is_blank bytes
 position_or_len-blanks [] = refl
-position_or_len-blanks (byte ∷ bytes) =
-    rw (not_and_nots (byte == 32) (byte == 9), position_or_len-blanks bytes) refl
+position_or_len-blanks (byte ∷ bytes) = let rest = position_or_len-blanks bytes in grind arith
 
 -- what such a search finds, or else the end
 pub prefix_len-found : (bytes : List ℕ) (found : Option ℕ) → found ≡ (if nat_lt (position_or_len is_no_blank bytes) (length bytes) then Some (position_or_len is_no_blank bytes) else None) → unwrap_or found (length bytes) ≡ prefix_len is_blank bytes
 prefix_len-found bytes found at =
     let end : position_or_len is_no_blank bytes ≤ length bytes =
     prefix_len-le-length (λ byte. not (is_no_blank byte)) bytes in
-    elim (cases_lt (position_or_len is_no_blank bytes) (length bytes)) [
-      | inl before ↦ rw (at, lt-ltb _ _ before) (position_or_len-blanks bytes)
-      | inr after ↦ rw (at, le-ltb _ _ after) (omega (arith, end, position_or_len-blanks bytes))
-    ]
+    let same = position_or_len-blanks bytes in
+    grind (arith, nat_tests)

@@ -1,5 +1,6 @@
 -- What a path inherits, source path by source path.
 use Rattle.std.proofs.Common.{◌≡◌, ℕ, Bool, true, false, cond, List, [], ◌∷◌, ◌++◌, Some, None, All, bytes_eq, get_or, inl, inr, refl, arith, sym, ap, ◌∙◌}
+use Rattle.std.proofs.lemmas.Grind.{common_steps}
 use Rattle.std.proofs.lemmas.Bool.{cases_Bool, false_from_ne_true}
 use Rattle.std.specs.Cmp.{both_ways}
 use Rattle.std.proofs.lemmas.Slice.Eq.{bytes_eq-Decides}
@@ -74,10 +75,7 @@ module _ (rest : List (List ℕ)) (components : All IsComponent rest) where
   runs_at-below (line ∷ lines) above entries parts =
       let same_test = path_below-same line.path above (All-head IsEntry line lines entries).path parts in
       let later = runs_at-below lines above (All-tail IsEntry line lines entries) parts in
-      elim (cases_Bool (bytes_eq line.path (path_text above))) [
-        | inl same ↦ rw (same_test, same, filter-append, later) refl
-        | inr other ↦ rw (same_test, other) later
-      ]
+      grind (arith, common_steps)
 
   runs_at-other : (lines : List Line) (parts : List (List ℕ)) → All IsEntry lines → All IsComponent parts
       → ((above : List (List ℕ)) → parts ≡ above ++ rest → ⊥)
