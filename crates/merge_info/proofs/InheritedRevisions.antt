@@ -27,12 +27,9 @@ use Rattle.merge_info.proofs.RunsAt.{runs_at-none}
 inheritability_of-inheritable : (runs : List Run) (n : ℕ)
     → inheritability_of (inheritable_runs runs) n ≡ inherited_revision (inheritability_of runs n)
 inheritability_of-inheritable runs n =
-    rw ((IsInheritablePart-filter runs n).0, (IsInheritablePart-filter runs n).1)
-    (by (is_in runs n) (is_inheritable runs n) (is_inheritable-out runs n))
-  where
-    by : (within inheritable : Bool) → (within ≡ false → inheritable ≡ false)
-        → cond inheritable (Some inheritable) None ≡ inherited_revision (cond within (Some inheritable) None)
-    by within inheritable out = grind arith
+    let part = IsInheritablePart-filter runs n in
+    let out = is_inheritable-out runs n in
+    grind arith
 
 -- ---- source paths
 

@@ -113,10 +113,9 @@ element_of-run_text run is_run =
     let text = range_text run in
     let none = Lacks-range_text 42 run refl refl is_run in
     let read = run_of-range_text run is_run in
-    elim (cases_Bool run.inheritable) [
-      | inl inherits ↦ rw (inherits, append-nil, element_of-no_star text none) (rw inherits at read)
-      | inr other ↦ rw (other, element_of-append_star text none) (rw other at read)
-    ]
+    let plain = element_of-no_star text none in
+    let starred = element_of-append_star text none in
+    grind (arith, common_steps)
 
 -- ---- a rangelist
 

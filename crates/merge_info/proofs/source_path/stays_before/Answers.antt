@@ -1,5 +1,5 @@
 use Rattle.std.proofs.Common.{◌≡◌, ℕ, false, List, [], ◌∷◌, length, drop, refl, sym, ap, ◌∙◌, arith}
-use Rattle.std.proofs.lemmas.Bool.{le-ltb}
+use Rattle.std.proofs.lemmas.Grind.{common_steps}
 use Rattle.std.proofs.lemmas.List.{drop_all}
 use Rattle.merge_info.specs.Inherited.{stays_before}
 use Rattle.merge_info.proofs.source_path.stays_before.Goals as goal
@@ -11,7 +11,5 @@ stays_before-none (byte ∷ path) = refl
 
 pub returns-else-i-next-2 : goal.returns-else-i-next-2
 returns-else-i-next-2 c =
-    let i = c.loop-i.i in
-    let front = drop i c.args.path.now in
-    le-ltb i (length c.args.next.now) c.if-i-next-2.false
-    ∙ sym (c.loop-i.invariant.same ∙ ap (stays_before front) (drop_all i c.args.next.now (omega arith)) ∙ stays_before-none front)
+    let none = stays_before-none (drop c.loop-i.i c.args.path.now) in
+    grind (arith, common_steps)
