@@ -1,7 +1,8 @@
 -- The map from paths to runs as lines, and what a line put into it makes of them.
-use Rattle.std.proofs.Common.{◌≡◌, ℕ, Bool, false, IfSome, List, [], ◌∷◌, ◌++◌, Option, None, Some, All, map, bytes_eq, refl, sym, ap, subst, ◌∙◌, inl, inr, append-nil, Ordering}
+use Rattle.std.proofs.Common.{◌≡◌, true, arith, ℕ, Bool, false, IfSome, List, [], ◌∷◌, ◌++◌, Option, None, Some, All, map, bytes_eq, refl, sym, ap, subst, ◌∙◌, inl, inr, append-nil, Ordering}
 use Rattle.std.proofs.lemmas.Bool.{cases_Bool}
 use Rattle.std.proofs.lemmas.Cmp.{eq_by_cmp_equiv, nat_list_cmp_total, nat_list_eq_equiv}
+use Rattle.std.proofs.lemmas.Grind.{common_steps}
 use Rattle.std.proofs.lemmas.List.Elements.{All-append, All-map}
 use Rattle.std.proofs.lemmas.Map.Keys.{sorted_head, sorted_tail}
 use Rattle.std.proofs.lemmas.Map.Text.{is_eq-slice_cmp}
@@ -86,18 +87,14 @@ module _ (entries : List MapEntry) (are_lines : All IsLine (map line_in entries)
 runs_at-lookup : (entries : List MapEntry) (path : List ℕ) → AreRising (map line_in entries)
     → runs_at (map line_in entries) path ≡ items_found (lookup (has_path path) entries)
 runs_at-lookup [] path rising = refl
-runs_at-lookup (entry ∷ entries) path rising = elim (cases_Bool (bytes_eq entry.0.items path)) [
-  | inl same ↦
-      let later = AreRising-first (line_in entry) (map line_in entries) rising in
-      let none = ap (runs_at (map line_in entries)) (sym ((bytes_eq-Decides entry.0.items path).0 same))
-      ∙ runs_at-before (map line_in entries) entry.0.items later in
-      rw (tested, same, none) (append-nil entry.1.items)
-  | inr other ↦
-      rw (tested, other) (runs_at-lookup entries path (AreRising-tail (line_in entry) (map line_in entries) rising))
-]
-  where
-    tested : has_path path entry.0 ≡ bytes_eq entry.0.items path
-    tested = is_eq-slice_cmp path entry.0.items ∙ nat_list_eq_equiv.symm path entry.0.items
+runs_at-lookup (entry ∷ entries) path rising =
+    let lines = map line_in entries in
+    let rest = runs_at-lookup entries path (AreRising-tail (line_in entry) lines rising) in
+    let tested = is_eq-slice_cmp path entry.0.items ∙ nat_list_eq_equiv.symm path entry.0.items in
+    let none : bytes_eq entry.0.items path ≡ true → runs_at lines path ≡ [] = λ same.
+    ap (runs_at lines) (sym ((bytes_eq-Decides entry.0.items path).0 same))
+    ∙ runs_at-before lines entry.0.items (AreRising-first (line_in entry) lines rising) in
+    grind (arith, common_steps)
 
 -- ---- a line put into the map
 
