@@ -1,10 +1,9 @@
 -- Runs in which some number is given both with and without `*`, and a scan that finds such a number.
-use Rattle.std.proofs.Common.{◌≡◌, ℕ, ◌≤◌, nat_le, Bool, true, false, not, ◌&&◌, ◌||◌, cond, List, [], ◌∷◌, All, get_or, Some, refl, sym, ◌∙◌, arith, max, suc}
+use Rattle.std.proofs.Common.{◌≡◌, ℕ, ◌≤◌, nat_le, Bool, true, false, ◌||◌, List, [], ◌∷◌, All, get_or, Some, refl, sym, ◌∙◌, arith, max, suc}
 use Rattle.std.specs.Prelude.{if◌then◌else◌}
 use Rattle.std.specs.Bool.{OnTrue}
 use Rattle.std.specs.List.{IsAllAdjacentAnswer, list_any}
 use Rattle.std.specs.List.Sorted.{IsNonDecreasingBy, IsPermutation}
-use Rattle.std.proofs.lemmas.Bool.{lt-leb}
 use Rattle.std.proofs.lemmas.Bool.Decides.{nat_tests}
 use Rattle.std.proofs.lemmas.List.Elements.{All-tail}
 use Rattle.std.proofs.lemmas.List.Folds.{list_any_none}
@@ -90,7 +89,8 @@ scan-has_clash (run ∷ runs) are_runs rising inheritable_to non_inheritable_to 
     let a = if run.inheritable then max inheritable_to run.hi else inheritable_to in
     let b = if run.inheritable then non_inheritable_to else max non_inheritable_to run.hi in
     let later = All-tail IsRun run runs are_runs in
-    let next = list_any-or (is_reached a b) (is_reached inheritable_to non_inheritable_to) (clash run) runs (λ k d below.
+    let next = list_any-or (is_reached a b) (is_reached inheritable_to non_inheritable_to) (clash run) runs
+    (λ k d below.
     is_reached-next inheritable_to non_inheritable_to run (get_or runs k d) (later k d below) (rising.0 k d below)) in
     rw (scan-has_clash runs later rising.1 a b, next, has_clash-cons run runs) (simp or_assoc)
 

@@ -1,12 +1,11 @@
 -- Printed numbers, as they are read again.
-use Rattle.std.proofs.Common.{◌≡◌, ℕ, ◌+◌, ◌-◌, ◌*◌, ◌^◌, ◌<◌, ◌≤◌, ◌==◌, leb, true, false, ◌&&◌, cond, List, [], ◌∷◌}
-use Rattle.std.proofs.Common.{length, fold, decimal, refl, ap, ◌∙◌, arith, rules}
-use Rattle.std.specs.Prelude.{Option, Some, None, option_and_then}
+use Rattle.std.proofs.Common.{◌≡◌, ℕ, ◌+◌, ◌-◌, ◌*◌, ◌^◌, ◌<◌, ◌≤◌, true, false, List}
+use Rattle.std.proofs.Common.{fold, decimal, refl, arith, rules}
+use Rattle.std.specs.Prelude.{Some}
 use Rattle.std.specs.List.{list_all}
-use Rattle.std.proofs.lemmas.Bool.{cond-false, le-leb, ne_eqb}
+use Rattle.std.proofs.lemmas.Bool.{le-leb, ne_eqb}
 use Rattle.std.proofs.lemmas.Fmt.{decimal_nonempty, digits_decimal, digits_value-decimal}
 use Rattle.std.proofs.lemmas.Str.Parse.{IsNumeralModel, numerals_by_fold}
-use Rattle.svn_text.specs.Bytes.{is_not_empty}
 use Rattle.svn_text.specs.Cut.{Lacks}
 use Rattle.svn_text.specs.Number.{is_digit, number_of, value_of_digits}
 use Rattle.svn_text.specs.Number.{greatest_revision}
@@ -28,7 +27,7 @@ decimal-digits : (n : ℕ) → n < 2 ^ 64 → AreDigits (decimal n)
 decimal-digits n small = digits_decimal numbers_of_digits n small
 
 -- a printed number is read as the number
-pub number_of-decimal : (n : ℕ) → n < 2 ^ 64 → number_of (decimal n) ≡ Some n
+number_of-decimal : (n : ℕ) → n < 2 ^ 64 → number_of (decimal n) ≡ Some n
 number_of-decimal n small =
     rw (
       is_not_empty-some (decimal n) (decimal_nonempty n small),

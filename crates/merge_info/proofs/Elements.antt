@@ -1,8 +1,8 @@
 -- The elements of a rangelist, from where their bytes were cut, and the blanks before them.
-use Rattle.std.proofs.Common.{◌≡◌, ℕ, ◌+◌, ◌<◌, ◌≤◌, ◌==◌, nat_lt, inl, inr, if◌then◌else◌, unwrap_or, not, ◌&&◌, ◌||◌, Bool, true, false, List, [], ◌∷◌, Option, Some, None, length, map, refl, ap, ◌∙◌, sym, arith}
+use Rattle.std.proofs.Common.{◌≡◌, ℕ, ◌<◌, ◌≤◌, ◌==◌, nat_lt, if◌then◌else◌, unwrap_or, not, ◌&&◌, Bool, true, false, List, [], ◌∷◌, Option, Some, None, length, map, refl, sym, arith}
 use Rattle.std.specs.Prelude.{option_map}
 use Rattle.std.specs.List.{position_or_len, prefix_len, slice_split}
-use Rattle.std.proofs.lemmas.Bool.{cases_lt, cond-false, cond-true, eqb-true, false≢true, le-ltb, lt-ltb}
+use Rattle.std.proofs.lemmas.Bool.{cond-false, eqb-true, false≢true}
 use Rattle.std.proofs.lemmas.Bool.Decides.{nat_tests}
 use Rattle.std.proofs.lemmas.List.Sums.{prefix_len-le-length}
 use Rattle.svn_text.specs.Bytes.{is_not_empty}

@@ -8,7 +8,7 @@ use Rattle.std.proofs.lemmas.Slice.Eq.{bytes_eq-Decides}
 use Rattle.std.specs.Cmp.Lexicographic.{lists_agrees, slice_cmp, slice_partial_cmp}
 use Rattle.std.specs.List.Sorted.{IsPartitionPoint, IsPartitionedBy}
 use Rattle.std.specs.Ordering.{nat_cmp, is_lt, is_some_and}
-use Rattle.std.specs.declared.cmp.Ordering.TheVariants.{Less, Equal, Greater}
+use Rattle.std.specs.declared.cmp.Ordering.TheVariants.{Less}
 use Rattle.range_list.specs.declared.run.Run.{Run}
 use Rattle.merge_info.specs.Value.{AreRising, IsEntry, IsMergeInfo, entry_view, ranges_of, some_runs}
 use Rattle.merge_info.specs.declared.entry.Entry.{Entry}
@@ -53,7 +53,8 @@ module _ (entries : List Entry) (path : List ℕ) where
     before_later i k d later below =
         let at = λ (j : ℕ) (within : j < length entries). get_or-map entry_view entries j d (entry_view d) within in
         let within : k < length (map entry_view entries) = omega (arith, length-map entries entry_view) in
-        rw (at i (omega arith), at k below) at (AreRising-at (map entry_view entries) rising i k (entry_view d) later within)
+        rw (at i (omega arith), at k below) at
+        (AreRising-at (map entry_view entries) rising i k (entry_view d) later within)
 
     -- the entries before a path stand first
     pub IsPartitionedBy-is_before : IsPartitionedBy (is_before path) entries

@@ -1,10 +1,8 @@
 -- The entries that a path inherits of a value whose paths keep their order.
-use Rattle.std.proofs.Common.{◌≡◌, ℕ, ◌+◌, ◌<◌, cond, List, [], ◌∷◌, ◌++◌, filter, take, get_or, length, map, refl, arith, inl, inr}
+use Rattle.std.proofs.Common.{◌≡◌, ℕ, ◌+◌, ◌<◌, cond, List, [], ◌∷◌, ◌++◌, filter, take, get_or, length, map, refl, arith}
 use Rattle.std.specs.List.{list_any}
-use Rattle.std.proofs.lemmas.Bool.{cases_Bool}
 use Rattle.std.proofs.lemmas.Grind.{common_steps}
-use Rattle.std.proofs.lemmas.List.{map-append, take_more}
-use Rattle.std.proofs.lemmas.List.Elements.{All-map, filter-append}
+use Rattle.std.proofs.lemmas.List.Elements.{All-map}
 use Rattle.range_list.specs.Rangelist.{IsCanonical, inheritable_runs}
 use Rattle.range_list.specs.declared.run.Run.{Run}
 use Rattle.range_list.proofs.Canonical.{IsCanonical-filter}

@@ -1,14 +1,14 @@
 -- What a path inherits, source path by source path.
-use Rattle.std.proofs.Common.{◌≡◌, ℕ, Bool, true, false, cond, List, [], ◌∷◌, ◌++◌, Some, None, All, bytes_eq, get_or, inl, inr, refl, arith, sym, ap, ◌∙◌}
+use Rattle.std.proofs.Common.{◌≡◌, ℕ, true, false, cond, List, [], ◌∷◌, ◌++◌, Some, None, All, bytes_eq, get_or, refl, arith, sym, ap, ◌∙◌}
 use Rattle.std.proofs.lemmas.Grind.{common_steps}
-use Rattle.std.proofs.lemmas.Bool.{cases_Bool, false_from_ne_true}
+use Rattle.std.proofs.lemmas.Bool.{false_from_ne_true}
 use Rattle.std.specs.Cmp.{both_ways}
 use Rattle.std.proofs.lemmas.Slice.Eq.{bytes_eq-Decides}
 use Rattle.std.proofs.lemmas.List.{append_cancel_right}
-use Rattle.std.proofs.lemmas.List.Elements.{All-append, All-head, All-map, All-tail, filter-append}
+use Rattle.std.proofs.lemmas.List.Elements.{All-append, All-head, All-map, All-tail}
 use Rattle.svn_path.specs.Components.{IsComponent, parts_of, path_text}
 use Rattle.svn_path.proofs.Components.{parts_of-path_text}
-use Rattle.range_list.specs.Rangelist.{inheritability_of, inheritable_runs, is_in, is_inheritable}
+use Rattle.range_list.specs.Rangelist.{inheritability_of, inheritable_runs}
 use Rattle.range_list.specs.declared.run.Run.{Run}
 use Rattle.range_list.proofs.Canonical.{IsInheritablePart-filter}
 use Rattle.range_list.proofs.Maximal.{is_inheritable-out}

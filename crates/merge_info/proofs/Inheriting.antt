@@ -17,7 +17,7 @@ pub components-printed : (path : List ℕ) → IsPrintedPath path → All IsComp
 components-printed path printed = components-parts_of path (list_any_none is_dot (parts_of path) printed.no_dot)
 
 -- a path below another
-pub IsPrintedPath-path_below : (path rest : List ℕ) → IsPrintedPath path → IsPrintedPath rest
+IsPrintedPath-path_below : (path rest : List ℕ) → IsPrintedPath path → IsPrintedPath rest
     → IsPrintedPath (path_below path rest)
 IsPrintedPath-path_below path rest first second =
     IsPrintedPath-path_text (parts_of path ++ parts_of rest)

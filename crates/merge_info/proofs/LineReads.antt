@@ -17,7 +17,7 @@ unfolding line_of
 line_of-uncut bytes none = rw (list_any-Lacks 58 bytes none) refl
 
 -- a line with one
-pub line_of-cut : (bytes path list : List ℕ) → IsCutAtLast 58 bytes path list → line_of bytes ≡ option_and_then (line_from path) (elements_of (without_blanks list))
+line_of-cut : (bytes path list : List ℕ) → IsCutAtLast 58 bytes path list → line_of bytes ≡ option_and_then (line_from path) (elements_of (without_blanks list))
 unfolding line_of
 line_of-cut bytes path list cut = rw (list_any-cut 58 bytes path list cut, before_last-cut 58 bytes path list cut, after_last-cut 58 bytes path list cut) refl
 

@@ -1,16 +1,15 @@
 -- The text of a value, as it is read again.
-use Rattle.std.proofs.Common.{◌≡◌, ◌≢◌, ℕ, ◌-◌, ◌<◌, List, [], ◌∷◌, ◌++◌, length, get_or, map, All}
-use Rattle.std.proofs.Common.{refl, sym, ap, ◌∙◌, arith, eq-eqb}
+use Rattle.std.proofs.Common.{◌≡◌, ◌≢◌, ℕ, ◌<◌, List, [], ◌∷◌, ◌++◌, length, get_or, map, All}
+use Rattle.std.proofs.Common.{refl, arith}
 use Rattle.std.specs.Prelude.{Some}
 use Rattle.std.specs.Io.BufRead.{strip_last}
 use Rattle.std.specs.List.{join_with_byte, slice_split}
-use Rattle.std.proofs.lemmas.Bool.{lt-ltb}
 use Rattle.std.proofs.lemmas.Grind.{common_steps}
-use Rattle.std.proofs.lemmas.List.{append-nil, append_assoc, get_or_at, length-append, take_at}
+use Rattle.std.proofs.lemmas.List.{append-nil, append_assoc}
 use Rattle.std.proofs.lemmas.List.Elements.{All-map}
 use Rattle.std.proofs.lemmas.List.Folds.{list_any_none}
 use Rattle.svn_path.specs.Components.{is_dot, parts_of}
-use Rattle.svn_text.specs.Line.{is_newline, line_text}
+use Rattle.svn_text.specs.Line.{is_newline}
 use Rattle.svn_text.specs.Cut.{Lacks}
 use Rattle.svn_text.proofs.Cuts.{after_last-whole, before_last-whole}
 use Rattle.range_list.specs.Rangelist.{IsCanonical}
@@ -49,7 +48,7 @@ line_of-joined path runs is_path canonical some =
     (line_from-entry path runs is_path canonical)
 
 -- a printed line is read as the entry
-pub line_of-printed_entry : (line : Line) → IsEntry line → line_of (printed_entry line) ≡ Some line
+line_of-printed_entry : (line : Line) → IsEntry line → line_of (printed_entry line) ≡ Some line
 line_of-printed_entry line is_entry =
     rw append_assoc (line_of-joined line.path line.runs is_entry.path is_entry.canonical is_entry.some)
 
@@ -85,7 +84,7 @@ lines_between-some [] some = absurd (omega arith)
 lines_between-some (byte ∷ bytes) some = refl
 
 -- the lines of a printed value are those of its entries
-pub text_lines-value_text : (value : List Line) → All IsEntry value → All IsOnOneLine value
+text_lines-value_text : (value : List Line) → All IsEntry value → All IsOnOneLine value
     → text_lines (value_text value) ≡ map printed_entry value
 text_lines-value_text [] entries one_line = refl
 text_lines-value_text (line ∷ lines) entries one_line =

@@ -19,7 +19,7 @@ pub bytes_eq-before : (a b : List ℕ) → slice_cmp nat_cmp a b ≡ Less → by
 bytes_eq-before a b before = sym (is_eq-slice_cmp a b) ∙ ap is_eq before
 
 -- nor is a path after another
-pub bytes_eq-after : (a b : List ℕ) → slice_cmp nat_cmp a b ≡ Less → bytes_eq b a ≡ false
+bytes_eq-after : (a b : List ℕ) → slice_cmp nat_cmp a b ≡ Less → bytes_eq b a ≡ false
 bytes_eq-after a b before = nat_list_eq_equiv.symm b a ∙ bytes_eq-before a b before
 
 -- the lines after the first

@@ -1,7 +1,7 @@
 -- Printed rangelists, as they are read again.
-use Rattle.std.proofs.Common.{◌≡◌, ◌≢◌, ℕ, ◌<◌, ◌≤◌, ◌==◌, Bool, true, false, List, [], ◌∷◌, ◌++◌, length, get_or}
+use Rattle.std.proofs.Common.{◌≡◌, ◌≢◌, ℕ, ◌<◌, ◌≤◌, ◌==◌, Bool, false, List, [], ◌∷◌, ◌++◌, length, get_or}
 use Rattle.std.proofs.Common.{map, All, decimal, inl, inr, refl, sym, ap, ◌∙◌, arith}
-use Rattle.std.specs.Prelude.{Some, if◌then◌else◌}
+use Rattle.std.specs.Prelude.{Some}
 use Rattle.std.proofs.lemmas.Bool.{cases_Bool, eqb-false, eqb-true, lt-ltb, ne_eqb, or_from}
 use Rattle.std.proofs.lemmas.Fmt.{decimal_nonempty}
 use Rattle.std.proofs.lemmas.Grind.{common_steps}
@@ -44,7 +44,8 @@ Lacks-run_text byte run other is_run =
     elim (cases_Bool run.inheritable) [
       | inl inherits ↦ rw (inherits, append-nil) text
       | inr starred ↦
-          rw starred (Lacks-append byte (range_text run) (42 ∷ []) text (Lacks-cons byte 42 [] other.2 (Lacks-nil byte)))
+          rw starred
+          (Lacks-append byte (range_text run) (42 ∷ []) text (Lacks-cons byte 42 [] other.2 (Lacks-nil byte)))
     ]
 
 AllLack-runs : (byte : ℕ) (runs : List Run) → IsOther byte → All IsRun runs → All (Lacks byte) (map run_text runs)
@@ -108,7 +109,7 @@ element_of-append_star bytes none =
     rw (list_any-whole 42 bytes [], after_first-whole 42 bytes [] none, before_first-whole 42 bytes [] none) refl
 
 -- a printed run is read as the run
-pub element_of-run_text : (run : Run) → IsRun run → element_of (run_text run) ≡ Some run
+element_of-run_text : (run : Run) → IsRun run → element_of (run_text run) ≡ Some run
 element_of-run_text run is_run =
     let text = range_text run in
     let none = Lacks-range_text 42 run refl refl is_run in

@@ -98,7 +98,7 @@ runs_at-lookup (entry ∷ entries) path rising =
 
 -- ---- a line put into the map
 
--- the path's runs are followed by those of the line
+-- after the runs of the path come those of the line
 module _ (old new : RunsByPath) (line : Line) (more : Vec Run) (ordered : IsOrdered path_cmp new)
     (longer : more.items ≡ items_found (runs_found old line.path) ++ line.runs)
     (updates : UpdatesBy path_cmp (λ (key : Vec ℕ). slice_cmp nat_cmp line.path key.items) old new (Some more)) where

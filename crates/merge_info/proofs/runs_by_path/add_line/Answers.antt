@@ -27,4 +27,5 @@ returns-in_ok-insert-in-None c =
     let same = c.get_mut.follows.holds-at-none in
     let absent : runs_found old line.path.items ≡ None = rw (same, ← c.as_slice.ensures.value) (sym c.in-None.ensures.value) in
     subst (λ before. AddsLine (record { path = line.path.items; runs = line.runs.items }) before new) same
-    (AreRunsByPath-insert old new line.path line.runs c.requires absent inserted.entries inserted.updates inserted.ordered)
+    (AreRunsByPath-insert old new line.path line.runs c.requires absent inserted.entries inserted.updates
+    inserted.ordered)

@@ -1,12 +1,8 @@
-use Rattle.std.proofs.Common.{◌<◌, ◌++◌, length, map, take, sym, ap, refl, ◌∙◌, arith, take_all, append-nil}
-use Rattle.std.proofs.lemmas.List.{flat_map_more, length-map}
+use Rattle.std.proofs.Common.{map, arith}
 use Rattle.std.proofs.lemmas.Grind.{common_steps}
-use Rattle.svn_text.specs.Line.{line_text}
-use Rattle.merge_info.specs.Inherited.{inherited_line}
 use Rattle.svn_text.proofs.Appended.{BeginsWith-append, BeginsWith-trans}
-use Rattle.merge_info.specs.Text.{inherited_text, printed_entry, value_text}
 use Rattle.merge_info.specs.Value.{IsEntry, entry_view}
-use Rattle.merge_info.proofs.InheritedEntries.{inherited_entries, inherited_entries-canonical, inherited_entries-next}
+use Rattle.merge_info.proofs.InheritedEntries.{inherited_entries-canonical, inherited_entries-next}
 use Rattle.merge_info.proofs.Each.{All-from_map_at}
 use Rattle.merge_info.proofs.text.append_inherited.Goals as goal
 use Rattle.merge_info.proofs.text.append_inherited.Goals.{then-has_inheritable+in_ok-append_inherited, else-has_inheritable}

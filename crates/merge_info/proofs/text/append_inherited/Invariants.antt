@@ -6,4 +6,5 @@ use Rattle.merge_info.proofs.text.append_inherited.Given as goal
 
 abbrev pub invariant-loop-entry : goal.invariant-loop-entry
 invariant-loop-entry l =
-    l.out.items ≡ l.fn.out.items ++ value_text (inherited_entries l.rest (map entry_view (take l.entry-index l.entries)))
+    l.out.items
+    ≡ l.fn.out.items ++ value_text (inherited_entries l.rest (map entry_view (take l.entry-index l.entries)))
