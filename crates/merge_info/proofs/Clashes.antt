@@ -32,11 +32,9 @@ list_any-or : {X : Type 0} (p q r : X → Bool) (xs : List X) → All (λ x. p x
     → list_any p xs ≡ (list_any q xs || list_any r xs)
 list_any-or p q r [] each = refl
 list_any-or p q r (x ∷ xs) each =
-    rw (each 0 x (omega arith), list_any-or p q r xs (All-tail (λ x. p x ≡ (q x || r x)) x xs each))
-    (by (q x) (r x) (list_any q xs) (list_any r xs))
-  where
-    by : (a b c d : Bool) → ((a || b) || (c || d)) ≡ ((a || c) || (b || d))
-    by a b c d = grind arith
+    let here = each 0 x (omega arith) in
+    let rest = list_any-or p q r xs (All-tail (λ x. p x ≡ (q x || r x)) x xs each) in
+    grind arith
 
 -- a run is not of both sorts
 clashes-itself : (a : Run) → clashes a a ≡ false
