@@ -1,5 +1,5 @@
 -- What a line says, by the cut at its last colon.
-use Rattle.std.proofs.Common.{◌≡◌, ℕ, true, false, List, Some, None, refl, ap, ◌∙◌}
+use Rattle.std.proofs.Common.{◌≡◌, ℕ, List, Some, None, refl, ap, ◌∙◌}
 use Rattle.std.specs.Prelude.{option_and_then}
 use Rattle.std.proofs.lemmas.Bool.{false_from_ne_true}
 use Rattle.range_list.specs.declared.run.Run.{Run}
@@ -9,7 +9,7 @@ use Rattle.svn_text.proofs.Lines.{list_any-Lacks}
 use Rattle.svn_path.proofs.Components.{components-parts_of}
 use Rattle.merge_info.proofs.PrintedPaths.{IsPrintedPath-path_text}
 use Rattle.svn_path.specs.Components.{HasDot, parts_of, path_text}
-use Rattle.merge_info.specs.Line.{IsPrintedPath, elements_of, has_clash, line_from, line_of, without_blanks}
+use Rattle.merge_info.specs.Line.{IsPrintedPath, elements_of, line_from, line_of, without_blanks}
 
 -- a line without a colon is malformed
 pub line_of-uncut : (bytes : List ℕ) → Lacks 58 bytes → line_of bytes ≡ None
@@ -26,17 +26,8 @@ module _ (bytes path list : List ℕ) (cut : IsCutAtLast 58 bytes path list) whe
   line_of-malformed_list none = line_of-cut bytes path list cut ∙ ap (option_and_then (line_from path)) none
 
   module _ (runs : List Run) (read : elements_of (without_blanks list) ≡ Some runs) where
-    line_of-line_from : line_of bytes ≡ line_from path runs
+    pub line_of-line_from : line_of bytes ≡ line_from path runs
     line_of-line_from = line_of-cut bytes path list cut ∙ ap (option_and_then (line_from path)) read
-
-    pub line_of-dot : HasDot path → line_of bytes ≡ None
-    line_of-dot dot = line_of-line_from ∙ rw dot refl
-
-    pub line_of-clash : (HasDot path → ⊥) → has_clash runs ≡ true → line_of bytes ≡ None
-    line_of-clash fine clash = line_of-line_from ∙ rw (false_from_ne_true _ fine, clash) refl
-
-    pub line_of-read : (HasDot path → ⊥) → has_clash runs ≡ false → line_of bytes ≡ Some (record { path = path_text (parts_of path); runs = runs })
-    line_of-read fine apart = line_of-line_from ∙ rw (false_from_ne_true _ fine, apart) refl
 
 -- the path as it is printed is a printed path
 pub IsPrintedPath-of_bytes : (path : List ℕ) → (HasDot path → ⊥) → IsPrintedPath (path_text (parts_of path))

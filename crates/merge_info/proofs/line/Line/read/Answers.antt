@@ -1,9 +1,11 @@
-use Rattle.std.proofs.Common.{◌≡◌, Err, ap, rules}
+use Rattle.std.proofs.Common.{◌≡◌, ◌∙◌, true, false, refl, Err, ap, rules}
 use Rattle.std.proofs.lemmas.Result.{err_from_is_err_and}
 use Rattle.merge_info.specs.declared.error.MergeError.TheVariants.{Malformed}
-use Rattle.std.proofs.lemmas.Bool.{iff_false}
-use Rattle.merge_info.proofs.LineReads.{IsPrintedPath-of_bytes, line_of-clash, line_of-dot, line_of-malformed_list, line_of-read, line_of-uncut}
+use Rattle.std.proofs.lemmas.Bool.{false_from_ne_true, iff_false}
+use Rattle.merge_info.specs.Line.{has_clash, line_from, line_of}
+use Rattle.merge_info.proofs.LineReads.{IsPrintedPath-of_bytes, line_of-line_from, line_of-malformed_list, line_of-uncut}
 use Rattle.merge_info.proofs.line.Line.read.Goals as goal
+use Rattle.merge_info.proofs.line.Line.read.Goals.{In_ok-runs}
 use Rattle.merge_info.proofs.line.Line.read.Goals.{then-has_dot-via-then-has_dot, then-has_dot-via-else-has_dot+in_ok-has_clash+then-branch}
 
 pub returns-in_default-clause-malformed : goal.returns-in_default-clause-malformed
@@ -15,17 +17,26 @@ returns-in_err-runs-clause-malformed c = λ malformed.
     let is : c.in_err-runs.field-0.0 ≡ Malformed = cc in
     line_of-malformed_list _ _ _ c.in-Some.ensures (rw (← c.without_blanks.ensures) (c.in_err-runs.ensures.malformed (ap Err is)))
 
+-- the path and the runs decide
+line_is : (c : In_ok-runs) → line_of c.args.bytes.now ≡ line_from c.in-Some.path.now c.in_ok-runs.runs.items
+line_is c =
+    line_of-line_from _ _ _ c.in-Some.ensures _ (rw (← c.without_blanks.ensures) c.in_ok-runs.ensures.ok)
+
 pub returns-then-has_dot-clause-malformed : goal.returns-then-has_dot-clause-malformed
 returns-then-has_dot-clause-malformed c = λ _.
-    elim c.then-has_dot.branch [
-      | then-has_dot-via-then-has_dot w ↦ line_of-dot _ _ _ c.in-Some.ensures c.in_ok-runs.runs.items (rw (← c.without_blanks.ensures) c.in_ok-runs.ensures.ok) (c.has_dot.ensures.0 w.if-has_dot.true)
+    line_is (goal.at.returns-then-has_dot-clause-malformed c).In_ok-runs ∙ elim c.then-has_dot.branch [
+      | then-has_dot-via-then-has_dot w ↦ rw (c.has_dot.ensures.0 w.if-has_dot.true) refl
       | then-has_dot-via-else-has_dot+in_ok-has_clash+then-branch w ↦
-          line_of-clash _ _ _ c.in-Some.ensures c.in_ok-runs.runs.items (rw (← c.without_blanks.ensures) c.in_ok-runs.ensures.ok) (iff_false c.has_dot.ensures w.if-has_dot.false) (search rules)
+          let clash : has_clash c.in_ok-runs.runs.items ≡ true = search rules in
+          rw (false_from_ne_true _ (iff_false c.has_dot.ensures w.if-has_dot.false), clash) refl
     ]
 
 pub returns-clause-ok : goal.returns-clause-ok
 returns-clause-ok c =
-    rw c.in_ok-printed_path.ensures (line_of-read _ _ _ c.in-Some.ensures c.in_ok-runs.runs.items (rw (← c.without_blanks.ensures) c.in_ok-runs.ensures.ok) (iff_false c.has_dot.ensures c.if-has_dot.false) (search rules))
+    let apart : has_clash c.in_ok-runs.runs.items ≡ false = search rules in
+    rw c.in_ok-printed_path.ensures
+    (line_is (goal.at.returns-clause-ok c).In_ok-runs
+    ∙ rw (false_from_ne_true _ (iff_false c.has_dot.ensures c.if-has_dot.false), apart) refl)
 
 pub returns-clause-line : goal.returns-clause-line
 returns-clause-line c = record {
