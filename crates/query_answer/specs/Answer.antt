@@ -195,9 +195,6 @@ location_text names path = location_line (option_map (components_of names) path)
 abbrev pub locate_text : List (List ℕ) → Option (List NameId) → List ℕ
 locate_text names path = line_text (location_text names path)
 
-abbrev pub segment_text : List (List ℕ) → KeptSegment → List ℕ
-segment_text names segment = line_text (segment_line (segment_in_bytes names segment))
-
 abbrev pub segments_text : List (List ℕ) → List KeptSegment → List ℕ
 segments_text names segments = flat_map line_text (map segment_line (segments_in_bytes names segments))
 

@@ -5,10 +5,8 @@ ghost use Rattle.query_answer.specs.Answer.{HasPathsOf, answer_head, answer_in_b
 use crate::merged_revision::MergedRevision;
 use crate::printed_mergeinfo::PrintedMergeinfo;
 use crate::repo::Repo;
-use crate::result_lines::{
-    append_eligible, append_location, append_log, append_merged, append_mergeinfo, append_segments,
-};
 use crate::status::Status;
+use crate::verbs::{eligible, locate, log, merged, segments};
 use path_index::{Hit, Segment};
 use std::alloc::AllocError;
 use svn_path::{Names, Path};
@@ -62,14 +60,12 @@ impl Answer {
         append_head(place, self.status(), out)?;
         match self {
             Answer::Refused(_) => Ok(()),
-            Answer::Location(path) => append_location(names, path.as_ref(), out),
-            Answer::Segments(segments) => append_segments(names, segments.as_slice(), out),
-            Answer::Log { segments, hits } => {
-                append_log(names, segments.as_slice(), hits.as_slice(), out)
-            }
-            Answer::Mergeinfo(value) => append_mergeinfo(value, out),
-            Answer::Merged(revisions) => append_merged(revisions.as_slice(), out),
-            Answer::Eligible(revisions) => append_eligible(revisions.as_slice(), out),
+            Answer::Location(path) => locate::append_location(names, path.as_ref(), out),
+            Answer::Segments(segments) => segments::append_segments(names, segments, out),
+            Answer::Log { segments, hits } => log::append_log(names, segments, hits, out),
+            Answer::Mergeinfo(value) => value.write(out),
+            Answer::Merged(revisions) => merged::append_merged(revisions, out),
+            Answer::Eligible(revisions) => eligible::append_eligible(revisions, out),
         }
     }
 

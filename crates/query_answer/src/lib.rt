@@ -24,7 +24,6 @@ mod printed_mergeinfo;
 mod query;
 mod range;
 mod repo;
-mod result_lines;
 mod status;
 mod target;
 mod unanswered;

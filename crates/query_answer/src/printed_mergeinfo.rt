@@ -1,7 +1,8 @@
-ghost use Rattle.std.specs.Prelude.{◌≡◌, ◌++◌, IfOk, OnErr, OnOk};
+ghost use Rattle.std.specs.Prelude.{◌≡◌, ◌++◌, IfOk, OnOk, flat_map};
 ghost use Rattle.merge_info.specs.CanonicalValue.{inherited_value};
 ghost use Rattle.merge_info.specs.Line.{IsPrintedPath};
-ghost use Rattle.merge_info.specs.Text.{value_text};
+ghost use Rattle.svn_text.specs.Appended.{BeginsWith};
+ghost use Rattle.svn_text.specs.Line.{line_text};
 
 use merge_info::MergeInfo;
 use std::alloc::{AllocError, Global};
@@ -32,6 +33,8 @@ impl Model for PrintedMergeinfo {
 }
 
 impl PrintedMergeinfo {
+    ghost use Rattle.query_answer.specs.Answer.{mergeinfo_lines};
+
     /// The lines of a value.
     pub(crate) fn of(alloc: Global, value: &MergeInfo) -> Result<Self, AllocError>
         ensures { IfOk result (λ printed. printed ≡ value.now) }
@@ -64,9 +67,10 @@ impl PrintedMergeinfo {
     }
 
     /// Appends the lines.
+    #[tactic(auto, using(svn_text::proofs::Appended::appended))]
     pub(crate) fn write(&self, out: &mut Vec<u8>) -> Result<(), AllocError>
-        ensures ok { OnOk result (out.new.items ≡ out.old.items ++ value_text self.now) }
-        ensures err { OnErr result (out.new.items ≡ out.old.items) }
+        ensures ok { OnOk result (out.new.items ≡ out.old.items ++ flat_map line_text (mergeinfo_lines self.now)) }
+        ensures begins { BeginsWith out.old.items out.new.items }
     {
         out.extend_from_slice(self.text.as_slice())
     }

@@ -6,13 +6,13 @@ ghost use Rattle.query_answer.specs.Repo.{answer_in, text_read_for};
 ghost use Rattle.query_answer.specs.Unanswered.{HasAnswer};
 ghost use Rattle.query_answer.specs.Worker.{IsSeenOf, IsUnreadWhereRefused, KnowsWhatWasRead, Learns, Reads};
 
-mod eligible;
-mod locate;
-mod log;
-mod merged;
+pub(crate) mod eligible;
+pub(crate) mod locate;
+pub(crate) mod log;
+pub(crate) mod merged;
 mod mergeinfo;
 mod pair;
-mod segments;
+pub(crate) mod segments;
 mod source;
 
 use crate::answers::Answer;

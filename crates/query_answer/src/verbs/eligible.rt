@@ -1,5 +1,8 @@
 //! `eligible`: the operative revisions of a source that are still to be merged into a target.
-ghost use Rattle.std.specs.Prelude.{◌≡◌, IfOk};
+ghost use Rattle.std.specs.Prelude.{◌≡◌, ◌++◌, IfOk, OnOk, flat_map, map};
+ghost use Rattle.svn_text.specs.Appended.{BeginsWith};
+ghost use Rattle.svn_text.specs.Line.{line_text};
+ghost use Rattle.query_answer.specs.Answer.{eligible_line};
 ghost use Rattle.query_answer.specs.SourceHits.{TellsLocations, eligible_by_hits, has_in, is_eligible_by_hit};
 ghost use Rattle.query_answer.specs.Repo.{IsPathIn, eligible_in};
 ghost use Rattle.query_answer.specs.Held.{IsHeldIn};
@@ -11,6 +14,7 @@ use crate::locations::{is_at, path_at, path_in};
 use crate::repo::Repo;
 use path_index::{Hit, Segment};
 use std::alloc::{AllocError, Global};
+use svn_text::push_number;
 
 /// The eligible revisions of a pair, given the mergeinfo that the target holds, in rising order, and in this range if
 /// there is one.
@@ -75,4 +79,18 @@ fn is_eligible(
         Some(source) => ranges.has(hit).is_none() && !is_at(path_in(target, hit.rev), source),
         None => false,
     }
+}
+
+/// Appends the lines of `eligible`.
+#[tactic(auto, using(svn_text::proofs::Appended::appended))]
+pub(crate) fn append_eligible(revisions: &[u32], out: &mut Vec<u8>) -> Result<(), AllocError>
+    ensures ok { OnOk result (out.new.items ≡ out.old.items ++ flat_map line_text (map eligible_line revisions.now)) }
+    ensures begins { BeginsWith out.old.items out.new.items }
+{
+    for rev in revisions {
+        out.push(b'r')?;
+        push_number(out, u64::from(*rev))?;
+        out.push(b'\n')?;
+    }
+    Ok(())
 }

@@ -1,5 +1,8 @@
 //! `merged`: the operative revisions of a source that the mergeinfo of a target has.
-ghost use Rattle.std.specs.Prelude.{◌≡◌, IfOk};
+ghost use Rattle.std.specs.Prelude.{◌≡◌, ◌++◌, IfOk, OnOk, flat_map, map};
+ghost use Rattle.svn_text.specs.Appended.{BeginsWith};
+ghost use Rattle.svn_text.specs.Line.{line_text};
+ghost use Rattle.query_answer.specs.Answer.{merged_line};
 ghost use Rattle.query_answer.specs.SourceHits.{has_in, merged_by_hits};
 ghost use Rattle.query_answer.specs.Repo.{IsPathIn, merged_in};
 ghost use Rattle.query_answer.specs.Held.{IsHeldIn};
@@ -11,6 +14,7 @@ use crate::merged_revision::MergedRevision;
 use crate::repo::Repo;
 use path_index::Hit;
 use std::alloc::{AllocError, Global};
+use svn_text::push_number;
 
 /// The merged revisions of a pair, given the mergeinfo that the target holds, in rising order, and in this range if
 /// there is one.
@@ -53,4 +57,24 @@ fn merged_by_hits(
     }
     found.reverse();
     Ok(found)
+}
+
+/// Appends the lines of `merged`.
+#[tactic(auto, using(svn_text::proofs::Appended::appended))]
+pub(crate) fn append_merged(
+    revisions: &[MergedRevision],
+    out: &mut Vec<u8>,
+) -> Result<(), AllocError>
+    ensures ok { OnOk result (out.new.items ≡ out.old.items ++ flat_map line_text (map merged_line revisions.now)) }
+    ensures begins { BeginsWith out.old.items out.new.items }
+{
+    for revision in revisions {
+        out.push(b'r')?;
+        push_number(out, u64::from(revision.rev))?;
+        if !revision.inheritable {
+            out.push(b'*')?;
+        }
+        out.push(b'\n')?;
+    }
+    Ok(())
 }

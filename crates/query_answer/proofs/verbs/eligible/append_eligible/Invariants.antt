@@ -2,7 +2,7 @@ use Rattle.std.proofs.Common.{◌≡◌, ◌++◌, map, take}
 use Rattle.std.specs.Prelude.{flat_map}
 use Rattle.svn_text.specs.Line.{line_text}
 use Rattle.query_answer.specs.Answer.{eligible_line}
-use Rattle.query_answer.proofs.result_lines.append_eligible.Given as goal
+use Rattle.query_answer.proofs.verbs.eligible.append_eligible.Given as goal
 
 abbrev pub invariant-loop-rev : goal.invariant-loop-rev
 invariant-loop-rev l = l.out.items ≡ l.initial.out.items ++ flat_map line_text (map eligible_line (take l.rev-index l.revisions))

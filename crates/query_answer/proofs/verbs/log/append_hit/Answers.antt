@@ -6,7 +6,7 @@ use Rattle.svn_path.specs.Path.{components_of}
 use Rattle.svn_text.specs.Line.{line_text}
 use Rattle.query_answer.specs.Answer.{location_line}
 use Rattle.query_answer.proofs.AnswerTexts.{location_line-lent, path_at-in_bytes}
-use Rattle.query_answer.proofs.result_lines.append_hit.Goals as goal
+use Rattle.query_answer.proofs.verbs.log.append_hit.Goals as goal
 
 pub returns-clause-ok : goal.returns-clause-ok
 returns-clause-ok c =

@@ -2,7 +2,7 @@ use Rattle.std.proofs.Common.{◌≡◌, ◌++◌, map, take}
 use Rattle.std.specs.Prelude.{flat_map}
 use Rattle.svn_text.specs.Line.{line_text}
 use Rattle.query_answer.specs.Answer.{hit_line, segments_in_bytes}
-use Rattle.query_answer.proofs.result_lines.append_log.Given as goal
+use Rattle.query_answer.proofs.verbs.log.append_log.Given as goal
 
 abbrev pub invariant-loop-hit : goal.invariant-loop-hit
 invariant-loop-hit l = l.out.items ≡ l.initial.out.items ++ flat_map line_text (map (hit_line (segments_in_bytes l.names l.segments)) (take l.hit-index l.hits))
