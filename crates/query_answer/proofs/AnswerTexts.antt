@@ -1,6 +1,6 @@
 -- The answer to a query, by what was found of its peg and of the peg's path.
 use Rattle.std.proofs.Common.{◌≡◌, ℕ, ◌<◌, ◌≤◌, true, false, List, [], ◌∷◌, Option, Some, None, filter, option_map, length, map, bytes_eq, refl, sym, ap, ap₂, subst, ◌∙◌}
-use Rattle.std.specs.Prelude.{◌++◌, All, Err, Vec, codes, decimal, filter_map, flat_map, option_and_then, reverse, slice_get, zero, suc}
+use Rattle.std.specs.Prelude.{◌++◌, All, Err, Result, Vec, codes, decimal, filter_map, flat_map, option_and_then, reverse, slice_get, zero, suc}
 use Rattle.std.specs.declared.alloc.Global.{Global}
 use Rattle.std.proofs.lemmas.List.{reverse-reverse}
 use Rattle.std.proofs.lemmas.List.Elements.{All-cons, All-filter, All-head, All-nil, All-tail, All-weaker}
@@ -24,23 +24,20 @@ use Rattle.svn_dump.specs.Location.{location}
 use Rattle.svn_dump.specs.Record.{HistoryOfBytes}
 use Rattle.svn_dump.specs.Tree.{is_there, tree_of}
 use Rattle.svn_dump.specs.declared.record.NodeRecord.{NodeRecord}
-use Rattle.query_answer.specs.Answer.{Answer, IsAnswer, IsLocationOf, HasPathOf, TreesOfBytes, if_both_exist, if_peg_exists, with_effective_mergeinfo, with_value, answer_of, eligible_line, eligible_lines, hit_line, locate_lines, location_line, log_line, log_lines, merged_line, merged_lines, value_answer, ok_answer, refused_answer, segment_in_bytes, segment_line, segments_in_bytes, segments_lines}
+use Rattle.query_answer.specs.Answer.{Answer, IsAnswer, IsLocationOf, HasPathOf, TreesOfBytes, if_both_exist, if_peg_exists, with_effective_mergeinfo, with_value, answer_of, eligible_lines, hit_line, locate_lines, location_line, log_line, log_lines, merged_lines, value_answer, ok_answer, refused_answer, segment_in_bytes, segment_line, segments_in_bytes, segments_lines}
 use Rattle.query_answer.specs.Effective.{effective_value}
 use Rattle.query_answer.specs.Peg.{Peg, PegValue, peg_view}
 use Rattle.query_answer.specs.Query.{bad, eligible, locate, log, merged, mergeinfo, segments}
 use Rattle.query_answer.specs.Held.{held_value}
-use Rattle.query_answer.specs.Repo.{IsPair, IsPairRefused, IsPegFound, IsPegRefused, IsRepo, with_peg_in, with_pair_in, effective_in, eligible_in, index_of_dump, locate_answer, log_answer, merged_in, mergeinfo_answer, pair_answer, peg_in_bytes, segments_answer, trees_in_bytes, verb_answer}
+use Rattle.query_answer.specs.Repo.{IsMergeinfoRefused, IsPair, IsPairRefused, IsPegFound, IsPegRefused, IsRepo, with_peg_in, with_pair_in, effective_in, held_answer, index_of_dump, locate_answer, log_answer, mergeinfo_answer, peg_in_bytes, segments_answer, trees_in_bytes}
+use Rattle.query_answer.specs.declared.answers.Answer.{Answer as KeptAnswer}
 use Rattle.query_answer.specs.declared.answers.Answer.TheVariants as kept
-use Rattle.query_answer.specs.declared.merged_revision.MergedRevision.{MergedRevision}
 use Rattle.query_answer.specs.declared.held_mergeinfo.HeldMergeinfo.{HeldMergeinfo}
 use Rattle.query_answer.specs.declared.path_rev.PathRev.{PathRev}
 use Rattle.query_answer.specs.declared.unanswered.Unanswered.{Unanswered}
 use Rattle.query_answer.specs.declared.unanswered.Unanswered.TheVariants.{Memory, Refused}
 use Rattle.query_answer.specs.Unanswered.{HasAnswer}
 use Rattle.query_answer.specs.declared.verbs.pair.Pair.{Pair}
-use Rattle.query_answer.specs.declared.verbs.pair.PairVerb.{PairVerb}
-use Rattle.query_answer.specs.declared.verbs.pair.PairVerb.TheVariants as verb
-use Rattle.query_answer.specs.declared.verbs.pair.Wanted.{Wanted}
 use Rattle.block_map.specs.Map.{MapValue}
 use Rattle.query_answer.specs.declared.status.Status.{Status}
 use Rattle.query_answer.specs.declared.status.Status.TheVariants as status
@@ -261,61 +258,24 @@ module _ (dump : DumpValue) (source target : PegValue) where
     with_pair_in-found to other answer =
         with_pair_in-target answer ∙ other.answered (λ each. with_effective_mergeinfo (trees_in_bytes dump) each (answer (peg_in_bytes dump at) each))
 
--- the revisions that are asked for, where a peg or the mergeinfo stands against each answer
-pub IsAnswer-pair_refused : (dump : DumpValue) (wanted : Wanted) (status : Status)
-    → ((answer : Peg → Peg → MergeInfoValue → Answer) → with_pair_in dump wanted.source.now wanted.target.now answer ≡ refused_answer status)
-    → IsAnswer dump.names (pair_answer dump wanted) (kept.Refused status)
-IsAnswer-pair_refused dump wanted status refused = by wanted.verb
-  where
-    by : (each : PairVerb)
-        → IsAnswer dump.names (verb_answer dump each wanted.source.now wanted.target.now wanted.range) (kept.Refused status)
-    by verb.Merged =
-        let lines = merged_lines (history_in_bytes dump) (trees_in_bytes dump) in
-        IsAnswer-Refused dump.names _ status (refused (λ from to value. ok_answer (lines from wanted.range value)))
-    by verb.Eligible =
-        let lines = eligible_lines (history_in_bytes dump) (trees_in_bytes dump) in
-        IsAnswer-Refused dump.names _ status (refused (λ from to value. ok_answer (lines from to wanted.range value)))
+-- ---- each answer about a pair
 
-pub HasAnswer-pair_refused : (dump : DumpValue) (wanted : Wanted) (e : Unanswered)
-    → IsPairRefused dump wanted.source.now wanted.target.now e → HasAnswer dump (pair_answer dump wanted) (Err e)
-HasAnswer-pair_refused dump wanted (Refused status) refused = IsAnswer-pair_refused dump wanted status refused.0
-HasAnswer-pair_refused dump wanted Memory refused = tt
+pub HasAnswer-pair_refused : (dump : DumpValue) (source target : PegValue) (e : Unanswered) → IsPairRefused dump source target e
+    → (answer : Peg → Peg → MergeInfoValue → Answer) → HasAnswer dump (with_pair_in dump source target answer) (Err e)
+HasAnswer-pair_refused dump source target (Refused status) refused answer = IsAnswer-Refused dump.names _ status (refused.0 answer)
+HasAnswer-pair_refused dump source target Memory refused answer = tt
 
--- the revisions of a pair
-module _ (dump : DumpValue) (source target : PegValue) (pair : Pair) (found : IsPair dump source target pair) where
-  pub with_pair_in-malformed : effective_in dump pair.target.at.path pair.target.at.rev ≡ None → (answer : Peg → Peg → MergeInfoValue → Answer)
-      → with_pair_in dump source target answer ≡ refused_answer status.MalformedMergeinfo
-  with_pair_in-malformed none answer =
-      found.answered answer ∙ ap (λ each. with_value each (answer (peg_in_bytes dump pair.source) (peg_in_bytes dump pair.target.at))) none
+module _ (dump : DumpValue) (source target : PegValue) (pair : Pair) (found : IsPair dump source target pair) (answer : Peg → Peg → MergeInfoValue → Answer) where
+  abbrev by_value : MergeInfoValue → Answer
+  by_value = answer (peg_in_bytes dump pair.source) (peg_in_bytes dump pair.target.at)
 
-  module _ (held : HeldMergeinfo) (is : effective_in dump pair.target.at.path pair.target.at.rev ≡ Some (held_value dump.names held)) where
-    with_pair_in-held : (answer : Peg → Peg → MergeInfoValue → Answer) → with_pair_in dump source target answer
-        ≡ answer (peg_in_bytes dump pair.source) (peg_in_bytes dump pair.target.at) (held_value dump.names held)
-    with_pair_in-held answer =
-        found.answered answer ∙ ap (λ each. with_value each (answer (peg_in_bytes dump pair.source) (peg_in_bytes dump pair.target.at))) is
+  pub HasAnswer-mergeinfo_refused : (e : Unanswered) → IsMergeinfoRefused dump pair.target.at e → HasAnswer dump (with_pair_in dump source target answer) (Err e)
+  HasAnswer-mergeinfo_refused e refused = subst (λ each. HasAnswer dump each (Err e)) (sym (found.answered answer)) (refused by_value)
 
-    module _ (range : Option (ℕ × ℕ)) where
-      pub IsAnswer-Merged : (revisions : Vec MergedRevision Global)
-          → revisions.items ≡ merged_in dump pair range held
-          → IsAnswer dump.names (verb_answer dump verb.Merged source target range) (kept.Merged revisions)
-      IsAnswer-Merged revisions are = record {
-        names_of = tt;
-        same =
-            let lines = merged_lines (history_in_bytes dump) (trees_in_bytes dump) in
-            ap (λ all. ok_answer (map merged_line all)) are
-            ∙ sym (with_pair_in-held (λ from to value. ok_answer (lines from range value)));
-      }
-
-      pub IsAnswer-Eligible : (revisions : Vec ℕ Global)
-          → revisions.items ≡ eligible_in dump pair range held
-          → IsAnswer dump.names (verb_answer dump verb.Eligible source target range) (kept.Eligible revisions)
-      IsAnswer-Eligible revisions are = record {
-        names_of = tt;
-        same =
-            let lines = eligible_lines (history_in_bytes dump) (trees_in_bytes dump) in
-            ap (λ all. ok_answer (map eligible_line all)) are
-            ∙ sym (with_pair_in-held (λ from to value. ok_answer (lines from to range value)));
-      }
+  pub HasAnswer-held : (held : HeldMergeinfo) → effective_in dump pair.target.at.path pair.target.at.rev ≡ Some (held_value dump.names held)
+      → (result : Result KeptAnswer Unanswered) → HasAnswer dump (held_answer dump pair held answer) result → HasAnswer dump (with_pair_in dump source target answer) result
+  HasAnswer-held held is result =
+      subst (λ each. HasAnswer dump each result) (sym (found.answered answer ∙ ap (λ value. with_value value by_value) is))
 
 -- ---- what is written
 

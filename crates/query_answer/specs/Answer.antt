@@ -192,9 +192,6 @@ lent_path path = option_map (λ each. each.now) path
 abbrev pub location_text : List (List ℕ) → Option (List NameId) → List ℕ
 location_text names path = location_line (option_map (components_of names) path)
 
-abbrev pub locate_text : List (List ℕ) → Option (List NameId) → List ℕ
-locate_text names path = line_text (location_text names path)
-
 abbrev pub segments_text : List (List ℕ) → List KeptSegment → List ℕ
 segments_text names segments = flat_map line_text (map segment_line (segments_in_bytes names segments))
 

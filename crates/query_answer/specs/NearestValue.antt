@@ -1,5 +1,5 @@
 -- The value of the nearest mergeinfo that a worker is told, and what it knows afterwards.
-use Rattle.std.specs.Prelude.{ℕ, List, [], Option, Some, None, OnOk, Result, option_map}
+use Rattle.std.specs.Prelude.{ℕ, List, [], Option, Some, None, MatchResult, OnOk, Result, Err, option_map}
 use Rattle.std.specs.Borrow.{Fml, MutBor}
 use Rattle.std.specs.Io.BufRead.{Rests}
 use mir.Syntax.{named}
@@ -9,7 +9,8 @@ use Rattle.merge_info.specs.CanonicalValue.{value_of}
 use Rattle.merge_info.specs.Value.{MergeInfoValue}
 use Rattle.value_memo.specs.SeenValue.{SeenValue}
 use Rattle.value_memo.specs.contracts.seen.Seen.{the_row}
-use Rattle.query_answer.specs.Worker.{Knows, MayLearn}
+use Rattle.query_answer.specs.Worker.{Knows, MayLearn, Reads}
+use Rattle.query_answer.specs.declared.unanswered.Unanswered.{Unanswered}
 
 -- the text of the nearest mergeinfo, if there is any
 abbrev pub text_found : DumpValue → Option Nearest → Option (List ℕ)
@@ -26,3 +27,9 @@ abbrev pub ends_told : {T E : Type 0} → MutBor SeenValue → DumpValue → Lis
 ends_told seen dump memo read result =
     Rests (the_row (record { mir = named 1; lft = [] })) seen
     (λ new. MayLearn dump.values memo read seen.now new × OnOk result (Knows read new))
+
+-- once what a target holds has ended, the worker also knows the text after an error, unless memory ran out
+abbrev pub ends_held : {T : Type 0} → MutBor SeenValue → DumpValue → List ℕ → Option (List ℕ) → Result T Unanswered → Fml
+ends_held seen dump memo read result =
+    Rests (the_row (record { mir = named 1; lft = [] })) seen
+    (λ new. MatchResult result (λ held. MayLearn dump.values memo read seen.now new × Knows read new) (λ e. Reads dump memo read (Err e) seen.now new))

@@ -1,5 +1,5 @@
 -- A repository: a dump of a lawful history, and the answers to queries about it.
-use Rattle.std.specs.Prelude.{◌≡◌, ℕ, ◌<◌, ◌≤◌, List, Option, Some, None, IsFalse, All, ⊤, bytes_eq, filter, length, map, option_map}
+use Rattle.std.specs.Prelude.{◌≡◌, ℕ, ◌<◌, ◌≤◌, List, Option, Some, None, Err, IsFalse, All, ⊤, bytes_eq, filter, length, map, option_map}
 use Rattle.path_index.specs.History.{history_to, trees_to}
 use Rattle.path_index.specs.Index.{AreMaximal, AreSegmentsOf, IndexValue, IsThere, segment_view}
 use Rattle.path_index.specs.Operative.{operative_of}
@@ -15,7 +15,7 @@ use Rattle.svn_dump.specs.declared.record.ValueId.{ValueId}
 use Rattle.block_map.specs.Ends.{ends_of}
 use Rattle.block_map.specs.Map.{IsEndIn, IsMapOf, MapValue, revision_in}
 use Rattle.block_map.specs.declared.nearest.Nearest.{Nearest}
-use Rattle.query_answer.specs.Answer.{Answer, HasPathOf, TreesOfBytes, if_both_exist, if_peg_exists, with_value, answer_of, eligible_in_range, eligible_lines, locate_lines, log_lines, merged_in_range, merged_lines, value_answer, needs_mergeinfo, ok_answer, refused_answer, segments_lines}
+use Rattle.query_answer.specs.Answer.{Answer, HasPathOf, TreesOfBytes, if_both_exist, if_peg_exists, with_value, answer_of, eligible_lines, locate_lines, log_lines, merged_lines, value_answer, needs_mergeinfo, ok_answer, refused_answer, segments_lines}
 use Rattle.query_answer.specs.Effective.{NearestMergeinfo, effective_value, nearest, nearest_text, own_or_inherited}
 use Rattle.query_answer.specs.Peg.{Peg, PegValue, peg_view}
 use Rattle.query_answer.specs.Query as query
@@ -25,17 +25,14 @@ use Rattle.value_memo.specs.Parsed.{parsed_view}
 use Rattle.value_memo.specs.declared.parsed.Parsed.{Parsed}
 use Rattle.query_answer.specs.declared.effective_mergeinfo.Effective.{Effective}
 use Rattle.query_answer.specs.declared.effective_mergeinfo.Effective.TheVariants.{Malformed, Value}
-use Rattle.query_answer.specs.declared.merged_revision.MergedRevision.{MergedRevision}
 use Rattle.query_answer.specs.Held.{depth_in, held_value}
 use Rattle.query_answer.specs.declared.held_mergeinfo.HeldMergeinfo.{HeldMergeinfo}
 use Rattle.query_answer.specs.declared.path_rev.PathRev.{PathRev}
 use Rattle.query_answer.specs.declared.target.Target.{Target}
+use Rattle.query_answer.specs.Unanswered.{HasAnswer}
 use Rattle.query_answer.specs.declared.unanswered.Unanswered.{Unanswered}
 use Rattle.query_answer.specs.declared.unanswered.Unanswered.TheVariants.{Memory, Refused}
 use Rattle.query_answer.specs.declared.verbs.pair.Pair.{Pair}
-use Rattle.query_answer.specs.declared.verbs.pair.PairVerb.{PairVerb}
-use Rattle.query_answer.specs.declared.verbs.pair.PairVerb.TheVariants as verb
-use Rattle.query_answer.specs.declared.verbs.pair.Wanted.{Wanted}
 
 -- the index of a dump's records
 abbrev pub index_of_dump : DumpValue → IndexValue
@@ -193,23 +190,23 @@ IsPairRefused dump source target (Refused status) =
     × IsFalse (needs_mergeinfo status)
 IsPairRefused dump source target Memory = ⊤
 
--- the revisions that are asked for
-abbrev pub verb_answer : DumpValue → PairVerb → PegValue → PegValue → Option (ℕ × ℕ) → Answer
-verb_answer dump verb.Merged source target range =
-    with_pair_in dump source target
-    (λ from to value. ok_answer (merged_lines (history_in_bytes dump) (trees_in_bytes dump) from range value))
-verb_answer dump verb.Eligible source target range =
-    with_pair_in dump source target
-    (λ from to value. ok_answer (eligible_lines (history_in_bytes dump) (trees_in_bytes dump) from to range value))
+-- each answer by the effective mergeinfo of the path has this status
+abbrev pub IsMergeinfoRefused : DumpValue → PathRev → Unanswered → Type 0
+IsMergeinfoRefused dump at e = (answer : MergeInfoValue → Answer) → HasAnswer dump (with_value (effective_in dump at.path at.rev) answer) (Err e)
 
-abbrev pub pair_answer : DumpValue → Wanted → Answer
-pair_answer dump wanted = verb_answer dump wanted.verb wanted.source.now wanted.target.now wanted.range
+-- the answers about a source and a target, given the mergeinfo of the target
+abbrev pub merged_by : DumpValue → Option (ℕ × ℕ) → Peg → Peg → MergeInfoValue → Answer
+merged_by dump range source target value = ok_answer (merged_lines (history_in_bytes dump) (trees_in_bytes dump) source range value)
 
--- the merged revisions of a pair in the range, and those that are eligible, given what the target holds
-abbrev pub merged_in : DumpValue → Pair → Option (ℕ × ℕ) → HeldMergeinfo → List MergedRevision
-merged_in dump pair range held =
-    merged_in_range (history_in_bytes dump) (trees_in_bytes dump) (peg_in_bytes dump pair.source) range (held_value dump.names held)
+abbrev pub eligible_by : DumpValue → Option (ℕ × ℕ) → Peg → Peg → MergeInfoValue → Answer
+eligible_by dump range source target value = ok_answer (eligible_lines (history_in_bytes dump) (trees_in_bytes dump) source target range value)
 
-abbrev pub eligible_in : DumpValue → Pair → Option (ℕ × ℕ) → HeldMergeinfo → List ℕ
-eligible_in dump pair range held =
-    eligible_in_range (history_in_bytes dump) (trees_in_bytes dump) (peg_in_bytes dump pair.source) (peg_in_bytes dump pair.target.at) range (held_value dump.names held)
+abbrev pub merged_answer : DumpValue → PegValue → PegValue → Option (ℕ × ℕ) → Answer
+merged_answer dump source target range = with_pair_in dump source target (merged_by dump range)
+
+abbrev pub eligible_answer : DumpValue → PegValue → PegValue → Option (ℕ × ℕ) → Answer
+eligible_answer dump source target range = with_pair_in dump source target (eligible_by dump range)
+
+-- such an answer about a pair, by what the target holds
+abbrev pub held_answer : DumpValue → Pair → HeldMergeinfo → (Peg → Peg → MergeInfoValue → Answer) → Answer
+held_answer dump pair held answer = answer (peg_in_bytes dump pair.source) (peg_in_bytes dump pair.target.at) (held_value dump.names held)

@@ -20,7 +20,6 @@ use crate::query::Query;
 use crate::repo::Repo;
 use crate::status::Status;
 use crate::unanswered::Unanswered;
-use pair::{PairVerb, Wanted, answer_pair};
 use std::alloc::{AllocError, Global};
 use value_memo::{Memo, Seen};
 
@@ -70,22 +69,10 @@ fn answer_verb<'r>(
         Query::Log { of, range } => log::answer_log(alloc, repo, of, *range),
         Query::Mergeinfo { of } => mergeinfo::answer_mergeinfo(alloc, repo, of, memo, seen),
         Query::Merged { of, target, range } => {
-            let wanted = Wanted {
-                verb: PairVerb::Merged,
-                source: of,
-                target,
-                range: *range,
-            };
-            answer_pair(alloc, repo, &wanted, memo, seen)
+            merged::answer_merged(alloc, repo, of, target, *range, memo, seen)
         }
         Query::Eligible { of, target, range } => {
-            let wanted = Wanted {
-                verb: PairVerb::Eligible,
-                source: of,
-                target,
-                range: *range,
-            };
-            answer_pair(alloc, repo, &wanted, memo, seen)
+            eligible::answer_eligible(alloc, repo, of, target, *range, memo, seen)
         }
     }
 }

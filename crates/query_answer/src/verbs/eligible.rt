@@ -4,43 +4,65 @@ ghost use Rattle.svn_text.specs.Appended.{BeginsWith};
 ghost use Rattle.svn_text.specs.Line.{line_text};
 ghost use Rattle.query_answer.specs.Answer.{eligible_line};
 ghost use Rattle.query_answer.specs.SourceHits.{TellsLocations, eligible_by_hits, has_in, is_eligible_by_hit};
-ghost use Rattle.query_answer.specs.Repo.{IsPathIn, eligible_in};
+ghost use Rattle.query_answer.specs.Repo.{IsPathIn, eligible_answer, eligible_by, held_answer, peg_text};
 ghost use Rattle.query_answer.specs.Held.{IsHeldIn};
+ghost use Rattle.query_answer.specs.Unanswered.{HasAnswer};
+ghost use Rattle.query_answer.specs.Worker.{IsSeenOf, LooksAtMergeinfo, Reads};
 
-use super::pair::Pair;
+use super::pair::{Pair, target_mergeinfo};
 use super::source::SourceRanges;
+use crate::answers::Answer;
 use crate::held_mergeinfo::HeldMergeinfo;
 use crate::locations::{is_at, path_at, path_in};
+use crate::peg::Peg;
 use crate::repo::Repo;
+use crate::unanswered::Unanswered;
+use merge_info::MergeInfo;
 use path_index::{Hit, Segment};
 use std::alloc::{AllocError, Global};
 use svn_text::push_number;
+use value_memo::{Memo, Seen};
 
-/// The eligible revisions of a pair, given the mergeinfo that the target holds, in rising order, and in this range if
-/// there is one.
-pub(crate) fn eligible_revisions(
+/// The revisions of a source that are still to be merged into a target, in this range if there is one.
+pub(crate) fn answer_eligible<'r>(
+    alloc: Global,
+    repo: &'r Repo,
+    source: &Peg<'_>,
+    target: &Peg<'_>,
+    range: Option<(u32, u32)>,
+    memo: &Memo<'r>,
+    seen: &mut Seen<'r>,
+) -> Result<Answer, Unanswered>
+    requires seen { IsSeenOf repo.now.values memo.now seen.old }
+    ensures answer { HasAnswer repo.now (eligible_answer repo.now source.now target.now range) result }
+    ensures worker { Reads repo.now memo.now (peg_text repo.now target.now) result seen.old seen.new }
+{
+    let pair = Pair::find(alloc, repo, source, target)?;
+    let empty = MergeInfo::empty(alloc);
+    let held = target_mergeinfo(seen, memo, repo, &pair.target, &empty)?;
+    eligible_revisions(alloc, repo, &pair, range, &held)
+}
+
+/// The eligible revisions of a pair in rising order, given the mergeinfo that the target holds.
+fn eligible_revisions(
     alloc: Global,
     repo: &Repo,
     pair: &Pair,
     range: Option<(u32, u32)>,
     held: &HeldMergeinfo<'_, '_>,
-) -> Result<Vec<u32>, AllocError>
+) -> Result<Answer, Unanswered>
     requires source { IsPathIn repo.now pair.now.source }
     requires target { IsPathIn repo.now pair.now.target.at }
     requires held { IsHeldIn repo.now.names held.now }
-    ensures { IfOk result (λ found. found.items ≡ eligible_in repo.now pair.now range held.now) }
+    ensures answer { HasAnswer repo.now (held_answer repo.now pair.now held.now (eligible_by repo.now range)) result }
+    ensures found { LooksAtMergeinfo result }
 {
     let segments = repo.segments(&pair.source)?;
-    let hits = repo.operative(segments.as_slice(), range)?;
+    let hits = repo.operative(&segments, range)?;
     let own = repo.segments(&pair.target.at)?;
-    let ranges = SourceRanges::of(alloc, repo.names(), held, segments.as_slice())?;
-    eligible_by_hits(
-        alloc,
-        &ranges,
-        segments.as_slice(),
-        own.as_slice(),
-        hits.as_slice(),
-    )
+    let ranges = SourceRanges::of(alloc, repo.names(), held, &segments)?;
+    let eligible = eligible_by_hits(alloc, &ranges, &segments, &own, &hits)?;
+    Ok(Answer::Eligible(eligible))
 }
 
 /// The operative revisions that mergeinfo lacks, in rising order, but for those in which the target had the path of the

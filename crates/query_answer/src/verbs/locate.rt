@@ -1,7 +1,8 @@
 //! `locate`: where a path was located in a revision.
 ghost use Rattle.std.specs.Prelude.{◌≡◌, ◌++◌, OnOk};
 ghost use Rattle.svn_text.specs.Appended.{BeginsWith};
-ghost use Rattle.query_answer.specs.Answer.{IsLocationOf, lent_path, locate_text};
+ghost use Rattle.svn_text.specs.Line.{line_text};
+ghost use Rattle.query_answer.specs.Answer.{IsLocationOf, lent_path, location_text};
 ghost use Rattle.query_answer.specs.Repo.{locate_answer};
 ghost use Rattle.query_answer.specs.Unanswered.{HasAnswer};
 
@@ -34,7 +35,8 @@ pub(crate) fn append_location(
     out: &mut Vec<u8>,
 ) -> Result<(), AllocError>
     requires { IsLocationOf names.now (lent_path path) }
-    ensures ok { OnOk result (out.new.items ≡ out.old.items ++ locate_text names.now (lent_path path.entry)) }
+    ensures ok { OnOk result (out.new.items
+        ≡ out.old.items ++ line_text (location_text names.now (lent_path path.entry))) }
     ensures begins { BeginsWith out.old.items out.new.items }
 {
     write_path(names, path, out)?;

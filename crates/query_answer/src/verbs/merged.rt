@@ -4,38 +4,66 @@ ghost use Rattle.svn_text.specs.Appended.{BeginsWith};
 ghost use Rattle.svn_text.specs.Line.{line_text};
 ghost use Rattle.query_answer.specs.Answer.{merged_line};
 ghost use Rattle.query_answer.specs.SourceHits.{has_in, merged_by_hits};
-ghost use Rattle.query_answer.specs.Repo.{IsPathIn, merged_in};
+ghost use Rattle.query_answer.specs.Repo.{IsPathIn, merged_answer, merged_by, held_answer, peg_text};
 ghost use Rattle.query_answer.specs.Held.{IsHeldIn};
+ghost use Rattle.query_answer.specs.Unanswered.{HasAnswer};
+ghost use Rattle.query_answer.specs.Worker.{IsSeenOf, LooksAtMergeinfo, Reads};
 
-use super::pair::Pair;
+use super::pair::{Pair, target_mergeinfo};
 use super::source::SourceRanges;
+use crate::answers::Answer;
 use crate::held_mergeinfo::HeldMergeinfo;
 use crate::merged_revision::MergedRevision;
+use crate::peg::Peg;
 use crate::repo::Repo;
+use crate::unanswered::Unanswered;
+use merge_info::MergeInfo;
 use path_index::Hit;
 use std::alloc::{AllocError, Global};
 use svn_text::push_number;
+use value_memo::{Memo, Seen};
 
-/// The merged revisions of a pair, given the mergeinfo that the target holds, in rising order, and in this range if
-/// there is one.
-pub(crate) fn merged_revisions(
+/// The revisions of a source that were merged into a target, in this range if there is one.
+pub(crate) fn answer_merged<'r>(
+    alloc: Global,
+    repo: &'r Repo,
+    source: &Peg<'_>,
+    target: &Peg<'_>,
+    range: Option<(u32, u32)>,
+    memo: &Memo<'r>,
+    seen: &mut Seen<'r>,
+) -> Result<Answer, Unanswered>
+    requires seen { IsSeenOf repo.now.values memo.now seen.old }
+    ensures answer { HasAnswer repo.now (merged_answer repo.now source.now target.now range) result }
+    ensures worker { Reads repo.now memo.now (peg_text repo.now target.now) result seen.old seen.new }
+{
+    let pair = Pair::find(alloc, repo, source, target)?;
+    let empty = MergeInfo::empty(alloc);
+    let held = target_mergeinfo(seen, memo, repo, &pair.target, &empty)?;
+    merged_revisions(alloc, repo, &pair, range, &held)
+}
+
+/// The merged revisions of a pair in rising order, given the mergeinfo that the target holds.
+fn merged_revisions(
     alloc: Global,
     repo: &Repo,
     pair: &Pair,
     range: Option<(u32, u32)>,
     held: &HeldMergeinfo<'_, '_>,
-) -> Result<Vec<MergedRevision>, AllocError>
+) -> Result<Answer, Unanswered>
     requires source { IsPathIn repo.now pair.now.source }
     requires held { IsHeldIn repo.now.names held.now }
-    ensures { IfOk result (λ found. found.items ≡ merged_in repo.now pair.now range held.now) }
+    ensures answer { HasAnswer repo.now (held_answer repo.now pair.now held.now (merged_by repo.now range)) result }
+    ensures found { LooksAtMergeinfo result }
 {
     if held.value.is_empty() {
-        return Ok(Vec::new(alloc));
+        return Ok(Answer::Merged(Vec::new(alloc)));
     }
     let segments = repo.segments(&pair.source)?;
-    let hits = repo.operative(segments.as_slice(), range)?;
-    let ranges = SourceRanges::of(alloc, repo.names(), held, segments.as_slice())?;
-    merged_by_hits(alloc, &ranges, hits.as_slice())
+    let hits = repo.operative(&segments, range)?;
+    let ranges = SourceRanges::of(alloc, repo.names(), held, &segments)?;
+    let merged = merged_by_hits(alloc, &ranges, &hits)?;
+    Ok(Answer::Merged(merged))
 }
 
 /// The operative revisions that mergeinfo has, in rising order.

@@ -1,16 +1,11 @@
 //! A source and a target.
-ghost use Rattle.std.specs.Prelude.{◌≡◌, IfErr, IfOk, option_map};
-ghost use Rattle.svn_path.specs.Path.{components_of};
-ghost use Rattle.value_memo.specs.Parsed.{parsed_view};
-ghost use Rattle.query_answer.specs.Held.{rest_of};
-ghost use Rattle.query_answer.specs.HeldValue.{own_or_below};
-ghost use Rattle.query_answer.specs.Repo.{IsPair, IsPairRefused, effective_in, pair_answer, peg_text};
-ghost use Rattle.query_answer.specs.Unanswered.{HasAnswer};
-ghost use Rattle.query_answer.specs.Worker.{IsSeenOf, LooksAtMergeinfo, Reads};
+ghost use Rattle.std.specs.Prelude.{◌≡◌, [], Some, IfErr, IfOk};
+ghost use Rattle.std.specs.Borrow.{sem};
+ghost use Rattle.query_answer.specs.Held.{IsHeldIn, held_value};
+ghost use Rattle.query_answer.specs.NearestValue.{ends_held, text_found};
+ghost use Rattle.query_answer.specs.Repo.{IsMergeinfoRefused, IsNearestIn, IsPair, IsPairRefused, IsPathIn, effective_in};
+ghost use Rattle.query_answer.specs.Worker.{IsSeenOf};
 
-use super::eligible::eligible_revisions;
-use super::merged::merged_revisions;
-use crate::answers::Answer;
 use crate::held_mergeinfo::HeldMergeinfo;
 use crate::nearest_value::nearest_value;
 use crate::path_rev::PathRev;
@@ -30,25 +25,9 @@ pub(crate) struct Pair {
     pub(crate) target: Target,
 }
 
-/// A verb that asks about a source and a target.
-#[derive(Clone, Copy, Debug, PartialEq, Eq)]
-pub(crate) enum PairVerb {
-    Merged,
-    Eligible,
-}
-
-/// What is asked: the revisions of the source that the verb names, in the range if there is one.
-#[derive(Drop)]
-pub(crate) struct Wanted<'q, 'a> {
-    pub(crate) verb: PairVerb,
-    pub(crate) source: &'q Peg<'a>,
-    pub(crate) target: &'q Peg<'a>,
-    pub(crate) range: Option<(u32, u32)>,
-}
-
 impl Pair {
     /// The pair of two pegs.
-    fn find(
+    pub(crate) fn find(
         alloc: Global,
         repo: &Repo,
         source: &Peg<'_>,
@@ -63,47 +42,26 @@ impl Pair {
     }
 }
 
-/// The revisions of a source that are asked for, given a target.
-pub(crate) fn answer_pair<'r>(
-    alloc: Global,
+/// The mergeinfo that a target holds. Where there is none, that is the empty value, which the caller lends.
+pub(crate) fn target_mergeinfo<'a, 'r>(
+    seen: &'a mut Seen<'r>,
+    memo: &'a Memo<'r>,
     repo: &'r Repo,
-    wanted: &Wanted<'_, '_>,
-    memo: &Memo<'r>,
-    seen: &mut Seen<'r>,
-) -> Result<Answer, Unanswered>
+    target: &'a Target,
+    empty: &'a MergeInfo,
+) -> Result<HeldMergeinfo<'a, 'a>, Unanswered>
+    requires at { IsPathIn repo.now target.now.at }
+    requires nearest { IsNearestIn repo.now target.now.at.path target.now.at.rev target.now.nearest }
     requires seen { IsSeenOf repo.now.values memo.now seen.old }
-    ensures answer { HasAnswer repo.now (pair_answer repo.now wanted.now) result }
-    ensures worker { Reads repo.now memo.now (peg_text repo.now wanted.now.target.now) result seen.old seen.new }
+    requires empty { empty.now ≡ [] }
+    ensures* after { sem 𝓛 (ends_held seen.entry repo.now memo.now (text_found repo.now target.now.nearest) result) }
+    ensures held { IfOk result (IsHeldIn repo.now.names) }
+    ensures value { IfOk result (λ held. effective_in repo.now target.now.at.path target.now.at.rev
+        ≡ Some (held_value repo.now.names held)) }
+    ensures refused { IfErr result (IsMergeinfoRefused repo.now target.now.at) }
 {
-    let pair = Pair::find(alloc, repo, wanted.source, wanted.target)?;
-    let empty = MergeInfo::empty(alloc);
-    let parsed = nearest_value(seen, memo, repo, pair.target.nearest, &empty)?;
-    revisions(alloc, repo, wanted, &pair, parsed)
-}
-
-/// The revisions of a pair that are asked for, given what the text says that the nearest path with mergeinfo has.
-fn revisions(
-    alloc: Global,
-    repo: &Repo,
-    wanted: &Wanted<'_, '_>,
-    pair: &Pair,
-    parsed: Parsed<'_>,
-) -> Result<Answer, Unanswered>
-    requires pair { IsPair repo.now wanted.now.source.now wanted.now.target.now pair.now }
-    requires value { effective_in repo.now pair.now.target.at.path pair.now.target.at.rev
-        ≡ option_map (own_or_below (components_of repo.now.names (rest_of pair.now.target))) (parsed_view parsed) }
-    ensures answer { HasAnswer repo.now (pair_answer repo.now wanted.now) result }
-    ensures found { LooksAtMergeinfo result }
-{
-    let Parsed::Good(value) = parsed else {
-        return Err(Unanswered::Refused(Status::MalformedMergeinfo));
-    };
-    let held = HeldMergeinfo::new(value, pair.target.rest());
-    let range = wanted.range;
-    match wanted.verb {
-        PairVerb::Merged => Ok(Answer::Merged(merged_revisions(alloc, repo, pair, range, &held)?)),
-        PairVerb::Eligible => Ok(Answer::Eligible(eligible_revisions(
-            alloc, repo, pair, range, &held,
-        )?)),
+    match nearest_value(seen, memo, repo, target.nearest, empty)? {
+        Parsed::Good(value) => Ok(HeldMergeinfo::new(value, target.rest())),
+        Parsed::Malformed => Err(Unanswered::Refused(Status::MalformedMergeinfo)),
     }
 }
