@@ -11,7 +11,7 @@ use Rattle.path_index.specs.RecordsByPath.{AddsPath, AreByPath, AreEntriesOf, Co
 use Rattle.path_index.specs.declared.nodes.Child.{Child}
 use Rattle.path_index.specs.declared.records_by_path.RecordsByPath.{RecordsByPath}
 use Rattle.path_index.proofs.AppendedLists.{slice_get-first, slice_get-second, slice_get-before, slice_get-after}
-use Rattle.path_index.proofs.EntriesOfPaths.{AreEntriesOf-grown, HasEntryOf-more, IsEntryOf-weaker}
+use Rattle.path_index.proofs.EntriesOfPaths.{HasEntryOf-more, IsEntryOf-weaker}
 use Rattle.path_index.proofs.NodesOfPaths.{node_of-within}
 
 -- ---- the numbers of both
@@ -26,10 +26,9 @@ record AreBoth (P Q R : List NameId → ℕ → Type 0) (shift : ℕ) : Type 0 w
 AreEntriesOf-both : (P Q R : List NameId → ℕ → Type 0) (shift : ℕ) → AreBoth P Q R shift → (old_nodes nodes later_nodes : List Child) (mapped : List ℕ) (old new later : List (SmallVec ℕ)) → ExtendsNodes old_nodes nodes
     → AreNodesOf later_nodes nodes mapped → AddsNumbers (IsMoved later mapped (length mapped) shift) old new → AreEntriesOf old_nodes P old → AreEntriesOf later_nodes Q later → AreEntriesOf nodes R new
 AreEntriesOf-both P Q R shift both old_nodes nodes later_nodes mapped old new later grown nodes_of adds one other =
-    let before = AreEntriesOf-grown old_nodes nodes grown P old one in
     record {
       sound = λ node number has. elim (adds.sound node number has) [
-        | inl earlier ↦ IsEntryOf-weaker nodes P R both.first node number (before.sound node number earlier)
+        | inl earlier ↦ IsEntryOf-weaker grown both.first (one.sound node number earlier)
         | inr moved ↦
             let of = other.sound moved.from moved.earlier moved.has in
             record {
@@ -40,7 +39,7 @@ AreEntriesOf-both P Q R shift both old_nodes nodes later_nodes mapped old new la
             }
       ];
       complete = λ path number holds. elim (both.either path number holds) [
-        | inl p ↦ HasEntryOf-more nodes path number old new adds.kept (before.complete path number p)
+        | inl p ↦ HasEntryOf-more grown adds.kept (one.complete path number p)
         | inr (earlier, q, is) ↦
             let has = other.complete path earlier q in
             let inside : has.node < length mapped = let within = node_of-within later_nodes path has.node has.found in let all = nodes_of.all in omega (arith, within, all) in

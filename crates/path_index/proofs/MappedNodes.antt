@@ -36,7 +36,7 @@ module _ (later children children' : List Child) (nodes : List ℕ) (count node 
   -- a path with a node that is mapped has the node to which it is mapped
   known : (path : List NameId) (n : ℕ) → node_of later path ≡ Some n → n ≤ count → node_of children' path ≡ Some (get_or nodes n 0)
   known path n found few =
-      node_of-grown children children' path (get_or nodes n 0) grown (so_far.mapped path n found few ∙ slice_get-get_or nodes n 0 (omega (arith, so_far.all)))
+      node_of-grown path grown (so_far.mapped path n found few ∙ slice_get-get_or nodes n 0 (omega (arith, so_far.all)))
 
   -- and so has the path of the next child
   next : (path : List NameId) (n : ℕ) → node_of later path ≡ Some n → n ≡ count + 1 → node_of children' path ≡ Some node

@@ -157,8 +157,8 @@ node_below-grown children more start (name ∷ path) node found =
     (λ child at below. ap (option_and_then (λ child. node_below (children ++ more) child path)) (child_of-grown children more start name child at) ∙ node_below-grown children more child path node below)
 
 -- as more are added it keeps its node
-pub node_of-grown : (old new : List Child) (path : List NameId) (node : ℕ) → ExtendsNodes old new → node_of old path ≡ Some node → node_of new path ≡ Some node
-node_of-grown old new path node grown found =
+pub node_of-grown : {old new : List Child} {node : ℕ} (path : List NameId) → ExtendsNodes old new → node_of old path ≡ Some node → node_of new path ≡ Some node
+node_of-grown {old = old} {node = node} path grown found =
     subst (λ children. node_of children path ≡ Some node) (sym grown.grown) (node_below-grown old grown.more 0 path node found)
 
 pub last_or_none : {X : Type 0} (xs : List X) → (xs ≡ []) ⊎ ((front : List X) × (last : X) × (xs ≡ front ++ last ∷ []))

@@ -14,4 +14,4 @@ returns-in_ok-push c = λ records index so.
     (subst (λ from. CopiesFrom from c.in-Copy.from_rev each.act) (sym c.in_ok-dup-2.ensures) (CopiesFrom-act each c.in-Copy.replace c.in-Copy.from c.in-Copy.from_rev c.in-Copy.mi c.in-Copy.is)))
 
 pub returns-in_default : goal.returns-in_default
-returns-in_default c = λ records index so. AreCopies-same c.args.each.now records c.args.copies.now.items so (not_IsCopy c.args.each.now c.in_default.not-Copy)
+returns-in_default c = λ records index so. AreCopies-same c.args.each.now records c.args.copies.now.items so (not_IsCopy c.args.each.now.act c.in_default.not-Copy)

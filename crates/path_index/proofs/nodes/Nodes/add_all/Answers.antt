@@ -16,7 +16,7 @@ parent_before all k ordered within = ordered k (get_or all k some_child) (slice_
 pub loop-child-init : goal.loop-child-init
 loop-child-init c = record {
   mapped = subst (AreMapped c.as_slice-child-items.result.now 0 c.args.self.now) (sym (c.in_ok-push.ensures.items ∙ ap (λ items. items ++ 0 ∷ []) c.in_ok-nodes.ensures.items)) (AreMapped-root c.as_slice-child-items.result.now c.args.self.now);
-  grown = ExtendsNodes-none c.args.self.now;
+  grown = ExtendsNodes-none;
 }
 
 pub index-requires : goal.index-requires
@@ -50,7 +50,7 @@ loop-child-preserved c =
     let added : child_of after (get_or nodes child.parent 0) child.name ≡ Some node = subst (λ n. child_of after n child.name ≡ Some node) parent c.in_ok-node.ensures.node in
     record {
       mapped = subst (AreMapped all (k + 1) after) (sym c.in_ok-push-2.ensures.items) (AreMapped-next all before after nodes k node child c.loop-child.invariant.mapped ordered at c.in_ok-node.ensures.grown added);
-      grown = ExtendsNodes-again c.args.self.now before after c.loop-child.invariant.grown c.in_ok-node.ensures.grown;
+      grown = ExtendsNodes-again c.loop-child.invariant.grown c.in_ok-node.ensures.grown;
     }
 
 pub returns-clause-nodes : goal.returns-clause-nodes

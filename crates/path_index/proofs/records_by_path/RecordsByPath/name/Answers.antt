@@ -2,18 +2,17 @@ use Rattle.std.proofs.Common.{◌≡◌, ◌+◌, Some, refl, take, length, sym,
 use Rattle.std.proofs.lemmas.List.{take_all}
 use Rattle.path_index.specs.Nodes.{node_of}
 use Rattle.path_index.specs.RecordsByPath.{AddsEntries, IsFrontAt}
-use Rattle.path_index.proofs.EntriesOfPaths.{AddsEntries-root, AddsEntries-next, AddsEntries-grown, ExtendsNodes-none, ExtendsNodes-again}
+use Rattle.path_index.proofs.EntriesOfPaths.{AddsEntries-root, AddsEntries-next, ExtendsNodes-none, ExtendsNodes-again}
 use Rattle.path_index.proofs.NodesOfPaths.{node_of-grown, node_of-take_more, node_of-within}
 use Rattle.path_index.proofs.records_by_path.RecordsByPath.name.Goals as goal
 
 pub loop-name-init : goal.loop-name-init
 loop-name-init c =
-    let old = c.args.self.now in
     let parts = c.parts-name-items.result.now in
     record {
       node = refl;
-      grown = ExtendsNodes-none old.nodes;
-      named = AddsEntries-root old.nodes parts c.args.rev old.named c.insert.new.self (omega (arith, c.ranges.rev.fits)) c.in_ok-insert.ensures.added;
+      grown = ExtendsNodes-none;
+      named = AddsEntries-root parts c.args.rev (omega (arith, c.ranges.rev.fits)) c.in_ok-insert.ensures.added;
       added = refl;
       copied = refl;
     }
@@ -23,21 +22,18 @@ add_likely-requires c = node_of-within c.loop-name.self.nodes (take c.loop-name.
 
 pub loop-name-preserved : goal.loop-name-preserved
 loop-name-preserved c =
-    let old = c.args.self.now in
-    let before = c.loop-name.self in
     let nodes = c.add_likely.new.self in
     let parts = c.parts-name-items.result.now in
     let n = c.loop-name.name-index in
     let so = c.loop-name.invariant in
     let grown = c.in_ok-node.ensures.grown in
     let node : node_of nodes (take (n + 1) parts) ≡ Some c.in_ok-node.node =
-    node_of-take_more nodes parts n (record { 0 = 0 }) c.loop-name.node c.loop-name-test.true (node_of-grown before.nodes nodes (take n parts) c.loop-name.node grown so.node)
+    node_of-take_more nodes parts n (record { 0 = 0 }) c.loop-name.node c.loop-name-test.true (node_of-grown (take n parts) grown so.node)
     ∙ c.in_ok-node.ensures.node in
     record {
       node = node;
-      grown = ExtendsNodes-again old.nodes before.nodes nodes so.grown grown;
-      named = AddsEntries-next nodes parts n c.args.rev c.in_ok-node.node old.named before.named c.insert-in-loop-name.new.self
-          (AddsEntries-grown before.nodes nodes grown (IsFrontAt parts n c.args.rev) old.named before.named so.named) node (omega (arith, c.ranges.rev.fits)) c.in_ok-insert-2.ensures.added;
+      grown = ExtendsNodes-again so.grown grown;
+      named = AddsEntries-next parts n c.args.rev grown so.named node (omega (arith, c.ranges.rev.fits)) c.in_ok-insert-2.ensures.added;
       added = so.added;
       copied = so.copied;
     }
