@@ -1,6 +1,7 @@
 -- The elements of a list and of those that are appended to it.
-use Rattle.std.proofs.Common.{◌≡◌, ℕ, ◌+◌, ◌-◌, ◌<◌, ◌≤◌, List, ◌++◌, length, get_or, slice_get, Some, sym, ap, ◌∙◌, arith, length-append}
-use Rattle.std.proofs.lemmas.List.{get_or_append_left, get_or-append-add}
+use Rattle.std.proofs.Common.{◌≡◌, ℕ, ◌+◌, ◌-◌, ◌<◌, ◌≤◌, ◌⊎◌, inl, inr, List, [], ◌∷◌, ◌++◌, length, get_or, slice_get, Some, sym, ap, ◌∙◌, arith, length-append}
+use Rattle.std.proofs.lemmas.Bool.{cases_lt}
+use Rattle.std.proofs.lemmas.List.{get_or_append_left, get_or-append-add, get_or_push, length_push}
 use Rattle.std.proofs.lemmas.Option.{get_or_from_slice_get, slice_get-get_or, slice_get_within}
 
 module _ {X : Type 0} (xs more : List X) where
@@ -29,3 +30,13 @@ module _ {X : Type 0} (xs more : List X) where
       let is : length xs + (index - length xs) ≡ index = omega arith in
       slice_get-get_or more (index - length xs) each (omega (arith, within, length-append xs more))
       ∙ ap Some (sym (get_or-append-add xs more (index - length xs) each) ∙ ap (λ n. get_or (xs ++ more) n each) is ∙ get_or_from_slice_get (xs ++ more) index each each at)
+
+-- an element is of the list, or the one that is appended
+pub slice_get-push : {X : Type 0} (xs : List X) (x : X) (index : ℕ) (each : X) → slice_get (xs ++ x ∷ []) index ≡ Some each → (slice_get xs index ≡ Some each) ⊎ ((index ≡ length xs) × (each ≡ x))
+slice_get-push xs x index each at = elim (cases_lt index (length xs)) [
+  | inl before ↦ inl (slice_get-before xs (x ∷ []) index each before at)
+  | inr past ↦
+      let within = slice_get_within (xs ++ x ∷ []) index each at in
+      let last : index ≡ length xs = omega (arith, within, length_push xs x) in
+      inr (last, sym (get_or_from_slice_get (xs ++ x ∷ []) index each each at) ∙ get_or_push xs x each index (sym last))
+]

@@ -1,14 +1,12 @@
 -- Each child stands once, so where it stands is where it is found.
-use Rattle.std.proofs.Common.{◌≡◌, ℕ, suc, true, false, List, length, get_or, Some, option_map, slice_get, sym, ap, subst, ◌∙◌, arith}
-use Rattle.std.proofs.lemmas.Bool.{cond-true, lt-ltb}
+use Rattle.std.proofs.Common.{◌≡◌, ℕ, suc, true, false, List, get_or, Some, option_map, slice_get, sym, ap, subst, ◌∙◌, arith}
 use Rattle.std.proofs.lemmas.Grind.{common_steps}
-use Rattle.std.proofs.lemmas.List.Sums.{position_or_len_is}
 use Rattle.std.proofs.lemmas.Map.Keys.{apart_from_distinct}
 use Rattle.std.proofs.lemmas.Option.{get_or_from_slice_get, slice_get_within}
-use Rattle.std.specs.List.{position, position_or_len, IsDistinct}
+use Rattle.std.specs.List.{IsDistinct}
 use Rattle.path_index.specs.Nodes.{same_child, child_of}
 use Rattle.path_index.specs.declared.nodes.Child.{Child}
-use Rattle.path_index.proofs.NodesOfPaths.{child_at, index_from_child}
+use Rattle.path_index.proofs.NodesOfPaths.{child_of-at, position-is}
 
 same_child-self : (a : Child) → same_child a a ≡ true
 same_child-self a = grind (arith, common_steps)
@@ -21,25 +19,19 @@ pub child_of-distinct : (children : List Child) (index : ℕ) (child : Child) �
 child_of-distinct children index child distinct at =
     let within = slice_get_within children index child at in
     let here : get_or children index child ≡ child = get_or_from_slice_get children index child child at in
-    let first : position_or_len (same_child child) children ≡ index =
-    position_or_len_is (same_child child) children index child (omega (arith, within))
+    ap (option_map suc) (position-is (same_child child) children index child within
+    (subst (λ (each : Child). same_child child each ≡ true) (sym here) (same_child-self child))
     (λ before less. subst (λ (each : Child). same_child each (get_or children before child) ≡ false) here
     (same_child-flipped (get_or children index child) (get_or children before child)
-    ∙ apart_from_distinct same_child children before index child distinct less within))
-    (λ _. subst (λ (each : Child). same_child child each ≡ true) (sym here) (same_child-self child)) in
-    let found : position (same_child child) children ≡ Some index =
-    cond-true _ _ _ (lt-ltb (position_or_len (same_child child) children) (length children) (omega (arith, first, within)))
-    ∙ ap Some first in
-    ap (option_map suc) found
+    ∙ apart_from_distinct same_child children before index child distinct less within)))
 
 -- and what is found is what stands there
 pub same_child-at : (children : List Child) (index : ℕ) (child wanted : Child) → slice_get children index ≡ Some child
     → child_of children wanted.parent wanted.name ≡ Some (suc index) → same_child child wanted ≡ true
 same_child-at children index child wanted at found =
-    let (first, where_first, is) = index_from_child (position (same_child wanted) children) (suc index) found in
+    let (first, is, within, parents, names) = child_of-at children wanted.parent wanted.name (suc index) child found in
     let here : first ≡ index = omega arith in
     let there : get_or children first child ≡ child =
     ap (λ n. get_or children n child) here ∙ get_or_from_slice_get children index child child at in
-    let (parents, names) = child_at children wanted.parent wanted.name first child where_first in
     subst (λ (each : Child). same_child each wanted ≡ true) there
     ((λ i. same_child (record { parent = sym parents i; name = sym names i }) wanted) ∙ same_child-self wanted)

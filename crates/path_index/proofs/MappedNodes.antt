@@ -1,14 +1,13 @@
 -- The nodes of one tree as they are added to another.
 use Rattle.std.proofs.Common.{◌≡◌, ℕ, ◌+◌, ◌<◌, ◌≤◌, List, [], ◌∷◌, ◌++◌, All, length, get_or, slice_get, Some, length-append, inl, inr, refl, sym, ap, ◌∙◌, arith}
-use Rattle.std.specs.List.{position}
 use Rattle.std.proofs.lemmas.Bool.{cases_lt}
 use Rattle.std.proofs.lemmas.List.{length_push, get_or_push, get_or_append_left}
 use Rattle.std.proofs.lemmas.List.Elements.{All-push, All-weaker}
-use Rattle.std.proofs.lemmas.Option.{same_Some, get_or_from_slice_get, slice_get-get_or}
+use Rattle.std.proofs.lemmas.Option.{get_or_from_slice_get, slice_get-get_or}
 use Rattle.svn_path.specs.declared.names.NameId.{NameId}
-use Rattle.path_index.specs.Nodes.{same_child, child_of, node_of, AreNodesOf, HaveParentsBefore, ExtendsNodes}
+use Rattle.path_index.specs.Nodes.{child_of, node_of, AreNodesOf, HaveParentsBefore, ExtendsNodes}
 use Rattle.path_index.specs.declared.nodes.Child.{Child}
-use Rattle.path_index.proofs.NodesOfPaths.{index_from_child, child_at, child_of-within, last_or_none, node_before, node_of_push, node_of-grown, node_of-one, node_of-within}
+use Rattle.path_index.proofs.NodesOfPaths.{child_of-at, child_of-within, node_of-last, node_of_push, node_of-grown, node_of-one, node_of-within}
 
 -- the first so many children, and the root, are mapped to nodes of their paths
 pub record AreMapped (later : List Child) (count : ℕ) (children : List Child) (nodes : List ℕ) : Type 0 where
@@ -40,13 +39,11 @@ module _ (later children children' : List Child) (nodes : List ℕ) (count node 
 
   -- and so has the path of the next child
   next : (path : List NameId) (n : ℕ) → node_of later path ≡ Some n → n ≡ count + 1 → node_of children' path ≡ Some node
-  next path n found last_one = elim (last_or_none path) [
-    | inl none ↦ absurd (let root : n ≡ 0 = same_Some n 0 (sym found ∙ ap (node_of later) none) in omega arith)
-    | inr (front, last, is) ↦
-        let (above, front_at, below) = node_before later path front last n is found in
-        let (index, segment_path, index_is) = index_from_child (position (same_child (record { parent = above; name = last })) later) n below in
+  next path n found last_one = elim (node_of-last later path n found) [
+    | inl (none, root) ↦ absurd (omega arith)
+    | inr (front, last, above, is, front_at, below) ↦
+        let (index, index_is, within, parent, name) = child_of-at later above last n child below in
         let here : index ≡ count = omega arith in
-        let (parent, name) = child_at later above last index child segment_path in
         let same : get_or later index child ≡ child = ap (λ k. get_or later k child) here ∙ get_or_from_slice_get later count child child at in
         let parent_is : above ≡ child.parent = parent ∙ ap (λ (c : Child). c.parent) same in
         let name_is : last ≡ child.name = name ∙ ap (λ (c : Child). c.name) same in
@@ -62,7 +59,7 @@ module _ (later children children' : List Child) (nodes : List ℕ) (count node 
     within =
         All-push (λ n. n ≤ length children') nodes node
         (All-weaker (λ n. n ≤ length children) (λ n. n ≤ length children') (λ n few. omega (arith, few, longer)) nodes so_far.within)
-        (child_of-within children' (get_or nodes child.parent 0) child.name node added);
+        (child_of-within children' (get_or nodes child.parent 0) child.name node added).1;
     mapped = λ path n found few.
         let inside : n < length (nodes ++ node ∷ []) = omega (arith, length_push nodes node, so_far.all) in
         elim (cases_lt count n) [

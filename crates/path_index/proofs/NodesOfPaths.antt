@@ -1,39 +1,36 @@
 -- The nodes of paths: each is the node of one path, and stays as more are added.
-use Rattle.std.proofs.Common.{◌≡◌, ℕ, zero, suc, ◌+◌, ◌<◌, ◌≤◌, ◌==◌, nat_lt, Bool, true, List, [], ◌∷◌, ◌++◌, length, get_or, take, drop, Option, None, Some, IsSome, option_map, ◌⊎◌, inl, inr, refl, sym, ap, subst, ◌∙◌, arith, length-append}
+use Rattle.std.proofs.Common.{◌≡◌, ℕ, zero, suc, ◌+◌, ◌<◌, ◌≤◌, ◌==◌, Bool, true, false, List, [], ◌∷◌, ◌++◌, length, get_or, take, drop, Option, None, Some, IsSome, option_map, ◌⊎◌, inl, inr, refl, sym, ap, subst, ◌∙◌, arith, length-append}
 use Rattle.indexmap.specs.IndexSet.{insert_key}
 use Rattle.std.specs.Option.{option_and_then}
 use Rattle.std.specs.List.{list_any, position, position_or_len}
-use Rattle.std.proofs.lemmas.Bool.{and_parts, eqb-true, cases_Bool, cases_lt, cond-true, cond-false, lt-ltb, ltb-true}
-use Rattle.std.proofs.lemmas.List.{take_more, take-append-drop, take-take, length_push, get_or_append_left, get_or_push}
+use Rattle.std.proofs.lemmas.Bool.{and_parts, eqb-true, cases_Bool, cond-true, cond-false, lt-ltb}
+use Rattle.std.proofs.lemmas.List.{take_more, take-append-drop, take-take, length_push, get_or_append_left}
 use Rattle.std.proofs.lemmas.List.Folds.{list_any_at}
 use Rattle.std.proofs.lemmas.List.Quantifiers.{position-Some}
-use Rattle.std.proofs.lemmas.Option.{get_or_from_slice_get, slice_get-get_or, slice_get_within, same_Some, option_and_then_some, cond_some}
+use Rattle.std.proofs.lemmas.Option.{same_Some, option_and_then_some}
 use Rattle.svn_path.specs.Path.{same_name}
 use Rattle.svn_path.specs.declared.names.NameId.{NameId}
 use Rattle.svn_path.proofs.Belows.{IsSame-same_name}
 use Rattle.path_index.specs.Nodes.{same_child, child_of, node_below, node_of, ExtendsNodes, HaveParentsBefore}
 use Rattle.path_index.specs.declared.nodes.Child.{Child}
+use Rattle.path_index.proofs.AppendedLists.{slice_get-push}
+use Rattle.std.proofs.lemmas.List.Sums.{position_or_len_is}
 
 -- ---- one component
 
-first-grown : {X : Type 0} (p : X → Bool) (xs more : List X) → position_or_len p xs < length xs → position_or_len p (xs ++ more) ≡ position_or_len p xs
-first-grown p [] more within = absurd (omega arith)
-first-grown p (x ∷ xs) more within = elim (cases_Bool (p x)) [
-  | inl passes ↦ rw passes refl
-  | inr fails ↦
-      let later : 1 + position_or_len p xs < length (x ∷ xs) = rw fails at within in
-      rw fails (ap (λ n. 1 + n) (first-grown p xs more (omega arith)))
-]
+pub position-is : {X : Type 0} (p : X → Bool) (xs : List X) (i : ℕ) (d : X) → i < length xs → p (get_or xs i d) ≡ true → ((k : ℕ) → k < i → p (get_or xs k d) ≡ false) → position p xs ≡ Some i
+position-is p xs i d within passes before =
+    let first = position_or_len_is p xs i d (omega arith) before (λ _. passes) in
+    cond-true _ _ _ (lt-ltb (position_or_len p xs) (length xs) (omega (arith, first, within))) ∙ ap Some first
 
 -- what is found stays as the list grows
-position-grown : {X : Type 0} (p : X → Bool) (xs more : List X) (i : ℕ) → position p xs ≡ Some i → position p (xs ++ more) ≡ Some i
-position-grown p xs more i found =
-    let (below, is) = cond_some (nat_lt (position_or_len p xs) (length xs)) (position_or_len p xs) i found in
-    let within : position_or_len p xs < length xs = ltb-true (position_or_len p xs) (length xs) below in
-    let same : position_or_len p (xs ++ more) ≡ i = first-grown p xs more within ∙ is in
-    cond-true _ _ _ (lt-ltb (position_or_len p (xs ++ more)) (length (xs ++ more)) (omega (arith, length-append xs more))) ∙ ap Some same
+position-grown : {X : Type 0} (p : X → Bool) (xs more : List X) (i : ℕ) (d : X) → position p xs ≡ Some i → position p (xs ++ more) ≡ Some i
+position-grown p xs more i d found =
+    let (within, passes, before) = position-Some p xs i d found in
+    position-is p (xs ++ more) i d (omega (arith, within, length-append xs more)) (rw (get_or_append_left xs more d i within) passes) (λ k less.
+    let early : k < length xs = omega arith in rw (get_or_append_left xs more d k early) (before k less))
 
-pub index_from_child : (o : Option ℕ) (node : ℕ) → option_map suc o ≡ Some node → (index : ℕ) × (o ≡ Some index) × (suc index ≡ node)
+index_from_child : (o : Option ℕ) (node : ℕ) → option_map suc o ≡ Some node → (index : ℕ) × (o ≡ Some index) × (suc index ≡ node)
 index_from_child None node found = cc
 index_from_child (Some index) node found = (index, refl, same_Some (suc index) node found)
 
@@ -42,16 +39,21 @@ same_child-is a b same =
     let (parents, names) = and_parts (a.parent == b.parent) (same_name a.name b.name) same in
     (eqb-true a.parent b.parent parents, IsSame-same_name.true_is a.name b.name names)
 
-pub child_at : (children : List Child) (parent : ℕ) (name : NameId) (index : ℕ) (d : Child) → position (same_child (record { parent = parent; name = name })) children ≡ Some index
-    → (parent ≡ (get_or children index d).parent) × (name ≡ (get_or children index d).name)
-child_at children parent name index d at =
+-- a node of a child stands after the child that it is of
+pub child_of-at : (children : List Child) (parent : ℕ) (name : NameId) (node : ℕ) (d : Child) → child_of children parent name ≡ Some node
+    → (index : ℕ) × (suc index ≡ node) × (index < length children) × (parent ≡ (get_or children index d).parent) × (name ≡ (get_or children index d).name)
+child_of-at children parent name node d found =
     let child : Child = record { parent = parent; name = name } in
-    same_child-is child (get_or children index d) (position-Some (same_child child) children index d at).1
+    let (index, at, is) = index_from_child (position (same_child child) children) node found in
+    let (within, same, before) = position-Some (same_child child) children index d at in
+    let (parents, names) = same_child-is child (get_or children index d) same in
+    (index, is, within, parents, names)
 
-pub child_of-grown : (children more : List Child) (parent : ℕ) (name : NameId) (node : ℕ) → child_of children parent name ≡ Some node → child_of (children ++ more) parent name ≡ Some node
+child_of-grown : (children more : List Child) (parent : ℕ) (name : NameId) (node : ℕ) → child_of children parent name ≡ Some node → child_of (children ++ more) parent name ≡ Some node
 child_of-grown children more parent name node found =
-    let (index, at, is) = index_from_child (position (same_child (record { parent = parent; name = name })) children) node found in
-    ap (option_map suc) (position-grown (same_child (record { parent = parent; name = name })) children more index at) ∙ ap Some is
+    let child : Child = record { parent = parent; name = name } in
+    let (index, at, is) = index_from_child (position (same_child child) children) node found in
+    ap (option_map suc) (position-grown (same_child child) children more index child at) ∙ ap Some is
 
 -- a child that has a node is among the children
 pub child_of-any : (children : List Child) (parent : ℕ) (name : NameId) → IsSome (child_of children parent name)
@@ -71,21 +73,10 @@ child_of-any children parent name known = by (position p children) refl
 -- a child below a node of the tree leaves each after the one above it
 HaveParentsBefore-push : (children : List Child) (child : Child) → child.parent ≤ length children
     → HaveParentsBefore children → HaveParentsBefore (children ++ child ∷ [])
-HaveParentsBefore-push children child below ordered index each at =
-    let within = slice_get_within (children ++ child ∷ []) index each at in
-    let stands : get_or (children ++ child ∷ []) index each ≡ each =
-    get_or_from_slice_get (children ++ child ∷ []) index each each at in
-    elim (cases_lt index (length children)) [
-      | inl before ↦
-          ordered index each
-          (slice_get-get_or children index each before
-          ∙ ap Some (sym (get_or_append_left children (child ∷ []) each index before) ∙ stands))
-      | inr last ↦
-          let here : index ≡ length children = omega (arith, within, last, length_push children child) in
-          let is : child ≡ each = sym (get_or_push children child each index (sym here)) ∙ stands in
-          let low : each.parent ≤ length children = subst (λ (e : Child). e.parent ≤ length children) is below in
-          omega (arith, low, here)
-    ]
+HaveParentsBefore-push children child below ordered index each at = elim (slice_get-push children child index each at) [
+  | inl before ↦ ordered index each before
+  | inr (last, is) ↦ rw (is, last) below
+]
 
 pub HaveParentsBefore-insert : (children : List Child) (child : Child) → child.parent ≤ length children
     → HaveParentsBefore children → HaveParentsBefore (insert_key same_child children child)
@@ -100,27 +91,15 @@ child_of-one : (children : List Child) (parent parent' : ℕ) (name name' : Name
     → (parent ≡ parent') × (name ≡ name')
 child_of-one children parent parent' name name' node one other =
     let child : Child = record { parent = parent; name = name } in
-    let (index, at, is) = index_from_child (position (same_child child) children) node one in
-    let (index', at', is') = index_from_child (position (same_child (record { parent = parent'; name = name' })) children) node other in
+    let (index, is, _, parents, names) = child_of-at children parent name node child one in
+    let (index', is', _, parents', names') = child_of-at children parent' name' node child other in
     let same : index' ≡ index = omega arith in
-    let (parents, names) = child_at children parent name index child at in
-    let (parents', names') = child_at children parent' name' index child (at' ∙ ap Some same) in
-    (parents ∙ sym parents', names ∙ sym names')
+    (cc, cc)
 
--- no child is the root
-child_of-root : (children : List Child) (parent : ℕ) (name : NameId) → child_of children parent name ≡ Some 0 → ⊥
-child_of-root children parent name found =
-    let (index, at, is) = index_from_child (position (same_child (record { parent = parent; name = name })) children) 0 found in
-    absurd (omega arith)
-
--- it is among them
-pub child_of-within : (children : List Child) (parent : ℕ) (name : NameId) (node : ℕ) → child_of children parent name ≡ Some node → node ≤ length children
+-- no child is the root, and each is among them
+pub child_of-within : (children : List Child) (parent : ℕ) (name : NameId) (node : ℕ) → child_of children parent name ≡ Some node → (0 < node) × (node ≤ length children)
 child_of-within children parent name node found =
-    let p = same_child (record { parent = parent; name = name }) in
-    let (index, at, is) = index_from_child (position p children) node found in
-    let (below, here) = cond_some (nat_lt (position_or_len p children) (length children)) (position_or_len p children) index at in
-    let within = ltb-true (position_or_len p children) (length children) below in
-    omega (arith, within, here, is)
+    let (index, after, within, parents, names) = child_of-at children parent name node (record { parent = parent; name = name }) found in (omega arith, omega arith)
 
 -- ---- paths
 
@@ -142,14 +121,6 @@ node_of_push children path name node found =
     by None = refl
     by (Some child) = refl
 
--- a path with a node has one for each path above it
-pub node_of-append_left : (children : List Child) (front rest : List NameId) (node : ℕ) → node_of children (front ++ rest) ≡ Some node → (above : ℕ) × (node_of children front ≡ Some above)
-node_of-append_left children front rest node found = by (node_of children front) refl
-  where
-    by : (o : Option ℕ) → node_of children front ≡ o → (above : ℕ) × (node_of children front ≡ Some above)
-    by None is = let never : None ≡ Some node = ap (option_and_then (λ under. node_below children under rest)) (sym is) ∙ sym (node_below-append children 0 front rest) ∙ found in cc
-    by (Some above) is = (above, is)
-
 node_below-grown : (children more : List Child) (start : ℕ) (path : List NameId) (node : ℕ) → node_below children start path ≡ Some node → node_below (children ++ more) start path ≡ Some node
 node_below-grown children more start [] node found = found
 node_below-grown children more start (name ∷ path) node found =
@@ -161,51 +132,40 @@ pub node_of-grown : {old new : List Child} {node : ℕ} (path : List NameId) →
 node_of-grown {old = old} {node = node} path grown found =
     subst (λ children. node_of children path ≡ Some node) (sym grown.grown) (node_below-grown old grown.more 0 path node found)
 
-pub last_or_none : {X : Type 0} (xs : List X) → (xs ≡ []) ⊎ ((front : List X) × (last : X) × (xs ≡ front ++ last ∷ []))
+last_or_none : {X : Type 0} (xs : List X) → (xs ≡ []) ⊎ ((front : List X) × (last : X) × (xs ≡ front ++ last ∷ []))
 last_or_none [] = inl refl
 last_or_none (x ∷ xs) = elim (last_or_none xs) [
   | inl none ↦ inr ([], x, ap (λ rest. x ∷ rest) none)
   | inr (front, last, is) ↦ inr (x ∷ front, last, ap (λ rest. x ∷ rest) is)
 ]
 
--- the node before the last component
-pub node_before : (children : List Child) (path front : List NameId) (last : NameId) (node : ℕ) → path ≡ front ++ last ∷ [] → node_of children path ≡ Some node
-    → (above : ℕ) × (node_of children front ≡ Some above) × (child_of children above last ≡ Some node)
-node_before children path front last node is found =
-    let whole : node_of children (front ++ last ∷ []) ≡ Some node = ap (node_of children) (sym is) ∙ found in
-    let (above, at) = node_of-append_left children front (last ∷ []) node whole in
-    (above, at, sym (node_of_push children front last above at) ∙ whole)
-
--- given that no shorter path shares its node
-one_by_shorter : (children : List Child) (p q : List NameId) (node : ℕ) → node_of children p ≡ Some node → node_of children q ≡ Some node
-    → ((p_front q_front : List NameId) (above : ℕ) → length p_front < length p → node_of children p_front ≡ Some above → node_of children q_front ≡ Some above → p_front ≡ q_front) → p ≡ q
-one_by_shorter children p q node one other shorter = elim (last_or_none p) [
-  | inl p_none ↦ elim (last_or_none q) [
-    | inl q_none ↦ p_none ∙ sym q_none
-    | inr (q_front, q_last, q_is) ↦
-        let root : node ≡ 0 = same_Some node 0 (sym one ∙ ap (node_of children) p_none) in
-        let (above, at, child) = node_before children q q_front q_last node q_is other in
-        absurd (child_of-root children above q_last (child ∙ ap Some root))
-  ]
-  | inr (p_front, p_last, p_is) ↦ elim (last_or_none q) [
-    | inl q_none ↦
-        let root : node ≡ 0 = same_Some node 0 (sym other ∙ ap (node_of children) q_none) in
-        let (above, at, child) = node_before children p p_front p_last node p_is one in
-        absurd (child_of-root children above p_last (child ∙ ap Some root))
-    | inr (q_front, q_last, q_is) ↦
-        let (above, at, child) = node_before children p p_front p_last node p_is one in
-        let (above', at', child') = node_before children q q_front q_last node q_is other in
-        let (same, name) = child_of-one children above above' p_last q_last node child child' in
-        let longer : length p ≡ length p_front + 1 = ap length p_is ∙ length_push p_front p_last in
-        let fronts : p_front ≡ q_front = shorter p_front q_front above (omega arith) at (at' ∙ ap Some (sym same)) in
-        p_is ∙ (λ i. fronts i ++ name i ∷ []) ∙ sym q_is
-  ]
+-- the root, or a child of the node before the last component
+pub node_of-last : (children : List Child) (path : List NameId) (node : ℕ) → node_of children path ≡ Some node
+    → ((path ≡ []) × (node ≡ 0))
+    ⊎ ((front : List NameId) × (last : NameId) × (above : ℕ) × (path ≡ front ++ last ∷ []) × (node_of children front ≡ Some above) × (child_of children above last ≡ Some node))
+node_of-last children path node found = elim (last_or_none path) [
+  | inl none ↦ inl (none, same_Some node 0 (sym found ∙ ap (node_of children) none))
+  | inr (front, last, is) ↦
+      let whole : node_of children (front ++ last ∷ []) ≡ Some node = ap (node_of children) (sym is) ∙ found in
+      option_and_then_some (λ under. node_below children under (last ∷ [])) (node_of children front) node (sym (node_below-append children 0 front (last ∷ [])) ∙ whole)
+      (λ above at below. inr (front, last, above, is, at, sym (node_of_push children front last above at) ∙ whole))
 ]
 
 one_if_short : (most : ℕ) (children : List Child) (p q : List NameId) (node : ℕ) → length p < most → node_of children p ≡ Some node → node_of children q ≡ Some node → p ≡ q
 one_if_short zero children p q node short one other = absurd (omega arith)
-one_if_short (suc most) children p q node short one other =
-    one_by_shorter children p q node one other (λ p_front q_front above less at at'. one_if_short most children p_front q_front above (omega arith) at at')
+one_if_short (suc most) children p q node short one other = elim (node_of-last children p node one) [
+  | inl (none, root) ↦ elim (node_of-last children q node other) [
+    | inl (none', root') ↦ none ∙ sym none'
+    | inr (front, last, above, is, at, child) ↦
+        let (positive, within) = child_of-within children above last node child in absurd (omega arith)
+  ]
+  | inr (front, last, above, is, at, child) ↦ elim (node_of-last children q node other) [
+    | inl (none, root) ↦ let (positive, within) = child_of-within children above last node child in absurd (omega arith)
+    | inr (front', last', above', is', at', child') ↦
+        let (same, name) = child_of-one children above above' last last' node child child' in
+        let fronts : front ≡ front' = one_if_short most children front front' above (omega (arith, ap length is, length_push front last)) at (at' ∙ ap Some (sym same)) in cc
+  ]
+]
 
 -- a node is that of one path alone
 pub node_of-one : (children : List Child) (p q : List NameId) (node : ℕ) → node_of children p ≡ Some node → node_of children q ≡ Some node → p ≡ q
@@ -213,20 +173,12 @@ node_of-one children p q node one other = one_if_short (length p + 1) children p
 
 -- it is among them
 pub node_of-within : (children : List Child) (path : List NameId) (node : ℕ) → node_of children path ≡ Some node → node ≤ length children
-node_of-within children path node found = elim (last_or_none path) [
-  | inl none ↦ let root : node ≡ 0 = same_Some node 0 (sym found ∙ ap (node_of children) none) in omega (arith, root)
-  | inr (front, last, is) ↦
-      let (above, at, child) = node_before children path front last node is found in
-      child_of-within children above last node child
+node_of-within children path node found = elim (node_of-last children path node found) [
+  | inl (none, root) ↦ omega arith
+  | inr (front, last, above, is, at, child) ↦ let (positive, within) = child_of-within children above last node child in omega arith
 ]
 
 -- ---- the paths above a path, from the root on
-
--- a path above one that has a node has one
-pub node_of-take : (children : List Child) (path : List NameId) (n m : ℕ) (node : ℕ) → n ≤ m → node_of children (take m path) ≡ Some node → (above : ℕ) × (node_of children (take n path) ≡ Some above)
-node_of-take children path n m node less found =
-    let longer : take m path ≡ take n path ++ drop n (take m path) = sym (take-append-drop n (take m path)) ∙ ap (λ front. front ++ drop n (take m path)) (take-take n m path less) in
-    node_of-append_left children (take n path) (drop n (take m path)) node (ap (node_of children) (sym longer) ∙ found)
 
 -- the next path
 pub node_of-take_more : (children : List Child) (path : List NameId) (n : ℕ) (d : NameId) (node : ℕ) → n < length path → node_of children (take n path) ≡ Some node
@@ -236,8 +188,7 @@ node_of-take_more children path n d node within found =
 
 -- where there is none, the whole path has none
 pub node_of-take_none : (children : List Child) (path : List NameId) (n : ℕ) (m : ℕ) → n ≤ m → node_of children (take n path) ≡ None → node_of children (take m path) ≡ None
-node_of-take_none children path n m less none = by (node_of children (take m path)) refl
-  where
-    by : (o : Option ℕ) → node_of children (take m path) ≡ o → o ≡ None
-    by None is = refl
-    by (Some node) is = let (above, at) = node_of-take children path n m node less is in let never : None ≡ Some above = sym none ∙ at in cc
+node_of-take_none children path n m less none =
+    let rest = drop n (take m path) in
+    let longer : take m path ≡ take n path ++ rest = sym (take-append-drop n (take m path)) ∙ ap (λ front. front ++ rest) (take-take n m path less) in
+    ap (node_of children) longer ∙ node_below-append children 0 (take n path) rest ∙ ap (option_and_then (λ under. node_below children under rest)) none
