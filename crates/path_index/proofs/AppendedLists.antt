@@ -1,7 +1,8 @@
 -- The elements of a list and of those that are appended to it.
-use Rattle.std.proofs.Common.{◌≡◌, ℕ, ◌+◌, ◌-◌, ◌<◌, ◌≤◌, ◌⊎◌, inl, inr, List, [], ◌∷◌, ◌++◌, length, get_or, slice_get, Some, sym, ap, ◌∙◌, arith, length-append}
+use Rattle.std.proofs.Common.{◌≡◌, ℕ, ◌+◌, ◌-◌, ◌<◌, ◌≤◌, ◌⊎◌, inl, inr, List, AllPairs, [], ◌∷◌, ◌++◌, length, get_or, slice_get, Some, sym, ap, ◌∙◌, arith, length-append}
 use Rattle.std.proofs.lemmas.Bool.{cases_lt}
 use Rattle.std.proofs.lemmas.List.{get_or_append_left, get_or-append-add, get_or_push, length_push}
+use Rattle.std.proofs.Math.Seq.{get_or-append_right}
 use Rattle.std.proofs.lemmas.Option.{get_or_from_slice_get, slice_get-get_or, slice_get_within}
 
 module _ {X : Type 0} (xs more : List X) where
@@ -39,4 +40,16 @@ slice_get-push xs x index each at = elim (cases_lt index (length xs)) [
       let within = slice_get_within (xs ++ x ∷ []) index each at in
       let last : index ≡ length xs = omega (arith, within, length_push xs x) in
       inr (last, sym (get_or_from_slice_get (xs ++ x ∷ []) index each each at) ∙ get_or_push xs x each index (sym last))
+]
+
+-- pairs of two lists
+pub AllPairs-append : {X : Type 0} (R : X → X → Type 0) (xs ys : List X) → AllPairs R xs → AllPairs R ys → ((i j : ℕ) (d : X) → i < length xs → j < length ys → R (get_or xs i d) (get_or ys j d)) → AllPairs R (xs ++ ys)
+AllPairs-append R xs ys one other between i j d before within = elim (cases_lt j (length xs)) [
+  | inl low ↦ rw (get_or_append_left xs ys d i (omega arith), get_or_append_left xs ys d j low) (one i j d before low)
+  | inr high ↦
+      let inside : j - length xs < length ys = omega (arith, within, length-append xs ys) in
+      rw (get_or-append_right xs ys j d high) (elim (cases_lt i (length xs)) [
+        | inl low ↦ rw (get_or_append_left xs ys d i low) (between i (j - length xs) d low inside)
+        | inr later ↦ rw (get_or-append_right xs ys i d later) (other (i - length xs) (j - length xs) d (omega arith) inside)
+      ])
 ]

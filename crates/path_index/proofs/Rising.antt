@@ -1,8 +1,9 @@
 -- Records in the order of their revisions, and those of the revisions up to one.
-use Rattle.std.proofs.Common.{◌≡◌, ◌≢◌, ℕ, ◌≤◌, ◌==◌, Bool, true, false, List, [], ◌∷◌, ◌++◌, All, get_or, if◌then◌else◌, length, map, filter, refl, ap, subst, ◌∙◌, arith, length-append}
+use Rattle.std.proofs.Common.{◌≡◌, ◌≢◌, ℕ, ◌≤◌, ◌==◌, Bool, true, false, List, AllPairs, inl, inr, [], ◌∷◌, ◌++◌, All, get_or, if◌then◌else◌, length, map, filter, refl, ap, subst, ◌∙◌, arith, length-append}
+use Rattle.std.specs.List.Sorted.{IsNonDecreasingBy}
 use Rattle.std.proofs.Math.ListN.{get_or-append}
 use Rattle.std.proofs.Math.Seq.{get_or-append_seam}
-use Rattle.std.proofs.lemmas.Bool.{ne_eqb}
+use Rattle.std.proofs.lemmas.Bool.{cases_lt, ne_eqb}
 use Rattle.std.proofs.lemmas.List.Elements.{All-head, All-tail}
 use Rattle.svn_dump.specs.Dump.{record_view}
 use Rattle.svn_dump.specs.declared.record.NodeRecord.{NodeRecord}
@@ -23,6 +24,14 @@ filter_all p (x ∷ xs) all = rw (All-head (λ x. p x ≡ true) x xs all) (ap (�
 pub filter_none : {X : Type 0} (p : X → Bool) (xs : List X) → All (λ x. p x ≡ false) xs → filter p xs ≡ []
 filter_none p [] all = refl
 filter_none p (x ∷ xs) all = rw (All-head (λ x. p x ≡ false) x xs all) (filter_none p xs (All-tail (λ x. p x ≡ false) x xs all))
+
+-- ---- lists in an order
+
+pub IsNonDecreasingBy-AllPairs : {X : Type 0} (n : X → ℕ) (xs : List X) → AllPairs (λ x y. n x ≤ n y) xs → IsNonDecreasingBy n xs
+IsNonDecreasingBy-AllPairs n xs rising i j d before within = elim (cases_lt i j) [
+  | inl less ↦ rising i j d less within
+  | inr same ↦ let e : j ≡ i = omega arith in rw e (omega arith)
+]
 
 -- ---- records in the order of their revisions
 

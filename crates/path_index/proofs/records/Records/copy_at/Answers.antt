@@ -22,7 +22,7 @@ returns-in_default c =
     let are : AreCopies records copies = subst (λ all. AreCopies all copies) c.self.view_is (subst (AreCopies c.self.inside.all.items) (sym c.deref.ensures.value) c.self.invariant.of_copies) in
     let point : IsPartitionPoint (λ each. ltb each.index index ≡ true) (λ each. ltb each.index index ≡ false) copies number =
     IsPartitionPoint-from_clause (λ each. ltb each.index index) copies number c.partition_point-number.ensures.partitioned
-    (IsPartitionedBy-ltb (λ each. each.index) copies index (IsNonDecreasingBy-indices records copies are)) (λ a r f' k. search rules) in
+    (IsPartitionedBy-ltb (λ each. each.index) copies index (IsNonDecreasingBy-indices are)) (λ a r f' k. search rules) in
     let same : c.deref-2.result.now ≡ copies = c.deref-2.ensures.value ∙ sym c.deref.ensures.value in
     let other : (d : Copied) → number < length copies → (get_or copies number d).index ≢ index = λ d within.
     elim c.in_default.branch [
@@ -31,4 +31,4 @@ returns-in_default c =
       | in_default-via-in_default w ↦
           λ is. not_none c.get.result (c.get.ensures.lookup.0 ∙ lt-ltb number (length c.deref-2.result.now) (omega (arith, within, ap length same))) w.in_default.not-Some
     ] in
-    no_copy_at records copies index number are c.partition_point-number.ensures.bound point other
+    no_copy_at index number are point other
