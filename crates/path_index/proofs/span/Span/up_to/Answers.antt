@@ -1,6 +1,4 @@
-use Rattle.std.proofs.Common.{sym, subst}
 use Rattle.std.proofs.lemmas.Option.{get_or_from_slice_get}
-use Rattle.path_index.specs.Span.{IsSpan}
 use Rattle.path_index.proofs.EntriesOfPaths.{SetsPath-SetsAt}
 use Rattle.path_index.proofs.Spans.{IsSpan-newest, IsSpan-none}
 use Rattle.path_index.proofs.span.Span.up_to.Goals as goal
@@ -8,17 +6,15 @@ use Rattle.path_index.proofs.span.Span.up_to.Goals as goal
 pub returns : goal.returns
 returns c =
     let records = c.args.records.now in
+    let path = c.args.path.now in
     let index = c.in-Some.index in
-    let from = c.in_ok-origin.field-0 in
-    let (each, at, sets) = SetsPath-SetsAt records c.args.by_path.now c.requires.by_path c.args.path.now index c.in-Some.ensures.1 in
-    subst (λ lo. IsSpan records c.args.path.now c.args.peg (record { lo = lo; origin = from })) (sym (c.rev.ensures each at))
-    (IsSpan-newest records c.args.by_path.now c.requires.by_path c.args.path.now c.args.peg c.count_up_to-count.result c.requires.there c.requires.rising c.count_up_to-count.ensures.bound c.count_up_to-count.ensures.point
-    index each from c.in-Some.ensures (get_or_from_slice_get records index each each at) (c.in_ok-origin.ensures each at))
+    let (each, at, sets) = SetsPath-SetsAt records c.args.by_path.now c.requires.by_path path index c.in-Some.ensures.1 in
+    rw (c.rev.ensures each at)
+    (IsSpan-newest path c.requires.by_path c.requires.there c.requires.rising c.count_up_to-count.ensures index each c.in_ok-origin.field-0 c.in-Some.ensures (get_or_from_slice_get records index each each at)
+    (c.in_ok-origin.ensures each at))
 
 pub returns-in_default : goal.returns-in_default
-returns-in_default c =
-    IsSpan-none c.args.records.now c.args.by_path.now c.requires.by_path c.args.path.now c.args.peg c.count_up_to-count.result c.requires.there c.requires.rising c.count_up_to-count.ensures.bound c.count_up_to-count.ensures.point
-    c.in_default.ensures
+returns-in_default c = IsSpan-none c.args.path.now c.requires.by_path c.requires.there c.requires.rising c.count_up_to-count.ensures c.in_default.ensures
 
 pub origin-requires : goal.origin-requires
 origin-requires c =
