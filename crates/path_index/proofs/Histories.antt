@@ -3,7 +3,7 @@ use Rattle.std.proofs.Common.{◌≡◌, ℕ, zero, suc, ◌+◌, ◌-◌, ◌<�
 use Rattle.std.specs.Prelude.{AllPairs}
 use Rattle.std.proofs.lemmas.Bool.{eq-eqb, ne_eqb}
 use Rattle.std.proofs.lemmas.List.{length-map, length-replicate, get_or-map, get_or-take, take-append-drop, take_at, drop_at, take-map, drop-map, take_more}
-use Rattle.std.proofs.lemmas.List.Elements.{All-nil, All-cons, All-append, All-replicate, All-weaker, All-head, All-tail, filter-append}
+use Rattle.std.proofs.lemmas.List.Elements.{All-nil, All-cons, All-append, All-replicate, All-head, All-tail, filter-append}
 use Rattle.std.proofs.lemmas.List.Kept.{AllPairs-cons}
 use Rattle.svn_dump.specs.Dump.{DumpValue, record_view, records_by_revision, revisions_from, history_view}
 use Rattle.svn_dump.specs.History.{History}
@@ -21,22 +21,19 @@ use Rattle.path_index.proofs.DownFrom.{filter_down-same}
 -- ---- what holds of mapped elements
 
 All-from_map : {X Y : Type 0} (P : Y → Type 0) (f : X → Y) (xs : List X) → All P (map f xs) → All (λ x. P (f x)) xs
-All-from_map P f xs all k d within = subst P (get_or-map f xs k d (f d) within) (all k (f d) (omega (arith, length-map xs f)))
+All-from_map P f xs all k d within = rw (get_or-map f xs k d (f d) within) at (all k (f d) (omega (arith, length-map xs f)))
 
 AllPairs-from_map : {X Y : Type 0} (R : Y → Y → Type 0) (f : X → Y) (xs : List X) → AllPairs R (map f xs) → AllPairs (λ x y. R (f x) (f y)) xs
 AllPairs-from_map R f xs all i j d before within =
-    subst (λ y. R y (f (get_or xs j d))) (get_or-map f xs i d (f d) (omega arith))
-    (subst (λ y. R (get_or (map f xs) i (f d)) y) (get_or-map f xs j d (f d) within) (all i j (f d) before (omega (arith, length-map xs f))))
+    rw (get_or-map f xs i d (f d) (omega arith), get_or-map f xs j d (f d) within) at (all i j (f d) before (omega (arith, length-map xs f)))
 
 -- ---- the order of a dump's records
 
 -- no revision is before the first
-revisions_from-up : (from : ℕ) (counts : List ℕ) → All (λ rev. from ≤ rev) (revisions_from from counts)
-revisions_from-up from [] = All-nil (λ rev. from ≤ rev)
-revisions_from-up from (count ∷ counts) =
-    All-append (λ rev. from ≤ rev) (replicate count from) (revisions_from (from + 1) counts) (All-replicate (λ rev. from ≤ rev) count from (omega arith))
-    (All-weaker (λ rev. from + 1 ≤ rev) (λ rev. from ≤ rev) (λ (rev : ℕ) (up : from + 1 ≤ rev). omega arith) (revisions_from (from + 1) counts)
-    (revisions_from-up (from + 1) counts))
+revisions_from-up : (low from : ℕ) (counts : List ℕ) → low ≤ from → All (λ rev. low ≤ rev) (revisions_from from counts)
+revisions_from-up low from [] up = All-nil (λ rev. low ≤ rev)
+revisions_from-up low from (count ∷ counts) up =
+    All-append (λ rev. low ≤ rev) (replicate count from) (revisions_from (from + 1) counts) (All-replicate (λ rev. low ≤ rev) count from up) (revisions_from-up low (from + 1) counts (omega arith))
 
 rising_more : (count from : ℕ) (revs : List ℕ) → All (λ rev. from ≤ rev) revs → AllPairs (λ rev later. rev ≤ later) revs
     → AllPairs (λ rev later. rev ≤ later) (replicate count from ++ revs)
@@ -49,10 +46,7 @@ rising_more (suc count) from revs up rising =
 rising_revisions : (from : ℕ) (counts : List ℕ) → AllPairs (λ rev later. rev ≤ later) (revisions_from from counts)
 rising_revisions from [] = λ i j d before within. absurd (omega arith)
 rising_revisions from (count ∷ counts) =
-    rising_more count from (revisions_from (from + 1) counts)
-    (All-weaker (λ rev. from + 1 ≤ rev) (λ rev. from ≤ rev) (λ (rev : ℕ) (up : from + 1 ≤ rev). omega arith) (revisions_from (from + 1) counts)
-    (revisions_from-up (from + 1) counts))
-    (rising_revisions (from + 1) counts)
+    rising_more count from (revisions_from (from + 1) counts) (revisions_from-up from (from + 1) counts (omega arith)) (rising_revisions (from + 1) counts)
 
 -- the records of a dump are in the order of their revisions
 pub AreRising-from_revisions : (records : List NodeRecord) (counts : List ℕ) → map (λ each. each.rev) records ≡ revisions_from 0 counts → AreRising records
@@ -85,7 +79,7 @@ module _ (count from : ℕ) (counts : List ℕ) (records : List NodeRecord)
   all_later : All (λ each. from + 1 ≤ each.rev) (drop count records)
   all_later =
       All-from_map (λ rev. from + 1 ≤ rev) (λ each. each.rev) (drop count records)
-      (subst (All (λ rev. from + 1 ≤ rev)) (sym later_revisions) (revisions_from-up (from + 1) counts))
+      (subst (All (λ rev. from + 1 ≤ rev)) (sym later_revisions) (revisions_from-up (from + 1) (from + 1) counts (omega arith)))
 
   in_two : (rev : ℕ) → of_revision records rev ≡ of_revision (take count records) rev ++ of_revision (drop count records) rev
   in_two rev =
@@ -96,20 +90,15 @@ module _ (count from : ℕ) (counts : List ℕ) (records : List NodeRecord)
   of_first : of_revision records from ≡ take count records
   of_first =
       in_two from
-      ∙ (λ i. filter_all (λ each. each.rev == from) (take count records)
-      (All-weaker (λ each. each.rev ≡ from) (λ each. (each.rev == from) ≡ true) (λ each at. eq-eqb each.rev from at) (take count records) all_first) i
-      ++ filter_none (λ each. each.rev == from) (drop count records)
-      (All-weaker (λ each. from + 1 ≤ each.rev) (λ each. (each.rev == from) ≡ false)
-      (λ (each : NodeRecord) (up : from + 1 ≤ each.rev). ne_eqb each.rev from (λ e. omega (arith, e))) (drop count records) all_later) i)
+      ∙ (λ i. filter_all (λ each. each.rev == from) (take count records) (λ k d within. eq-eqb _ from (all_first k d within)) i
+      ++ filter_none (λ each. each.rev == from) (drop count records) (λ k d within. ne_eqb _ from (λ e. let up = all_later k d within in omega (arith, e, up))) i)
       ∙ append-nil (take count records)
 
   -- and of no other
   of_later : (rev : ℕ) → from < rev → of_revision records rev ≡ of_revision (drop count records) rev
   of_later rev later =
       in_two rev
-      ∙ ap (λ front. front ++ of_revision (drop count records) rev) (filter_none (λ each. each.rev == rev) (take count records)
-      (All-weaker (λ each. each.rev ≡ from) (λ each. (each.rev == rev) ≡ false)
-      (λ (each : NodeRecord) (at : each.rev ≡ from). ne_eqb each.rev rev (λ e. omega (arith, e))) (take count records) all_first))
+      ∙ ap (λ front. front ++ of_revision (drop count records) rev) (filter_none (λ each. each.rev == rev) (take count records) (λ k d within. ne_eqb _ rev (λ e. let at = all_first k d within in omega (arith, e, at))))
 
 -- a group has the records of its revision
 of_revision-records_by_revision : (from : ℕ) (counts : List ℕ) (records : List NodeRecord) → map (λ each. each.rev) records ≡ revisions_from from counts
@@ -187,32 +176,30 @@ module _ {C M : Type 0} (same : C → C → Bool) (history : History C M) (last 
 
 -- ---- the segments of a revision's path go up to that revision
 
-module _ {C : Type 0} (same : C → C → Bool) where
-  UpTo : ℕ → List (Segment C) → Type 0
-  UpTo rev segments = All (λ segment. segment.hi ≤ rev) segments
+abbrev UpTo : {C : Type 0} → ℕ → List (Segment C) → Type 0
+UpTo rev segments = All (λ segment. segment.hi ≤ rev) segments
 
+module _ {C : Type 0} (same : C → C → Bool) where
   by_test : (b : Bool) (rev : ℕ) (index : Option (List C)) (segment : Segment C) (segments : List (Segment C)) → UpTo rev (segment ∷ segments)
       → UpTo rev (if b then record segment { hi = rev } ∷ segments else record { lo = rev; hi = rev; path = index } ∷ segment ∷ segments)
-  unfolding UpTo
   by_test true rev index segment segments up =
       All-cons (λ segment. segment.hi ≤ rev) (record segment { hi = rev }) segments (omega arith) (All-tail (λ segment. segment.hi ≤ rev) segment segments up)
   by_test false rev index segment segments up = All-cons (λ segment. segment.hi ≤ rev) (record { lo = rev; hi = rev; path = index }) (segment ∷ segments) (omega arith) up
 
   with_location-up : (rev : ℕ) (index : Option (List C)) (segments : List (Segment C)) → UpTo rev segments → UpTo rev (with_location same rev index segments)
-  unfolding with_location UpTo
+  unfolding with_location
   with_location-up rev None [] up = up
   with_location-up rev (Some path) [] up = All-cons (λ segment. segment.hi ≤ rev) (record { lo = rev; hi = rev; path = Some path }) [] (omega arith) up
   with_location-up rev None (segment ∷ segments) up = by_test (same_location same None segment.path) rev None segment segments up
   with_location-up rev (Some path) (segment ∷ segments) up = by_test (same_location same (Some path) segment.path) rev (Some path) segment segments up
 
   segments_up_to-up : (index : ℕ → Option (List C)) (top : ℕ) → UpTo top (segments_up_to same index top)
-  unfolding segments_up_to UpTo
+  unfolding segments_up_to
   segments_up_to-up index zero = with_location-up zero (index zero) [] (All-nil (λ segment. segment.hi ≤ 0))
   segments_up_to-up index (suc rev) =
       with_location-up (suc rev) (index (suc rev)) (segments_up_to same index rev)
-      (All-weaker (λ segment. segment.hi ≤ rev) (λ segment. segment.hi ≤ suc rev) (λ (segment : Segment C) (up : segment.hi ≤ rev). omega arith) (segments_up_to same index rev) (segments_up_to-up index rev))
+      (λ k d within. let up = segments_up_to-up index rev k d within in omega (arith, up))
 
   -- so do the segments of a path
   pub segments_of-up : {M : Type 0} (trees : List (Tree C M)) (path : List C) (peg : ℕ) → All (λ segment. segment.hi ≤ peg) (segments_of same trees path peg)
-  unfolding UpTo
   segments_of-up trees path peg = segments_up_to-up (λ rev. location same trees path peg rev) peg
