@@ -1,8 +1,8 @@
 -- The numbers of a node, in rising order.
-use Rattle.std.proofs.Common.{◌≡◌, leb, ℕ, zero, suc, pred, ◌+◌, ◌-◌, ◌<◌, ◌≤◌, max, Bool, true, false, ◌⊎◌, List, [], ◌∷◌, ◌++◌, All, Contains, map, filter, slice_get, length, get_or, take, Option, None, Some, inl, inr, refl, sym, ap, subst, ◌∙◌, append_assoc, append-nil, arith, true≢false}
+use Rattle.std.proofs.Common.{◌≡◌, leb, ℕ, zero, suc, pred, ◌+◌, ◌-◌, ◌<◌, ◌≤◌, max, Bool, true, false, ◌⊎◌, List, [], ◌∷◌, ◌++◌, Contains, map, filter, slice_get, length, get_or, take, Option, None, Some, inl, inr, refl, sym, ap, subst, ◌∙◌, append_assoc, append-nil, arith}
 use Rattle.smallvec.specs.SmallVec.{SmallVec}
 use Rattle.std.specs.List.Sorted.{IsPartitionPoint, IsNonDecreasing}
-use Rattle.std.proofs.lemmas.Bool.{cases_lt, false_from_ne_true, eqb-true, leb-true, le-leb}
+use Rattle.std.proofs.lemmas.Bool.{cases_lt, false_from_ne_true, eqb-true, leb-true, leb-false}
 use Rattle.std.proofs.lemmas.List.Elements.{All-contains, Contains-append_left, Contains-push, Contains-push_cases}
 use Rattle.std.proofs.lemmas.Cmp.{nat_eq_equiv}
 use Rattle.std.proofs.lemmas.Map.Views.{list_any-from_Contains, Contains-from_any}
@@ -12,6 +12,7 @@ use Rattle.path_index.specs.Numbers.{has_number, newer_of, numbers_of, HasNumber
 use Rattle.path_index.specs.Operative.{down_from, hit_at}
 use Rattle.path_index.specs.declared.hit.Hit.{Hit}
 use Rattle.path_index.proofs.DownFrom.{filter_down-none}
+use Rattle.path_index.proofs.Rising.{IsNonDecreasingBy-AllPairs}
 
 pub has_number-HasNumber : (lists : List (SmallVec ℕ)) (node number : ℕ) → HasNumber lists node number → has_number lists node number ≡ true
 has_number-HasNumber lists node number has = list_any-from_Contains nat_eq_equiv number (numbers_of lists node) has
@@ -27,13 +28,11 @@ IsNewestBelow-newer limit P Q None (Some b) one other = (other.0, inr other.1, �
 IsNewestBelow-newer limit P Q (Some a) None one other = (one.0, inl one.1, λ n past below either. elim either [ inl p ↦ one.2 n past below p | inr q ↦ other n below q ])
 IsNewestBelow-newer limit P Q (Some a) (Some b) one other = elim (cases_lt a b) [
   | inl less ↦
-      let most : b ≡ max a b = omega arith in
-      subst (λ m. IsNewestBelow limit (λ n. P n ⊎ Q n) (Some m)) most
-      (other.0, inr other.1, λ n past below either. elim either [ inl p ↦ one.2 n (omega arith) below p | inr q ↦ other.2 n past below q ])
+      let most : max a b ≡ b = omega arith in
+      rw most (other.0, inr other.1, λ n past below either. elim either [ inl p ↦ one.2 n (omega arith) below p | inr q ↦ other.2 n past below q ])
   | inr more ↦
-      let most : a ≡ max a b = omega arith in
-      subst (λ m. IsNewestBelow limit (λ n. P n ⊎ Q n) (Some m)) most
-      (one.0, inl one.1, λ n past below either. elim either [ inl p ↦ one.2 n past below p | inr q ↦ other.2 n (omega arith) below q ])
+      let most : max a b ≡ a = omega arith in
+      rw most (one.0, inl one.1, λ n past below either. elim either [ inl p ↦ one.2 n past below p | inr q ↦ other.2 n (omega arith) below q ])
 ]
 
 -- of facts that hold of the same numbers
@@ -46,48 +45,38 @@ IsNewestBelow-same limit P Q to from (Some newest) is = (is.0, to newest is.0 is
 -- the last is above the others
 pub last_above : (front : List ℕ) (last : ℕ) → IsRising (front ++ last ∷ []) → (entry : ℕ) → Contains front entry → entry < last
 last_above front last rising entry (k, within, at) =
-    let less = rising k (length front) entry within (omega (arith, length_push front last)) in
-    let first : get_or (front ++ last ∷ []) k entry ≡ entry = get_or_append_left front (last ∷ []) entry k within ∙ at in
-    let second : get_or (front ++ last ∷ []) (length front) entry ≡ last = get_or_push front last entry (length front) refl in
-    omega (arith, less, first, second)
+    rw (get_or_append_left front (last ∷ []) entry k within ∙ at, get_or_push front last entry (length front) refl) at (rising k (length front) entry within (omega (arith, length_push front last)))
 
 pub rising_front : (front : List ℕ) (last : ℕ) → IsRising (front ++ last ∷ []) → IsRising front
 rising_front front last rising i j d before within =
-    let less = rising i j d before (omega (arith, length_push front last)) in
-    let first : get_or (front ++ last ∷ []) i d ≡ get_or front i d = get_or_append_left front (last ∷ []) d i (omega arith) in
-    let second : get_or (front ++ last ∷ []) j d ≡ get_or front j d = get_or_append_left front (last ∷ []) d j within in
-    omega (arith, less, first, second)
+    rw (get_or_append_left front (last ∷ []) d i (omega arith), get_or_append_left front (last ∷ []) d j within) at (rising i j d before (omega (arith, length_push front last)))
 
 -- so none is above it
-pub le_from_last : (front : List ℕ) (last : ℕ) (all : List ℕ) → all ≡ front ++ last ∷ [] → IsRising all → (entry : ℕ) → Contains all entry → entry ≤ last
-le_from_last front last all ends rising entry within = elim (Contains-push_cases front last entry (subst (λ xs. Contains xs entry) ends within)) [
-  | inl earlier ↦ let less = last_above front last (subst IsRising ends rising) entry earlier in omega (arith, less)
+pub le_from_last : (front : List ℕ) (last : ℕ) → IsRising (front ++ last ∷ []) → (entry : ℕ) → Contains (front ++ last ∷ []) entry → entry ≤ last
+le_from_last front last rising entry within = elim (Contains-push_cases front last entry within) [
+  | inl earlier ↦ let less = last_above front last rising entry earlier in omega (arith, less)
   | inr here ↦ omega (arith, here)
 ]
 
 -- ---- the numbers up to one
 
 pub IsNonDecreasing-rising : (numbers : List ℕ) → IsRising numbers → IsNonDecreasing numbers
-IsNonDecreasing-rising numbers rising i j d before within = elim (cases_lt i j) [
-  | inl less ↦ let rises = rising i j d less within in omega (arith, rises)
-  | inr same ↦ let e : i ≡ j = omega arith in let here = ap (λ k. get_or numbers k d) e in omega (arith, here)
-]
+IsNonDecreasing-rising numbers rising = IsNonDecreasingBy-AllPairs (λ x. x) numbers (λ i j d before within. let rises = rising i j d before within in omega (arith, rises))
 
 pub IsFrontUpTo-take : (last count : ℕ) (numbers : List ℕ) → IsRising numbers → count ≤ length numbers → IsPartitionPoint (λ each. leb each last ≡ true) (λ each. leb each last ≡ false) numbers count
     → IsFrontUpTo last numbers (take count numbers)
 IsFrontUpTo-take last count numbers rising bound point =
     let long : length (take count numbers) ≡ count = length-take-le count numbers bound in
     let at = λ (k d : ℕ) (within : k < length (take count numbers)). let same : get_or (take count numbers) k d ≡ get_or numbers k d = get_or-take count numbers k d (omega arith) in same in
-    let all : All (λ each. each ≤ last) (take count numbers) = λ k d within. subst (λ each. each ≤ last) (sym (at k d within)) (leb-true (get_or numbers k d) last (point.0 k d (omega arith) (omega arith))) in
     record {
       rising = λ i j d before within.
           let less = rising i j d before (omega arith) in
           omega (arith, less, at i d (omega arith), at j d within);
-      within = all;
+      within = λ k d within. rw (at k d within) (leb-true (get_or numbers k d) last (point.0 k d (omega arith) (omega arith)));
       among = λ number (k, within, here). (k, omega arith, sym (at k number within) ∙ here);
       whole = λ number (k, within, here) low. elim (cases_lt k count) [
         | inl early ↦ let inside : k < length (take count numbers) = omega arith in (k, inside, at k number inside ∙ here)
-        | inr late ↦ absurd (let high = point.1 k number late within in true≢false (sym (le-leb number last low) ∙ ap (λ each. leb each last) (sym here) ∙ high))
+        | inr late ↦ let high = leb-false (get_or numbers k number) last (point.1 k number late within) in absurd (omega (arith, high, here))
       ];
     }
 
@@ -110,17 +99,8 @@ IsNewestBelow-last numbers front limit some up = by (slice_get front (length fro
           up.among last (length front - 1, inside, at),
           λ number past below has.
               let (k, within, here) = up.whole number has (omega arith) in
-              elim (cases_lt k (length front - 1)) [
-                | inl earlier ↦
-                    let less = up.rising k (length front - 1) last earlier inside in
-                    let same = get_or_default front k number last within in
-                    omega (arith, less, same, here, at)
-                | inr end ↦
-                    let final : k ≡ length front - 1 = omega arith in
-                    let same = get_or_default front k number last within in
-                    let moved = ap (λ n. get_or front n last) final in
-                    omega (arith, moved, same, here, at)
-              ],
+              let rises = IsNonDecreasing-rising front up.rising k (length front - 1) number (omega arith) inside in
+              omega (arith, rises, get_or_default front (length front - 1) number last inside, here, at),
         )
 
 -- ---- numbers downwards
@@ -166,49 +146,32 @@ module _ (lists : List (SmallVec ℕ)) (segment node lo hi : ℕ) (old : List Hi
     found = refl;
   }
 
-  module _ (rest : List ℕ) (hits : List Hit) (so_far : IsPushed rest hits) where
-    -- where no number is left after `lo`, all are found
-    pub hits-IsPushed : ((number : ℕ) → Contains rest number → number ≤ lo) → hits ≡ old ++ map (hit_at segment) (numbers_up_to hi)
-    hits-IsPushed none =
-        let ended : numbers_up_to so_far.top ≡ [] = filter_down-none has (so_far.top - lo) so_far.top (omega arith)
-        (λ number to from. false_from_ne_true (has number) (λ is. let low = none number (so_far.whole number to is) in omega (arith, low))) in
-        sym (append-nil hits) ∙ ap (λ more. hits ++ map (hit_at segment) more) (sym ended) ∙ so_far.found
+  -- where no number is left after `lo`, all are found
+  pub hits-IsPushed : {rest : List ℕ} {hits : List Hit} → IsPushed rest hits → ((number : ℕ) → Contains rest number → number ≤ lo) → hits ≡ old ++ map (hit_at segment) (numbers_up_to hi)
+  hits-IsPushed {hits = hits} so_far none =
+      let ended : numbers_up_to so_far.top ≡ [] = filter_down-none has (so_far.top - lo) so_far.top (omega arith)
+      (λ number to from. false_from_ne_true (has number) (λ is. let low = none number (so_far.whole number to is) in omega (arith, low))) in
+      sym (append-nil hits) ∙ ap (λ more. hits ++ map (hit_at segment) more) (sym ended) ∙ so_far.found
 
-    module _ (before : List ℕ) (last : ℕ) (ends : rest ≡ before ++ last ∷ []) (after : lo < last) where
-      rising_ends : IsRising (before ++ last ∷ [])
-      rising_ends = subst IsRising ends so_far.rising
-
-      last_in : Contains rest last
-      last_in = subst (λ all. Contains all last) (sym ends) (Contains-push before last)
-
-      up : last ≤ so_far.top
-      up = so_far.within last last_in
-
-      in_before : (k : ℕ) → k < last → Contains rest k → Contains before k
-      in_before k below within = elim (Contains-push_cases before last k (subst (λ all. Contains all k) ends within)) [
-        | inl earlier ↦ earlier
-        | inr here ↦ absurd (omega (arith, here))
-      ]
-
-      not_past : (k : ℕ) → last < k → Contains rest k → ⊥
-      not_past k past within = elim (Contains-push_cases before last k (subst (λ all. Contains all k) ends within)) [
-        | inl earlier ↦ let less = last_above before last rising_ends k earlier in omega (arith, less)
-        | inr here ↦ omega (arith, here)
-      ]
-
-      -- the last number is the next hit
-      pub IsPushed_push : IsPushed before (hits ++ hit_at segment last ∷ [])
-      IsPushed_push = record {
+  -- the last number is the next hit
+  pub IsPushed_push : (before : List ℕ) (last : ℕ) {hits : List Hit} → IsPushed (before ++ last ∷ []) hits → lo < last → IsPushed before (hits ++ hit_at segment last ∷ [])
+  IsPushed_push before last {hits = hits} so_far after =
+      let last_in = Contains-push before last in
+      let up = so_far.within last last_in in
+      record {
         top = pred last;
-        rising = rising_front before last rising_ends;
-        within = λ number among. let less = last_above before last rising_ends number among in omega (arith, less);
-        among = λ number among. so_far.among number (subst (λ all. Contains all number) (sym ends) (Contains-append_left before (last ∷ []) number among));
-        whole = λ k below has. in_before k (omega arith) (so_far.whole k (omega (arith, up)) has);
+        rising = rising_front before last so_far.rising;
+        within = λ number among. let less = last_above before last so_far.rising number among in omega (arith, less);
+        among = λ number among. so_far.among number (Contains-append_left before (last ∷ []) number among);
+        whole = λ k below has. elim (Contains-push_cases before last k (so_far.whole k (omega (arith, up)) has)) [
+          | inl earlier ↦ earlier
+          | inr here ↦ absurd (omega (arith, here))
+        ];
         found =
             append_assoc hits (hit_at segment last ∷ []) (map (hit_at segment) (numbers_up_to (pred last)))
             ∙ ap (λ revs. hits ++ map (hit_at segment) revs)
             (sym (filter_down-next has lo last (so_far.top - last) so_far.top after (omega (arith, up))
-            (λ k past within. false_from_ne_true (has k) (λ is. not_past k past (so_far.whole k within is)))
+            (λ k past within. false_from_ne_true (has k) (λ is. let low = le_from_last before last so_far.rising k (so_far.whole k within is) in omega (arith, low)))
             (has_number-HasNumber lists node last (so_far.among last last_in))))
             ∙ so_far.found;
       }
