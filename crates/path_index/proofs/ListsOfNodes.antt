@@ -1,14 +1,15 @@
 -- Lists of numbers of nodes, as numbers are inserted.
-use Rattle.std.proofs.Common.{◌≡◌, ◌≢◌, ℕ, zero, suc, map, ◌+◌, ◌-◌, ◌<◌, ◌≤◌, ◌⊎◌, List, [], ◌∷◌, ◌++◌, Contains, ltb, true, false, true≢false, set, length, get_or, slice_get, Some, inl, inr, refl, sym, ap, subst, ◌∙◌, arith}
+use Rattle.std.proofs.Common.{◌≡◌, ◌≢◌, ℕ, zero, suc, map, ◌+◌, ◌-◌, ◌<◌, ◌≤◌, ◌⊎◌, List, [], ◌∷◌, ◌++◌, ltb, true, false, set, length, get_or, slice_get, Some, inl, inr, refl, sym, ap, subst, ◌∙◌, arith}
 use Rattle.smallvec.specs.SmallVec.{SmallVec}
 use Rattle.std.specs.List.{insert}
 use Rattle.std.specs.List.Sorted.{IsPartitionPoint}
-use Rattle.std.proofs.lemmas.Bool.{cases_eq, cases_lt, lt-ltb, ltb-true}
+use Rattle.std.proofs.lemmas.Bool.{cases_eq, cases_lt, ltb-false, ltb-true}
 use Rattle.std.proofs.lemmas.List.{get_or-set_same, get_or-set_other, length-set}
 use Rattle.std.proofs.lemmas.List.Edits.{length-insert, get_or-insert_at, get_or-insert_below, get_or-insert_above}
 use Rattle.std.proofs.lemmas.List.Elements.{Contains-append_left, Contains-push, Contains-push_cases}
 use Rattle.std.proofs.lemmas.Option.{same_Some, slice_get-get_or, slice_get_past}
-use Rattle.path_index.specs.Numbers.{numbers_in, numbers_of, AddsNumbers, AreAllRising, ArePair, HasNumber, HaveSameNumbers, IsMoved, IsFirstNotBelow, IsRising, IsShifted, IsWith}
+use Rattle.path_index.specs.Numbers.{numbers_in, numbers_of, AddsNumbers, AreAllRising, ArePair, HaveSameNumbers, IsMoved, IsFirstNotBelow, IsRising, IsShifted, IsWith}
+use Rattle.path_index.proofs.NumbersOfNodes.{IsNonDecreasing-rising}
 
 -- ---- the numbers of one node
 
@@ -39,10 +40,7 @@ pub IsFirstNotBelow-from_point : (number : ℕ) (numbers : List ℕ) (index : �
 IsFirstNotBelow-from_point number numbers index bound point = record {
   bound = bound;
   before = λ k d below. ltb-true (get_or numbers k d) number (point.0 k d (omega arith) below);
-  after = λ k d from within. elim (cases_lt (get_or numbers k d) number) [
-    | inl less ↦ absurd (true≢false (sym (lt-ltb (get_or numbers k d) number less) ∙ point.1 k d from within))
-    | inr least ↦ least
-  ];
+  after = λ k d from within. ltb-false (get_or numbers k d) number (point.1 k d from within);
 }
 
 module _ (numbers : List ℕ) (number index : ℕ) (at : IsFirstNotBelow number numbers index) where
@@ -65,10 +63,10 @@ module _ (numbers : List ℕ) (number index : ℕ) (at : IsFirstNotBelow number 
 
   module _ (rising : IsRising numbers) (new : (d : ℕ) → index < length numbers → get_or numbers index d ≢ number) where
     above_index : (k d : ℕ) → index ≤ k → k < length numbers → number < get_or numbers k d
-    above_index k d from within = elim (cases_eq index k) [
-      | inl is ↦ let least = at.after k d from within in let other : get_or numbers k d ≢ number = subst (λ n. get_or numbers n d ≢ number) is (new d (omega arith)) in omega (arith, least, other)
-      | inr differs ↦ let least = at.after index d (omega arith) (omega arith) in let less = rising index k d (omega arith) within in omega (arith, least, less)
-    ]
+    above_index k d from within =
+        let least = at.after index d (omega arith) (omega arith) in
+        let rises = IsNonDecreasing-rising numbers rising index k d from within in
+        let other = new d (omega arith) in omega (arith, least, rises, other)
 
     pub IsRising-insert : IsRising after
     IsRising-insert i j d before within = elim (cases_lt j index) [
@@ -104,18 +102,13 @@ module _ (numbers : List ℕ) (number index : ℕ) (at : IsFirstNotBelow number 
 -- ---- the numbers that come
 
 -- where nothing holds, none
-pub AddsNumbers-none : (P : ℕ → ℕ → Type 0) (lists : List (SmallVec ℕ)) → ((node number : ℕ) → P node number → ⊥) → AddsNumbers P lists lists
-AddsNumbers-none P lists never = record {
-  kept = λ node number has. has;
-  sound = λ node number has. inl has;
-  complete = λ node number so. absurd (never node number so);
-}
+AddsNumbers-none : {P : ℕ → ℕ → Type 0} {lists : List (SmallVec ℕ)} → ((node number : ℕ) → P node number → ⊥) → AddsNumbers P lists lists
+AddsNumbers-none never = record { kept = λ node number has. has; sound = λ node number has. inl has; complete = λ node number so. absurd (never node number so) }
 
 -- first some, then others
-pub AddsNumbers-then : (P Q R : ℕ → ℕ → Type 0) (old middle new : List (SmallVec ℕ)) → AddsNumbers P old middle → AddsNumbers Q middle new
-    → ((node number : ℕ) → P node number → R node number) → ((node number : ℕ) → Q node number → R node number) → ((node number : ℕ) → R node number → P node number ⊎ Q node number)
-    → AddsNumbers R old new
-AddsNumbers-then P Q R old middle new one other first second cases = record {
+AddsNumbers-then : {P Q R : ℕ → ℕ → Type 0} {old middle new : List (SmallVec ℕ)} → AddsNumbers P old middle → AddsNumbers Q middle new → ((node number : ℕ) → P node number → R node number)
+    → ((node number : ℕ) → Q node number → R node number) → ((node number : ℕ) → R node number → P node number ⊎ Q node number) → AddsNumbers R old new
+AddsNumbers-then one other first second cases = record {
   kept = λ node number has. other.kept node number (one.kept node number has);
   sound = λ node number has. elim (other.sound node number has) [
     | inl middle ↦ elim (one.sound node number middle) [ inl old ↦ inl old | inr p ↦ inr (first node number p) ]
@@ -128,37 +121,31 @@ AddsNumbers-then P Q R old middle new one other first second cases = record {
 }
 
 -- after the lists were copied
-pub AddsNumbers-same : (P : ℕ → ℕ → Type 0) (old middle new : List (SmallVec ℕ)) → HaveSameNumbers old middle → AddsNumbers P middle new → AddsNumbers P old new
-AddsNumbers-same P old middle new same adds = record {
-  kept = λ node number has. adds.kept node number (subst (λ all. Contains all number) (sym (same node)) has);
-  sound = λ node number has. elim (adds.sound node number has) [ inl before ↦ inl (subst (λ all. Contains all number) (same node) before) | inr p ↦ inr p ];
+pub AddsNumbers-same : {P : ℕ → ℕ → Type 0} {old middle new : List (SmallVec ℕ)} → HaveSameNumbers old middle → AddsNumbers P middle new → AddsNumbers P old new
+AddsNumbers-same same adds = record {
+  kept = λ node number has. adds.kept node number (rw (same node) has);
+  sound = λ node number has. elim (adds.sound node number has) [ inl before ↦ inl (rw (same node) at before) | inr p ↦ inr p ];
   complete = adds.complete;
 }
 
 -- one number
 pub AddsNumbers-set : (lists : List (SmallVec ℕ)) (node number : ℕ) (list : SmallVec ℕ) → node < length lists → IsWith number (numbers_of lists node) list.items → AddsNumbers (ArePair node number) lists (set lists node list)
-AddsNumbers-set lists node number list within inserted = record {
-  kept = λ other each has. elim (cases_eq other node) [
-    | inl is ↦ subst (λ all. Contains all each) (sym (here other is)) (inserted.kept each (subst (λ n. HasNumber lists n each) is has))
-    | inr differs ↦ subst (λ all. Contains all each) (sym (numbers_of-set_other lists node list other differs)) has
-  ];
-  sound = λ other each has. elim (cases_eq other node) [
-    | inl is ↦ elim (inserted.sound each (subst (λ all. Contains all each) (here other is) has)) [
-      | inl before ↦ inl (subst (λ n. HasNumber lists n each) (sym is) before)
-      | inr new ↦ inr (is, new)
-    ]
-    | inr differs ↦ inl (subst (λ all. Contains all each) (numbers_of-set_other lists node list other differs) has)
-  ];
-  complete = λ other each (is, new). subst (λ all. Contains all each) (sym (here other is)) (subst (Contains list.items) (sym new) inserted.here);
-}
-  where
-    here : (other : ℕ) → other ≡ node → numbers_of (set lists node list) other ≡ list.items
-    here other is = ap (numbers_of (set lists node list)) is ∙ numbers_of-set lists node list within
+AddsNumbers-set lists node number list within inserted =
+    let here = numbers_of-set lists node list within in
+    record {
+      kept = λ other each has. elim (cases_eq other node) [
+        | inl is ↦ rw (is, here) (inserted.kept each (rw is at has))
+        | inr differs ↦ rw (numbers_of-set_other lists node list other differs) has
+      ];
+      sound = λ other each has. elim (cases_eq other node) [
+        | inl is ↦ elim (inserted.sound each (rw (is, here) at has)) [ inl before ↦ inl (rw is before) | inr new ↦ inr (is, new) ]
+        | inr differs ↦ inl (rw (numbers_of-set_other lists node list other differs) at has)
+      ];
+      complete = λ other each (is, new). rw (is, new, here) inserted.here;
+    }
 
-pub AddsNumbers-none_shifted : (old new : List (SmallVec ℕ)) (shift node : ℕ) → HaveSameNumbers old new → AddsNumbers (IsShifted [] shift node) old new
-AddsNumbers-none_shifted old new shift node same =
-    AddsNumbers-same (IsShifted [] shift node) old new new same
-    (AddsNumbers-none (IsShifted [] shift node) new (λ n k so. let below = so.within.1 in omega (arith, below)))
+pub AddsNumbers-none_shifted : {old new : List (SmallVec ℕ)} {shift node : ℕ} → HaveSameNumbers old new → AddsNumbers (IsShifted [] shift node) old new
+AddsNumbers-none_shifted same = AddsNumbers-same same (AddsNumbers-none (λ n k so. let below = so.within.1 in omega (arith, below)))
 
 -- ---- copies
 
@@ -175,10 +162,10 @@ HaveSameNumbers-map old new same node = numbers_of-map new node ∙ ap (λ all. 
 
 -- ---- the numbers of other nodes
 
-pub AddsNumbers-next_shifted : (old middle new : List (SmallVec ℕ)) (done : List ℕ) (each shift node : ℕ) → AddsNumbers (IsShifted done shift node) old middle → AddsNumbers (ArePair node (each + shift)) middle new
+pub AddsNumbers-next_shifted : {old middle new : List (SmallVec ℕ)} {done : List ℕ} {shift node : ℕ} (each : ℕ) → AddsNumbers (IsShifted done shift node) old middle → AddsNumbers (ArePair node (each + shift)) middle new
     → AddsNumbers (IsShifted (done ++ each ∷ []) shift node) old new
-AddsNumbers-next_shifted old middle new done each shift node one other =
-    AddsNumbers-then (IsShifted done shift node) (ArePair node (each + shift)) (IsShifted (done ++ each ∷ []) shift node) old middle new one other
+AddsNumbers-next_shifted {done = done} {shift = shift} each one other =
+    AddsNumbers-then one other
     (λ n k so. record { here = so.here; earlier = so.earlier; within = Contains-append_left done (each ∷ []) so.earlier so.within; is = so.is })
     (λ n k (here, is). record { here = here; earlier = each; within = Contains-push done each; is = is })
     (λ n k so. elim (Contains-push_cases done each so.earlier so.within) [
@@ -186,10 +173,10 @@ AddsNumbers-next_shifted old middle new done each shift node one other =
       | inr last ↦ inr (so.here, so.is ∙ ap (λ e. e + shift) (sym last))
     ])
 
-pub AddsNumbers-next_node : (old middle new lists : List (SmallVec ℕ)) (nodes : List ℕ) (count shift node : ℕ) → slice_get nodes count ≡ Some node → AddsNumbers (IsMoved lists nodes count shift) old middle
+pub AddsNumbers-next_node : {old middle new lists : List (SmallVec ℕ)} {nodes : List ℕ} {count shift node : ℕ} → slice_get nodes count ≡ Some node → AddsNumbers (IsMoved lists nodes count shift) old middle
     → AddsNumbers (IsShifted (numbers_of lists count) shift node) middle new → AddsNumbers (IsMoved lists nodes (count + 1) shift) old new
-AddsNumbers-next_node old middle new lists nodes count shift node at one other =
-    AddsNumbers-then (IsMoved lists nodes count shift) (IsShifted (numbers_of lists count) shift node) (IsMoved lists nodes (count + 1) shift) old middle new one other
+AddsNumbers-next_node {nodes = nodes} {count = count} {node = node} at one other =
+    AddsNumbers-then one other
     (λ n k so. record { from = so.from; early = (let early = so.early in omega (arith, early)); mapped = so.mapped; earlier = so.earlier; has = so.has; is = so.is })
     (λ n k so. record { from = count; early = omega arith; mapped = at ∙ ap Some (sym so.here); earlier = so.earlier; has = so.within; is = so.is })
     (λ n k so. elim (cases_lt so.from count) [
@@ -199,7 +186,7 @@ AddsNumbers-next_node old middle new lists nodes count shift node at one other =
           inr (record {
             here = same_Some n node (sym so.mapped ∙ ap (slice_get nodes) here ∙ at);
             earlier = so.earlier;
-            within = subst (λ m. HasNumber lists m so.earlier) here so.has;
+            within = rw here at so.has;
             is = so.is;
           })
     ])

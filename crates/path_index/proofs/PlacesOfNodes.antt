@@ -1,12 +1,12 @@
 -- The places to which a table of nodes leads, and the numbers there.
-use Rattle.std.proofs.Common.{◌≡◌, ℕ, zero, suc, ◌<◌, ◌++◌, List, [], ◌∷◌, Contains, length, set, get_or, slice_get, Option, None, Some, inl, inr, refl, sym, ap, subst, ◌∙◌, arith}
+use Rattle.std.proofs.Common.{◌≡◌, ℕ, zero, suc, ◌<◌, ◌++◌, List, [], ◌∷◌, length, set, get_or, slice_get, Option, None, Some, inl, inr, refl, sym, ap, ◌∙◌, arith}
 use Rattle.smallvec.specs.SmallVec.{SmallVec}
 use Rattle.std.specs.Option.{unwrap_or}
 use Rattle.std.proofs.lemmas.Bool.{cases_eq}
 use Rattle.std.proofs.lemmas.List.{get_or_push, get_or-set_same, get_or-set_other, length_push}
 use Rattle.std.proofs.lemmas.Option.{same_Some, slice_get-get_or, slice_get_within}
 use Rattle.path_index.proofs.AppendedLists.{slice_get-first}
-use Rattle.path_index.specs.Numbers.{numbers_in, numbers_of, AddsNumbers, HasNumber, HaveSameNumbers, KeepOthers}
+use Rattle.path_index.specs.Numbers.{numbers_in, numbers_of, AddsNumbers, HaveSameNumbers, KeepOthers}
 use Rattle.path_index.specs.SparseNumbers.{lists_by_node, no_list, place_of, HaveNoneElsewhere, IsPlaceOf, KeepPlaces, LeadBack}
 
 -- ---- the table
@@ -79,33 +79,20 @@ module _ (places moved nodes grown : List ℕ) (old : List (SmallVec ℕ)) (none
         by zero own at = absurd (let some = own.1 in omega (arith, some))
         by (suc index) own at = same_Some other node (sym (back other index at) ∙ back node index own.0)
 
-    has_before : (n number : ℕ) → HasNumber old (place_of moved n) number
-        → HasNumber (lists_by_node places old) n number
-    has_before n number has = subst (λ all. Contains all number) (numbers_of-moved n) has
-
-    at_place : (n number : ℕ) → HasNumber (lists_by_node places old) n number → HasNumber old (place_of moved n) number
-    at_place n number has = subst (λ all. Contains all number) (sym (numbers_of-moved n)) has
-
-    had_after : (n number : ℕ) → HasNumber (lists_by_node moved new) n number → HasNumber new (place_of moved n) number
-    had_after n number has = subst (λ all. Contains all number) (numbers_of-by_node moved new n none_new) has
-
-    has_after : (n number : ℕ) → HasNumber new (place_of moved n) number → HasNumber (lists_by_node moved new) n number
-    has_after n number has = subst (λ all. Contains all number) (sym (numbers_of-by_node moved new n none_new)) has
+    after : (n : ℕ) → numbers_of (lists_by_node moved new) n ≡ numbers_of new (place_of moved n)
+    after n = numbers_of-by_node moved new n none_new
 
     -- so the numbers that come at the place come at the node, and no others
     pub AddsNumbers-by_node : (P Q : ℕ → ℕ → Type 0) → ((n number : ℕ) → P n number → (n ≡ place) × Q node number)
         → ((n number : ℕ) → Q n number → (n ≡ node) × P place number)
         → AddsNumbers P old new → AddsNumbers Q (lists_by_node places old) (lists_by_node moved new)
     AddsNumbers-by_node P Q to from adds = record {
-      kept = λ n number has. has_after n number (adds.kept (place_of moved n) number (at_place n number has));
-      sound = λ n number has. elim (adds.sound (place_of moved n) number (had_after n number has)) [
-        | inl before ↦ inl (has_before n number before)
-        | inr came ↦
-            let (here, so) = to (place_of moved n) number came in
-            inr (subst (λ m. Q m number) (sym (only n here)) so)
+      kept = λ n number has. rw (after n) (adds.kept (place_of moved n) number (rw (numbers_of-moved n) has));
+      sound = λ n number has. elim (adds.sound (place_of moved n) number (rw (after n) at has)) [
+        | inl before ↦ inl (rw (numbers_of-moved n) at before)
+        | inr came ↦ let (here, so) = to (place_of moved n) number came in inr (rw (only n here) so)
       ];
       complete = λ n number so.
           let (own, came) = from n number so in
-          let there : place_of moved n ≡ place = ap (place_of moved) own ∙ is.0 in
-          has_after n number (subst (λ p. HasNumber new p number) (sym there) (adds.complete place number came));
+          let there : place_of moved n ≡ place = ap (place_of moved) own ∙ is.0 in rw (after n, there) (adds.complete place number came);
     }

@@ -1,6 +1,5 @@
-use Rattle.std.proofs.Common.{get_or, take, sym, subst, ◌∙◌}
+use Rattle.std.proofs.Common.{get_or, ◌∙◌}
 use Rattle.std.proofs.lemmas.List.{take_more}
-use Rattle.path_index.specs.Numbers.{AddsNumbers, IsShifted}
 use Rattle.path_index.proofs.ListsOfNodes.{AddsNumbers-next_shifted, AddsNumbers-none_shifted}
 use Rattle.path_index.proofs.numbers.Numbers.insert_shifted.Goals as goal
 
@@ -8,22 +7,18 @@ pub loop-number-preserved : goal.loop-number-preserved
 loop-number-preserved c =
     let numbers = c.args.numbers.now in
     let n = c.loop-number.number-index in
-    let new = c.insert.new.self in
     let so = c.loop-number.invariant in
     let inserted = c.in_ok-insert.ensures in
     record {
       added =
-          subst (λ done. AddsNumbers (IsShifted done c.args.shift c.args.node) c.args.self.now new)
-          (sym (take_more numbers n 0 c.loop-number-test.true))
-          (AddsNumbers-next_shifted c.args.self.now c.loop-number.self new (take n numbers) (get_or numbers n 0)
-          c.args.shift c.args.node so.added inserted.added);
+          rw (take_more numbers n 0 c.loop-number-test.true) (AddsNumbers-next_shifted (get_or numbers n 0) so.added inserted.added);
       others = λ other differs. inserted.others other differs ∙ so.others other differs;
     }
 
 pub loop-number-init : goal.loop-number-init
 loop-number-init c = record {
   added =
-      AddsNumbers-none_shifted c.args.self.now c.reserve.new.self c.args.shift c.args.node c.in_ok-reserve.ensures;
+      AddsNumbers-none_shifted c.in_ok-reserve.ensures;
   others = λ other differs. c.in_ok-reserve.ensures other;
 }
 
