@@ -1,5 +1,5 @@
 -- The records of two neighbouring parts of a history by their paths.
-use Rattle.std.proofs.Common.{◌≡◌, ℕ, ◌+◌, ◌-◌, ◌^◌, ◌<◌, ◌≤◌, ◌⊎◌, List, ◌++◌, length, get_or, inl, inr, refl, sym, subst, ◌∙◌, arith, length-append}
+use Rattle.std.proofs.Common.{◌≡◌, ℕ, ◌+◌, ◌-◌, ◌^◌, ◌<◌, ◌≤◌, ◌⊎◌, List, ◌++◌, length, get_or, inl, inr, refl, ◌∙◌, arith, length-append}
 use Rattle.smallvec.specs.SmallVec.{SmallVec}
 use Rattle.std.proofs.lemmas.Bool.{cases_lt}
 use Rattle.std.proofs.lemmas.Option.{slice_get-get_or}
@@ -23,9 +23,9 @@ record AreBoth (P Q R : List NameId → ℕ → Type 0) (shift : ℕ) : Type 0 w
   small : (path : List NameId) (number : ℕ) → Q path number → number < 2 ^ 32 → number + shift < 2 ^ 32
   either : (path : List NameId) (number : ℕ) → R path number → P path number ⊎ ((earlier : ℕ) × Q path earlier × (number ≡ earlier + shift))
 
-AreEntriesOf-both : (P Q R : List NameId → ℕ → Type 0) (shift : ℕ) → AreBoth P Q R shift → (old_nodes nodes later_nodes : List Child) (mapped : List ℕ) (old new later : List (SmallVec ℕ)) → ExtendsNodes old_nodes nodes
+AreEntriesOf-both : {P Q R : List NameId → ℕ → Type 0} {shift : ℕ} {old_nodes nodes later_nodes : List Child} {mapped : List ℕ} {old new later : List (SmallVec ℕ)} → AreBoth P Q R shift → ExtendsNodes old_nodes nodes
     → AreNodesOf later_nodes nodes mapped → AddsNumbers (IsMoved later mapped (length mapped) shift) old new → AreEntriesOf old_nodes P old → AreEntriesOf later_nodes Q later → AreEntriesOf nodes R new
-AreEntriesOf-both P Q R shift both old_nodes nodes later_nodes mapped old new later grown nodes_of adds one other =
+AreEntriesOf-both {R = R} {later_nodes = later_nodes} {mapped = mapped} both grown nodes_of adds one other =
     record {
       sound = λ node number has. elim (adds.sound node number has) [
         | inl earlier ↦ IsEntryOf-weaker grown both.first (one.sound node number earlier)
@@ -35,7 +35,7 @@ AreEntriesOf-both P Q R shift both old_nodes nodes later_nodes mapped old new la
               path = of.path;
               found = nodes_of.mapped of.path moved.from of.found ∙ moved.mapped;
               small = (let small = both.small of.path moved.earlier of.holds of.small in let is = moved.is in omega (arith, small, is));
-              holds = subst (R of.path) (sym moved.is) (both.second of.path moved.earlier of.holds);
+              holds = rw moved.is (both.second of.path moved.earlier of.holds);
             }
       ];
       complete = λ path number holds. elim (both.either path number holds) [
@@ -87,7 +87,7 @@ module _ (records more : List NodeRecord) where
 
 -- ---- both by their paths
 
-module _ (records more : List NodeRecord) (few : length records + length more < 2 ^ 32) (one other : RecordsByPath) (first : AreByPath records one) (second : AreByPath more other) where
+module _ {records more : List NodeRecord} {one other : RecordsByPath} (few : length records + length more < 2 ^ 32) (first : AreByPath records one) (second : AreByPath more other) where
   added_early : (path : List NameId) (number : ℕ) → IsOfSome AddsPath more (length more) path number → number + length records < 2 ^ 32
   added_early path number of = let (adds, own, here) = of.so in let early = of.early in omega (arith, early, here)
 
@@ -103,33 +103,26 @@ module _ (records more : List NodeRecord) (few : length records + length more < 
   pub FitShifted-named : FitShifted other.named 0
   FitShifted-named = record { fits = λ node number has. let of = second.listed.of_named.sound node number has in let small = of.small in omega (arith, small) }
 
-  module _ (joined : RecordsByPath) (mapped : List ℕ) (grown : ExtendsNodes one.nodes joined.nodes) (nodes_of : AreNodesOf other.nodes joined.nodes mapped)
-      (added : AddsNumbers (IsMoved other.added mapped (length mapped) (length records)) one.added joined.added)
-      (copied : AddsNumbers (IsMoved other.copied mapped (length mapped) (length records)) one.copied joined.copied)
-      (named : AddsNumbers (IsMoved other.named mapped (length mapped) 0) one.named joined.named) where
-    of_both : (IsOf : NodeRecord → ℕ → List NameId → ℕ → Type 0) (shift : ℕ)
-        → AreBoth (IsOfSome IsOf records (length records)) (IsOfSome IsOf more (length more)) (IsOfSome IsOf (records ++ more) (length (records ++ more))) shift
-        → (old new later : List (SmallVec ℕ)) → AddsNumbers (IsMoved later mapped (length mapped) shift) old new → AreEntriesOf one.nodes (IsOfSome IsOf records (length records)) old
-        → AreEntriesOf other.nodes (IsOfSome IsOf more (length more)) later → AreEntriesOf joined.nodes (IsOfSome IsOf (records ++ more) (length (records ++ more))) new
-    of_both IsOf shift both old new later adds =
-        AreEntriesOf-both (IsOfSome IsOf records (length records)) (IsOfSome IsOf more (length more)) (IsOfSome IsOf (records ++ more) (length (records ++ more))) shift both one.nodes joined.nodes other.nodes mapped old new later
-        grown nodes_of adds
-
-    pub AreByPath-both : AreByPath (records ++ more) joined
-    AreByPath-both = record {
-      few = omega (arith, few, length-append records more);
-      listed = record {
-        of_added = of_both AddsPath (length records)
-            (AreBoth-records records more AddsPath (length records) (λ each index path number (adds, own, here). (adds, own, omega (arith, here)))
-            (λ each index path number past (adds, own, here). (index - length records, (adds, own, refl), omega (arith, here))) (λ path number of low. added_early path number of))
-            one.added joined.added other.added added first.listed.of_added second.listed.of_added;
-        of_copied = of_both CopiesPath (length records)
-            (AreBoth-records records more CopiesPath (length records) (λ each index path number (copies, own, here). (copies, own, omega (arith, here)))
-            (λ each index path number past (copies, own, here). (index - length records, (copies, own, refl), omega (arith, here))) (λ path number of low. copied_early path number of))
-            one.copied joined.copied other.copied copied first.listed.of_copied second.listed.of_copied;
-        of_named = of_both NamesPath 0
-            (AreBoth-records records more NamesPath 0 (λ each index path number (front, at). (front, omega (arith, at)))
-            (λ each index path number past so. (number, so, omega arith)) (λ path number of low. omega (arith, low)))
-            one.named joined.named other.named named first.listed.of_named second.listed.of_named;
-      };
-    }
+  pub AreByPath-both : {joined : RecordsByPath} {mapped : List ℕ} → ExtendsNodes one.nodes joined.nodes → AreNodesOf other.nodes joined.nodes mapped
+      → AddsNumbers (IsMoved other.added mapped (length mapped) (length records)) one.added joined.added → AddsNumbers (IsMoved other.copied mapped (length mapped) (length records)) one.copied joined.copied
+      → AddsNumbers (IsMoved other.named mapped (length mapped) 0) one.named joined.named → AreByPath (records ++ more) joined
+  AreByPath-both grown nodes_of added copied named = record {
+    few = omega (arith, few, length-append records more);
+    listed = record {
+      of_added =
+          AreEntriesOf-both
+          (AreBoth-records records more AddsPath (length records) (λ each index path number (adds, own, here). (adds, own, omega (arith, here)))
+          (λ each index path number past (adds, own, here). (index - length records, (adds, own, refl), omega (arith, here))) (λ path number of low. added_early path number of))
+          grown nodes_of added first.listed.of_added second.listed.of_added;
+      of_copied =
+          AreEntriesOf-both
+          (AreBoth-records records more CopiesPath (length records) (λ each index path number (copies, own, here). (copies, own, omega (arith, here)))
+          (λ each index path number past (copies, own, here). (index - length records, (copies, own, refl), omega (arith, here))) (λ path number of low. copied_early path number of))
+          grown nodes_of copied first.listed.of_copied second.listed.of_copied;
+      of_named =
+          AreEntriesOf-both
+          (AreBoth-records records more NamesPath 0 (λ each index path number (front, at). (front, omega (arith, at)))
+          (λ each index path number past so. (number, so, omega arith)) (λ path number of low. omega (arith, low)))
+          grown nodes_of named first.listed.of_named second.listed.of_named;
+    };
+  }
