@@ -17,8 +17,8 @@ pub record AreMapped (later : List Child) (count : ℕ) (children : List Child) 
       → node_of children path ≡ slice_get nodes node
 
 -- at first the root is
-pub AreMapped-root : (later children : List Child) → AreMapped later 0 children (0 ∷ [])
-AreMapped-root later children = record {
+pub AreMapped-root : {later children : List Child} → AreMapped later 0 children (0 ∷ [])
+AreMapped-root {later = later} {children = children} = record {
   all = refl;
   within = λ k d within. let first : k ≡ 0 = omega (arith, within) in let is : get_or (0 ∷ []) k d ≡ 0 = ap (λ n. get_or (0 ∷ []) n d) first in omega (arith, is);
   mapped = λ path node found few.
@@ -27,7 +27,7 @@ AreMapped-root later children = record {
       ap (node_of children) none ∙ ap (slice_get (0 ∷ [])) (sym root);
 }
 
-module _ (later children children' : List Child) (nodes : List ℕ) (count node : ℕ) (child : Child) (so_far : AreMapped later count children nodes) (ordered : HaveParentsBefore later) (at : slice_get later count ≡ Some child)
+module _ {later children children' : List Child} {nodes : List ℕ} {count node : ℕ} {child : Child} (so_far : AreMapped later count children nodes) (ordered : HaveParentsBefore later) (at : slice_get later count ≡ Some child)
     (grown : ExtendsNodes children children') (added : child_of children' (get_or nodes child.parent 0) child.name ≡ Some node) where
   early : child.parent ≤ count
   early = ordered count child at
@@ -76,8 +76,8 @@ module _ (later children children' : List Child) (nodes : List ℕ) (count node 
       longer = omega (arith, ap length grown.grown, length-append children grown.more)
 
 -- at last all are
-pub AreNodesOf-mapped : (later children : List Child) (nodes : List ℕ) (count : ℕ) → count ≡ length later → AreMapped later count children nodes → AreNodesOf later children nodes
-AreNodesOf-mapped later children nodes count is so = record {
+pub AreNodesOf-mapped : {later children : List Child} {nodes : List ℕ} {count : ℕ} → count ≡ length later → AreMapped later count children nodes → AreNodesOf later children nodes
+AreNodesOf-mapped {later = later} is so = record {
   all = so.all ∙ ap (λ n. n + 1) is;
   mapped = λ path node found. so.mapped path node found (let within = node_of-within later path node found in omega (arith, within, is));
 }

@@ -1,10 +1,10 @@
-use Rattle.std.proofs.Common.{◌≡◌, ◌+◌, ◌<◌, ◌≤◌, ◌++◌, ◌∷◌, [], ℕ, List, Some, get_or, length, slice_get, sym, ap, subst, ◌∙◌, arith}
+use Rattle.std.proofs.Common.{◌≡◌, ◌<◌, ◌≤◌, ℕ, List, Some, get_or, length, slice_get, sym, subst, ◌∙◌, arith}
 use Rattle.std.proofs.lemmas.List.{get_or_default}
 use Rattle.std.proofs.lemmas.Option.{slice_get-get_or}
 use Rattle.path_index.specs.Nodes.{child_of, AreNodesOf, HaveParentsBefore}
 use Rattle.path_index.specs.declared.nodes.Child.{Child}
 use Rattle.path_index.proofs.EntriesOfPaths.{ExtendsNodes-none, ExtendsNodes-again}
-use Rattle.path_index.proofs.MappedNodes.{AreMapped, AreMapped-root, AreMapped-next, AreNodesOf-mapped}
+use Rattle.path_index.proofs.MappedNodes.{AreMapped-root, AreMapped-next, AreNodesOf-mapped}
 use Rattle.path_index.proofs.nodes.Nodes.add_all.Goals as goal
 
 abbrev some_child : Child
@@ -15,24 +15,24 @@ parent_before all k ordered within = ordered k (get_or all k some_child) (slice_
 
 pub loop-child-init : goal.loop-child-init
 loop-child-init c = record {
-  mapped = subst (AreMapped c.as_slice-child-items.result.now 0 c.args.self.now) (sym (c.in_ok-push.ensures.items ∙ ap (λ items. items ++ 0 ∷ []) c.in_ok-nodes.ensures.items)) (AreMapped-root c.as_slice-child-items.result.now c.args.self.now);
+  mapped = rw (c.in_ok-push.ensures.items, c.in_ok-nodes.ensures.items) AreMapped-root;
   grown = ExtendsNodes-none;
 }
 
 pub index-requires : goal.index-requires
 index-requires c =
     let all = c.as_slice-child-items.result.now in
-    let ordered : HaveParentsBefore all = subst HaveParentsBefore (sym c.as_slice-child-items.ensures.keys) c.later.invariant.1 in
+    let ordered : HaveParentsBefore all = rw c.as_slice-child-items.ensures.keys c.later.invariant.1 in
     omega (arith, parent_before all c.loop-child.child-index ordered c.loop-child-test.true, c.loop-child.invariant.mapped.all)
 
 pub add-requires : goal.add-requires
 add-requires c =
     let all = c.as_slice-child-items.result.now in
     let nodes = c.loop-child.nodes.items in
-    let ordered : HaveParentsBefore all = subst HaveParentsBefore (sym c.as_slice-child-items.ensures.keys) c.later.invariant.1 in
+    let ordered : HaveParentsBefore all = rw c.as_slice-child-items.ensures.keys c.later.invariant.1 in
     let parent = (get_or all c.loop-child.child-index some_child).parent in
     let low : parent < length nodes = omega (arith, parent_before all c.loop-child.child-index ordered c.loop-child-test.true, c.loop-child.invariant.mapped.all) in
-    subst (λ n. n ≤ length c.loop-child.self) (sym c.index.ensures) (c.loop-child.invariant.mapped.within parent c.index.result.now low)
+    rw c.index.ensures (c.loop-child.invariant.mapped.within parent c.index.result.now low)
 
 pub loop-child-preserved : goal.loop-child-preserved
 loop-child-preserved c =
@@ -40,22 +40,18 @@ loop-child-preserved c =
     let k = c.loop-child.child-index in
     let child = get_or all k some_child in
     let nodes = c.loop-child.nodes.items in
-    let before = c.loop-child.self in
-    let after = c.add.new.self in
-    let node = c.in_ok-node.node in
-    let ordered : HaveParentsBefore all = subst HaveParentsBefore (sym c.as_slice-child-items.ensures.keys) c.later.invariant.1 in
+    let ordered : HaveParentsBefore all = rw c.as_slice-child-items.ensures.keys c.later.invariant.1 in
     let at : slice_get all k ≡ Some child = slice_get-get_or all k some_child c.loop-child-test.true in
     let low : child.parent < length nodes = omega (arith, parent_before all k ordered c.loop-child-test.true, c.loop-child.invariant.mapped.all) in
     let parent : c.index.result.now ≡ get_or nodes child.parent 0 = c.index.ensures ∙ get_or_default nodes child.parent c.index.result.now 0 low in
-    let added : child_of after (get_or nodes child.parent 0) child.name ≡ Some node = subst (λ n. child_of after n child.name ≡ Some node) parent c.in_ok-node.ensures.node in
+    let added : child_of c.add.new.self (get_or nodes child.parent 0) child.name ≡ Some c.in_ok-node.node = rw parent at c.in_ok-node.ensures.node in
     record {
-      mapped = subst (AreMapped all (k + 1) after) (sym c.in_ok-push-2.ensures.items) (AreMapped-next all before after nodes k node child c.loop-child.invariant.mapped ordered at c.in_ok-node.ensures.grown added);
+      mapped = rw c.in_ok-push-2.ensures.items (AreMapped-next c.loop-child.invariant.mapped ordered at c.in_ok-node.ensures.grown added);
       grown = ExtendsNodes-again c.loop-child.invariant.grown c.in_ok-node.ensures.grown;
     }
 
 pub returns-clause-nodes : goal.returns-clause-nodes
 returns-clause-nodes c =
-    let all = c.as_slice-child-items.result.now in
     subst (λ children. AreNodesOf c.args.later children c.loop-child.nodes.items) (sym (c.shrink_to_fit.ensures.keys ∙ c.self-2.view_is))
     (subst (λ later. AreNodesOf later c.loop-child.self c.loop-child.nodes.items) (c.as_slice-child-items.ensures.keys ∙ c.later.view_is)
-    (AreNodesOf-mapped all c.loop-child.self c.loop-child.nodes.items c.loop-child.child-index (omega (arith, c.loop-child-test.false, c.loop-child.auto.child-index-end)) c.loop-child.invariant.mapped))
+    (AreNodesOf-mapped (omega (arith, c.loop-child-test.false, c.loop-child.auto.child-index-end)) c.loop-child.invariant.mapped))

@@ -1,7 +1,6 @@
-use Rattle.std.proofs.Common.{◌≡◌, ◌+◌, Some, refl, take, length, sym, ap, subst, ◌∙◌, arith}
+use Rattle.std.proofs.Common.{◌≡◌, ◌+◌, Some, refl, take, length, sym, ap, ◌∙◌, arith}
 use Rattle.std.proofs.lemmas.List.{take_all}
 use Rattle.path_index.specs.Nodes.{node_of}
-use Rattle.path_index.specs.RecordsByPath.{AddsEntries, IsFrontAt}
 use Rattle.path_index.proofs.EntriesOfPaths.{AddsEntries-root, AddsEntries-next, ExtendsNodes-none, ExtendsNodes-again}
 use Rattle.path_index.proofs.NodesOfPaths.{node_of-grown, node_of-take_more, node_of-within}
 use Rattle.path_index.proofs.records_by_path.RecordsByPath.name.Goals as goal
@@ -48,5 +47,4 @@ returns-clause-named c =
     let parts = c.parts-name-items.result.now in
     let whole : parts ≡ c.args.path.now = c.parts-name-items.ensures in
     let all : c.loop-name.name-index ≡ length c.args.path.now = omega (arith, ap length whole, c.loop-name-test.false, c.loop-name.auto.name-index-end) in
-    subst (λ path. AddsEntries c.loop-name.self.nodes (IsFrontAt path (length c.args.path.now) c.args.rev) c.args.self.now.named c.loop-name.self.named) whole
-    (subst (λ n. AddsEntries c.loop-name.self.nodes (IsFrontAt parts n c.args.rev) c.args.self.now.named c.loop-name.self.named) all c.loop-name.invariant.named)
+    rw (whole, all) at c.loop-name.invariant.named

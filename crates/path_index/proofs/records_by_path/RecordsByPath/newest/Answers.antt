@@ -1,9 +1,7 @@
-use Rattle.std.proofs.Common.{◌≡◌, ◌+◌, None, Some, take, refl, sym, ap, subst, ◌∙◌}
+use Rattle.std.proofs.Common.{◌≡◌, ◌+◌, None, Some, take, refl, sym, ap, ◌∙◌}
 use Rattle.std.proofs.lemmas.List.{take_all}
-use Rattle.path_index.specs.Numbers.{newer_of, IsNewestBelow}
 use Rattle.path_index.specs.Nodes.{node_of}
-use Rattle.path_index.specs.RecordsByPath.{SetsAt}
-use Rattle.path_index.proofs.NewestRecords.{IsCopiedAt, IsNewestBelow-root, IsNewestBelow-next, IsNewestBelow-stop, IsNewestBelow-end}
+use Rattle.path_index.proofs.NewestRecords.{IsNewestBelow-root, IsNewestBelow-next, IsNewestBelow-stop, IsNewestBelow-end}
 use Rattle.path_index.proofs.NodesOfPaths.{node_of-take_more}
 use Rattle.path_index.proofs.records_by_path.RecordsByPath.newest.Goals as goal
 
@@ -19,8 +17,7 @@ returns-in-None c =
     let n = c.loop-name.name-index in
     let none : node_of c.args.self.now.nodes (take (n + 1) parts) ≡ None =
     node_of-take_more c.args.self.now.nodes parts n (record { 0 = 0 }) c.loop-name.node c.loop-name-test.true c.loop-name.invariant.found ∙ sym c.child.ensures ∙ c.in-None.is in
-    subst (λ path. IsNewestBelow c.args.count (SetsAt c.args.self.now path) c.loop-name.newest) c.parts-name-items.ensures
-    (IsNewestBelow-stop c.args.self.now parts c.args.count n c.loop-name.newest c.loop-name.invariant.newest c.loop-name-test.true none)
+    rw c.parts-name-items.ensures at (IsNewestBelow-stop c.args.self.now parts c.args.count n c.loop-name.newest c.loop-name.invariant.newest c.loop-name-test.true none)
 
 pub loop-name-preserved : goal.loop-name-preserved
 loop-name-preserved c =
@@ -30,7 +27,7 @@ loop-name-preserved c =
     node_of-take_more c.args.self.now.nodes parts n (record { 0 = 0 }) c.loop-name.node c.loop-name-test.true c.loop-name.invariant.found ∙ sym c.child.ensures ∙ c.in-Some.is in
     record {
       found = found;
-      newest = subst (IsNewestBelow c.args.count (IsCopiedAt c.args.self.now parts c.args.count (n + 1))) (sym c.newer-newest.ensures)
+      newest = rw c.newer-newest.ensures
           (IsNewestBelow-next c.args.self.now parts c.args.count n c.loop-name.newest c.loop-name.invariant.newest c.in-Some.child c.newest_below.result found c.newest_below.ensures);
     }
 
@@ -40,6 +37,6 @@ returns c =
     let n = c.loop-name.name-index in
     let whole : node_of c.args.self.now.nodes parts ≡ Some c.loop-name.node =
     ap (node_of c.args.self.now.nodes) (sym (take_all n parts c.loop-name-test.false)) ∙ c.loop-name.invariant.found in
-    subst (IsNewestBelow c.args.count (SetsAt c.args.self.now c.args.path.now)) (sym c.newer.ensures)
-    (subst (λ path. IsNewestBelow c.args.count (SetsAt c.args.self.now path) (newer_of c.loop-name.newest c.newest_below-2.result)) c.parts-name-items.ensures
+    rw c.newer.ensures
+    (rw c.parts-name-items.ensures at
     (IsNewestBelow-end c.args.self.now parts c.args.count n c.loop-name.newest c.loop-name.invariant.newest c.loop-name-test.false c.loop-name.node c.newest_below-2.result whole c.newest_below-2.ensures))
