@@ -1,5 +1,5 @@
 -- The numbers of the nodes of paths, as paths and records are added.
-use Rattle.std.proofs.Common.{◌≡◌, ◌≢◌, ℕ, zero, suc, ◌+◌, ◌-◌, ◌^◌, ◌<◌, ◌≤◌, ◌==◌, Bool, true, ◌⊎◌, List, [], ◌∷◌, ◌++◌, filter, length, take, drop, slice_get, None, Some, inl, inr, refl, sym, ap, subst, ◌∙◌, append_assoc, append-nil, arith, length-append, true≢false}
+use Rattle.std.proofs.Common.{◌≡◌, ℕ, zero, suc, ◌+◌, ◌-◌, ◌^◌, ◌<◌, ◌≤◌, ◌==◌, true, ◌⊎◌, List, [], ◌∷◌, ◌++◌, filter, length, take, drop, slice_get, None, Some, inl, inr, refl, sym, ap, subst, ◌∙◌, append_assoc, append-nil, arith, length-append, true≢false}
 use Rattle.smallvec.specs.SmallVec.{SmallVec}
 use Rattle.std.proofs.lemmas.Bool.{cases_Bool, cases_lt, false_from_ne_true, eq-eqb, eqb-true, or_right}
 use Rattle.std.proofs.lemmas.List.{take_at, take-append-drop}
@@ -8,16 +8,13 @@ use Rattle.svn_path.specs.Below.{is_below}
 use Rattle.svn_path.specs.Path.{same_name}
 use Rattle.svn_path.specs.declared.names.NameId.{NameId}
 use Rattle.svn_path.proofs.Belows.{IsSame-same_name, is_below-append}
-use Rattle.svn_dump.specs.declared.kind.Kind.{Kind}
 use Rattle.svn_dump.specs.declared.record.Act.{Act}
-use Rattle.svn_dump.specs.declared.record.Act.TheVariants as act
-use Rattle.svn_dump.specs.declared.record.Mi.{Mi}
 use Rattle.svn_dump.specs.declared.record.NodeRecord.{NodeRecord}
 use Rattle.path_index.specs.NamedRevisions.{is_named_in, named_revisions}
 use Rattle.path_index.specs.Nodes.{node_of, ExtendsNodes}
 use Rattle.path_index.specs.Numbers.{has_number, AddsNumbers, ArePair, HasNumber, HaveSameNumbers}
 use Rattle.path_index.specs.Operative.{down_from}
-use Rattle.path_index.specs.RecordEffect.{IsAddition, IsCopy, SetsPath}
+use Rattle.path_index.specs.RecordEffect.{SetsPath}
 use Rattle.path_index.specs.RecordsByPath.{IsEntryOf, HasEntryOf, AreEntriesOf, AddsEntries, IsOfSome, AddsPath, CopiesPath, IsFrontAt, NamesPath, AreListed, AreByPath, SetsAt}
 use Rattle.path_index.specs.declared.nodes.Child.{Child}
 use Rattle.path_index.specs.declared.records_by_path.RecordsByPath.{RecordsByPath}
@@ -121,18 +118,6 @@ module _ (Is : Act → Type 0) (each : NodeRecord) {nodes : List Child} {index :
   pub AddsEntries-other : (Is each.act → ⊥) → AddsEntries nodes (λ path number. Is each.act × (each.path ≡ path) × (number ≡ index)) old old
   AddsEntries-other not_so = AddsEntries-none (λ p n (acts, own, here). not_so acts)
 
-pub not_IsAddition : (a : Act) → ((replace : Bool) (kind : Kind) (mi : Mi) → a ≢ act.Add replace kind mi) → IsAddition a → ⊥
-not_IsAddition act.Delete not_so so = so
-not_IsAddition (act.Change mi) not_so so = so
-not_IsAddition (act.Add replace kind mi) not_so so = not_so replace kind mi refl
-not_IsAddition (act.Copy replace from from_rev mi) not_so so = so
-
-pub not_IsCopy : (a : Act) → ((replace : Bool) (from : List NameId) (from_rev : ℕ) (mi : Mi) → a ≢ act.Copy replace from from_rev mi) → IsCopy a → ⊥
-not_IsCopy act.Delete not_so so = so
-not_IsCopy (act.Change mi) not_so so = so
-not_IsCopy (act.Add replace kind mi) not_so so = so
-not_IsCopy (act.Copy replace from from_rev mi) not_so so = not_so replace from from_rev mi refl
-
 -- a copy of the numbers
 AreEntriesOf-same : {nodes : List Child} {P : List NameId → ℕ → Type 0} {old new : List (SmallVec ℕ)} → HaveSameNumbers old new → AreEntriesOf nodes P old → AreEntriesOf nodes P new
 AreEntriesOf-same same are = record {
@@ -159,10 +144,7 @@ HasNumber-HasEntryOf {node = node} found has = rw (same_Some has.node node (sym 
 is_named_in-from_index : (path : List NameId) (rev : ℕ) (records : List NodeRecord) (index : ℕ) (each : NodeRecord) → slice_get records index ≡ Some each → each.rev ≡ rev → is_below same_name path each.path ≡ true → is_named_in path records rev ≡ true
 is_named_in-from_index path rev [] index each at here below = cc
 is_named_in-from_index path rev (x ∷ records) zero each at here below =
-    let same : x ≡ each = same_Some x each at in
-    let now : (x.rev == rev) ≡ true = eq-eqb x.rev rev (ap (λ (r : NodeRecord). r.rev) same ∙ here) in
-    let named : is_below same_name path x.path ≡ true = ap (λ (r : NodeRecord). is_below same_name path r.path) same ∙ below in
-    rw (now, named) refl
+    let same : x ≡ each = same_Some x each at in rw (same, eq-eqb each.rev rev here, below) refl
 is_named_in-from_index path rev (x ∷ records) (suc index) each at here below =
     let rest = is_named_in-from_index path rev records index each at here below in
     elim (cases_Bool (x.rev == rev)) [

@@ -1,6 +1,6 @@
 use Rattle.std.proofs.Common.{refl, sym}
 use Rattle.path_index.specs.declared.copied.Copied.{Copied}
-use Rattle.path_index.proofs.EntriesOfPaths.{not_IsCopy}
+use Rattle.path_index.proofs.RecordEffects.{not_IsCopy}
 use Rattle.path_index.proofs.KeptRecords.{AreCopies_push, AreCopies-same}
 use Rattle.path_index.proofs.records.push_copy.Goals as goal
 

@@ -11,7 +11,7 @@ known_any : (children old : List Child) (parent : ℕ) (name : NameId) → child
     → IsSome (child_of old parent name)
     → list_any (same_child (record { parent = parent; name = name })) children ≡ true
 known_any children old parent name same known =
-    child_of-any children parent name (subst (λ all. IsSome (child_of all parent name)) (sym same) known)
+    child_of-any children parent name (rw same known)
 
 one_at_most : (b : Bool) → (if b then 1 else 0) ≤ 1
 one_at_most true = omega arith
@@ -26,8 +26,7 @@ pub invariant_of-self-2 : goal.invariant_of-self-2
 invariant_of-self-2 c =
     let keys = c.self.inside.children.keys in
     let child : Child = record { parent = c.args.parent; name = c.args.name } in
-    let below : child.parent ≤ length keys =
-    subst (λ children. child.parent ≤ length children) (sym c.self.view_is) c.requires in
+    let below : child.parent ≤ length keys = rw c.self.view_is c.requires in
     let so = c.in_ok-index.ensures in
     let most = one_at_most c.in_ok-index.field-0-1 in (
       omega (arith, so.len, most, c.if-len.false, c.len.ensures.len, c.self.invariant.0),

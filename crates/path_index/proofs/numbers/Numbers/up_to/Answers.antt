@@ -1,7 +1,6 @@
-use Rattle.std.proofs.Common.{rules, ◌≡◌, leb, true, false, sym, subst}
+use Rattle.std.proofs.Common.{rules, ◌≡◌, leb, true, false}
 use Rattle.std.specs.List.Sorted.{IsPartitionPoint}
 use Rattle.std.proofs.lemmas.List.Sorted.{IsPartitionedBy-leb, IsPartitionPoint-from_clause}
-use Rattle.path_index.specs.Numbers.{IsFrontUpTo}
 use Rattle.path_index.proofs.NumbersOfNodes.{IsNonDecreasing-rising, IsFrontUpTo-take}
 use Rattle.path_index.proofs.numbers.Numbers.up_to.Goals as goal
 
@@ -14,5 +13,4 @@ returns c =
     let point : IsPartitionPoint (λ each. leb each last ≡ true) (λ each. leb each last ≡ false) all count =
     IsPartitionPoint-from_clause (λ each. leb each last) all count c.partition_point-count.ensures.partitioned (IsPartitionedBy-leb (λ x. x) all last (IsNonDecreasing-rising all rising))
     (λ a r f' k. search rules) in
-    subst (λ numbers. IsFrontUpTo last numbers c.split_at.result.0.now) c.of-numbers.ensures.numbers
-    (subst (IsFrontUpTo last all) (sym c.split_at.ensures.front) (IsFrontUpTo-take last count all rising c.partition_point-count.ensures.bound point))
+    rw (c.split_at.ensures.front, ← c.of-numbers.ensures.numbers) (IsFrontUpTo-take last count all rising c.partition_point-count.ensures.bound point)
