@@ -1,5 +1,5 @@
 -- The numbers of the nodes of paths, as paths and records are added.
-use Rattle.std.proofs.Common.{◌≡◌, ℕ, zero, suc, ◌+◌, ◌-◌, ◌^◌, ◌<◌, ◌≤◌, ◌==◌, true, ◌⊎◌, List, [], ◌∷◌, ◌++◌, filter, length, take, drop, slice_get, None, Some, inl, inr, refl, sym, ap, subst, ◌∙◌, append_assoc, append-nil, arith, length-append, true≢false}
+use Rattle.std.proofs.Common.{◌≡◌, ℕ, zero, suc, ◌+◌, ◌-◌, ◌^◌, ◌<◌, ◌≤◌, ◌==◌, true, ◌⊎◌, List, [], ◌∷◌, ◌++◌, filter, length, take, drop, slice_get, None, Some, inl, inr, refl, sym, ap, ◌∙◌, append_assoc, append-nil, arith, length-append, true≢false}
 use Rattle.smallvec.specs.SmallVec.{SmallVec}
 use Rattle.std.proofs.lemmas.Bool.{cases_Bool, cases_lt, false_from_ne_true, eq-eqb, eqb-true, or_right}
 use Rattle.std.proofs.lemmas.List.{take_at, take-append-drop}
@@ -98,7 +98,7 @@ module _ {old_nodes nodes : List Child} {records : List NodeRecord} {index : ℕ
       | inr late ↦
           let here : of.index ≡ index = let early = of.early in omega arith in
           let same : of.each ≡ each = same_Some of.each each (sym of.at ∙ ap (slice_get records) here ∙ at) in
-          adds.complete path number (subst (λ r. IsOf r index path number) same (subst (λ k. IsOf of.each k path number) here of.so))
+          adds.complete path number (rw (here, same) at of.so)
     ];
   }
 

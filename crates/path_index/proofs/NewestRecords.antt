@@ -1,5 +1,5 @@
 -- The newest of the records that set the origin of a path, found along the paths above it.
-use Rattle.std.proofs.Common.{◌≡◌, ℕ, ◌+◌, ◌<◌, ◌≤◌, ◌⊎◌, List, length, take, Option, None, Some, inl, inr, refl, sym, ap, subst, ◌∙◌, arith}
+use Rattle.std.proofs.Common.{◌≡◌, ℕ, ◌+◌, ◌<◌, ◌≤◌, ◌⊎◌, List, length, take, Option, None, Some, inl, inr, refl, sym, ap, ◌∙◌, arith}
 use Rattle.std.proofs.lemmas.Bool.{cases_lt}
 use Rattle.std.proofs.lemmas.List.{take_all}
 use Rattle.svn_path.specs.declared.names.NameId.{NameId}
@@ -23,7 +23,7 @@ module _ (by_path : RecordsByPath) (path : List NameId) (count : ℕ) where
       (λ index below within. (0, omega arith, record { node = 0; found = refl; within = within }))
       (λ index below (n, few, has).
       let none : n ≡ 0 = omega arith in
-      HasNumber-HasEntryOf refl (subst (λ m. HasEntryOf by_path.nodes (take m path) index by_path.copied) none has))
+      HasNumber-HasEntryOf refl (rw none at has))
       newest is
 
   module _ (most : ℕ) (newest : Option ℕ) (so_far : IsNewestBelow count (IsCopiedAt most) newest) where
@@ -40,7 +40,7 @@ module _ (by_path : RecordsByPath) (path : List NameId) (count : ℕ) where
         (λ index below (n, few, has). elim (cases_lt most n) [
           | inl last ↦
               let same : n ≡ most + 1 = omega arith in
-              inr (HasNumber-HasEntryOf found (subst (λ m. HasEntryOf by_path.nodes (take m path) index by_path.copied) same has))
+              inr (HasNumber-HasEntryOf found (rw same at has))
           | inr earlier ↦ inl (n, earlier, has)
         ])
         (newer_of newest other) (IsNewestBelow-newer count (IsCopiedAt most) Here newest other so_far is)
@@ -75,7 +75,7 @@ module _ (by_path : RecordsByPath) (path : List NameId) (count : ℕ) where
           | inl (n, has) ↦ elim (cases_lt most n) [
             | inl past ↦
                 let same : take n path ≡ take most path = take_all n path (omega arith) ∙ sym (take_all most path long) in
-                inl (most, omega arith, subst (λ p. HasEntryOf by_path.nodes p index by_path.copied) same has)
+                inl (most, omega arith, rw same at has)
             | inr within ↦ inl (n, within, has)
           ]
           | inr has ↦ inr (HasNumber-HasEntryOf found has)

@@ -156,13 +156,10 @@ module _ (location_at : ℕ → Option (List NameId)) (peg : ℕ) (segments : Li
     IsGathered_push ends =
         let segment : Segment NameId = record { lo = lo; hi = hi; path = Some located } in
         let gap : KeptSegment = record { lo = origin.rev + 1; hi = lo - 1; path = None } in
-        let Wanted = λ (more : List (Segment NameId)). IsGathered location_at peg ((segments ++ segment ∷ []) ++ more) origin.rev records origin.path origin.rev in
         elim (cases_lt (origin.rev + 1) lo) [
           | inl far ↦
-              subst (λ b. Wanted (map segment_view (if b then gap ∷ [] else []))) (sym (lt-ltb (origin.rev + 1) lo far))
-              (subst (λ all. IsGathered location_at peg all origin.rev records origin.path origin.rev) (sym (append_assoc segments (segment ∷ []) (segment_view gap ∷ []))) (IsGathered-gap far))
+              rw (lt-ltb (origin.rev + 1) lo far, append_assoc segments (segment ∷ []) (segment_view gap ∷ [])) (IsGathered-gap far)
           | inr near ↦
-              subst (λ b. Wanted (map segment_view (if b then gap ∷ [] else []))) (sym (le-ltb (origin.rev + 1) lo near))
-              (subst (λ all. IsGathered location_at peg all origin.rev records origin.path origin.rev) (sym (append-nil (segments ++ segment ∷ [])))
-              (IsGathered-next (⊎_elim (λ other. other) (λ far. absurd (omega arith)) ends) near))
+              rw (le-ltb (origin.rev + 1) lo near, append-nil (segments ++ segment ∷ []))
+              (IsGathered-next (⊎_elim (λ other. other) (λ far. absurd (omega arith)) ends) near)
         ]
