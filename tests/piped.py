@@ -78,6 +78,14 @@ def run_endless(program, queries):
         yield "an endless pipe, %s" % refusal, wanted, outcome_of(["sh", "-c", ENDLESS, "sh", program, queries, text])
 
 
+def run_on_too_many_queries(program, folder):
+    """Queries are counted before a byte of the dump is read: this one goes on with empty lines without an end."""
+    queries = written(folder, "too many queries", b"\n" * 1000001)
+    wanted = (1, b"", b"svnhist: more than 1000000 queries\n")
+    return "an endless dump, too many queries", wanted, outcome_of(
+        ["sh", "-c", ENDLESS.replace("yes;", "yes '';"), "sh", program, queries, HEAD.decode()])
+
+
 def open_to_write(path, seconds):
     """Opens a named pipe that the program has opened to read, or will within so many seconds. None if it doesn't."""
     end = time.monotonic() + seconds
@@ -131,4 +139,4 @@ def run_piped(program, folder):
     example = written(folder, "dump", content("branch.dump"))
     outcomes.append(("two named pipes", outcome_of([program, example, queries, "0", "1"]),
                      run_named(program, folder, content("branch.dump"), content("branch.queries") + ABOUT_FILES)))
-    return outcomes + list(run_endless(program, queries))
+    return outcomes + list(run_endless(program, queries)) + [run_on_too_many_queries(program, folder)]
