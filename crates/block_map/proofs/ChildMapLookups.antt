@@ -2,6 +2,7 @@
 use Rattle.std.proofs.Common.{◌≡◌, ◌≢◌, ℕ, zero, suc, ◌+◌, ◌<◌, ◌≤◌, ◌%◌, ◌/◌, ◌==◌, ◌⊎◌, Bool, true, false, List, [], ◌∷◌, ◌++◌, Option, Some, None, Result, Ok, Err, OnErr, OnOk, length, slice_get, if◌then◌else◌, inl, inr, refl, sym, ap, subst, ◌∙◌, add-one, arith}
 use Rattle.std.proofs.lemmas.Bool.{cases_eq, eq-eqb, ne_eqb}
 use Rattle.std.proofs.lemmas.Option.{same_Some, slice_get_within}
+use Rattle.svn_dump.proofs.AppendedLists.{slice_get-push}
 use Rattle.block_map.specs.ChildMaps.{Extends, AreOrdered, HaveNodesBelow, IsOrderedAfter, HasOne, HasSides, HasTwo, SetsChild, child_in, found_within, leaf_of, child_map_at, sides_of, with_name}
 use Rattle.block_map.specs.declared.trie.node.NodeId.{NodeId}
 use Rattle.block_map.specs.declared.trie.child_map.ChildMap.{ChildMap}
@@ -9,15 +10,6 @@ use Rattle.block_map.specs.declared.trie.child_map.ChildMap.TheVariants.{Leaf, B
 use Rattle.block_map.specs.declared.trie.child_map.ChildMapId.{ChildMapId}
 use Rattle.block_map.proofs.GrownTries.{Extends-none, child_in-grown, slice_get-grown, slice_get-last}
 use Rattle.block_map.proofs.ChildMapSteps.{child_in-None, child_in-Leaf, child_in-Branch, found_within-empty}
-
--- an element of a list with one more is that or one of the others
-slice_get-push : {X : Type 0} (xs : List X) (last : X) (index : ℕ) (x : X) → slice_get (xs ++ last ∷ []) index ≡ Some x
-    → ((index ≡ length xs) × (x ≡ last)) ⊎ (slice_get xs index ≡ Some x)
-slice_get-push [] last zero x at = inl (refl, same_Some x last (sym at))
-slice_get-push [] last (suc index) x at = let never : None ≡ Some x = at in cc
-slice_get-push (y ∷ xs) last zero x at = inr at
-slice_get-push (y ∷ xs) last (suc index) x at =
-    elim (slice_get-push xs last index x at) [ inl (is, same) ↦ inl (ap suc is, same) | inr before ↦ inr before ]
 
 -- ---- maps as functions of the bits of a name
 
@@ -121,10 +113,10 @@ sides_of-branch bits even odd find name =
 pub AreOrdered-push : (maps : List ChildMap) (child_map : ChildMap) → AreOrdered maps → IsOrderedAfter maps child_map → AreOrdered (maps ++ child_map ∷ [])
 AreOrdered-push maps child_map ordered after index even odd at =
     elim (slice_get-push maps child_map index (Branch even odd) at) [
-      | inl (is, same) ↦
+      | inr (is, same) ↦
           let (even_before, odd_before) = subst (IsOrderedAfter maps) (sym same) after in
           (omega arith, omega arith)
-      | inr before ↦ ordered index even odd before
+      | inl before ↦ ordered index even odd before
     ]
 
 -- a branch adds no node
@@ -132,8 +124,8 @@ pub HaveNodesBelow-branch : (count : ℕ) (maps : List ChildMap) (even odd : Chi
     → HaveNodesBelow count (maps ++ Branch even odd ∷ [])
 HaveNodesBelow-branch count maps even odd below index bits node at =
     elim (slice_get-push maps (Branch even odd) index (Leaf bits node) at) [
-      | inl (is, same) ↦ cc
-      | inr before ↦ below index bits node before
+      | inr (is, same) ↦ cc
+      | inl before ↦ below index bits node before
     ]
 
 -- and a leaf its own
@@ -141,8 +133,8 @@ pub HaveNodesBelow-leaf : (count : ℕ) (maps : List ChildMap) (left : ℕ) (kep
     → HaveNodesBelow count (maps ++ Leaf left kept ∷ [])
 HaveNodesBelow-leaf count maps left kept below within index bits node at =
     elim (slice_get-push maps (Leaf left kept) index (Leaf bits node) at) [
-      | inl (is, same) ↦ let nodes : kept ≡ node = cc in subst (λ (each : NodeId). each.0 < count) nodes within
-      | inr before ↦ below index bits node before
+      | inr (is, same) ↦ let nodes : kept ≡ node = cc in subst (λ (each : NodeId). each.0 < count) nodes within
+      | inl before ↦ below index bits node before
     ]
 
 -- the map that was added last has the number after the others

@@ -5,6 +5,7 @@ use Rattle.std.specs.Prelude.{slice_get}
 use Rattle.std.proofs.lemmas.List.{get_or_at}
 use Rattle.std.proofs.lemmas.Option.{same_Some, slice_get-get_or}
 use Rattle.svn_path.specs.declared.names.NameId.{NameId}
+use Rattle.svn_dump.proofs.AppendedLists.{slice_get-front}
 use Rattle.block_map.specs.ChildMaps.{Extends, AreOrdered, HaveNodesBelow, child_in, found_within, child_map_at}
 use Rattle.block_map.specs.Trie.{At, HasLocation, ExtendsTrie, IsNodeOf, IsSound, LookOfNumbers, TrieValue, at_path, child_at, child_of, found_at, found_below, own_found, base_look, as_at}
 use Rattle.block_map.specs.declared.trie.node.Node.{Node}
@@ -17,12 +18,6 @@ use Rattle.block_map.specs.declared.trie.child_map.ChildMapId.{ChildMapId}
 use Rattle.block_map.proofs.ChildMapSteps.{found_in_map, found_within-suc, found_within-empty}
 
 -- ---- lists
-
--- an element keeps its index as others are added
-pub slice_get-front : {X : Type 0} (xs more : List X) (i : ℕ) → i < length xs → slice_get (xs ++ more) i ≡ slice_get xs i
-slice_get-front [] more i within = absurd (omega (arith, within))
-slice_get-front (x ∷ xs) more zero within = refl
-slice_get-front (x ∷ xs) more (suc i) within = slice_get-front xs more i (omega (arith, within))
 
 -- the last of a list has the index after the others
 pub slice_get-last : {X : Type 0} (xs : List X) (x : X) (i : ℕ) → i ≡ length xs → slice_get (xs ++ x ∷ []) i ≡ Some x

@@ -18,6 +18,7 @@ use Rattle.path_index.specs.RecordEffect.{SetsPath}
 use Rattle.path_index.specs.RecordsByPath.{IsEntryOf, HasEntryOf, AreEntriesOf, AddsEntries, IsOfSome, AddsPath, CopiesPath, IsFrontAt, NamesPath, AreListed, AreByPath, SetsAt}
 use Rattle.path_index.specs.declared.nodes.Child.{Child}
 use Rattle.path_index.specs.declared.records_by_path.RecordsByPath.{RecordsByPath}
+use Rattle.svn_dump.proofs.AppendedLists.{slice_get-first, slice_get-before}
 use Rattle.path_index.proofs.DownFrom.{filter_down-same, filter_down-none}
 use Rattle.path_index.proofs.NodesOfPaths.{node_of-grown, node_of-one}
 use Rattle.path_index.proofs.NumbersOfNodes.{has_number-HasNumber, HasNumber-has_number}
@@ -229,3 +230,19 @@ module _ (records : List NodeRecord) (by_path : RecordsByPath) (are : AreByPath 
             let (n, few, is) = take-from_is_below path each.path below in
             inl (n, rw is at (are.listed.of_copied.complete each.path index (record { index = index; each = each; early = early; at = at; so = (copies, refl, refl) })))
       ]
+
+-- ---- the first records, among more
+
+module _ {records : List NodeRecord} (more : List NodeRecord) {nodes : List Child} where
+  AreEntriesOf-longer : {IsOf : NodeRecord → ℕ → List NameId → ℕ → Type 0} {lists : List (SmallVec ℕ)} → AreEntriesOf nodes (IsOfSome IsOf records (length records)) lists
+      → AreEntriesOf nodes (IsOfSome IsOf (records ++ more) (length records)) lists
+  AreEntriesOf-longer are = record {
+    sound = λ node number has.
+        IsEntryOf-weaker ExtendsNodes-none (λ path n of. record { index = of.index; each = of.each; early = of.early; at = slice_get-first records more of.index of.each of.at; so = of.so }) (are.sound node number has);
+    complete = λ path number of.
+        are.complete path number (record { index = of.index; each = of.each; early = of.early; at = slice_get-before records more of.index of.each of.early of.at; so = of.so });
+  }
+
+  pub AreListed-longer : {added copied named : List (SmallVec ℕ)} → AreListed records (length records) nodes added copied named → AreListed (records ++ more) (length records) nodes added copied named
+  AreListed-longer so =
+      record { of_added = AreEntriesOf-longer so.of_added; of_copied = AreEntriesOf-longer so.of_copied; of_named = AreEntriesOf-longer so.of_named }

@@ -1,4 +1,3 @@
-mod AppendedLists
 mod CameFromItself
 mod ChildrenDistinct
 mod DownFrom

@@ -18,6 +18,7 @@ mod Refusals
 mod Contents
 mod Undecided
 mod WholeBlocks
+pub mod AppendedLists
 pub mod Belows
 pub mod Entries
 pub mod Faults
@@ -25,6 +26,7 @@ pub mod FirstRevisions
 pub mod Formats
 pub mod Grouped
 pub mod Growing
+pub mod Growth
 pub mod Histories
 pub mod Locations
 pub mod Origins

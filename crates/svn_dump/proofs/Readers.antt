@@ -4,9 +4,9 @@ use Rattle.std.specs.Prelude.{Option, None, Some, Result, Ok, Err, IfErr, IfOk, 
 use Rattle.svn_dump.specs.Block.{block_text}
 use Rattle.svn_dump.specs.Decided.{HasFirstLine, IsDecidedError}
 use Rattle.svn_dump.specs.Draft.{IsWholeHistory}
-use Rattle.svn_dump.specs.Dump.{DumpValue, IsDump, history_in_bytes}
+use Rattle.svn_dump.specs.Dump.{DumpValue, history_in_bytes}
 use Rattle.svn_dump.specs.DumpError.{IsFirstAt, IsRefusal}
-use Rattle.svn_dump.specs.DumpText.{IsDumpText, first_line, names_of, values_of}
+use Rattle.svn_dump.specs.DumpText.{first_line}
 use Rattle.svn_dump.specs.Field.{fields_of}
 use Rattle.svn_dump.specs.FirstRefusal.{IsEmptyLines, front_refusals, header_lines, line_refusals, without_empty_lines}
 use Rattle.svn_dump.specs.FrontBlock.{AddsBlock, BeginsWithLines, IsBlockRefusalFrom}
@@ -29,7 +29,7 @@ use Rattle.svn_dump.specs.declared.refusal.Refusal.{Refusal}
 use Rattle.svn_dump.specs.declared.refusal.Refusal.TheVariants.{Truncated}
 use Rattle.svn_dump.proofs.Blocks.{body_length-from_headers, refused-body}
 use Rattle.svn_dump.proofs.PartialHeaders.{BeginsWithLines-all}
-use Rattle.svn_dump.proofs.Readings.{BeginsBlock-append, HasFirstLine-read, IsDecidedError-block, IsDumpText-read, IsFirstAt-line, IsNamed-read, IsRefusal-block, IsRefusal-end, IsValued-read, IsReadAs-block, IsReadAs-line, IsReadAs-newlines}
+use Rattle.svn_dump.proofs.Readings.{BeginsBlock-append, HasFirstLine-read, IsDecidedError-block, IsFirstAt-line, IsRefusal-block, IsReadAs-block, IsReadAs-line, IsReadAs-newlines}
 use Rattle.svn_dump.proofs.Fronts.{without_empty_lines-front}
 use Rattle.svn_dump.proofs.WholeBlocks.{block_refusal-front}
 
@@ -329,29 +329,6 @@ IsReadAs-empty format bytes piece done rest draft whole read empty =
     (sym (append-nil (before_block format bytes piece done rest [] draft whole read (sym empty))) ∙ up_to_block format bytes piece done rest [] draft whole read (sym empty)) all_read
 
 -- ---- the end of the bytes
-
-module _ (reader : Reader) (between : reader.progress ≡ progress.Blocks) where
-  read_of : (bytes : List ℕ) → HasReadAll reader bytes → IsReadAs reader.format bytes reader.draft
-  read_of bytes has = subst (λ each. IsIn each reader bytes) between has
-
-  -- what finishing the draft gave
-  pub IfOk-text : (result : Result DumpValue DumpError) → IfOk result (λ dump. dump ≡ reader.draft) → IfOk result IsDump → IfOk result (λ dump. (bytes : List ℕ) → HasReadAll reader bytes → IsDumpText bytes (history_in_bytes dump))
-  IfOk-text (Ok dump) same kept = λ bytes has. IsDumpText-read reader.format bytes reader.draft (read_of bytes has) dump same kept
-  IfOk-text (Err e) same kept = tt
-
-  pub IfOk-names : (result : Result DumpValue DumpError) → IfOk result (λ dump. dump ≡ reader.draft) → IfOk result (λ dump. (bytes : List ℕ) → HasReadAll reader bytes → dump.names ≡ names_of (history_in_bytes dump))
-  IfOk-names (Ok dump) same = λ bytes has. IsNamed-read reader.format bytes reader.draft (read_of bytes has) dump same
-  IfOk-names (Err e) same = tt
-
-  pub IfOk-values : (result : Result DumpValue DumpError) → IfOk result (λ dump. dump ≡ reader.draft) → IfOk result (λ dump. (bytes : List ℕ) → HasReadAll reader bytes → dump.values ≡ values_of (history_in_bytes dump))
-  IfOk-values (Ok dump) same = λ bytes has. IsValued-read reader.format bytes reader.draft (read_of bytes has) dump same
-  IfOk-values (Err e) same = tt
-
-  pub IfErr-end :
-      (end : ℕ) (result : Result DumpValue DumpError) → IfErr result (λ e. (e ≡ dump.Refused 8 end) × (reader.draft.counts ≡ [])) →
-      IfErr result (λ e. (bytes : List ℕ) → HasReadAll reader bytes → end ≡ length bytes → IsRefusal bytes e)
-  IfErr-end end (Ok dump) refused = tt
-  IfErr-end end (Err e) refused = λ bytes has long. IsRefusal-end reader.format bytes reader.draft (read_of bytes has) e end long refused
 
 -- the bytes end in the first line
 pub IsRefusal-line : (bytes : List ℕ) (refusal : Refusal) → first_holding (line_refusals bytes) ≡ Some refusal → IsRefusal bytes (dump_error_at 0 (read.Refused refusal))

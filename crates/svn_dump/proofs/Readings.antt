@@ -11,7 +11,7 @@ use Rattle.svn_dump.specs.Decided.{HasFirstLine, IsDecidedError}
 use Rattle.svn_dump.specs.Draft.{IsWholeHistory, dump_of}
 use Rattle.svn_dump.specs.Dump.{DumpValue, IsDump, history_in_bytes}
 use Rattle.svn_dump.specs.DumpError.{IsFirstAt, IsRefusal}
-use Rattle.svn_dump.specs.DumpText.{IsDumpText, IsSmall, first_line, names_of, values_of}
+use Rattle.svn_dump.specs.DumpText.{IsDumpText, IsSmall, first_line}
 use Rattle.svn_dump.specs.FirstRefusal.{RefusalAt, after_block, block_at, block_refusal, end_refusal, first_refusal, format_of, line_refusals, refusal_from, refusal_or}
 use Rattle.svn_dump.specs.FrontBlock.{IsBlockRefusalFrom}
 use Rattle.svn_dump.specs.ReadError.{dump_error_at}
@@ -163,12 +163,6 @@ module _ (format : Format) where
       some_revision = λ none. kept.some_revision (nil_from_length dump.counts (sym (length-history_in_bytes dump.names dump.records dump.counts dump.values) ∙ ap length none));
       small = subst (λ one. IsSmall (history_in_bytes one)) (sym same) is.whole.small;
     }
-
-    pub IsNamed-read : (dump : DumpValue) → dump ≡ draft → dump.names ≡ names_of (history_in_bytes dump)
-    IsNamed-read dump same = subst (λ one. one.names ≡ names_of (history_in_bytes one)) (sym same) is.whole.named
-
-    pub IsValued-read : (dump : DumpValue) → dump ≡ draft → dump.values ≡ values_of (history_in_bytes dump)
-    IsValued-read dump same = subst (λ one. one.values ≡ values_of (history_in_bytes one)) (sym same) is.whole.valued
 
     -- the bytes end without a revision
     pub IsRefusal-end : (e : DumpError) (end : ℕ) → end ≡ length front → (e ≡ dump.Refused 8 end) × (draft.counts ≡ []) → IsRefusal front e

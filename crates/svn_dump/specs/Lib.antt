@@ -11,6 +11,7 @@ pub mod FirstRefusal
 pub mod Format
 pub mod FrontBlock
 pub mod HeaderValues
+pub mod Growth
 pub mod Headers
 pub mod History
 pub mod Line

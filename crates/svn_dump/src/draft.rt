@@ -4,6 +4,7 @@ ghost use Rattle.std.specs.List.{IsDistinct};
 ghost use Rattle.svn_path.specs.Names.{IsTable};
 ghost use Rattle.svn_dump.specs.Dump.{IsDump};
 ghost use Rattle.svn_dump.specs.Draft.{dump_of, is_full, IsWholeHistory};
+ghost use Rattle.svn_dump.specs.Growth.{GrowsTo};
 ghost use Rattle.svn_dump.specs.Node.{node_block, revision_block};
 ghost use Rattle.svn_dump.specs.FrontBlock.{AddsContent, IsContentRefusal};
 ghost use Rattle.svn_dump.specs.HeaderValues.{node_of_front, content_of_front};
@@ -58,10 +59,29 @@ impl Draft {
         }
     }
 
+    /// The records of a dump, to which more may be added.
+    pub(crate) fn of(dump: Dump) -> Self
+        ensures { result ≡ dump }
+    {
+        let Dump {
+            names,
+            records,
+            counts,
+            texts,
+        } = dump;
+        Draft {
+            names,
+            records,
+            counts,
+            texts,
+        }
+    }
+
     /// Adds what a block says.
     pub(crate) fn add(&mut self, alloc: Global, found: &BlockFront) -> Result<(), ReadError>
         ensures added { OnOk result (AddsContent self.old (content_of_front found.now) self.new) }
         ensures keeps { OnOk result (IsWholeHistory self.old → IsWholeHistory self.new) }
+        ensures grows { OnOk result (GrowsTo self.old self.new) }
         ensures refused { IfErr result (IsContentRefusal self.old (content_of_front found.now)) }
     {
         if let Some(number) = found.headers.get(Field::RevisionNumber) {
@@ -79,6 +99,7 @@ impl Draft {
     fn add_revision(&mut self, number: &[u8]) -> Result<(), ReadError>
         ensures added { OnOk result (AddsContent self.old (revision_block number.now) self.new) }
         ensures keeps { OnOk result (IsWholeHistory self.old → IsWholeHistory self.new) }
+        ensures grows { OnOk result (GrowsTo self.old self.new) }
         ensures refused { IfErr result (IsContentRefusal self.old (revision_block number.now)) }
     {
         let next = self.counts.len();
@@ -101,6 +122,7 @@ impl Draft {
     ) -> Result<(), ReadError>
         ensures added { OnOk result (AddsContent self.old (node_block (node_of_front found.now path.now)) self.new) }
         ensures keeps { OnOk result (IsWholeHistory self.old → IsWholeHistory self.new) }
+        ensures grows { OnOk result (GrowsTo self.old self.new) }
         ensures refused { IfErr result (IsContentRefusal self.old (node_block (node_of_front found.now path.now))) }
     {
         let revisions = self.counts.len();

@@ -1,14 +1,17 @@
 ghost use Rattle.std.specs.Prelude.{◌≡◌, ◌+◌, ◌<◌, ◌^◌, ◌++◌, ℕ, List, [], None, Some, length, IfErr, IfOk, IfSome, IsErrOf, OnOk};
 ghost use Rattle.svn_dump.specs.Decided.{IsDecidedError, IsUndecided};
+ghost use Rattle.svn_dump.specs.Draft.{IsWholeHistory};
 ghost use Rattle.svn_dump.specs.Dump.{history_in_bytes};
 ghost use Rattle.svn_dump.specs.DumpError.{DumpsAreExact, DumpsAreOne, IsRefusal};
 ghost use Rattle.svn_dump.specs.DumpText.{IsDumpText, names_of, values_of};
-ghost use Rattle.svn_dump.specs.Feed.{HasRead};
+ghost use Rattle.svn_dump.specs.Feed.{HasRead, IsPausedAt};
+ghost use Rattle.svn_dump.specs.Growth.{GrowsTo};
 ghost use Rattle.svn_dump.specs.Property.{SectionsAreExact};
 ghost use Rattle.svn_dump.specs.declared.error.DumpError.{DumpError};
 
 use crate::dump::Dump;
 use crate::error::DumpError;
+use crate::paused::Paused;
 use crate::pieces::reader::Reader;
 use std::alloc::Global;
 use std::marker::Model;
@@ -21,11 +24,11 @@ use svn_text::Seed;
 /// never for a length that a header claims.
 #[derive(Drop)]
 pub struct Feed {
-    reader: Reader,
+    pub(crate) reader: Reader,
     /// How many bytes have come.
-    count: u64,
+    pub(crate) count: u64,
     /// The error that was answered.
-    error: Option<DumpError>,
+    pub(crate) error: Option<DumpError>,
 }
 
 impl Model for Feed {
@@ -85,6 +88,9 @@ impl Feed {
         ensures decided { IfErr result
             (λ error. (before : List ℕ) → HasRead self.old before → IsDecidedError (before ++ bytes.now) error) }
 
+        // The dump only grows.
+        ensures grows { OnOk result (GrowsTo self.old.reader.draft self.new.reader.draft) }
+
         // An error is answered from then on.
         ensures ok { OnOk result (self.new.error ≡ None) }
         ensures kept { IfErr result (λ error. self.new.error ≡ Some error) }
@@ -101,6 +107,42 @@ impl Feed {
                 self.error = Some(error);
                 Err(error)
             }
+        }
+    }
+
+    /// The dump so far, where a block has just ended, and what goes on reading after it. Elsewhere the answer of
+    /// `finish`.
+    pub fn pause(self) -> Result<(Dump, Paused), DumpError>
+        // What holds of all bytes, whatever is answered.
+        ensures exactly { DumpsAreExact }
+        ensures one { DumpsAreOne }
+        ensures sections { SectionsAreExact }
+
+        ensures ok { IfOk result (λ both. (bytes : List ℕ) → HasRead self bytes
+            → IsDumpText bytes (history_in_bytes both.0)) }
+        ensures names { IfOk result (λ both. (bytes : List ℕ) → HasRead self bytes
+            → both.0.names ≡ names_of (history_in_bytes both.0)) }
+        ensures values { IfOk result (λ both. (bytes : List ℕ) → HasRead self bytes
+            → both.0.values ≡ values_of (history_in_bytes both.0)) }
+        ensures refused { IfErr result (λ error. (bytes : List ℕ) → HasRead self bytes → IsRefusal bytes error) }
+        ensures again { IfSome self.error (λ error. IsErrOf result error) }
+        ensures memory { IsErrOf result DumpError.Memory → self.error ≡ Some DumpError.Memory }
+
+        // The dump and what goes on are of the same bytes.
+        ensures whole { IfOk result (λ both. IsWholeHistory both.0) }
+        ensures dump { IfOk result (λ both. both.0 ≡ self.reader.draft) }
+        ensures paused { IfOk result (λ both. (bytes : List ℕ) → HasRead self bytes
+            → IsPausedAt both.1 both.0 bytes) }
+        ensures count { IfOk result (λ both. both.1.count ≡ self.count) }
+    {
+        let Feed {
+            reader,
+            count,
+            error,
+        } = self;
+        match error {
+            Some(error) => Err(error),
+            None => reader.pause(count),
         }
     }
 
@@ -121,14 +163,7 @@ impl Feed {
         ensures again { IfSome self.error (λ error. IsErrOf result error) }
         ensures memory { IsErrOf result DumpError.Memory → self.error ≡ Some DumpError.Memory }
     {
-        let Feed {
-            reader,
-            count,
-            error,
-        } = self;
-        match error {
-            Some(error) => Err(error),
-            None => reader.finish(count),
-        }
+        let (dump, _) = self.pause()?;
+        Ok(dump)
     }
 }

@@ -12,6 +12,8 @@ mod long;
 #[cfg(test)]
 mod mergeinfo;
 #[cfg(test)]
+mod paused;
+#[cfg(test)]
 mod pieces;
 #[cfg(test)]
 mod records;

@@ -3,7 +3,9 @@ ghost use Rattle.std.specs.Prelude.{◌≡◌, ◌<◌, ◌≤◌, ℕ, List, []
 ghost use Rattle.svn_dump.specs.Draft.{IsWholeHistory};
 ghost use Rattle.svn_dump.specs.Dump.{history_in_bytes};
 ghost use Rattle.svn_dump.specs.DumpError.{IsRefusal};
-ghost use Rattle.svn_dump.specs.DumpText.{IsDumpText, names_of, values_of};
+ghost use Rattle.svn_dump.specs.DumpText.{IsDumpText};
+ghost use Rattle.svn_dump.specs.Feed.{IsPausedAt};
+ghost use Rattle.svn_dump.specs.Growth.{GrowsTo};
 ghost use Rattle.svn_dump.specs.Reader.{AddsWholeBlock, BeginsBlock, HasReadAll, IsInBody, IsInLine};
 ghost use Rattle.svn_dump.specs.Reader.{ReadsAfter, ReadsBlock, ReadsHeader, ReadsUpTo};
 ghost use Rattle.svn_dump.specs.Reader.{RefusesAfter, RefusesBlock, RefusesWholeBlock, RefusesHeader, RefusesUpTo};
@@ -14,6 +16,7 @@ use crate::dump::Dump;
 use crate::error::DumpError;
 use crate::grammar::block::{BlockFront, first_block, headers_of, skip_empty_lines};
 use crate::grammar::format::Format;
+use crate::paused::Paused;
 use crate::pieces::partial_body::PartialBody;
 use crate::pieces::partial_header::PartialHeader;
 use crate::pieces::partial_line::PartialLine;
@@ -68,6 +71,7 @@ impl Reader {
         requires { length piece.now ≤ end }
         ensures ok { OnOk result (ReadsUpTo self.old self.new end piece.now) }
         ensures keeps { OnOk result (IsWholeHistory self.old.draft → IsWholeHistory self.new.draft) }
+        ensures grows { OnOk result (GrowsTo self.old.draft self.new.draft) }
         ensures refused { IfErr result (RefusesUpTo self.old self.new end piece.now) }
     {
         let Some(mut rest) = self.resume(piece)? else {
@@ -89,6 +93,7 @@ impl Reader {
         ensures within { IfOk result (λ left. IfSome left (λ rest. length rest.now ≤ length piece.now)) }
         ensures progress { IfOk result (λ left. IfSome left (λ rest. self.new.progress ≡ Blocks)) }
         ensures keeps { OnOk result (IsWholeHistory self.old.draft → IsWholeHistory self.new.draft) }
+        ensures grows { OnOk result (GrowsTo self.old.draft self.new.draft) }
         ensures refused { IfErr result (RefusesAfter (HasReadAll self.old) self.new piece.now) }
     {
         match replace(&mut self.progress, Progress::Blocks) {
@@ -110,6 +115,7 @@ impl Reader {
         ensures within { IfOk result (λ left. IfSome left (λ rest. length rest.now ≤ length piece.now)) }
         ensures progress { IfOk result (λ left. IfSome left (λ rest. self.new.progress ≡ Blocks)) }
         ensures keeps { OnOk result (IsWholeHistory self.old.draft → IsWholeHistory self.new.draft) }
+        ensures grows { OnOk result (GrowsTo self.old.draft self.new.draft) }
         ensures refused { IfErr result (RefusesAfter (IsInLine self.old line) self.new piece.now) }
     {
         let mut line = line;
@@ -133,6 +139,7 @@ impl Reader {
         ensures within { IfOk result (λ left. IfSome left (λ rest. length rest.now < length block.now)) }
         ensures progress { IfOk result (λ left. IfSome left (λ rest. self.new.progress ≡ Blocks)) }
         ensures keeps { OnOk result (IsWholeHistory self.old.draft → IsWholeHistory self.new.draft) }
+        ensures grows { OnOk result (GrowsTo self.old.draft self.new.draft) }
         ensures refused { IfErr result (RefusesBlock self.old self.new block.now) }
     {
         match first_block(self.format, block)? {
@@ -155,6 +162,7 @@ impl Reader {
         ensures within { IfOk result (λ left. IfSome left (λ rest. length rest.now < length piece.now)) }
         ensures progress { IfOk result (λ left. IfSome left (λ rest. self.new.progress ≡ Blocks)) }
         ensures keeps { OnOk result (IsWholeHistory self.old.draft → IsWholeHistory self.new.draft) }
+        ensures grows { OnOk result (GrowsTo self.old.draft self.new.draft) }
         ensures refused { IfErr result (RefusesHeader self.old header self.new piece.now) }
     {
         let mut header = header;
@@ -182,6 +190,7 @@ impl Reader {
         ensures within { IfOk result (λ left. IfSome left (λ rest. length rest.now ≤ length piece.now)) }
         ensures progress { IfOk result (λ left. IfSome left (λ rest. self.new.progress ≡ Blocks)) }
         ensures keeps { OnOk result (IsWholeHistory self.old.draft → IsWholeHistory self.new.draft) }
+        ensures grows { OnOk result (GrowsTo self.old.draft self.new.draft) }
         ensures refused { IfErr result (RefusesAfter (IsInBody self.old header body) self.new piece.now) }
     {
         let mut body = body;
@@ -204,6 +213,7 @@ impl Reader {
         ensures format { self.new.format ≡ self.old.format }
         ensures added { OnOk result (AddsWholeBlock self.old header.now body.now self.new) }
         ensures keeps { OnOk result (IsWholeHistory self.old.draft → IsWholeHistory self.new.draft) }
+        ensures grows { OnOk result (GrowsTo self.old.draft self.new.draft) }
         ensures refused { IfErr result (RefusesWholeBlock self.old header.now body.now) }
     {
         let (headers, _) = headers_of(header.bytes())?;
@@ -219,28 +229,35 @@ impl Reader {
         Ok(())
     }
 
-    /// The dump of so many bytes, where it ends here.
-    pub(crate) fn finish(self, end: u64) -> Result<Dump, DumpError>
+    /// The dump of so many bytes, where a block has ended here, and what goes on after it.
+    pub(crate) fn pause(self, end: u64) -> Result<(Dump, Paused), DumpError>
         requires { IsWholeHistory self.draft }
-        ensures ok { IfOk result (λ dump. (bytes : List ℕ) → HasReadAll self bytes
-            → IsDumpText bytes (history_in_bytes dump)) }
-        ensures names { IfOk result (λ dump. (bytes : List ℕ) → HasReadAll self bytes
-            → dump.names ≡ names_of (history_in_bytes dump)) }
-        ensures values { IfOk result (λ dump. (bytes : List ℕ) → HasReadAll self bytes
-            → dump.values ≡ values_of (history_in_bytes dump)) }
+        ensures ok { IfOk result (λ both. (bytes : List ℕ) → HasReadAll self bytes
+            → IsDumpText bytes (history_in_bytes both.0)) }
+        ensures dump { IfOk result (λ both. both.0 ≡ self.draft) }
+        ensures paused { IfOk result (λ both. (bytes : List ℕ) → HasReadAll self bytes → end ≡ length bytes
+            → IsPausedAt both.1 both.0 bytes) }
+        ensures count { IfOk result (λ both. both.1.count ≡ end) }
         ensures refused { IfErr result (λ e. (bytes : List ℕ) → HasReadAll self bytes → end ≡ length bytes
             → IsRefusal bytes e) }
         ensures memory { IsErrOf result DumpError.Memory → ⊥ }
     {
         let Reader {
-            alloc: _,
+            alloc,
             draft,
             progress,
-            format: _,
+            format,
             at,
         } = self;
         match progress {
-            Progress::Blocks => draft.finish(end),
+            Progress::Blocks => {
+                let paused = Paused {
+                    alloc,
+                    format,
+                    count: end,
+                };
+                Ok((draft.finish(end)?, paused))
+            }
             Progress::Line(line) => Err(ReadError::Refused(line.refusal()).at(0)),
             Progress::Header(header) => Err(ReadError::Refused(header.refusal()).at(at)),
             Progress::Body(..) => Err(ReadError::Refused(Refusal::Truncated).at(at)),

@@ -4,6 +4,7 @@ use Rattle.svn_dump.specs.Record.{with_content}
 use Rattle.svn_dump.specs.Refusal.{first_holding, refusals_by, content_refusals}
 use Rattle.svn_dump.proofs.Fields.{copied_some, copied_none}
 use Rattle.svn_dump.proofs.Contents.{content_said-revision, content_said-node, content_said-uuid, content_said-other}
+use Rattle.svn_dump.proofs.Growth.{GrowsTo_same}
 use Rattle.svn_dump.proofs.draft.Draft.add.Goals as goal
 
 pub returns-in-Some-clause-added : goal.returns-in-Some-clause-added
@@ -35,3 +36,6 @@ returns-else-is_some-clause-refused c = λ whole.
     let none = copied_none c.get-in_default-get.result (sym c.is_some.ensures ∙ c.if-is_some.false) in
     ap (λ content. first_holding (content_refusals (history_in_bytes c.args.self.now) content)) (content_said-other c.args.found.now.format c.args.found.now.headers c.args.found.now.properties.now (sym c.in_default.ensures) (sym c.in_default-get.ensures)
     (sym c.get-in_default-get.ensures ∙ none))
+
+pub returns-then-is_some-clause-grows : goal.returns-then-is_some-clause-grows
+returns-then-is_some-clause-grows c = GrowsTo_same c.args.self.now

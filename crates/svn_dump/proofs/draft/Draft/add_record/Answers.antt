@@ -9,6 +9,7 @@ use Rattle.svn_dump.specs.HeaderValues.{node_of_front}
 use Rattle.svn_dump.specs.NumberedRecord.{IsFirstReason, is_record_large}
 use Rattle.svn_dump.proofs.Drafts.{room_left, IsDraft-grows, count-le, IsDraft-with_record, with_record-told, IsWholeHistory-with_record, refused-full, refused-record}
 use Rattle.svn_dump.proofs.Grouped.{set_last_read}
+use Rattle.svn_dump.proofs.Growth.{GrowsTo-with_record}
 use Rattle.svn_dump.proofs.Histories.{length-history_in_bytes}
 use Rattle.svn_dump.proofs.draft.Draft.add_record.Goals as goal
 
@@ -91,3 +92,14 @@ returns-clause-keeps c =
     let room = sym c.is_full.ensures.full ∙ c.if-is_full.false in
     rw (c.in_ok-push.ensures.items, counts_are, ← c.self.view_is)
     (IsWholeHistory-with_record inside.names inside.records.items inside.counts.items inside.texts c.self.invariant c.record_of.new.names c.record_of.new.texts _ (pred c.len-revisions.result) c.in_ok-record.record c.in_ok-record.ensures.record last room (c.is_full.ensures.names c.if-is_full.false) (c.is_full.ensures.texts c.if-is_full.false))
+
+pub returns-clause-grows : goal.returns-clause-grows
+returns-clause-grows c =
+    let inside = c.self.inside in
+    let told = c.in_ok-record.ensures.record in
+    let ensured = c.record_of.ensures in
+    let last : ℕ = c.len-revisions.result - 1 in
+    let within : last < length inside.counts.items = omega (arith, inside.counts.ok.0, told.of_table.above_zero, told.revision, sub-one c.len-revisions.result) in
+    let read = get_or_read inside.counts.items last c.index_mut.result.now within c.index_mut.ensures.value 0 in
+    rw (c.in_ok-push.ensures.items, ← c.self.view_is)
+    (GrowsTo-with_record _ _ _ c.in_ok-record.record _ _ ensured.grows ensured.texts_grow (omega (arith, within)) (omega (arith, read)))

@@ -3,6 +3,7 @@ use Rattle.std.specs.Prelude.{Some}
 use Rattle.svn_text.specs.Number.{number_up_to}
 use Rattle.svn_dump.specs.Record.{with_content}
 use Rattle.svn_dump.proofs.Drafts.{not_same, IsDraft-with_revision, with_numbered-told, IsWholeHistory-with_revision, refused-number, refused-revision}
+use Rattle.svn_dump.proofs.Growth.{GrowsTo-with_revision}
 use Rattle.svn_dump.proofs.draft.Draft.add_revision.Goals as goal
 
 pub invariant_of-self-2 : goal.invariant_of-self-2
@@ -20,6 +21,9 @@ pub returns-clause-keeps : goal.returns-clause-keeps
 returns-clause-keeps c =
     let inside = c.self.inside in
     rw (c.in_ok-push.ensures.items, ← c.self.view_is) (IsWholeHistory-with_revision inside.names inside.records.items inside.counts.items inside.texts c.self.invariant (omega arith))
+
+pub returns-clause-grows : goal.returns-clause-grows
+returns-clause-grows c = rw (c.in_ok-push.ensures.items, ← c.self.view_is) (GrowsTo-with_revision _)
 
 pub returns-then-ne-clause-refused : goal.returns-then-ne-clause-refused
 returns-then-ne-clause-refused c = λ whole.

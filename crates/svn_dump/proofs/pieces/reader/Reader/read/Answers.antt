@@ -1,5 +1,6 @@
 use Rattle.std.proofs.Common.{arith}
 use Rattle.std.proofs.lemmas.Result.{err_from_is_err_and}
+use Rattle.svn_dump.proofs.Growth.{GrowsTo-twice}
 use Rattle.svn_dump.proofs.Readers.{HasReadAll-piece, IsDecidedError-piece, IsReadAs-before, IsReadAs-empty, ReadsPart-piece, at_block, before_block, length-skipped}
 use Rattle.svn_dump.proofs.pieces.reader.Reader.read.Goals as goal
 
@@ -9,6 +10,7 @@ loop-block-init c =
       within = rw c.in-Some.is at ensured.within;
       between = rw c.in-Some.is at ensured.progress;
       keeps = ensured.keeps;
+      grows = ensured.grows;
       reads = λ bytes has long. rw c.in-Some.is at ensured.ok bytes has;
     }
 
@@ -42,6 +44,9 @@ returns-in_default-2-clause-ok c = λ bytes has long.
     (IsReadAs-before c.loop-block.self.format bytes c.args.piece.now done c.loop-block.rest.now block c.loop-block.self.draft whole read front)
     (at_block c.loop-block.self.format bytes c.args.piece.now done c.loop-block.rest.now block c.loop-block.self.draft whole read front c.args.end long))
 
+pub returns-in_default-2-clause-grows : goal.returns-in_default-2-clause-grows
+returns-in_default-2-clause-grows c = GrowsTo-twice c.loop-block.invariant.grows c.in_ok-after.ensures.grows
+
 pub loop-block-smaller : goal.loop-block-smaller
 loop-block-smaller c =
     let within = rw c.in-Some-2.is at c.in_ok-after.ensures.within in
@@ -57,6 +62,7 @@ loop-block-preserved c =
       within = omega (arith, shorter, c.loop-block.invariant.within, length-skipped c.loop-block.rest.now block front);
       between = rw c.in-Some-2.is at ensured.progress;
       keeps = λ before. ensured.keeps (c.loop-block.invariant.keeps before);
+      grows = GrowsTo-twice c.loop-block.invariant.grows ensured.grows;
       reads = λ bytes has long.
           let (done, whole, read) = c.loop-block.invariant.reads bytes has long in
           ReadsPart-piece c.loop-block.self.format bytes c.args.piece.now done c.loop-block.rest.now block c.loop-block.self.draft whole read front c.read_block.new.self c.in-Some-2.after

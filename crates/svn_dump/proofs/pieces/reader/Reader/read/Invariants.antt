@@ -1,5 +1,6 @@
 use Rattle.std.proofs.Common.{◌≡◌, ◌≤◌, ◌++◌, List, ℕ, length}
 use Rattle.svn_dump.specs.Draft.{IsWholeHistory}
+use Rattle.svn_dump.specs.Growth.{GrowsTo}
 use Rattle.svn_dump.specs.Reader.{HasReadAll, IsReadAs}
 use Rattle.svn_dump.specs.declared.pieces.reader.Progress.TheVariants.{Blocks}
 use Rattle.svn_dump.specs.declared.pieces.reader.Reader.{Reader}
@@ -10,6 +11,7 @@ pub record IsBetween (first reader : Reader) (end : ℕ) (piece rest : List ℕ)
   pub within : length rest ≤ length piece
   pub between : reader.progress ≡ Blocks
   pub keeps : IsWholeHistory first.draft → IsWholeHistory reader.draft
+  pub grows : GrowsTo first.draft reader.draft
   pub reads : (bytes : List ℕ) → HasReadAll first bytes → end ≡ length (bytes ++ piece) → (done : List ℕ) × (piece ≡ done ++ rest) × IsReadAs reader.format (bytes ++ done) reader.draft
 
 abbrev pub invariant-loop-block : goal.invariant-loop-block

@@ -2,6 +2,7 @@ use Rattle.std.proofs.Common.{refl, subst, sym, ◌++◌}
 use Rattle.std.proofs.lemmas.Result.{err_from_is_err_and}
 use Rattle.svn_dump.specs.Reader.{IsReadAs}
 use Rattle.svn_dump.proofs.Readers.{HasFirstLine-to, IsBodyTo-ends, IsDecidedError-ends, IsInBody-extends, IsReadAs-ends}
+use Rattle.svn_dump.proofs.Growth.{GrowsTo_same}
 use Rattle.svn_dump.proofs.pieces.reader.Reader.read_body.Goals as goal
 
 pub returns-in_err-extend-clause-refused : goal.returns-in_err-extend-clause-refused
@@ -34,3 +35,6 @@ returns-clause-ok c =
           (IsReadAs-ends c.args.self.now c.args.header c.args.body c.extend.new.self bytes c.args.piece.now is c.in-Some.rest.now ends c.add_block.new.self.draft
           (c.in_ok-add_block-in-Some.ensures.added (is.come ++ ends.last) so_far ends.none is.some) c.in_ok-add_block-in-Some.ensures.keeps),
     )
+
+pub returns-in-None-clause-grows : goal.returns-in-None-clause-grows
+returns-in-None-clause-grows c = GrowsTo_same c.args.self.now.draft

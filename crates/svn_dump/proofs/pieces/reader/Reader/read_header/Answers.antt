@@ -1,6 +1,7 @@
 use Rattle.std.proofs.Common.{refl}
 use Rattle.std.proofs.lemmas.Result.{err_from_is_err_and}
 use Rattle.svn_dump.proofs.Readers.{IfErr-rest, IfOk-rest, IsDecidedError-header, IsDecidedError-lengths, within-rest}
+use Rattle.svn_dump.proofs.Growth.{GrowsTo_same}
 use Rattle.svn_dump.proofs.pieces.reader.Reader.read_header.Goals as goal
 
 pub returns-in_err-extend-clause-refused : goal.returns-in_err-extend-clause-refused
@@ -32,3 +33,6 @@ returns-in_ok-body-in-Some-clause-refused c =
     let ends = rw c.in-Some.is at c.in_ok-extend.ensures.ok in
     IfErr-rest c.args.self.now c.args.header c.args.piece.now c.extend.new.self c.in-Some.rest.now ends c.in_ok-body-in-Some.body c.in_ok-body-in-Some.ensures.body
     c.read_body.new.self c.read_body.result c.read_body.ensures.refused
+
+pub returns-in-None-clause-grows : goal.returns-in-None-clause-grows
+returns-in-None-clause-grows c = GrowsTo_same c.args.self.now.draft

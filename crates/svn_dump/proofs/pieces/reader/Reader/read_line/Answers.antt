@@ -1,6 +1,7 @@
 use Rattle.std.proofs.Common.{◌++◌}
 use Rattle.std.proofs.lemmas.Result.{err_from_is_err_and}
 use Rattle.svn_dump.proofs.Readers.{IsDecidedError-line, ReadsPart-line}
+use Rattle.svn_dump.proofs.Growth.{GrowsTo_same}
 use Rattle.svn_dump.proofs.pieces.reader.Reader.read_line.Goals as goal
 
 pub returns-in_err-extend-clause-refused : goal.returns-in_err-extend-clause-refused
@@ -17,3 +18,9 @@ returns-in-Some-clause-ok c = λ bytes is.
       ends.whole,
       ReadsPart-line c.args.self.now c.args.line bytes c.args.piece.now c.in-Some.format c.in-Some.rest.now is ends,
     )
+
+pub returns-in-None-clause-grows : goal.returns-in-None-clause-grows
+returns-in-None-clause-grows c = GrowsTo_same c.args.self.now.draft
+
+pub returns-in-Some-clause-grows : goal.returns-in-Some-clause-grows
+returns-in-Some-clause-grows c = GrowsTo_same c.args.self.now.draft

@@ -1,5 +1,5 @@
 -- The elements of a list and of those that are appended to it.
-use Rattle.std.proofs.Common.{◌≡◌, ℕ, ◌+◌, ◌-◌, ◌<◌, ◌≤◌, ◌⊎◌, inl, inr, List, AllPairs, [], ◌∷◌, ◌++◌, length, get_or, slice_get, Some, sym, ap, ◌∙◌, arith, length-append}
+use Rattle.std.proofs.Common.{◌≡◌, ℕ, zero, suc, ◌+◌, ◌-◌, ◌<◌, ◌≤◌, ◌⊎◌, inl, inr, List, AllPairs, [], ◌∷◌, ◌++◌, length, get_or, slice_get, Some, refl, sym, ap, ◌∙◌, arith, length-append}
 use Rattle.std.proofs.lemmas.Bool.{cases_lt}
 use Rattle.std.proofs.lemmas.List.{get_or_append_left, get_or-append-add, get_or_push, length_push}
 use Rattle.std.proofs.Math.Seq.{get_or-append_right}
@@ -7,16 +7,19 @@ use Rattle.std.proofs.lemmas.Option.{get_or_from_slice_get, slice_get-get_or, sl
 
 module _ {X : Type 0} (xs more : List X) where
   -- those of the first keep their indices
+  pub slice_get-front : (index : ℕ) → index < length xs → slice_get (xs ++ more) index ≡ slice_get xs index
+  slice_get-front index within = front xs index within
+    where
+      front : (ys : List X) (index : ℕ) → index < length ys → slice_get (ys ++ more) index ≡ slice_get ys index
+      front [] index within = absurd (omega (arith, within))
+      front (y ∷ ys) zero within = refl
+      front (y ∷ ys) (suc index) within = front ys index (omega (arith, within))
+
   pub slice_get-first : (index : ℕ) (each : X) → slice_get xs index ≡ Some each → slice_get (xs ++ more) index ≡ Some each
-  slice_get-first index each at =
-      let within = slice_get_within xs index each at in
-      slice_get-get_or (xs ++ more) index each (omega (arith, within, length-append xs more))
-      ∙ ap Some (get_or_append_left xs more each index within ∙ get_or_from_slice_get xs index each each at)
+  slice_get-first index each at = slice_get-front index (slice_get_within xs index each at) ∙ at
 
   pub slice_get-before : (index : ℕ) (each : X) → index < length xs → slice_get (xs ++ more) index ≡ Some each → slice_get xs index ≡ Some each
-  slice_get-before index each within at =
-      slice_get-get_or xs index each within
-      ∙ ap Some (sym (get_or_append_left xs more each index within) ∙ get_or_from_slice_get (xs ++ more) index each each at)
+  slice_get-before index each within at = sym (slice_get-front index within) ∙ at
 
   -- those of the second come after them
   pub slice_get-second : (index : ℕ) (each : X) → slice_get more index ≡ Some each → slice_get (xs ++ more) (length xs + index) ≡ Some each

@@ -1,9 +1,9 @@
-use Rattle.std.proofs.Common.{◌≡◌, take}
+use Rattle.std.proofs.Common.{◌≡◌, ◌++◌, take}
 use Rattle.path_index.specs.Records.{AreKept}
-use Rattle.path_index.proofs.records.Records.of.Given as goal
+use Rattle.path_index.proofs.records.Records.with.Given as goal
 
 abbrev pub invariant-loop-index : goal.invariant-loop-index
 invariant-loop-index l = record {
-  all : l.all.items ≡ take l.index l.records;
+  all : l.all.items ≡ l.fn.self ++ take l.index l.records;
   kept : AreKept l.all.items l.revs.items l.copies.items;
 }
