@@ -9,6 +9,7 @@ ghost use Rattle.path_index.specs.Span.{IsSpan};
 use crate::hit::Hit;
 use crate::records::Records;
 use crate::records_by_path::RecordsByPath;
+use crate::revision_range::RevisionRange;
 use crate::segment::Segment;
 use crate::span::Span;
 use std::alloc::{AllocError, Global};
@@ -67,6 +68,25 @@ impl Index {
             records: Records::of(alloc, records)?,
             first,
             by_path: RecordsByPath::of(alloc, seed, records)?,
+        })
+    }
+
+    /// This index with further records of its history.
+    pub fn grow(self, records: &[NodeRecord]) -> Result<Self, AllocError>
+        requires { self.first + length self.records + length records.now < 2 ^ 32 }
+        ensures records { IfOk result (λ index. index.records ≡ self.records ++ records.now) }
+        ensures first { IfOk result (λ index. index.first ≡ self.first) }
+    {
+        let Index {
+            records: known,
+            first,
+            mut by_path,
+        } = self;
+        by_path.add_all(records, known.len() as u32)?;
+        Ok(Index {
+            records: known.with(records)?,
+            first,
+            by_path,
         })
     }
 
@@ -159,7 +179,7 @@ impl Index {
     pub fn operative_in(
         &self,
         segments: &[Segment],
-        range: Option<(u32, u32)>,
+        range: Option<RevisionRange>,
     ) -> Result<Vec<Hit>, AllocError>
         requires { IsWhole self.now }
         ensures { IfOk result (λ hits. AreHitsInRange self.now segments.now range hits.items) }
@@ -180,7 +200,7 @@ impl Index {
         index: usize,
         segment: &Segment,
         path: &Path,
-        range: Option<(u32, u32)>,
+        range: Option<RevisionRange>,
     ) -> Result<(), AllocError>
         ensures { OnOk result (AddsOperative hits.old.items hits.new.items index segment.now path.now range
             self.now.records) }
@@ -200,7 +220,7 @@ impl Index {
 }
 
 /// Whether a revision is in a range, which has both its ends; without a range each one is.
-fn is_in_range(range: Option<(u32, u32)>, rev: u32) -> bool
+fn is_in_range(range: Option<RevisionRange>, rev: u32) -> bool
     ensures { result ≡ is_in_range range rev }
 {
     match range {

@@ -16,10 +16,12 @@ mod nodes;
 mod numbers;
 mod records;
 mod records_by_path;
+mod revision_range;
 mod segment;
 mod span;
 mod sparse_numbers;
 
 pub use hit::Hit;
 pub use index::Index;
+pub use revision_range::RevisionRange;
 pub use segment::Segment;

@@ -62,6 +62,10 @@ impl Nodes {
         *self.children.hasher()
     }
 
+    pub(crate) fn allocator(&self) -> Global {
+        *self.children.allocator()
+    }
+
     /// An equal tree.
     pub(crate) fn dup(&self) -> Result<Self, AllocError>
         ensures { IfOk result (λ nodes. nodes ≡ self.now) }
@@ -129,7 +133,7 @@ impl Nodes {
         ensures nodes { IfOk result (λ nodes. AreNodesOf later self.new nodes.items) }
         ensures grown { OnOk result (ExtendsNodes self.old self.new) }
     {
-        let mut nodes = Vec::with_capacity(*self.children.allocator(), later.children.len() + 1)?;
+        let mut nodes = Vec::with_capacity(self.allocator(), later.children.len() + 1)?;
         nodes.push(0)?;
         for child in later.children.as_slice() {
             let node = self.add(nodes[child.parent as usize], child.name)?;

@@ -1,4 +1,4 @@
-ghost use Rattle.std.specs.Prelude.{◌≡◌, ◌+◌, ◌^◌, ◌<◌, ◌++◌, All, Some, length, map, option_copied, slice_get};
+ghost use Rattle.std.specs.Prelude.{◌≡◌, ◌+◌, ◌^◌, ◌<◌, ◌++◌, [], All, Some, length, map, option_copied, slice_get};
 ghost use Rattle.std.specs.Prelude.{IfOk, OnOk};
 ghost use Rattle.svn_dump.specs.declared.record.NodeRecord.{NodeRecord as Record};
 ghost use Rattle.path_index.specs.History.{AreRising};
@@ -84,16 +84,47 @@ impl Records {
         requires { length records.now < 2 ^ 32 }
         ensures { IfOk result (λ kept. kept ≡ records.now) }
     {
-        let mut revs = Vec::with_capacity(alloc, records.len())?;
-        let mut copies = Vec::new(alloc);
-        let mut all = GhostList::new();
+        let mut kept = Records::new(alloc).with(records)?;
+        kept.shrink_to_fit();
+        Ok(kept)
+    }
+
+    /// No records. It takes no memory.
+    fn new(alloc: Global) -> Self
+        ensures { result ≡ [] }
+    {
+        Records {
+            revs: Vec::new(alloc),
+            copies: Vec::new(alloc),
+            all: GhostList::new(),
+        }
+    }
+
+    /// These records and further ones.
+    pub(crate) fn with(self, records: &[NodeRecord]) -> Result<Self, AllocError>
+        requires { length self + length records.now < 2 ^ 32 }
+        ensures { IfOk result (λ kept. kept ≡ self ++ records.now) }
+    {
+        let Records {
+            mut revs,
+            mut copies,
+            mut all,
+        } = self;
+        let count = revs.len() as u32;
+        revs.reserve(records.len())?;
         for (index, each) in records.iter().enumerate() {
             revs.push(each.rev)?;
-            push_copy(&mut copies, index as u32, each)?;
+            push_copy(&mut copies, count + index as u32, each)?;
             all.push(each);
         }
-        copies.shrink_to_fit();
         Ok(Records { revs, copies, all })
+    }
+
+    /// Gives back the memory that is kept for more records.
+    fn shrink_to_fit(&mut self)
+        ensures { self.new ≡ self.old }
+    {
+        self.copies.shrink_to_fit();
     }
 
     /// An equal copy.

@@ -1,4 +1,4 @@
-ghost use Rattle.std.specs.Prelude.{◌≡◌, ◌+◌, ◌^◌, ◌<◌, List, Some, length, slice_get, IfOk, OnOk};
+ghost use Rattle.std.specs.Prelude.{◌≡◌, ◌+◌, ◌^◌, ◌<◌, ◌++◌, [], List, Some, length, slice_get, IfOk, OnOk};
 ghost use Rattle.svn_dump.specs.declared.record.NodeRecord.{NodeRecord as Record};
 ghost use Rattle.path_index.specs.NamedRevisions.{AddsNamed};
 ghost use Rattle.path_index.specs.Nodes.{node_of, ExtendsNodes};
@@ -34,18 +34,35 @@ impl RecordsByPath {
         requires { length records.now < 2 ^ 32 }
         ensures { IfOk result (AreByPath records.now) }
     {
-        let mut by_path = RecordsByPath {
+        let mut by_path = RecordsByPath::new(alloc, seed);
+        by_path.add_all(records, 0)?;
+        by_path.shrink_to_fit();
+        Ok(by_path)
+    }
+
+    /// No records. It takes no memory.
+    fn new(alloc: Global, seed: Seed) -> Self
+        ensures { AreByPath [] result }
+    {
+        RecordsByPath {
             nodes: Nodes::new(alloc, seed),
             added: SparseNumbers::new(alloc),
             copied: SparseNumbers::new(alloc),
             named: Numbers::new(alloc),
-        };
-        let mut last = Vec::new(alloc);
-        for (index, each) in records.iter().enumerate() {
-            by_path.add(index as u32, each, &mut last)?;
         }
-        by_path.shrink_to_fit();
-        Ok(by_path)
+    }
+
+    /// Adds records, before which `count` others stand.
+    pub(crate) fn add_all(&mut self, records: &[NodeRecord], count: u32) -> Result<(), AllocError>
+        requires { count + length records.now < 2 ^ 32 }
+        ensures { OnOk result ((before : List Record) → length before ≡ count → AreByPath before self.old
+            → AreByPath (before ++ records.now) self.new) }
+    {
+        let mut last = Vec::new(self.nodes.allocator());
+        for (index, each) in records.iter().enumerate() {
+            self.add(count + index as u32, each, &mut last)?;
+        }
+        Ok(())
     }
 
     /// Gives back the memory that is kept for more records.

@@ -64,6 +64,18 @@ pub(crate) fn joined(alloc: Global, earlier: &Index, later: &Index) -> Result<In
     both
 }
 
+// An index of these records, built between the marks.
+fn built(alloc: Global, records: &[NodeRecord]) -> Result<Index, AllocError>
+    requires { length records.now < 2 ^ 32 }
+    ensures records { IfOk result (λ index. index.records ≡ records.now) }
+    ensures first { IfOk result (λ index. index.first ≡ 0) }
+{
+    begin(alloc);
+    let index = Index::build(alloc, records, 0);
+    end(alloc);
+    index
+}
+
 // An index of these records, joined of those of both halves.
 fn of_halves(alloc: Global, records: &[NodeRecord]) -> Result<Index, AllocError>
     requires { length records.now < 2 ^ 32 }
@@ -79,24 +91,44 @@ fn of_halves(alloc: Global, records: &[NodeRecord]) -> Result<Index, AllocError>
     both
 }
 
-// An index of these records, which no others precede. It is built or joined between the marks.
-fn build(alloc: Global, records: &[NodeRecord], in_halves: bool) -> Result<Index, AllocError>
+// An index of the first half of these records, which grows by the second half between the marks.
+fn grown(alloc: Global, records: &[NodeRecord]) -> Result<Index, AllocError>
     requires { length records.now < 2 ^ 32 }
     ensures records { IfOk result (λ index. index.records ≡ records.now) }
     ensures first { IfOk result (λ index. index.first ≡ 0) }
 {
-    if in_halves {
-        return of_halves(alloc, records);
-    }
+    let (front, back) = records.split_at(records.len() / 2);
+    let earlier = Index::build(alloc, front, 0)?;
     begin(alloc);
-    let index = Index::build(alloc, records, 0);
+    let index = earlier.grow(back);
     end(alloc);
     index
 }
 
+// How an index comes to have all records.
+#[derive(Clone, Copy)]
+pub(crate) enum Making {
+    Whole,
+    Joined,
+    Grown,
+}
+
+// An index of these records, which no others precede. It is built, joined or grown between the marks.
+fn build(alloc: Global, records: &[NodeRecord], making: Making) -> Result<Index, AllocError>
+    requires { length records.now < 2 ^ 32 }
+    ensures records { IfOk result (λ index. index.records ≡ records.now) }
+    ensures first { IfOk result (λ index. index.first ≡ 0) }
+{
+    match making {
+        Making::Whole => built(alloc, records),
+        Making::Joined => of_halves(alloc, records),
+        Making::Grown => grown(alloc, records),
+    }
+}
+
 // `b` in revisions 3, 5 and 6 of: `a` added; `a` deleted; `b` copied from `a` of revision 1; `b` replaced by a copy of
 // itself; `b` changed; `b` replaced by a new directory.
-pub(crate) fn index_of_replacements(alloc: Global, in_halves: bool) -> Result<Index, AllocError>
+pub(crate) fn index_of_replacements(alloc: Global, making: Making) -> Result<Index, AllocError>
     ensures whole { IfOk result IsWhole }
     ensures copied { IfOk result (λ index. IsThere index.records (record { 0 = 1 } ∷ []) 3) }
     ensures changed { IfOk result (λ index. IsThere index.records (record { 0 = 1 } ∷ []) 5) }
@@ -155,7 +187,7 @@ pub(crate) fn index_of_replacements(alloc: Global, in_halves: bool) -> Result<In
             },
         },
     ];
-    build(alloc, records.as_slice(), in_halves)
+    build(alloc, records.as_slice(), making)
 }
 
 // The only component of a path.
@@ -292,7 +324,7 @@ fn operative_revisions_of_both_segments_are_found(rt: HostRuntime) -> Result<(),
 
 #[test]
 fn a_gap_is_a_segment(rt: HostRuntime) -> Result<(), Fail> {
-    let index = index_of_replacements(rt.alloc(), false)?;
+    let index = index_of_replacements(rt.alloc(), Making::Whole)?;
     let found = segments_of(&index, rt.alloc(), 3);
     drop(index);
     let wanted = [(3, 3, Some(B)), (2, 2, None), (1, 1, Some(A))];
@@ -302,7 +334,7 @@ fn a_gap_is_a_segment(rt: HostRuntime) -> Result<(), Fail> {
 
 #[test]
 fn a_copy_of_itself_ends_no_segment(rt: HostRuntime) -> Result<(), Fail> {
-    let index = index_of_replacements(rt.alloc(), false)?;
+    let index = index_of_replacements(rt.alloc(), Making::Whole)?;
     let found = segments_of(&index, rt.alloc(), 5);
     drop(index);
     let wanted = [(3, 5, Some(B)), (2, 2, None), (1, 1, Some(A))];
@@ -312,7 +344,7 @@ fn a_copy_of_itself_ends_no_segment(rt: HostRuntime) -> Result<(), Fail> {
 
 #[test]
 fn a_replacement_begins_a_segment(rt: HostRuntime) -> Result<(), Fail> {
-    let index = index_of_replacements(rt.alloc(), false)?;
+    let index = index_of_replacements(rt.alloc(), Making::Whole)?;
     let found = segments_of(&index, rt.alloc(), 6);
     let before = located(&index, rt.alloc(), 6, 5);
     drop(index);
@@ -323,7 +355,7 @@ fn a_replacement_begins_a_segment(rt: HostRuntime) -> Result<(), Fail> {
 
 #[test]
 fn a_log_covers_all_segments(rt: HostRuntime) -> Result<(), Fail> {
-    let index = index_of_replacements(rt.alloc(), false)?;
+    let index = index_of_replacements(rt.alloc(), Making::Whole)?;
     let found = operative_of(&index, rt.alloc(), 5, None);
     drop(index);
     let wanted = [(5, 0), (4, 0), (3, 0), (1, 2)].map(|(rev, segment)| Hit { rev, segment });
@@ -350,7 +382,7 @@ fn has_in_range(
 
 #[test]
 fn a_range_limits_a_log(rt: HostRuntime) -> Result<(), Fail> {
-    let index = index_of_replacements(rt.alloc(), false)?;
+    let index = index_of_replacements(rt.alloc(), Making::Whole)?;
     let mut all_are = true;
     for (range, skipped, count) in [
         ((3, 4), 1, 2),

@@ -3,7 +3,7 @@ ghost use Rattle.std.specs.Prelude.{◌≡◌, ◌+◌, ◌^◌, ◌<◌, ◌≤
 ghost use Rattle.par_scan.specs.Parts.{most_parts};
 ghost use Rattle.path_index_tests.specs.Merged.{first_records, last_records, IsIndexOf};
 
-use crate::indexes::{index_of_replacements, joined, operative_of};
+use crate::indexes::{Making, index_of_replacements, joined, operative_of};
 use crate::merged::{parts_of, says_all, says_all_of_first};
 use growth_marks::{begin, end};
 use par_scan::{Acts, Make, Sum, make_all, scan};
@@ -14,11 +14,11 @@ use std::test::Fail;
 use std::thread::Threads;
 use svn_dump::{NodeRecord, read};
 
-// `index_of_replacements` builds or joins its index between the marks.
+// `index_of_replacements` builds, joins or grows its index between the marks.
 #[test]
-fn refused_growths_build_and_join_no_other_index(rt: HostRuntime) -> Result<(), Fail> {
-    for in_halves in [false, true] {
-        if let Ok(index) = index_of_replacements(rt.alloc(), in_halves) {
+fn refused_growths_make_no_other_index(rt: HostRuntime) -> Result<(), Fail> {
+    for making in [Making::Whole, Making::Joined, Making::Grown] {
+        if let Ok(index) = index_of_replacements(rt.alloc(), making) {
             let hits = operative_of(&index, rt.alloc(), 5, None);
             drop(index);
             let wanted = [(5, 0), (4, 0), (3, 0), (1, 2)].map(|(rev, segment)| Hit {

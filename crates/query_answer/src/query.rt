@@ -6,6 +6,7 @@ ghost use Rattle.query_answer.specs.Range.{range_of};
 
 use crate::peg::Peg;
 use crate::range::read_range;
+use path_index::RevisionRange;
 use svn_text::{GREATEST_REVISION, number_up_to, split_at_byte};
 
 /// What a line asks, borrowed from the line. A range is the first and the last revision that the result lines may be
@@ -26,7 +27,7 @@ pub enum Query<'a> {
     /// The operative revisions of a path.
     Log {
         of: Peg<'a>,
-        range: Option<(u32, u32)>,
+        range: Option<RevisionRange>,
     },
     /// The effective mergeinfo of a path.
     Mergeinfo {
@@ -36,13 +37,13 @@ pub enum Query<'a> {
     Merged {
         of: Peg<'a>,
         target: Peg<'a>,
-        range: Option<(u32, u32)>,
+        range: Option<RevisionRange>,
     },
     /// The operative revisions of a path that are still to be merged into a target.
     Eligible {
         of: Peg<'a>,
         target: Peg<'a>,
-        range: Option<(u32, u32)>,
+        range: Option<RevisionRange>,
     },
 }
 
@@ -116,7 +117,12 @@ impl<'a> Query<'a> {
     }
 
     /// What a verb, a source and a target ask, in this range if there is one.
-    fn of_pair(verb: &[u8], source: &'a [u8], target: &'a [u8], range: Option<(u32, u32)>) -> Self
+    fn of_pair(
+        verb: &[u8],
+        source: &'a [u8],
+        target: &'a [u8],
+        range: Option<RevisionRange>,
+    ) -> Self
         ensures query { query_view result ≡ query_of_pair verb.now source.now target.now range }
         ensures peg { HasPegOf source.now result }
         ensures target { HasTargetOf target.now result }

@@ -5,6 +5,7 @@ ghost use Rattle.svn_dump.specs.Fault.{first_fault};
 ghost use Rattle.block_map.specs.Ends.{ends_of};
 ghost use Rattle.block_map.specs.Map.{IsMapOf};
 ghost use Rattle.path_index.specs.Index.{location_in};
+ghost use Rattle.query_answer.specs.Repo.{index_of_dump};
 
 use crate::path_rev::PathRev;
 use crate::peg::Peg;
@@ -12,7 +13,7 @@ use crate::status::Status;
 use crate::target::Target;
 use crate::unanswered::Unanswered;
 use block_map::{Ends, Map, Nearest};
-use path_index::{Hit, Index, Segment};
+use path_index::{Hit, Index, RevisionRange, Segment};
 use std::alloc::{AllocError, Global};
 use std::marker::Model;
 use svn_dump::{Dump, ValueId};
@@ -60,6 +61,24 @@ impl Repo {
             map,
             ends,
         }
+    }
+
+    /// The dump, the index, the map and the ends, of which it was made.
+    pub fn into_parts(self) -> (Dump, Index, Map, Ends)
+        ensures dump { result.0 ≡ self }
+        ensures index { result.1 ≡ index_of_dump self }
+        ensures map { IsMapOf self result.2 }
+        ensures ends { result.3 ≡ ends_of self.counts }
+        ensures lawful { first_fault same_name (history_view self) ≡ None }
+        ensures kept { IsDump self }
+    {
+        let Repo {
+            dump,
+            index,
+            map,
+            ends,
+        } = self;
+        (dump, index, map, ends)
     }
 
     /// The names of the components of its paths.
@@ -157,7 +176,7 @@ impl Repo {
     pub(crate) fn operative(
         &self,
         segments: &[Segment],
-        range: Option<(u32, u32)>,
+        range: Option<RevisionRange>,
     ) -> Result<Vec<Hit>, AllocError>
         ensures { IfOk result (λ hits. AreHitsIn self.now segments.now range hits.items) }
     {

@@ -18,7 +18,7 @@ use crate::peg::Peg;
 use crate::repo::Repo;
 use crate::unanswered::Unanswered;
 use merge_info::MergeInfo;
-use path_index::{Hit, Segment};
+use path_index::{Hit, RevisionRange, Segment};
 use std::alloc::{AllocError, Global};
 use svn_text::push_number;
 use value_memo::{Memo, Seen};
@@ -29,7 +29,7 @@ pub(crate) fn answer_eligible<'r>(
     repo: &'r Repo,
     source: &Peg<'_>,
     target: &Peg<'_>,
-    range: Option<(u32, u32)>,
+    range: Option<RevisionRange>,
     memo: &Memo<'r>,
     seen: &mut Seen<'r>,
 ) -> Result<Answer, Unanswered>
@@ -48,7 +48,7 @@ fn eligible_revisions(
     alloc: Global,
     repo: &Repo,
     pair: &Pair,
-    range: Option<(u32, u32)>,
+    range: Option<RevisionRange>,
     held: &HeldMergeinfo<'_, '_>,
 ) -> Result<Answer, Unanswered>
     requires source { IsPathIn repo.now pair.now.source }

@@ -10,7 +10,7 @@ use crate::locations::{path_at, write_path};
 use crate::peg::Peg;
 use crate::repo::Repo;
 use crate::unanswered::Unanswered;
-use path_index::{Hit, Segment};
+use path_index::{Hit, RevisionRange, Segment};
 use std::alloc::{AllocError, Global};
 use svn_path::Names;
 use svn_text::push_number;
@@ -20,7 +20,7 @@ pub(crate) fn answer_log(
     alloc: Global,
     repo: &Repo,
     peg: &Peg<'_>,
-    range: Option<(u32, u32)>,
+    range: Option<RevisionRange>,
 ) -> Result<Answer, Unanswered>
     ensures { HasAnswer repo.now (log_answer repo.now peg.now range) result }
 {
