@@ -20,9 +20,8 @@ use Rattle.block_map.specs.LookThrough.{look_through}
 use Rattle.block_map.specs.Map.{most_nodes, nodes_for}
 use Rattle.block_map.specs.Trees.{AreMapTrees, end_of_trees, look_in_trees}
 use Rattle.block_map.specs.declared.trees.Trees.{Trees}
-use Rattle.block_map.proofs.LooksThrough.{look-append, look_from-within, look_through-append, look_through-none}
+use Rattle.block_map.proofs.LooksThrough.{look-front, look_from-within, look_through-append, look_through-none}
 use Rattle.block_map.proofs.RecordNodes.{resolved-with_mergeinfo}
-use Rattle.block_map.proofs.Standings.{look_at_first}
 
 -- ---- lists of blocks
 
@@ -156,13 +155,6 @@ module _ (lo tick : ℕ) (path : List NameId) where
   abbrev look_of : List (Record NameId ValueId) → Found NameId ValueId
   look_of records = look same_name lo records tick path
 
-  -- later blocks say nothing of an earlier tick
-  look-front : (front more : List Trees) → tick ≤ end_of_blocks lo front → look_of (block_records (front ++ more)) ≡ look_of (block_records front)
-  look-front front more within =
-      ap look_of (block_records-append front more) ∙ look-append same_name lo (block_records front) (block_records more) tick path
-      ∙ ap (look_through same_name lo (block_records front)) (look_at_first (end_of_blocks lo front) (found.looks_of same_name (end_of_blocks lo front) (block_records more)) tick path within)
-      ∙ look_from-within same_name lo (block_records front) tick path within
-
   -- the last block that begins before a tick reaches it
   pub end-front : (all front : List Trees) → AreBlocksFrom lo all → AreBlocksBefore tick all front → tick ≤ end_of_blocks lo all → tick ≤ end_of_blocks lo front
   end-front all front are before within = by before.more before.split before.after
@@ -176,7 +168,8 @@ module _ (lo tick : ℕ) (path : List NameId) where
   -- so all blocks say what those say
   pub look-before : (all front : List Trees) → AreBlocksFrom lo all → AreBlocksBefore tick all front → tick ≤ end_of_blocks lo all → look_of (block_records all) ≡ look_of (block_records front)
   look-before all front are before within =
-      ap (λ blocks. look_of (block_records blocks)) before.split ∙ look-front front before.more (end-front all front are before within)
+      ap (λ blocks. look_of (block_records blocks)) before.split ∙ ap look_of (block_records-append front before.more)
+      ∙ look-front same_name lo (block_records front) (block_records before.more) tick path (end-front all front are before within)
 
   -- where there is only one, what it says
   pub look-only : (all : List Trees) (only : Trees) → AreBlocksFrom lo all → AreBlocksBefore tick all (only ∷ []) → tick ≤ end_of_blocks lo all

@@ -177,6 +177,13 @@ module _ {C M : Type 0} (same : C → C → Bool) where
         → look same lo (earlier ++ later) tick path ≡ look_through same lo earlier (look same (lo + length earlier) later tick path)
     look-append later tick path = says-more [] later says-none tick path
 
+    -- the later ones say nothing of an earlier tick
+    pub look-front : (later : List (Record C M)) (tick : ℕ) (path : List C) → tick ≤ lo + length earlier
+        → look same lo (earlier ++ later) tick path ≡ look same lo earlier tick path
+    look-front later tick path within =
+        look-append later tick path ∙ ap (look_through same lo earlier) (look_at_first middle (looks_of same middle later) tick path within)
+        ∙ look_from-within lo earlier tick path within
+
     -- and so it is of whatever was found
     look_from-append : (later : List (Record C M)) (tick : ℕ) (path : List C)
         → look_from same lo (earlier ++ later) tick path ≡ look_through same lo earlier (look_from same middle later tick path)
