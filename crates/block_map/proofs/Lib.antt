@@ -8,7 +8,6 @@ pub mod GrownTries
 pub mod JoinedMaps
 pub mod LocationPaths
 pub mod LooksThrough
-pub mod MapsBuilt
 pub mod MapsOfDumps
 pub mod NearestFound
 pub mod NodesPut

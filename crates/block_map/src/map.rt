@@ -67,22 +67,25 @@ impl Map {
         ensures of_first { (dump : DumpValue) (more : List NodeRecord) → start ≡ 0 → ends.now ≡ ends_of dump.counts
             → dump.records ≡ records.now ++ more → IfOk result (IsMapOfFirstRecords dump) }
     {
-        let trees = trees_after(alloc, records, start, ends)?;
-        Map::of_block(alloc, trees)
+        let trees = extended(Trees::new(alloc, start), records, ends)?;
+        let blocks = Vec::new(alloc);
+        Map { lo: start, blocks }.with_block(trees)
     }
 
-    /// The map of one block, or of none if it has no records.
-    fn of_block(alloc: Global, trees: Trees) -> Result<Self, AllocError>
-        requires { AreMapTrees trees }
-        ensures lo { IfOk result (λ map. map.lo ≡ trees.start) }
-        ensures records { IfOk result (λ map. map.records ≡ trees.records.items) }
-        ensures nodes { IfOk result (λ map. map.nodes ≤ length trees.trie.nodes) }
+    /// This map with these trees as one more block, unless they have no records.
+    fn with_block(self, trees: Trees) -> Result<Self, AllocError>
+        requires trees { AreMapTrees trees }
+        requires start { trees.start ≡ hi_of self }
+        ensures lo { IfOk result (λ map. map.lo ≡ self.lo) }
+        ensures records { IfOk result (λ map. map.records ≡ self.records ++ trees.records.items) }
+        ensures nodes { IfOk result (λ map. map.nodes ≤ self.nodes + length trees.trie.nodes) }
     {
-        let lo = trees.start;
-        let mut blocks = Vec::new(alloc);
-        if !trees.roots.is_empty() {
-            blocks.push(Arc::new(alloc, trees)?)?;
+        if trees.roots.is_empty() {
+            return Ok(self);
         }
+        let Map { lo, mut blocks } = self;
+        let block = Arc::new(*blocks.allocator(), trees)?;
+        blocks.push(block)?;
         Ok(Map { lo, blocks })
     }
 
@@ -265,25 +268,22 @@ impl Map {
     }
 }
 
-/// The trees of these records, which follow the first `start` of their history.
-fn trees_after(
-    alloc: Global,
-    records: &[NodeRecord],
-    start: u32,
-    ends: &Ends,
-) -> Result<Trees, AllocError>
-    requires few { start + length records.now < 2 ^ 32 }
+/// These trees with further records.
+fn extended(trees: Trees, records: &[NodeRecord], ends: &Ends) -> Result<Trees, AllocError>
+    requires trees { AreMapTrees trees }
+    requires few { end_of_trees trees + length records.now < 2 ^ 32 }
     requires short { All (λ each. length each.path ≤ most_components) records.now }
-    requires sources { HaveSources start ends.now records.now }
+    requires sources { HaveSources (end_of_trees trees) ends.now records.now }
     ensures trees { IfOk result AreMapTrees }
-    ensures start { IfOk result (λ trees. trees.start ≡ start) }
-    ensures records { IfOk result (λ trees. trees.records.items ≡ records_at_ticks ends.now records.now) }
+    ensures start { IfOk result (λ grown. grown.start ≡ trees.start) }
+    ensures records { IfOk result (λ grown.
+        grown.records.items ≡ trees.records.items ++ records_at_ticks ends.now records.now) }
 {
-    let mut trees = Trees::new(alloc, start);
+    let mut grown = trees;
     for record in records {
-        trees.add(record, ends)?;
+        grown.add(record, ends)?;
     }
-    Ok(trees)
+    Ok(grown)
 }
 
 /// How many nodes these blocks keep.

@@ -2,7 +2,7 @@ ghost use Rattle.std.specs.Prelude.{◌≡◌, ◌+◌, ◌^◌, ◌<◌, ◌≤
 ghost use Rattle.std.specs.Prelude.{None};
 ghost use Rattle.svn_dump.specs.Dump.{record_view, setting_view};
 ghost use Rattle.svn_dump.specs.Tree.{mergeinfo_after};
-ghost use Rattle.block_map.specs.Trees.{AreTrees, IsNodeAfter, IsRootAfter, IsRootAt, SameTrees, ShowsPath, ShowsTick, action_in, end_of_trees, look_in_trees, look_through_trees};
+ghost use Rattle.block_map.specs.Trees.{AreMapTrees, AreTrees, IsNodeAfter, IsRootAfter, IsRootAt, SameTrees, ShowsPath, ShowsTick, action_in, end_of_trees, look_in_trees, look_through_trees};
 ghost use Rattle.block_map.specs.Look.{resolved};
 ghost use Rattle.block_map.specs.LookThrough.{IsFoundUpTo};
 ghost use Rattle.block_map.specs.Ends.{HasSourceBefore, record_at_tick};
@@ -35,7 +35,7 @@ pub(crate) struct Trees {
 impl Trees {
     /// The trees of no records, which take no memory.
     pub(crate) fn new(alloc: Global, start: u32) -> Self
-        ensures trees { AreTrees result }
+        ensures trees { AreMapTrees result }
         ensures start { result.start ≡ start }
         ensures records { result.records.items ≡ [] }
         ensures nodes { result.trie.nodes ≡ [] }
