@@ -72,6 +72,48 @@ impl Map {
         Map { lo: start, blocks }.with_block(trees)
     }
 
+    /// This map with further records of its history. Its last block takes them; where another map shares that block, or
+    /// there is none, they make a block of their own.
+    pub fn grow(self, records: &[NodeRecord], ends: &Ends) -> Result<Self, AllocError>
+        requires few { hi_of self + length records.now < 2 ^ 32 }
+        requires short { All (λ each. length each.path ≤ most_components) records.now }
+        requires sources { HaveSources (hi_of self) ends.now records.now }
+        ensures lo { IfOk result (λ map. map.lo ≡ self.lo) }
+        ensures records { IfOk result (λ map. map.records ≡ self.records ++ records_at_ticks ends.now records.now) }
+
+        // Of the first records of a dump it stays a map that shows what the records of the dump say.
+        ensures of_first { (dump : DumpValue) (before more : List NodeRecord) → ends.now ≡ ends_of dump.counts
+            → dump.records ≡ before ++ (records.now ++ more) → length before ≡ hi_of self
+            → IsMapOfFirstRecords dump self → IfOk result (IsMapOfFirstRecords dump) }
+    {
+        let (front, last) = self.split_off_last()?;
+        let trees = extended(last, records, ends)?;
+        front.with_block(trees)
+    }
+
+    /// The map of the other blocks, and the trees of the last one. Where another map shares that block, or there is
+    /// none, it is the whole map, and trees of no records after it.
+    fn split_off_last(self) -> Result<(Self, Trees), AllocError>
+        ensures lo { IfOk result (λ both. both.0.lo ≡ self.lo) }
+        ensures start { IfOk result (λ both. both.1.start ≡ hi_of both.0) }
+        ensures trees { IfOk result (λ both. AreMapTrees both.1) }
+        ensures records { IfOk result (λ both. both.0.records ++ both.1.records.items ≡ self.records) }
+    {
+        let hi = self.hi();
+        let Map { lo, mut blocks } = self;
+        let alloc = *blocks.allocator();
+        let Some(last) = blocks.pop() else {
+            return Ok((Map { lo, blocks }, Trees::new(alloc, hi)));
+        };
+        match Arc::try_unwrap(last) {
+            Ok(trees) => Ok((Map { lo, blocks }, trees)),
+            Err(shared) => {
+                blocks.push(shared)?;
+                Ok((Map { lo, blocks }, Trees::new(alloc, hi)))
+            }
+        }
+    }
+
     /// This map with these trees as one more block, unless they have no records.
     fn with_block(self, trees: Trees) -> Result<Self, AllocError>
         requires trees { AreMapTrees trees }
