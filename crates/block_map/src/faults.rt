@@ -32,7 +32,25 @@ pub fn check<R: Threads + Sync>(
     requires ends { ends.now ≡ ends_of dump.now.counts }
     ensures { IfOk result (λ fault. option_map fault_view fault ≡ first_fault same_name (history_view dump.now)) }
 {
-    let Some(number) = first_suspect(rt, map, dump, ends) else {
+    check_from(rt, map, dump, ends, 0)
+}
+
+/// The first faulty record of a dump, and its first fault, where the first `checked` records have none. The others are
+/// checked in parallel.
+pub fn check_from<R: Threads + Sync>(
+    rt: &R,
+    map: &Map,
+    dump: &Dump,
+    ends: &Ends,
+    checked: u32,
+) -> Result<Option<Fault>, AllocError>
+    requires map { IsMapOf dump.now map.now }
+    requires ends { ends.now ≡ ends_of dump.now.counts }
+    requires checked { (index : ℕ) → index < checked
+        → fault_of_next_record same_name (history_view dump.now) index ≡ None }
+    ensures { IfOk result (λ fault. option_map fault_view fault ≡ first_fault same_name (history_view dump.now)) }
+{
+    let Some(number) = first_suspect(rt, map, dump, ends, checked) else {
         return Ok(None);
     };
 
@@ -43,32 +61,50 @@ pub fn check<R: Threads + Sync>(
     Ok(Some(Fault { number, kind }))
 }
 
-/// The number of the first record that has a fault, or that want of memory keeps from being judged.
-fn first_suspect<R: Threads + Sync>(rt: &R, map: &Map, dump: &Dump, ends: &Ends) -> Option<u32>
+/// The number of the first record that has a fault, or that want of memory keeps from being judged, where the first
+/// `checked` records have none.
+fn first_suspect<R: Threads + Sync>(
+    rt: &R,
+    map: &Map,
+    dump: &Dump,
+    ends: &Ends,
+    checked: u32,
+) -> Option<u32>
     requires map { IsMapOf dump.now map.now }
     requires ends { ends.now ≡ ends_of dump.now.counts }
+    requires checked { (index : ℕ) → index < checked
+        → fault_of_next_record same_name (history_view dump.now) index ≡ None }
     ensures within { IfSome result (λ number. (1 ≤ number) × (number ≤ length dump.now.records)) }
     ensures fine { (index : ℕ) → index < length dump.now.records
         → index + 1 < unwrap_or result no_record
         → fault_of_next_record same_name (history_view dump.now) index ≡ None }
     ensures kept { IsDump dump.now }
 {
-    let least = least_suspect(rt, map, dump, ends);
+    let least = least_suspect(rt, map, dump, ends, checked);
     if least < u32::MAX { Some(least) } else { None }
 }
 
-/// The number of the first record that has a fault, or that want of memory keeps from being judged; the largest number,
-/// which no record has, where there is none.
-fn least_suspect<R: Threads + Sync>(rt: &R, map: &Map, dump: &Dump, ends: &Ends) -> u32
+/// The number of the first record that has a fault, or that want of memory keeps from being judged, where the first
+/// `checked` records have none; the largest number, which no record has, where there is no such record.
+fn least_suspect<R: Threads + Sync>(
+    rt: &R,
+    map: &Map,
+    dump: &Dump,
+    ends: &Ends,
+    checked: u32,
+) -> u32
     requires map { IsMapOf dump.now map.now }
     requires ends { ends.now ≡ ends_of dump.now.counts }
+    requires checked { (index : ℕ) → index < checked
+        → fault_of_next_record same_name (history_view dump.now) index ≡ None }
     ensures within { result < no_record → (1 ≤ result) × (result ≤ length dump.now.records) }
     ensures fine { (index : ℕ) → index < length dump.now.records → index + 1 < result
         → fault_of_next_record same_name (history_view dump.now) index ≡ None }
     ensures kept { IsDump dump.now }
 {
+    let first = checked.saturating_add(1);
     let end = dump.records().len() as u32 + 1;
-    (1..end)
+    (first..end)
         .into_par_iter()
         .map(
             |number: u32| -> u32

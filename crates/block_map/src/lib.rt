@@ -24,7 +24,7 @@ mod trie;
 pub use ends::Ends;
 pub use entry::Entry;
 pub use fault::{Fault, FaultKind};
-pub use faults::{check, fault_at};
+pub use faults::{check, check_from, fault_at};
 pub use found::Found;
 pub use map::Map;
 pub use nearest::Nearest;

@@ -3,7 +3,7 @@ use Rattle.svn_dump.specs.Dump.{history_view}
 use Rattle.svn_path.specs.Path.{same_name}
 use Rattle.block_map.specs.FaultKind.{kind_view}
 use Rattle.block_map.proofs.FirstFaults.{first_fault-least, first_fault_of_dump-none}
-use Rattle.block_map.proofs.faults.check.Goals as goal
+use Rattle.block_map.proofs.faults.check_from.Goals as goal
 
 pub returns-in_default : goal.returns-in_default
 returns-in_default g c =
