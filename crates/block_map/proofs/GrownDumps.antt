@@ -1,9 +1,10 @@
 -- What a dump that grows keeps: the ends of its revisions but the last, the ticks of its records, and what is true of each
 -- of them in the tree before it.
-use Rattle.std.proofs.Common.{◌≡◌, ℕ, zero, suc, ◌+◌, ◌-◌, ◌<◌, ◌≤◌, Bool, inl, inr, List, [], ◌∷◌, ◌++◌, None, Option, Some, slice_get, length, get_or, map, take, drop, fold, replicate, sum, refl, sym, ap, ap₂, subst, ◌∙◌, append_assoc, arith, length-append, length-drop, take_all, none-some}
+use Rattle.std.proofs.Common.{◌≡◌, ℕ, zero, suc, ◌+◌, ◌-◌, ◌<◌, ◌≤◌, Bool, inl, inr, List, [], ◌∷◌, ◌++◌, None, Option, Some, length, get_or, map, take, drop, fold, replicate, sum, refl, sym, ap, ap₂, ◌∙◌, arith, length-append, length-drop, take_all, All}
 use Rattle.std.specs.Option.{option_and_then}
 use Rattle.std.proofs.lemmas.Bool.{cases_lt}
-use Rattle.std.proofs.lemmas.List.{drop-append-le, get_or_append_left, get_or_default, get_or-append_right, get_or-replicate, get_or-map, length-map, length-replicate, length-take-le, map-append, take-append-le}
+use Rattle.std.proofs.lemmas.List.{drop-append-le, get_or_append_left, get_or_default, get_or-append_right, get_or-replicate, length-map, length-replicate, length-take-le, map-append, take-append-le}
+use Rattle.std.proofs.lemmas.Option.{none-some}
 use Rattle.std.proofs.Math.Seq.{take-append-add}
 use Rattle.svn_path.specs.Path.{same_name}
 use Rattle.svn_path.specs.declared.names.NameId.{NameId}
@@ -18,12 +19,12 @@ use Rattle.svn_dump.specs.declared.record.Act.TheVariants as act
 use Rattle.svn_dump.specs.declared.record.NodeRecord.{NodeRecord}
 use Rattle.svn_dump.proofs.AppendedLists.{slice_get-front}
 use Rattle.svn_dump.proofs.Grouped.{total}
-use Rattle.block_map.specs.Ends.{end_of, ends_of, record_at_tick}
+use Rattle.block_map.specs.Ends.{ends_of, record_at_tick}
 use Rattle.block_map.specs.Map.{IsMapOf, IsMapOfFirstRecords, MapValue, records_at_ticks}
 use Rattle.block_map.proofs.FaultsFound.{fault_of_next_record_from-within, fault_of_next_record_from-later}
 use Rattle.block_map.proofs.FirstFaults.{first_fault-least}
 use Rattle.block_map.proofs.MapsOfDumps.{IsMapOfFirstRecords-built}
-use Rattle.block_map.proofs.RevisionEnds.{ends_of-at, length-ends_of}
+use Rattle.block_map.proofs.RevisionEnds.{ends_of-at}
 use Rattle.block_map.proofs.RevisionStates.{total-dump}
 use Rattle.block_map.proofs.Sources.{rev_at-index}
 
@@ -148,14 +149,15 @@ module _ {C M : Type 0} (same : C → C → Bool) where
       ]
 
   -- no record of a history without a first fault has one
+  fine-at : (history : History C M) → first_fault same history ≡ None → (index : ℕ) → ((earlier : ℕ) → earlier < index → fault_of_next_record same history earlier ≡ None)
+      → (found : Option Fault) → fault_of_next_record same history index ≡ found → fault_of_next_record same history index ≡ None
+  fine-at history lawful index before None is = is
+  fine-at history lawful index before (Some fault) is = absurd (none-some (index + 1, fault) (sym lawful ∙ first_fault-least same history index fault is before))
+
   fine-below : (history : History C M) → first_fault same history ≡ None → (bound index : ℕ) → index < bound → fault_of_next_record same history index ≡ None
   fine-below history lawful zero index below = absurd (omega (arith, below))
-  fine-below history lawful (suc bound) index below = none (fault_of_next_record same history index) refl
-    where
-      none : (found : Option Fault) → fault_of_next_record same history index ≡ found → fault_of_next_record same history index ≡ None
-      none None is = is
-      none (Some fault) is =
-          absurd (none-some (index + 1, fault) (sym lawful ∙ first_fault-least same history index fault is (λ earlier before. fine-below history lawful bound earlier (omega (arith, below, before)))))
+  fine-below history lawful (suc bound) index below =
+      fine-at history lawful index (λ earlier before. fine-below history lawful bound earlier (omega (arith, below, before))) (fault_of_next_record same history index) refl
 
 -- the old records of a lawful dump have no fault in the new one
 pub fine-grown : (old new : DumpValue) → GrowsTo old new → IsDump old → first_fault same_name (history_view old) ≡ None

@@ -4,6 +4,7 @@ pub mod FaultsFound
 pub mod FaultsSame
 pub mod FirstFaults
 pub mod FoundFrom
+pub mod GrownDumps
 pub mod GrownTries
 pub mod JoinedMaps
 pub mod LocationPaths

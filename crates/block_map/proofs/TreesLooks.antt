@@ -11,13 +11,14 @@ use Rattle.svn_path.specs.declared.names.NameId.{NameId}
 use Rattle.svn_path.proofs.Belows.{IsSame-same_name, append-from_below}
 use Rattle.svn_dump.specs.History.{Record}
 use Rattle.svn_dump.specs.declared.record.ValueId.{ValueId}
+use Rattle.svn_dump.proofs.AppendedLists.{slice_get-front}
 use Rattle.block_map.specs.Trees.{AreTrees, IsRootAfter, IsRootAt, SameTrees, ShowsAction, ShowsTick, end_of_trees, look_after_action, look_after_record, look_in_trees}
 use Rattle.block_map.specs.Look.{Found, Look, found_after_action, resolved, look, look_after, look_at, looks_of, with_look}
 use Rattle.block_map.specs.Trie.{ExtendsTrie, IsNodeOf, IsSound, PutsNode, TrieValue, at_path, at_root, found_below, nothing}
 use Rattle.block_map.specs.declared.trees.Trees.{Trees}
 use Rattle.block_map.specs.declared.trie.node.Node.{Node}
 use Rattle.block_map.specs.declared.trie.node.NodeId.{NodeId}
-use Rattle.block_map.proofs.GrownTries.{Extends-none, found_below-grown, slice_get-front, slice_get-grown, slice_get-last}
+use Rattle.block_map.proofs.GrownTries.{Extends-none, found_below-grown, slice_get-grown, slice_get-last}
 use Rattle.block_map.proofs.Standings.{look_at-append, look_at_push}
 
 -- ---- one more record
