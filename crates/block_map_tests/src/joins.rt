@@ -1,16 +1,16 @@
-//! Maps of neighbouring parts of a history, joined.
+//! Maps of neighbouring parts of a history, joined, and one that takes the records of the next part.
 ghost use Rattle.std.specs.Prelude.{◌≡◌, ◌++◌, IfOk};
 ghost use Rattle.std.specs.List.{slice_range};
 ghost use Rattle.block_map.specs.Ends.{ends_of};
 ghost use Rattle.block_map.specs.Map.{IsMapOf, records_at_ticks};
 
-use crate::maps::{COPIES, Part, finds_sources, is_lawful_in, look, map_of, map_of_part};
+use crate::maps::{COPIES, Part, build, finds_sources, is_lawful_in, look, map_of, map_of_part};
 use crate::totals::total_of;
 use block_map::{Ends, Entry, Found, Map};
 use par_scan::Acts;
 use revision_ends::revision_ends;
 use sample_dumps::{NESTED, copies_of_the_root};
-use std::alloc::Global;
+use std::alloc::{AllocError, Global};
 use std::test::Fail;
 use std::thread::Threads;
 use svn_dump::{Dump, Kind, read};
@@ -156,6 +156,36 @@ fn nested_agrees_always(alloc: Global, dump: &Dump) -> Result<bool, Fail> {
 fn a_joined_map_says_what_the_map_of_all_records_says(rt: HostRuntime) -> Result<(), Fail> {
     let dump = read(rt.alloc(), NESTED)?;
     let agrees = nested_agrees_always(rt.alloc(), &dump);
+    drop(dump);
+    assert!(rt; agrees?);
+    Ok(())
+}
+
+// The map of the first records of a history, which takes the others.
+fn grown_map(alloc: Global, dump: &Dump, ends: &Ends) -> Result<Map, AllocError>
+    requires { ends.now ≡ ends_of dump.now.counts }
+{
+    let all = dump.records().len();
+    let end = all.min(COPIES.start);
+    let first = build(alloc, dump, ends, Part { start: 0, end })?;
+    first.grow(&dump.records()[end..all], ends)
+}
+
+// Whether it says what the map of all records of `NESTED` says.
+fn grown_agrees(alloc: Global, dump: &Dump) -> Result<bool, Fail> {
+    let ends = revision_ends(alloc, dump)?;
+    let grown = grown_map(alloc, dump, &ends);
+    drop(ends);
+    let grown = grown?;
+    let agrees = agrees_with_parts(alloc, dump, &grown, 7);
+    drop(grown);
+    agrees
+}
+
+#[test]
+fn a_grown_map_says_what_the_map_of_all_records_says(rt: HostRuntime) -> Result<(), Fail> {
+    let dump = read(rt.alloc(), NESTED)?;
+    let agrees = grown_agrees(rt.alloc(), &dump);
     drop(dump);
     assert!(rt; agrees?);
     Ok(())
