@@ -99,8 +99,8 @@ module _ (old new : DumpValue) (grows : GrowsTo old new) where
         record-grown each.rev each.path each.act (omega (arith, counted, rev_at-index old is k each within at)) of.act)
 
     -- a map of the old dump is one of the first records of the new one
-    pub IsMapOfFirstRecords-grown : (map : MapValue) → IsMapOf old map → IsMapOfFirstRecords new map
-    IsMapOfFirstRecords-grown map of =
+    pub IsMapOfFirstRecords-grown_dump : (map : MapValue) → IsMapOf old map → IsMapOfFirstRecords new map
+    IsMapOfFirstRecords-grown_dump map of =
         let (more, all) = grows.records in
         let shown : MapValue = record { lo = 0; records = records_at_ticks (ends_of old.counts) old.records; nodes = 0 } in
         let looks = IsMapOfFirstRecords-built new shown old.records more refl all (sym records-grown) in
