@@ -4,6 +4,7 @@ mod BlockEnds
 mod BlockIndexes
 mod BlockMapsJoined
 mod Fronts
+mod GrownRepos
 mod LoadErrors
 mod QueryLines
 mod RecordEnds

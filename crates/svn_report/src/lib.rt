@@ -27,5 +27,5 @@ pub use cutting::{block_ends, share_out};
 pub use loading::load;
 pub use pieces::report_from;
 pub use reporting::{MOST_QUERIES, report};
-pub use repository::{LoadError, load_repo};
+pub use repository::{LoadError, grow_repo, load_repo};
 pub use run_error::RunError;

@@ -1,19 +1,21 @@
 //! The repository of a dump.
-ghost use Rattle.std.specs.Prelude.{◌≡◌, ◌<◌, ◌≤◌, All, IfErr, IfOk, None, OnOk, bytes_eq, length};
+ghost use Rattle.std.specs.Prelude.{◌≡◌, ℕ, ◌<◌, ◌≤◌, All, IfErr, IfOk, None, OnOk, bytes_eq, length};
 ghost use Rattle.svn_path.specs.Path.{same_name};
 ghost use Rattle.svn_dump.specs.Dump.{IsDump, history_in_bytes, history_view};
 ghost use Rattle.svn_dump.specs.Fault.{first_fault};
+ghost use Rattle.svn_dump.specs.State.{fault_of_next_record};
+ghost use Rattle.path_index.specs.Index.{IndexValue};
 ghost use Rattle.block_map.specs.Ends.{ends_of};
 ghost use Rattle.block_map.specs.Map.{IsMapOf};
 ghost use denote.Param.Send.{IsSync};
 ghost use Rattle.svn_report.specs.Blocks.{AreBorders, IsIndexOf};
-ghost use Rattle.svn_report.specs.LoadRepo.{IsLoadError};
+ghost use Rattle.svn_report.specs.LoadRepo.{AreOfDumpBefore, IsLoadError};
 ghost use Rattle.query_pool.specs.Serving.{most_workers};
 
 use crate::block_indexes::index_of;
 use crate::block_maps::map_of;
 use crate::record_borders::{record_borders, record_ends};
-use block_map::{Ends, Fault, Map, check};
+use block_map::{Ends, Fault, Map, check_from};
 use path_index::Index;
 use query_answer::Repo;
 use std::alloc::{AllocError, Global};
@@ -65,6 +67,75 @@ pub fn load_repo<R: Threads + Sync>(
     let ends = Ends::new(sums);
     let (map, index) = map_and_index(rt, alloc, &dump, &ends, borders.as_slice(), workers)?;
     Ok(Repo::new(dump, index, map, ends))
+}
+
+/// The repository of a dump that has grown, or its first faulty record. The index and the map are those of the dump
+/// before: they take the records that came since, and only these are checked.
+pub fn grow_repo<R: Threads + Sync>(
+    rt: &R,
+    alloc: Global,
+    dump: Dump,
+    index: Index,
+    map: Map,
+    workers: usize,
+) -> Result<Repo, LoadError>
+    requires before { AreOfDumpBefore dump index map }
+    requires some_worker { 0 < workers }
+    requires few_workers { workers ≤ most_workers }
+    ensures repo { IfOk result (λ repo. repo ≡ dump) }
+    ensures lawful { OnOk result (first_fault bytes_eq (history_in_bytes dump) ≡ None) }
+    ensures faulty { IfErr result (IsLoadError dump) }
+{
+    let (ends, map, index) = grown_parts(rt, alloc, &dump, index, map, workers)?;
+    Ok(Repo::new(dump, index, map, ends))
+}
+
+/// The ends of the revisions, the map and the index of a dump that has grown, or its first faulty record.
+fn grown_parts<R: Threads + Sync>(
+    rt: &R,
+    alloc: Global,
+    dump: &Dump,
+    index: Index,
+    map: Map,
+    workers: usize,
+) -> Result<(Ends, Map, Index), LoadError>
+    requires before { AreOfDumpBefore dump.now index map }
+    requires some_worker { 0 < workers }
+    requires few_workers { workers ≤ most_workers }
+    ensures ends { IfOk result (λ parts. parts.0 ≡ ends_of dump.now.counts) }
+    ensures map { IfOk result (λ parts. IsMapOf dump.now parts.1) }
+    ensures index { IfOk result (λ parts. IsIndexOf dump.now.records parts.2) }
+    ensures lawful { OnOk result (first_fault same_name (history_view dump.now) ≡ None) }
+    ensures faulty { IfErr result (IsLoadError dump.now) }
+    ensures kept { IsDump dump.now }
+{
+    let ends = Ends::new(record_ends(rt, alloc, dump, workers)?);
+    let known = map.hi();
+    let map = grown_map(rt, dump, &ends, map)?;
+    let (_, records) = dump.records().split_at(known as usize);
+    let index = index.grow(records)?;
+    Ok((ends, map, index))
+}
+
+/// The map of all records of a dump that has grown, or its first faulty record. The map is that of the dump before, and
+/// the revisions of the dump end as these say.
+fn grown_map<R: Threads + Sync>(
+    rt: &R,
+    dump: &Dump,
+    ends: &Ends,
+    map: Map,
+) -> Result<Map, LoadError>
+    requires before { (index : IndexValue) × AreOfDumpBefore dump.now index map }
+    requires ends { ends.now ≡ ends_of dump.now.counts }
+    ensures map { IfOk result (IsMapOf dump.now) }
+    ensures lawful { OnOk result (first_fault same_name (history_view dump.now) ≡ None) }
+    ensures faulty { IfErr result (IsLoadError dump.now) }
+{
+    let known = map.hi();
+    let (_, records) = dump.records().split_at(known as usize);
+    let map = map.grow(records, ends)?;
+    refuse_fault(rt, &map, dump, ends, known)?;
+    Ok(map)
 }
 
 /// The map and the index of all records of a dump, or its first faulty record. If there are several workers, so many
@@ -126,24 +197,27 @@ fn lawful_map<R: Threads + Sync>(
     ensures faulty { IfErr result (IsLoadError dump.now) }
 {
     let map = map_of(rt, alloc, dump, ends, borders, workers)?;
-    refuse_fault(rt, &map, dump, ends)?;
+    refuse_fault(rt, &map, dump, ends, 0)?;
     Ok(map)
 }
 
-/// The first faulty record of a dump, if there is one, as an error.
+/// The first faulty record of a dump, if there is one, as an error. The first `checked` records have no fault.
 fn refuse_fault<R: Threads + Sync>(
     rt: &R,
     map: &Map,
     dump: &Dump,
     ends: &Ends,
+    checked: u32,
 ) -> Result<(), LoadError>
     requires dump { IsDump dump.now }
     requires map { IsMapOf dump.now map.now }
     requires ends { ends.now ≡ ends_of dump.now.counts }
+    requires checked { (index : ℕ) → index < checked
+        → fault_of_next_record same_name (history_view dump.now) index ≡ None }
     ensures lawful { OnOk result (first_fault same_name (history_view dump.now) ≡ None) }
     ensures faulty { IfErr result (IsLoadError dump.now) }
 {
-    match check(rt, map, dump, ends)? {
+    match check_from(rt, map, dump, ends, checked)? {
         Some(fault) => Err(LoadError::Fault(fault)),
         None => Ok(()),
     }
