@@ -8,6 +8,8 @@ mod effective;
 #[cfg(test)]
 mod faulty;
 #[cfg(test)]
+mod grown;
+#[cfg(test)]
 mod in_parts;
 #[cfg(test)]
 mod queries;
