@@ -2,7 +2,7 @@
 use Rattle.std.proofs.Common.{◌≡◌, ◌≢◌, ℕ, zero, suc, ◌+◌, ◌<◌, ◌≤◌, ◌%◌, ◌/◌, ◌==◌, Bool, true, false, List, [], ◌∷◌, ◌++◌, Option, Some, None, Result, Ok, Err, OnErr, OnOk, length, if◌then◌else◌, inl, inr, refl, sym, ap, subst, ◌∙◌, add-one, arith}
 use Rattle.std.proofs.lemmas.Bool.{cases_eq, eq-eqb, ne_eqb}
 use Rattle.std.proofs.lemmas.Option.{slice_get_within}
-use Rattle.svn_dump.proofs.AppendedLists.{slice_get-push}
+use Rattle.svn_dump.proofs.Lists.{slice_get-push}
 use Rattle.block_map.specs.ChildMaps.{Extends, AreOrdered, HaveNodesBelow, IsOrderedAfter, HasOne, HasSides, HasTwo, SetsChild, child_in, found_within, leaf_of, child_map_at, sides_of, with_name}
 use Rattle.block_map.specs.declared.trie.node.NodeId.{NodeId}
 use Rattle.block_map.specs.declared.trie.child_map.ChildMap.{ChildMap}

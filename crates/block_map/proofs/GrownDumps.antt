@@ -1,6 +1,6 @@
 -- What a dump that grows keeps: the ends of its revisions but the last, the ticks of its records, and what is true of each
 -- of them in the tree before it.
-use Rattle.std.proofs.Common.{◌≡◌, ℕ, zero, suc, ◌+◌, ◌-◌, ◌<◌, ◌≤◌, Bool, inl, inr, List, [], ◌∷◌, ◌++◌, None, Option, Some, length, get_or, map, take, drop, fold, replicate, sum, refl, sym, ap, ap₂, ◌∙◌, arith, length-append, length-drop, take_all, All}
+use Rattle.std.proofs.Common.{◌≡◌, ℕ, zero, suc, ◌+◌, ◌-◌, ◌<◌, ◌≤◌, Bool, inl, inr, List, [], ◌∷◌, ◌++◌, None, Option, Some, length, get_or, map, take, drop, fold, replicate, sum, refl, sym, ap, ap₂, ◌∙◌, arith, length-append, length-drop, take_all}
 use Rattle.std.specs.Option.{option_and_then}
 use Rattle.std.proofs.lemmas.Bool.{cases_lt}
 use Rattle.std.proofs.lemmas.List.{drop-append-le, get_or_append_left, get_or_default, get_or-append_right, get_or-replicate, length-map, length-replicate, length-take-le, map-append, take-append-le}
@@ -17,7 +17,7 @@ use Rattle.svn_dump.specs.Tree.{Tree, start_tree, tree_after_record, with_revisi
 use Rattle.svn_dump.specs.declared.record.Act.{Act}
 use Rattle.svn_dump.specs.declared.record.Act.TheVariants as act
 use Rattle.svn_dump.specs.declared.record.NodeRecord.{NodeRecord}
-use Rattle.svn_dump.proofs.AppendedLists.{slice_get-front}
+use Rattle.svn_dump.proofs.Lists.{map-same, slice_get-front}
 use Rattle.svn_dump.proofs.Grouped.{total}
 use Rattle.block_map.specs.Ends.{ends_of, record_at_tick}
 use Rattle.block_map.specs.Map.{IsMapOf, IsMapOfFirstRecords, MapValue, records_at_ticks}
@@ -31,48 +31,43 @@ use Rattle.block_map.proofs.Sources.{rev_at-index}
 -- ---- the ends of revisions
 
 -- the counts before the last one stay
-take-grown : (old new : List ℕ) (count : ℕ) → CountsGrow old new → count < length old → take count new ≡ take count old
-take-grown [] new count grow within = absurd (omega (arith, within))
-take-grown (x ∷ []) [] count grow within = elim grow [ ]
-take-grown (x ∷ []) (y ∷ new) zero grow within = refl
-take-grown (x ∷ []) (y ∷ new) (suc count) grow within = absurd (omega (arith, within))
-take-grown (x ∷ next ∷ old) [] count grow within = elim grow [ ]
-take-grown (x ∷ next ∷ old) (y ∷ new) zero grow within = refl
-take-grown (x ∷ next ∷ old) (y ∷ new) (suc count) grow within = ap₂ (λ first more. first ∷ more) (sym grow.0) (take-grown (next ∷ old) new count grow.1 (omega (arith, within)))
+CountsGrow-take : (old new : List ℕ) (count : ℕ) → CountsGrow old new → count < length old → take count new ≡ take count old
+CountsGrow-take [] new count grow within = absurd (omega (arith, within))
+CountsGrow-take (x ∷ []) [] count grow within = elim grow [ ]
+CountsGrow-take (x ∷ []) (y ∷ new) zero grow within = refl
+CountsGrow-take (x ∷ []) (y ∷ new) (suc count) grow within = absurd (omega (arith, within))
+CountsGrow-take (x ∷ next ∷ old) [] count grow within = elim grow [ ]
+CountsGrow-take (x ∷ next ∷ old) (y ∷ new) zero grow within = refl
+CountsGrow-take (x ∷ next ∷ old) (y ∷ new) (suc count) grow within = ap₂ (λ first more. first ∷ more) (sym grow.0) (CountsGrow-take (next ∷ old) new count grow.1 (omega (arith, within)))
 
 -- there are no fewer
-length-grown : (old new : List ℕ) → CountsGrow old new → length old ≤ length new
-length-grown [] new grow = omega arith
-length-grown (x ∷ []) [] grow = elim grow [ ]
-length-grown (x ∷ []) (y ∷ new) grow = omega arith
-length-grown (x ∷ next ∷ old) [] grow = elim grow [ ]
-length-grown (x ∷ next ∷ old) (y ∷ new) grow = let more = length-grown (next ∷ old) new grow.1 in omega (arith, more)
+CountsGrow-length : (old new : List ℕ) → CountsGrow old new → length old ≤ length new
+CountsGrow-length [] new grow = omega arith
+CountsGrow-length (x ∷ []) [] grow = elim grow [ ]
+CountsGrow-length (x ∷ []) (y ∷ new) grow = omega arith
+CountsGrow-length (x ∷ next ∷ old) [] grow = elim grow [ ]
+CountsGrow-length (x ∷ next ∷ old) (y ∷ new) grow = let more = CountsGrow-length (next ∷ old) new grow.1 in omega (arith, more)
 
 -- so each revision before the last one ends where it did
-end-grown : (old new : List ℕ) (rev : ℕ) → CountsGrow old new → rev + 1 < length old → get_or (ends_of new) rev 0 ≡ get_or (ends_of old) rev 0
-end-grown old new rev grow within =
-    let more = length-grown old new grow in
-    ends_of-at new rev (omega (arith, within, more)) ∙ ap sum (take-grown old new (rev + 1) grow within) ∙ sym (ends_of-at old rev (omega (arith, within)))
+CountsGrow-end : (old new : List ℕ) (rev : ℕ) → CountsGrow old new → rev + 1 < length old → get_or (ends_of new) rev 0 ≡ get_or (ends_of old) rev 0
+CountsGrow-end old new rev grow within =
+    let more = CountsGrow-length old new grow in
+    ends_of-at new rev (omega (arith, within, more)) ∙ ap sum (CountsGrow-take old new (rev + 1) grow within) ∙ sym (ends_of-at old rev (omega (arith, within)))
 
 -- ---- the ticks of records
 
 -- records are of the revisions that are counted
-revision-within : (from : ℕ) (counts : List ℕ) (index : ℕ) → index < length (revisions_from from counts) → get_or (revisions_from from counts) index 0 < from + length counts
-revision-within from [] index within = absurd (omega (arith, within))
-revision-within from (count ∷ counts) index within = elim (cases_lt index count) [
+revisions_from-within : (from : ℕ) (counts : List ℕ) (index : ℕ) → index < length (revisions_from from counts) → get_or (revisions_from from counts) index 0 < from + length counts
+revisions_from-within from [] index within = absurd (omega (arith, within))
+revisions_from-within from (count ∷ counts) index within = elim (cases_lt index count) [
   | inl first ↦
       let at = get_or_append_left (replicate count from) (revisions_from (from + 1) counts) 0 index (omega (arith, first, length-replicate count from)) in
       omega (arith, at, get_or-replicate count index from 0 first)
   | inr past ↦
       let at = get_or-append_right (replicate count from) (revisions_from (from + 1) counts) count index 0 (length-replicate count from) past in
-      let more = revision-within (from + 1) counts (index - count) (omega (arith, within, past, length-append (replicate count from) (revisions_from (from + 1) counts), length-replicate count from)) in
+      let more = revisions_from-within (from + 1) counts (index - count) (omega (arith, within, past, length-append (replicate count from) (revisions_from (from + 1) counts), length-replicate count from)) in
       omega (arith, at, more)
 ]
-
--- functions that agree on each of some elements
-map-same : {X Y : Type 0} (f g : X → Y) (xs : List X) → All (λ x. f x ≡ g x) xs → map f xs ≡ map g xs
-map-same f g [] same = refl
-map-same f g (x ∷ xs) same = ap₂ (λ y ys. y ∷ ys) (same zero x (omega arith)) (map-same f g xs (λ k d within. same (suc k) d (omega (arith, within))))
 
 module _ (old new : DumpValue) (grows : GrowsTo old new) where
   -- the source of a copy stands at the tick at which it stood
@@ -84,7 +79,7 @@ module _ (old new : DumpValue) (grows : GrowsTo old new) where
   record-grown rev path (act.Add replace kind mi) within of = refl
   record-grown rev path (act.Copy replace from from_rev mi) within of =
       let before = of.2 in
-      ap (λ tick. record { path = path; action = copy replace from tick (setting_view mi) }) (end-grown old.counts new.counts from_rev grows.counts (omega (arith, within, before)))
+      ap (λ tick. record { path = path; action = copy replace from tick (setting_view mi) }) (CountsGrow-end old.counts new.counts from_rev grows.counts (omega (arith, within, before)))
 
   module _ (is : IsDump old) where
     -- the old records are at the ticks at which they were
@@ -95,7 +90,7 @@ module _ (old new : DumpValue) (grows : GrowsTo old new) where
         let each = get_or old.records k d in
         let of : IsRecordOf old each = is.records k d within in
         let at = get_or_default old.records k each d within in
-        let counted = revision-within 0 old.counts k (omega (arith, within, ap length is.revisions, length-map old.records (λ (one : NodeRecord). one.rev))) in
+        let counted = revisions_from-within 0 old.counts k (omega (arith, within, ap length is.revisions, length-map old.records (λ (one : NodeRecord). one.rev))) in
         record-grown each.rev each.path each.act (omega (arith, counted, rev_at-index old is k each within at)) of.act)
 
     -- a map of the old dump is one of the first records of the new one

@@ -5,7 +5,7 @@ use Rattle.std.specs.Prelude.{slice_get}
 use Rattle.std.proofs.lemmas.List.{get_or_at}
 use Rattle.std.proofs.lemmas.Option.{same_Some, slice_get-get_or}
 use Rattle.svn_path.specs.declared.names.NameId.{NameId}
-use Rattle.svn_dump.proofs.AppendedLists.{slice_get-front}
+use Rattle.svn_dump.proofs.Lists.{slice_get-front}
 use Rattle.block_map.specs.ChildMaps.{Extends, AreOrdered, HaveNodesBelow, child_in, found_within, child_map_at}
 use Rattle.block_map.specs.Trie.{At, HasLocation, ExtendsTrie, IsNodeOf, IsSound, LookOfNumbers, TrieValue, at_path, child_at, child_of, found_at, found_below, own_found, base_look, as_at}
 use Rattle.block_map.specs.declared.trie.node.Node.{Node}

@@ -6,7 +6,7 @@ use Rattle.std.proofs.lemmas.List.{length_push, reverse-append, reverse-reverse}
 use Rattle.std.proofs.lemmas.List.Sums.{fold_push}
 use Rattle.std.proofs.lemmas.Option.{same_Some, slice_get-get_or, slice_get_within}
 use Rattle.svn_path.specs.declared.names.NameId.{NameId}
-use Rattle.svn_dump.proofs.AppendedLists.{slice_get-front}
+use Rattle.svn_dump.proofs.Lists.{slice_get-front}
 use Rattle.block_map.specs.Locations.{AddsBelow, AreAfterThoseAbove, IsLocationBelow, location_below, locations_of, path_above, path_at, path_of, whole_location, with_stored}
 use Rattle.block_map.specs.ChildMaps.{Extends}
 use Rattle.block_map.specs.declared.trie.location.Location.{Location}

@@ -11,7 +11,7 @@ use Rattle.svn_path.specs.declared.names.NameId.{NameId}
 use Rattle.svn_path.proofs.Belows.{IsSame-same_name, append-from_below}
 use Rattle.svn_dump.specs.History.{Record}
 use Rattle.svn_dump.specs.declared.record.ValueId.{ValueId}
-use Rattle.svn_dump.proofs.AppendedLists.{slice_get-front}
+use Rattle.svn_dump.proofs.Lists.{slice_get-front}
 use Rattle.block_map.specs.Trees.{AreTrees, IsRootAfter, IsRootAt, SameTrees, ShowsAction, ShowsTick, end_of_trees, look_after_action, look_after_record, look_in_trees}
 use Rattle.block_map.specs.Look.{Found, Look, found_after_action, resolved, look, look_after, look_at, looks_of, with_look}
 use Rattle.block_map.specs.Trie.{ExtendsTrie, IsNodeOf, IsSound, PutsNode, TrieValue, at_path, at_root, found_below, nothing}

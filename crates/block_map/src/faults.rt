@@ -35,8 +35,8 @@ pub fn check<R: Threads + Sync>(
     check_from(rt, map, dump, ends, 0)
 }
 
-/// The first faulty record of a dump, and its first fault, where the first `checked` records have none. The others are
-/// checked in parallel.
+/// The first faulty record of a dump, and its first fault, where the first `checked` records are known to have none. The
+/// others are checked in parallel.
 pub fn check_from<R: Threads + Sync>(
     rt: &R,
     map: &Map,

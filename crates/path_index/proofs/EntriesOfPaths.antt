@@ -18,7 +18,7 @@ use Rattle.path_index.specs.RecordEffect.{SetsPath}
 use Rattle.path_index.specs.RecordsByPath.{IsEntryOf, HasEntryOf, AreEntriesOf, AddsEntries, IsOfSome, AddsPath, CopiesPath, IsFrontAt, NamesPath, AreListed, AreByPath, SetsAt}
 use Rattle.path_index.specs.declared.nodes.Child.{Child}
 use Rattle.path_index.specs.declared.records_by_path.RecordsByPath.{RecordsByPath}
-use Rattle.svn_dump.proofs.AppendedLists.{slice_get-first, slice_get-before}
+use Rattle.svn_dump.proofs.Lists.{slice_get-first, slice_get-before}
 use Rattle.path_index.proofs.DownFrom.{filter_down-same, filter_down-none}
 use Rattle.path_index.proofs.NodesOfPaths.{node_of-grown, node_of-one}
 use Rattle.path_index.proofs.NumbersOfNodes.{has_number-HasNumber, HasNumber-has_number}

@@ -10,7 +10,7 @@ use Rattle.path_index.specs.Numbers.{AddsNumbers, FitShifted, IsMoved}
 use Rattle.path_index.specs.RecordsByPath.{AddsPath, AreByPath, AreEntriesOf, CopiesPath, IsOfSome, NamesPath}
 use Rattle.path_index.specs.declared.nodes.Child.{Child}
 use Rattle.path_index.specs.declared.records_by_path.RecordsByPath.{RecordsByPath}
-use Rattle.svn_dump.proofs.AppendedLists.{slice_get-first, slice_get-second, slice_get-before, slice_get-after}
+use Rattle.svn_dump.proofs.Lists.{slice_get-first, slice_get-second, slice_get-before, slice_get-after}
 use Rattle.path_index.proofs.EntriesOfPaths.{HasEntryOf-more, IsEntryOf-weaker}
 use Rattle.path_index.proofs.NodesOfPaths.{node_of-within}
 

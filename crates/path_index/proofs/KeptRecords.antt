@@ -16,7 +16,7 @@ use Rattle.path_index.specs.History.{AreRising}
 use Rattle.path_index.specs.RecordEffect.{IsCopy, SetsOrigin, SetsPath}
 use Rattle.path_index.specs.Records.{moved_by, AreCopies, AreKept, revs_of, CopiesFrom, IsCopied}
 use Rattle.path_index.specs.declared.copied.Copied.{Copied}
-use Rattle.svn_dump.proofs.AppendedLists.{slice_get-first, slice_get-second, slice_get-before, slice_get-after, slice_get-push, AllPairs-append}
+use Rattle.svn_dump.proofs.Lists.{slice_get-first, slice_get-second, slice_get-before, slice_get-after, slice_get-push, AllPairs-append}
 use Rattle.path_index.proofs.Rising.{IsNonDecreasingBy-AllPairs}
 use Rattle.path_index.proofs.RecordEffects.{SetsOrigin-Copy, below_from_copy}
 

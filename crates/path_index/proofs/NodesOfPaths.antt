@@ -13,7 +13,7 @@ use Rattle.svn_path.specs.declared.names.NameId.{NameId}
 use Rattle.svn_path.proofs.Belows.{IsSame-same_name}
 use Rattle.path_index.specs.Nodes.{same_child, child_of, node_below, node_of, ExtendsNodes, HaveParentsBefore}
 use Rattle.path_index.specs.declared.nodes.Child.{Child}
-use Rattle.svn_dump.proofs.AppendedLists.{slice_get-push}
+use Rattle.svn_dump.proofs.Lists.{slice_get-push}
 use Rattle.std.proofs.lemmas.List.Sums.{position_or_len_is}
 
 -- ---- one component

@@ -5,7 +5,7 @@ use Rattle.std.specs.Option.{unwrap_or}
 use Rattle.std.proofs.lemmas.Bool.{cases_eq}
 use Rattle.std.proofs.lemmas.List.{get_or_push, get_or-set_same, get_or-set_other, length_push}
 use Rattle.std.proofs.lemmas.Option.{same_Some, slice_get-get_or, slice_get_within}
-use Rattle.svn_dump.proofs.AppendedLists.{slice_get-first}
+use Rattle.svn_dump.proofs.Lists.{slice_get-first}
 use Rattle.path_index.specs.Numbers.{numbers_in, numbers_of, AddsNumbers, HaveSameNumbers, KeepOthers}
 use Rattle.path_index.specs.SparseNumbers.{lists_by_node, no_list, place_of, HaveNoneElsewhere, IsPlaceOf, KeepPlaces, LeadBack}
 

@@ -1,5 +1,9 @@
 //! A repository that grows as its dump does.
 
+ghost use Rattle.std.specs.Prelude.{◌++◌, IfOk};
+ghost use Rattle.svn_dump.specs.Dump.{history_in_bytes};
+ghost use Rattle.svn_dump.specs.DumpText.{IsDumpText};
+
 use crate::answered::check_answers;
 use query_answer::Repo;
 use sample_dumps::{DELETE_AND_COPY, DUMPED};
@@ -15,7 +19,9 @@ fn grown_repo<R: Threads + Sync>(
     alloc: Global,
     front: &[u8],
     end: &[u8],
-) -> Result<Repo, Fail> {
+) -> Result<Repo, Fail>
+    ensures { IfOk result (λ repo. IsDumpText (front.now ++ end.now) (history_in_bytes repo)) }
+{
     let mut feed = Feed::new(alloc);
     feed.feed(front)?;
     let (dump, paused) = feed.pause()?;

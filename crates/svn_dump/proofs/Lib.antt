@@ -18,7 +18,7 @@ mod Refusals
 mod Contents
 mod Undecided
 mod WholeBlocks
-pub mod AppendedLists
+pub mod Lists
 pub mod Belows
 pub mod Entries
 pub mod Faults

@@ -6,8 +6,8 @@ use crate::texts::Texts;
 use std::marker::Model;
 use svn_path::Names;
 
-/// The records of a dump, with the names and the mergeinfo texts that they number. `read`, `Feed::finish` and
-/// `Feed::pause` alone make one.
+/// The records of a dump, with the names and the mergeinfo texts that they number. Only readers make one: `read`,
+/// `read_with_seed`, `Feed::finish` and `Feed::pause`.
 #[derive(Drop)]
 pub struct Dump {
     pub(crate) names: Names,

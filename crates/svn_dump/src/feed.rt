@@ -44,8 +44,8 @@ impl Model for Feed {
 }
 
 impl Feed {
-    /// A reader to which nothing has come, with the fixed seed. It takes no memory. Where strangers write the dump, take
-    /// `with_seed`.
+    /// A reader to which nothing has come, with the fixed seed. It takes no memory. Where strangers write the dump,
+    /// take `with_seed`.
     pub fn new(alloc: Global) -> Self
         ensures read { HasRead result [] }
         ensures count { result.count ≡ 0 }
@@ -110,8 +110,8 @@ impl Feed {
         }
     }
 
-    /// The dump so far, where a block has just ended, and what goes on reading after it. Elsewhere the answer of
-    /// `finish`.
+    /// The dump of all bytes that have come, if they are one, and what goes on reading after them. Otherwise the answer
+    /// of `finish`, and nothing is kept: bytes that end in a block are no dump, nor are those without a revision.
     pub fn pause(self) -> Result<(Dump, Paused), DumpError>
         // What holds of all bytes, whatever is answered.
         ensures exactly { DumpsAreExact }

@@ -9,7 +9,7 @@ use crate::grammar::format::Format;
 use crate::pieces::reader::{Progress, Reader};
 use std::alloc::Global;
 
-/// What goes on reading a dump from where a block has ended, without the dump itself.
+/// The state of a reader at a pause, without the dump that it handed out.
 #[derive(Drop)]
 pub struct Paused {
     pub(crate) alloc: Global,
@@ -19,7 +19,8 @@ pub struct Paused {
 }
 
 impl Paused {
-    /// The reader that goes on with the dump that `Feed::pause` gave beside this.
+    /// The reader that goes on with the dump that `Feed::pause` gave beside this, or with an equal one. Of another dump
+    /// nothing is promised.
     pub fn resume(self, dump: Dump) -> Feed
         requires { IsWholeHistory dump }
         ensures read { (bytes : List ℕ) → IsPausedAt self dump bytes → HasRead result bytes }

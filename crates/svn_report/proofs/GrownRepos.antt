@@ -8,7 +8,7 @@ use Rattle.svn_dump.specs.Dump.{DumpValue, IsDump, IsRecordOf, history_view, rec
 use Rattle.svn_dump.specs.Record.{most_components}
 use Rattle.svn_dump.specs.State.{fault_of_next_record}
 use Rattle.svn_dump.specs.declared.record.NodeRecord.{NodeRecord}
-use Rattle.svn_dump.proofs.AppendedLists.{slice_get-second}
+use Rattle.svn_dump.proofs.Lists.{slice_get-second}
 use Rattle.path_index.specs.Index.{IndexValue}
 use Rattle.block_map.specs.Ends.{HasSourceBefore, HaveSources, ends_of, record_at_tick}
 use Rattle.block_map.specs.Map.{IsMapOf, IsMapOfFirstRecords, MapValue, hi_of, records_at_ticks}

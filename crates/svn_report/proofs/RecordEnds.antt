@@ -1,5 +1,5 @@
 -- The sums of the counts of revisions, and the borders between blocks of records.
-use Rattle.std.proofs.Common.{◌≡◌, ℕ, zero, suc, ◌+◌, ◌-◌, ◌^◌, ◌<◌, ◌≤◌, sum, List, [], ◌∷◌, length, map, get_or, take, refl, sym, ap, ap₂, subst, ◌∙◌, arith}
+use Rattle.std.proofs.Common.{◌≡◌, ℕ, zero, suc, ◌+◌, ◌-◌, ◌^◌, ◌<◌, ◌≤◌, sum, List, [], ◌∷◌, length, map, get_or, take, refl, sym, ap, subst, ◌∙◌, arith}
 use Rattle.std.specs.declared.alloc.AllocError.{AllocError}
 use Rattle.std.specs.Prelude.{Err, IfOk, Ok, Result, Vec, vec_len}
 use Rattle.std.specs.Global.{Global}
@@ -9,6 +9,7 @@ use Rattle.std.proofs.lemmas.List.Elements.{All-from_get_or, All-map}
 use Rattle.std.proofs.lemmas.List.Sums.{sum_by-cons, sum_by-take-le}
 use Rattle.svn_dump.specs.Dump.{DumpValue, IsDump, revisions_from}
 use Rattle.svn_dump.specs.declared.record.NodeRecord.{NodeRecord}
+use Rattle.svn_dump.proofs.Lists.{map-same}
 use Rattle.query_answer.proofs.RevisionTicks.{sum-counts}
 use Rattle.par_scan.specs.Chain.{AreJoinedUpTo, IsChain, Meet}
 use Rattle.par_scan.specs.Sum.{add_sum, no_border, sum_weighs, sum_weight}
@@ -81,12 +82,6 @@ end_of-le counts i j h =
     let short = sum_by-take-le (λ (x : ℕ). x) (take (j + 1) counts) (i + 1) in
     let same = ap sum (take-take (i + 1) (j + 1) counts (omega arith)) in
     omega (arith, short, same)
-
--- functions that agree at each number of a list map it alike
-map-same : (f g : ℕ → ℕ) (xs : List ℕ) → All (λ x. f x ≡ g x) xs → map f xs ≡ map g xs
-map-same f g [] same = refl
-map-same f g (x ∷ xs) same =
-    ap₂ (λ y ys. y ∷ ys) (same 0 x (omega arith)) (map-same f g xs (λ k d below. same (suc k) d (omega arith)))
 
 -- revision 0 has no records
 first-count : (records : List NodeRecord) (counts : List ℕ) → All (λ each. 0 < each.rev) records → map (λ each. each.rev) records ≡ revisions_from 0 counts → sum (take 1 counts) ≡ 0

@@ -1,4 +1,4 @@
--- Why a dump has no repository, and of what that of a grown dump is made.
+-- Why a dump has no repository, and of what the repository of a grown dump is made.
 use Rattle.std.specs.Prelude.{◌≡◌, None, Some, bytes_eq, ⊤}
 use Rattle.svn_path.specs.Path.{same_name}
 use Rattle.svn_dump.specs.Dump.{DumpValue, IsDump, history_in_bytes, history_view}

@@ -70,7 +70,7 @@ pub fn load_repo<R: Threads + Sync>(
 }
 
 /// The repository of a dump that has grown, or its first faulty record. The index and the map are those of the dump
-/// before: they take the records that came since, and only these are checked.
+/// before: they take the records that came since, and only these are checked, by `workers` threads.
 pub fn grow_repo<R: Threads + Sync>(
     rt: &R,
     alloc: Global,

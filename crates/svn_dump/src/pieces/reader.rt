@@ -229,7 +229,7 @@ impl Reader {
         Ok(())
     }
 
-    /// The dump of so many bytes, where a block has ended here, and what goes on after it.
+    /// The dump of so many bytes, if they are one, and what goes on reading after them.
     pub(crate) fn pause(self, end: u64) -> Result<(Dump, Paused), DumpError>
         requires { IsWholeHistory self.draft }
         ensures ok { IfOk result (λ both. (bytes : List ℕ) → HasReadAll self bytes

@@ -1,5 +1,5 @@
--- The elements of a list and of those that are appended to it.
-use Rattle.std.proofs.Common.{◌≡◌, ℕ, zero, suc, ◌+◌, ◌-◌, ◌<◌, ◌≤◌, ◌⊎◌, inl, inr, List, AllPairs, [], ◌∷◌, ◌++◌, length, get_or, slice_get, Some, refl, sym, ap, ◌∙◌, arith, length-append}
+-- The elements of a list and of those that are appended to it, and lists that are mapped alike.
+use Rattle.std.proofs.Common.{◌≡◌, ℕ, zero, suc, ◌+◌, ◌-◌, ◌<◌, ◌≤◌, ◌⊎◌, inl, inr, List, AllPairs, [], ◌∷◌, ◌++◌, length, get_or, map, slice_get, Some, refl, sym, ap, ap₂, ◌∙◌, arith, length-append, All}
 use Rattle.std.proofs.lemmas.Bool.{cases_lt}
 use Rattle.std.proofs.lemmas.List.{get_or_append_left, get_or-append-add, get_or_push, length_push}
 use Rattle.std.proofs.Math.Seq.{get_or-append_right}
@@ -56,3 +56,8 @@ AllPairs-append R xs ys one other between i j d before within = elim (cases_lt j
         | inr later ↦ rw (get_or-append_right xs ys i d later) (other (i - length xs) (j - length xs) d (omega arith) inside)
       ])
 ]
+
+-- functions that agree on each of some elements
+pub map-same : {X Y : Type 0} (f g : X → Y) (xs : List X) → All (λ x. f x ≡ g x) xs → map f xs ≡ map g xs
+map-same f g [] same = refl
+map-same f g (x ∷ xs) same = ap₂ (λ y ys. y ∷ ys) (same zero x (omega arith)) (map-same f g xs (λ k d within. same (suc k) d (omega (arith, within))))
