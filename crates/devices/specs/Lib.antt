@@ -1,2 +1,4 @@
+pub mod Arguments
 pub mod Device
 pub mod GhostCount
+pub mod Sending

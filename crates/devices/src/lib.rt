@@ -11,12 +11,16 @@
 //! one in `crates/svn_report_tests/src/hosts.rt`.
 #![tactic(auto)]
 
+mod arguments;
 mod device;
 mod ghost_count;
+mod opening;
 mod sending;
 mod source;
 
+pub use arguments::arguments_of;
 pub use device::{Device, Failed, Pull, Push};
 pub use ghost_count::GhostCount;
-pub use sending::{SendError, send};
+pub use opening::{Open, SystemFiles};
+pub use sending::{SendError, print_line, send};
 pub use source::Source;

@@ -1,6 +1,7 @@
-//! Sending a report.
+//! Sending a report, and the line that says why there is none.
 ghost use Rattle.std.specs.Prelude.{◌+◌, ◌<◌, ◌≤◌, ◌↔◌, take, length, IfErr, OnOk, IsErr, IsTrue};
 ghost use Rattle.std.specs.Io.KnownBytes.{Appends};
+ghost use Rattle.devices.specs.Sending.{PrintsLine};
 
 use crate::device::Push;
 use thiserror::Error;
@@ -36,4 +37,11 @@ pub fn send<W: Push>(output: &mut W, bytes: &[u8]) -> Result<(), SendError>
         Ok(()) => Ok(()),
         Err(_) => Err(SendError { sent: sent as u64 }),
     }
+}
+
+/// Prints a line on standard error. Where that fails there is nowhere left to say so.
+pub fn print_line<E: Push>(errors: &mut E, line: &[u8])
+    ensures { PrintsLine (E.state errors.old) (E.state errors.new) line.now }
+{
+    let _ = send(errors, line);
 }

@@ -1,6 +1,6 @@
-ghost use Rattle.std.specs.Prelude.{◌≡◌, ◌<◌, length, slice_get, None, Some, IfErr, IfOk};
+ghost use Rattle.std.specs.Prelude.{◌≡◌, ◌+◌, ◌<◌, length, slice_get, None, Some, IfErr, IfOk};
 ghost use Rattle.svn_path.specs.Path.{same_name};
-ghost use Rattle.svn_dump.specs.Dump.{IsDump, history_view};
+ghost use Rattle.svn_dump.specs.Dump.{IsDump, history_in_bytes, history_view};
 ghost use Rattle.svn_dump.specs.Fault.{first_fault};
 ghost use Rattle.block_map.specs.Ends.{ends_of};
 ghost use Rattle.block_map.specs.Map.{IsMapOf};
@@ -87,6 +87,13 @@ impl Repo {
         ensures kept { IsDump self.now }
     {
         self.dump.names()
+    }
+
+    /// The youngest revision.
+    pub fn youngest(&self) -> u32
+        ensures { result + 1 ≡ length (history_in_bytes self.now) }
+    {
+        (self.dump.counts().len() - 1) as u32
     }
 
     /// A memo with a cell for each mergeinfo text of the dump.

@@ -35,6 +35,7 @@ fn grown_repo<R: Threads + Sync>(
 #[test]
 fn a_grown_repository_answers_about_what_came(rt: HostRuntime) -> Result<(), Fail> {
     let repo = grown_repo(&rt, rt.alloc(), DUMPED, DELETE_AND_COPY)?;
+    assert_eq!(rt; repo.youngest(), 3);
     let wanted = "#1 ok\n3-3 /b\n1-2 /trunk\n";
     let checked = check_answers(rt.alloc(), &repo, "segments\t/b@3", wanted);
     drop(repo);

@@ -6,7 +6,7 @@ use Rattle.std.proofs.lemmas.List.{length-map, length-take-le, map-append, take-
 use Rattle.svn_dump.specs.Dump.{DumpValue, history_in_bytes}
 use Rattle.query_answer.specs.Repo.{trees_in_bytes}
 use Rattle.svn_report.specs.Answering.{answers_to_batch, lent_lines}
-use Rattle.svn_report.specs.Report.{answers_from}
+use Rattle.svn_report.specs.Report.{answers_from, texts_from}
 use Rattle.svn_report.proofs.AnswerTexts.{answers_from-append}
 
 take-add : (done count : ℕ) (lines : List (Bor (List ℕ))) → done ≤ length lines → take (done + count) lines ≡ take done lines ++ take count (drop done lines)
@@ -21,7 +21,7 @@ abbrev pub IsAnswered : DumpValue → List (Bor (List ℕ)) → ℕ → List ℕ
 IsAnswered dump lines done text = text ≡ answers_to_batch dump 0 (take done lines)
 
 pub IsAnswered-none : (dump : DumpValue) (lines : List (Bor (List ℕ))) → IsAnswered dump lines 0 []
-unfolding answers_from
+unfolding texts_from
 IsAnswered-none dump lines = refl
 
 pub IsAnswered-more : (dump : DumpValue) (lines now : List (Bor (List ℕ))) (done count : ℕ) (text new : List ℕ) → IsAnswered dump lines done text → done ≤ length lines

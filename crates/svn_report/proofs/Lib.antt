@@ -3,7 +3,7 @@ mod Batches
 mod BlockEnds
 mod BlockIndexes
 mod BlockMapsJoined
-mod Fronts
+pub mod Fronts
 mod GrownRepos
 mod LoadErrors
 mod QueryLines

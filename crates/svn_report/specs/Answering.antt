@@ -6,7 +6,7 @@ use Rattle.svn_dump.specs.Dump.{DumpValue, history_in_bytes}
 use Rattle.query_answer.specs.Answer.{answer_text}
 use Rattle.query_answer.specs.Query.{query_of}
 use Rattle.query_answer.specs.Repo.{answer_in, trees_in_bytes}
-use Rattle.svn_report.specs.Report.{answers_from}
+use Rattle.svn_report.specs.Report.{answers_from, texts_from}
 use Rattle.svn_report.specs.declared.answering.PartialReport.{PartialReport}
 
 -- the lines that are lent
@@ -21,7 +21,12 @@ abbrev pub IsTextAt : DumpValue → ℕ → List (Bor (List ℕ)) → ℕ → Li
 IsTextAt dump first lines place text =
     text ≡ answer_text (first + place + 1) (answer_in dump (query_of (slice_index_or (lent_lines lines) place [])))
 
--- the answers to the lines that follow the first ones
+-- the texts of the answers to the lines that follow the first ones
+abbrev pub texts_to_batch : DumpValue → ℕ → List (Bor (List ℕ)) → List (List ℕ)
+texts_to_batch dump first lines =
+    texts_from (first + 1) (history_in_bytes dump) (trees_in_bytes dump) (lent_lines lines)
+
+-- they are joined
 abbrev pub answers_to_batch : DumpValue → ℕ → List (Bor (List ℕ)) → List ℕ
 answers_to_batch dump first lines =
     answers_from (first + 1) (history_in_bytes dump) (trees_in_bytes dump) (lent_lines lines)

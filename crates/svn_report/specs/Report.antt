@@ -1,5 +1,6 @@
 -- The report on a dump: the answers to all queries, in their order.
-use Rattle.std.specs.Prelude.{◌≡◌, ℕ, ◌+◌, ◌≤◌, List, [], ◌∷◌, ◌++◌, None, bytes_eq, length}
+use Rattle.std.specs.Prelude.{◌≡◌, ℕ, ◌+◌, ◌≤◌, List, [], ◌∷◌, None, bytes_eq, length}
+use Rattle.std.specs.List.{flat_map}
 use Rattle.svn_dump.specs.DumpText.{IsDumpText}
 use Rattle.svn_dump.specs.Fault.{first_fault}
 use Rattle.svn_dump.specs.Record.{HistoryOfBytes}
@@ -16,11 +17,15 @@ most_queries = 1000000
 abbrev pub AreFew : List ℕ → Type 0
 AreFew queries = length (query_lines queries) ≤ most_queries
 
--- the answers to these lines, given the number of the first
-unfoldable pub answers_from : ℕ → HistoryOfBytes → TreesOfBytes → List (List ℕ) → List ℕ
-answers_from number history trees [] = []
-answers_from number history trees (line ∷ lines) =
-    answer_text number (answer_of history trees (query_of line)) ++ answers_from (number + 1) history trees lines
+-- the text of the answer to each of these lines, given the number of the first
+unfoldable pub texts_from : ℕ → HistoryOfBytes → TreesOfBytes → List (List ℕ) → List (List ℕ)
+texts_from number history trees [] = []
+texts_from number history trees (line ∷ lines) =
+    answer_text number (answer_of history trees (query_of line)) ∷ texts_from (number + 1) history trees lines
+
+-- they are joined
+abbrev pub answers_from : ℕ → HistoryOfBytes → TreesOfBytes → List (List ℕ) → List ℕ
+answers_from number history trees lines = flat_map (λ text. text) (texts_from number history trees lines)
 
 -- the answers to all queries on a history, joined
 abbrev pub answers : HistoryOfBytes → List ℕ → List ℕ

@@ -1,16 +1,17 @@
 -- The report on a dump that a device gives in pieces.
-use Rattle.std.specs.Prelude.{◌≡◌, ◌⊎◌, ℕ, ◌<◌, ◌≤◌, List, ◌++◌, length, IsFalse}
+use Rattle.std.specs.Prelude.{◌≡◌, ◌⊎◌, ℕ, ◌*◌, ◌<◌, ◌≤◌, List, ◌++◌, None, length, IsFalse}
 use Rattle.std.specs.Io.KnownBytes.{Consumes}
 use Rattle.devices.specs.Device.{PullState}
 use Rattle.svn_dump.specs.Decided.{IsDecided, IsUndecided}
 use Rattle.svn_dump.specs.Dump.{DumpValue, history_in_bytes}
 use Rattle.svn_dump.specs.DumpError.{IsFirstAt}
 use Rattle.svn_dump.specs.DumpText.{IsDumpText}
+use Rattle.svn_dump.specs.Feed.{FeedValue, HasRead}
 use Rattle.svn_dump.specs.declared.error.DumpError.{DumpError}
 use Rattle.svn_dump.specs.declared.error.DumpError.TheVariants as refusal
 use Rattle.block_map.specs.declared.fault.Fault.{Fault}
 use Rattle.devices.specs.declared.source.Source.TheVariants as source
-use Rattle.svn_report.specs.Load.{IsReadWhole, IsUnread}
+use Rattle.svn_report.specs.Load.{IsReadWhole, IsUnread, most_reads}
 use Rattle.svn_report.specs.QueryLines.{query_lines}
 use Rattle.svn_report.specs.Report.{AreFew, IsReport, most_queries}
 use Rattle.svn_report.specs.ReportError.{IsFirstFault}
@@ -20,6 +21,15 @@ use Rattle.svn_report.specs.declared.run_error.RunError.TheVariants as run
 -- how many bytes a piece has at most
 abbrev pub most_bytes : ℕ
 most_bytes = 65536
+
+-- all of an input was read, and has come to this reader; it decides no refusal
+pub record IsFeedFrom (old new : PullState) (feed : FeedValue) : Type 0 where
+  pub bytes : List ℕ
+  pub all : IsReadWhole old new bytes
+  pub read : HasRead feed bytes
+  pub undecided : IsUndecided bytes
+  pub going : feed.error ≡ None
+  pub few : feed.count ≤ most_reads * most_bytes
 
 -- all of an input was read, and it is this dump
 pub record IsDumpFrom (old new : PullState) (dump : DumpValue) : Type 0 where

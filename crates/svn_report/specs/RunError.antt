@@ -1,5 +1,7 @@
 -- The line and the status by which the program reports why there is no report.
-use Rattle.std.specs.Prelude.{ℕ, List, [], ◌∷◌, ◌++◌, codes, decimal}
+use Rattle.std.specs.Prelude.{◌≡◌, ◌⊎◌, ℕ, List, [], ◌∷◌, ◌++◌, codes, decimal}
+use Rattle.devices.specs.Device.{PushState}
+use Rattle.devices.specs.Sending.{PrintsLine}
 use Rattle.svn_dump.specs.declared.error.DumpError.{DumpError}
 use Rattle.svn_dump.specs.declared.error.DumpError.TheVariants as refusal
 use Rattle.svn_dump.specs.Refusal.{refusal_name_of}
@@ -53,3 +55,8 @@ status_of (run.Dump refused) = status_of_refusal refused
 status_of (run.Fault fault) = 1
 status_of (run.Read source) = 3
 status_of run.Memory = 4
+
+-- the line of an error was printed and its status answered; or memory for the line ran out, and that was
+abbrev pub IsErrorLine : ℕ → RunError → PushState → PushState → Type 0
+IsErrorLine status error old new =
+    ((status ≡ status_of error) × PrintsLine old new (line_of error)) ⊎ ((status ≡ 4) × PrintsLine old new (line_of run.Memory))

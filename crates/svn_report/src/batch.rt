@@ -1,12 +1,12 @@
-//! A batch of the queries of a run.
-ghost use Rattle.std.specs.Prelude.{◌≡◌, ◌+◌, ◌<◌, ◌≤◌, ℕ, IfOk, length};
+//! A batch of query lines.
+ghost use Rattle.std.specs.Prelude.{◌≡◌, ◌+◌, ◌^◌, ◌<◌, ◌≤◌, ℕ, IfOk, length, map};
 ghost use Rattle.std.specs.List.{flat_map};
 ghost use Rattle.query_pool.specs.Serving.{most_workers};
-ghost use Rattle.svn_report.specs.Answering.{answers_to_batch};
+ghost use Rattle.svn_report.specs.Answering.{answers_to_batch, texts_to_batch};
 ghost use Rattle.svn_report.specs.Report.{most_queries};
 
 use query_answer::{Query, Repo, answer};
-use query_pool::{Gate, GatherError, Job, gather, serve};
+use query_pool::{Gate, GatherError, Job, NoGate, gather, serve};
 use std::alloc::{AllocError, Global};
 use std::sync::Wait;
 use std::thread::Threads;
@@ -25,7 +25,8 @@ pub(crate) struct Batch<'r, 'a> {
     pub(crate) first: u32,
     pub(crate) lines: &'a [&'a [u8]],
     ghost cells: { length repo.now.values ≤ length memo.now },
-    ghost few: { first + length lines.now ≤ most_queries },
+    ghost few: { length lines.now ≤ most_queries },
+    ghost numbered: { first + length lines.now < 2 ^ 32 },
 }
 
 impl<'r> Job for Batch<'r, '_> {
@@ -69,7 +70,9 @@ impl Batch<'_, '_> {
         requires some_worker { 0 < workers }
         requires few_workers { workers ≤ most_workers }
         requires gate { (place : ℕ) → place < length self.now.lines.now → G.watches gate.now (self.now.first + place) }
-        ensures { IfOk result (λ texts. flat_map (λ text. text.items) texts.items
+        ensures texts { IfOk result (λ texts. map (λ text. text.items) texts.items
+            ≡ texts_to_batch self.now.repo.now self.now.first self.now.lines.now) }
+        ensures joined { IfOk result (λ texts. flat_map (λ text. text.items) texts.items
             ≡ answers_to_batch self.now.repo.now self.now.first self.now.lines.now) }
     {
         let n = self.lines.len() as u32;
@@ -84,6 +87,34 @@ impl Batch<'_, '_> {
             Err(_) => unreachable!(),
         }
     }
+}
+
+/// The texts of the answers to these query lines, in their order, found by so many workers. They are numbered from
+/// `first + 1` on. The memo is one of the repository.
+pub fn answer_batch<'r, R: Threads + Wait + Sync>(
+    rt: &R,
+    alloc: Global,
+    repo: &'r Repo,
+    memo: &Memo<'r>,
+    first: u32,
+    lines: &[&[u8]],
+    workers: usize,
+) -> Result<Vec<Vec<u8>>, AllocError>
+    requires cells { length repo.now.values ≤ length memo.now }
+    requires few_queries { length lines.now ≤ most_queries }
+    requires numbered { first + length lines.now < 2 ^ 32 }
+    requires some_worker { 0 < workers }
+    requires few_workers { workers ≤ most_workers }
+    ensures { IfOk result (λ texts. map (λ text. text.items) texts.items ≡ texts_to_batch repo.now first lines.now) }
+{
+    let batch = Batch {
+        alloc,
+        repo,
+        memo,
+        first,
+        lines,
+    };
+    batch.answers(rt, workers, &NoGate)
 }
 
 /// The gate of a run, which is called with the places that the queries of a batch have in the run.

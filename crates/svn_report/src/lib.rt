@@ -23,9 +23,10 @@ mod reporting;
 mod repository;
 mod run_error;
 
+pub use batch::answer_batch;
 pub use cutting::{block_ends, share_out};
 pub use loading::load;
-pub use pieces::report_from;
+pub use pieces::{feed_from, report_from};
 pub use reporting::{MOST_QUERIES, report};
 pub use repository::{LoadError, grow_repo, load_repo};
 pub use run_error::RunError;

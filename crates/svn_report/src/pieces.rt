@@ -4,7 +4,7 @@ ghost use Rattle.query_pool.specs.Serving.{most_workers};
 ghost use Rattle.svn_report.specs.Load.{most_reads};
 ghost use Rattle.svn_report.specs.QueryLines.{query_lines};
 ghost use Rattle.svn_report.specs.Report.{most_queries};
-ghost use Rattle.svn_report.specs.ReportFrom.{IsDumpErrorFrom, IsDumpFrom, IsReportFrom, IsRunErrorFrom};
+ghost use Rattle.svn_report.specs.ReportFrom.{IsDumpErrorFrom, IsDumpFrom, IsFeedFrom, IsReportFrom, IsRunErrorFrom};
 
 use crate::loading::{MOST_READS, PIECE};
 use crate::query_lines::count_lines;
@@ -66,13 +66,29 @@ fn read_dump<P: Pull>(alloc: Global, seed: Seed, input: &mut P) -> Result<Dump, 
     ensures fails_once { (P.state input.new).failures ≤ (P.state input.old).failures + 1 }
     ensures reads { (P.state input.new).calls ≤ (P.state input.old).calls + most_reads }
 {
+    Ok(feed_from(alloc, seed, input)?.finish()?)
+}
+
+/// A reader to which all bytes of an input have come, in pieces of at most 65,536 bytes, and which waits for more of the
+/// same dump or its end. Names and mergeinfo texts are found by the hashes of a seed.
+///
+/// Reading ends with the piece that decides a refusal. `Read(Source::Dump)` where the device fails before one is
+/// decided, or 4,294,967,296 reads meet no end.
+pub fn feed_from<P: Pull>(alloc: Global, seed: Seed, input: &mut P) -> Result<Feed, RunError>
+    ensures ok { IfOk result (IsFeedFrom (P.state input.old) (P.state input.new)) }
+    ensures error { IfErr result (IsDumpErrorFrom (P.state input.old) (P.state input.new)) }
+    ensures unfailed { OnOk result ((P.state input.new).failures ≡ (P.state input.old).failures) }
+    ensures memory { IsErrOf result RunError.Memory → (P.state input.new).failures ≡ (P.state input.old).failures }
+    ensures fails_once { (P.state input.new).failures ≤ (P.state input.old).failures + 1 }
+    ensures reads { (P.state input.new).calls ≤ (P.state input.old).calls + most_reads }
+{
     let mut piece = Vec::with_capacity(alloc, PIECE)?;
     piece.resize(PIECE, 0)?;
     let mut feed = Feed::with_seed(alloc, seed);
     for _ in 0..MOST_READS {
         match input.pull(piece.as_mut_slice()) {
             Err(_) => return Err(RunError::Read(Source::Dump)),
-            Ok(0) => return Ok(feed.finish()?),
+            Ok(0) => return Ok(feed),
             Ok(n) => feed.feed(&piece[..n])?,
         }
     }

@@ -1,15 +1,17 @@
 //! Why a run gave no report, and how the program reports that.
 ghost use Rattle.std.specs.Prelude.{◌≡◌, ◌++◌, IfOk, OnOk, OnErr};
-ghost use Rattle.svn_report.specs.RunError.{line_of, status_of, refused_text, source_name_of, unread_text};
+ghost use Rattle.svn_report.specs.RunError.{IsErrorLine, line_of, status_of, refused_text, source_name_of, unread_text};
 
 use crate::reporting::MOST_QUERIES;
 use crate::repository::LoadError;
 use block_map::Fault;
-use devices::Source;
+use devices::{Push, Source, print_line};
 use std::alloc::{AllocError, AllocFailed, Global};
 use svn_dump::{DumpError, refusal_name};
 use svn_text::push_number;
 use thiserror::Error;
+
+const NO_MEMORY: &[u8] = b"svnhist: out of memory\n";
 
 /// Why a run gave no report. Each is displayed as its line, without `svnhist: ` and the newline.
 #[derive(Debug, Drop, Error)]
@@ -95,6 +97,23 @@ impl RunError {
         out.extend_from_slice(line.as_slice())
     }
 
+    /// Prints the line on standard error, and answers the status with which the program ends. Where memory for the line
+    /// runs out, both are those of `Memory`.
+    pub fn print<E: Push>(&self, alloc: Global, errors: &mut E) -> u8
+        ensures { IsErrorLine result self.now (E.state errors.old) (E.state errors.new) }
+    {
+        match self.line(alloc) {
+            Ok(line) => {
+                print_line(errors, line.as_slice());
+                self.status()
+            }
+            Err(AllocError) => {
+                print_line(errors, NO_MEMORY);
+                RunError::Memory.status()
+            }
+        }
+    }
+
     /// The line that the program prints on standard error.
     fn line(&self, alloc: Global) -> Result<Vec<u8>, AllocError>
         ensures { IfOk result (λ line. line.items ≡ line_of self.now) }
@@ -115,7 +134,7 @@ impl RunError {
             }
             RunError::Read(source) => unread_line(alloc, *source),
             RunError::Dump(DumpError::Memory) | RunError::Memory => {
-                Vec::from_slice(alloc, b"svnhist: out of memory\n".as_slice())
+                Vec::from_slice(alloc, NO_MEMORY)
             }
         }
     }

@@ -4,10 +4,9 @@ use Rattle.svn_dump.specs.declared.error.DumpError.TheVariants as refusal
 use Rattle.devices.specs.Device.{PullState, PushState}
 use Rattle.devices.specs.declared.source.Source.{Source}
 use Rattle.svn_report.specs.Load.{IsReadOrMemory, IsReadError, IsUnread}
-use Rattle.svn_report.specs.RunError.{status_of}
+use Rattle.svn_report.specs.RunError.{IsErrorLine, status_of}
 use Rattle.svn_report.specs.declared.run_error.RunError.{RunError}
 use Rattle.svn_report.specs.declared.run_error.RunError.TheVariants as run
-use Rattle.svnhist.specs.ExitStatus.{IsErrorLine}
 
 -- memory ran out, or the source was not read
 pub IsReadOrMemory-cases : (which : Source) (old new : PullState) (error : RunError) → IsReadOrMemory which error

@@ -1,7 +1,6 @@
 -- What a run is asked for. Without arguments it is the report on the bundle that the input is; with four, that on two
 -- files; other arguments ask for nothing.
-use Rattle.std.specs.Prelude.{◌≡◌, ◌⊎◌, ℕ, List, [], ◌∷◌, Option, Some, None, Result, Ok, Err, String, Vec, map, string_bytes, ⊤}
-use Rattle.std.specs.declared.alloc.Global.{Global}
+use Rattle.std.specs.Prelude.{◌≡◌, ◌⊎◌, ℕ, List, [], ◌∷◌, Option, Some, None, ⊤}
 use Rattle.devices.specs.Device.{PullState}
 use Rattle.devices.specs.declared.source.Source.TheVariants.{Input}
 use Rattle.svn_report.specs.Load.{IsReadWhole, IsUnread}
@@ -12,11 +11,6 @@ use Rattle.svn_report.specs.declared.run_error.RunError.TheVariants.{Read, Memor
 use Rattle.svnhist.specs.Arguments.{ArgumentsValue, IsArguments}
 use Rattle.svnhist.specs.Bundle.{BundleValue, IsBundle}
 use Rattle.svnhist.specs.Files.{IsErrorOnFiles, IsReportOnFiles}
-
--- the arguments as bytes, where they are texts and there was memory for them
-abbrev pub texts_of : {E : Type 0} → Result (Vec (String Global) Global) E → Option (List (List ℕ))
-texts_of (Ok texts) = Some (map string_bytes texts.items)
-texts_of (Err error) = None
 
 -- ---- the bundle of an input
 

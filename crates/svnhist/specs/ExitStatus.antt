@@ -5,28 +5,12 @@
 -- 2: nothing was asked for (`IsMisused` of `Asked.antt`), as the line says
 -- 3: the output failed (`IsCut`), or an input could not be opened or read (`IsRefused`), as the line says
 -- 4: memory ran out, as the line says (`IsRefused`)
-use Rattle.std.specs.Prelude.{◌≡◌, ◌⊎◌, ℕ, ◌<◌, IsFalse, IsTrue, List, take}
+use Rattle.std.specs.Prelude.{ℕ, IsFalse, IsTrue, List}
 use Rattle.std.specs.Io.KnownBytes.{Appends}
 use Rattle.devices.specs.Device.{PushState}
-use Rattle.svn_report.specs.RunError.{line_of, status_of}
+use Rattle.devices.specs.Sending.{IsPartSent}
+use Rattle.svn_report.specs.RunError.{IsErrorLine}
 use Rattle.svn_report.specs.declared.run_error.RunError.{RunError}
-use Rattle.svn_report.specs.declared.run_error.RunError.TheVariants.{Memory}
-
--- some front of the bytes went out, before the device failed
-pub record IsPartSent (old new : PushState) (bytes : List ℕ) : Type 0 where
-  pub count : ℕ
-  pub sent : Appends old.gone new.gone (take count bytes)
-  pub failed : IsTrue new.has_failed
-  pub called : old.calls < new.calls
-
--- a line went out and was flushed, or a front of it did before the device failed
-abbrev pub PrintsLine : PushState → PushState → List ℕ → Type 0
-PrintsLine old new line = IsPartSent old new line ⊎ (Appends old.gone new.gone line × IsTrue new.is_flushed)
-
--- the line of an error was printed and its status answered; or memory for the line ran out, and that was
-abbrev pub IsErrorLine : ℕ → RunError → PushState → PushState → Type 0
-IsErrorLine status error old new =
-    ((status ≡ status_of error) × PrintsLine old new (line_of error)) ⊎ ((status ≡ 4) × PrintsLine old new (line_of Memory))
 
 -- the report that was asked for went out whole
 pub record IsDone (IsAsked : List ℕ → Type 0) (old new : PushState) : Type 0 where

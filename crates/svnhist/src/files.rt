@@ -7,8 +7,7 @@ ghost use Rattle.svnhist.specs.Files.{IsErrorOnDump, IsErrorOnFiles, IsErrorOnQu
 
 use crate::arguments::Arguments;
 use crate::cuts::cuts_of;
-use crate::opening::Open;
-use devices::{Pull, Source};
+use devices::{Open, Pull, Source};
 use query_pool::NoGate;
 use std::alloc::Global;
 use std::random::RandomSource;

@@ -3,19 +3,19 @@ ghost use Rattle.std.specs.Prelude.{◌≡◌, ◌≢◌, ◌+◌, ◌<◌, ◌�
 ghost use Rattle.std.specs.Io.KnownBytes.{Appends};
 ghost use Rattle.std.specs.Process.{exit_status};
 ghost use Rattle.std.specs.IoError.{error_kind};
-ghost use Rattle.svn_report.specs.RunError.{line_of};
-ghost use Rattle.svnhist.specs.Asked.{IsErrorAsked, IsErrorOnInput, IsMisused, IsNoBundle, IsReportAsked, IsReportOnInput, texts_of};
-ghost use Rattle.svnhist.specs.ExitStatus.{IsCut, IsDone, IsErrorLine, IsPartSent, IsRefused, PrintsLine};
+ghost use Rattle.devices.specs.Arguments.{texts_of};
+ghost use Rattle.devices.specs.Sending.{IsPartSent, PrintsLine};
+ghost use Rattle.svnhist.specs.Asked.{IsErrorAsked, IsErrorOnInput, IsMisused, IsNoBundle, IsReportAsked, IsReportOnInput};
+ghost use Rattle.svnhist.specs.ExitStatus.{IsCut, IsDone, IsRefused};
 ghost use Rattle.svnhist.specs.ProgramLines.{unsent_line, usage_line};
 
 use crate::arguments::read_arguments;
 use crate::bundle_reader::bundle;
 use crate::cuts::cuts_of;
 use crate::files::answer_files;
-use crate::opening::Open;
-use devices::{Pull, Push, Source, send};
+use devices::{Open, Pull, Push, Source, print_line, send};
 use query_pool::NoGate;
-use std::alloc::{AllocError, Global};
+use std::alloc::Global;
 use std::io::{self, ErrorKind};
 use std::process::ExitCode;
 use std::random::RandomSource;
@@ -26,8 +26,6 @@ use svn_report::{RunError, load, report};
 const USAGE: &[u8] = b"svnhist: usage: svnhist DUMP QUERIES BLOCK WORKERS\n";
 
 const UNSENT: &[u8] = b"svnhist: cannot write the report\n";
-
-const NO_MEMORY: &[u8] = b"svnhist: out of memory\n";
 
 /// Does what the arguments after the program's name ask for, and answers the status with which the program ends.
 /// Without arguments `input` is a bundle. Where there is no report, one line for `errors` says why.
@@ -75,7 +73,7 @@ pub(crate) fn run<
     match answer(rt, alloc, files, arguments, input) {
         Ok(Some(report)) => deliver(output, errors, report.as_slice()),
         Ok(None) => refuse_usage(errors),
-        Err(error) => refuse(alloc, errors, &error),
+        Err(error) => ExitCode::from(error.print(alloc, errors)),
     }
 }
 
@@ -86,37 +84,6 @@ fn refuse_usage<E: Push>(errors: &mut E) -> ExitCode
 {
     print_line(errors, USAGE);
     ExitCode::from(2)
-}
-
-/// Prints that memory ran out.
-fn refuse_memory<E: Push>(errors: &mut E) -> ExitCode
-    ensures status { exit_status result ≡ 4 }
-    ensures line { PrintsLine (E.state errors.old) (E.state errors.new) (line_of RunError.Memory) }
-{
-    print_line(errors, NO_MEMORY);
-    ExitCode::from(4)
-}
-
-/// Prints the line of an error, and answers its status.
-fn refuse<E: Push>(alloc: Global, errors: &mut E, error: &RunError) -> ExitCode
-    ensures { IsErrorLine (exit_status result) error.now (E.state errors.old) (E.state errors.new) }
-{
-    match error_line(alloc, error) {
-        Ok(line) => {
-            print_line(errors, line.as_slice());
-            ExitCode::from(error.status())
-        }
-        Err(AllocError) => refuse_memory(errors),
-    }
-}
-
-/// The line of an error.
-fn error_line(alloc: Global, error: &RunError) -> Result<Vec<u8>, AllocError>
-    ensures { IfOk result (λ line. line.items ≡ line_of error.now) }
-{
-    let mut line = Vec::new(alloc);
-    error.write(&mut line)?;
-    Ok(line)
 }
 
 /// Sends a report.
@@ -137,13 +104,6 @@ fn deliver<O: Push, E: Push>(output: &mut O, errors: &mut E, report: &[u8]) -> E
             ExitCode::from(3)
         }
     }
-}
-
-/// Prints a line on standard error. Where that fails there is nowhere left to say so.
-fn print_line<E: Push>(errors: &mut E, line: &[u8])
-    ensures { PrintsLine (E.state errors.old) (E.state errors.new) line.now }
-{
-    let _ = send(errors, line);
 }
 
 /// The report that the arguments ask for, or `None` where they, or the input as a bundle, ask for nothing.

@@ -3,8 +3,7 @@
 use crate::arguments::{Arguments, DumpPath, QueriesPath, read_arguments};
 use crate::bundle_reader::bundle;
 use crate::files::answer_files;
-use crate::opening::SystemFiles;
-use devices::Source;
+use devices::{Source, SystemFiles};
 use std::alloc::{AllocError, Global};
 use std::env::{self, Env};
 use std::path::PathBuf;

@@ -1,43 +1,15 @@
-use Rattle.std.proofs.Common.{rules}
 use Rattle.std.proofs.lemmas.Result.{err_from_is_err_and}
-use Rattle.svn_report.proofs.Fronts.{Consumes-piece, IsDumpErrorFrom-end, IsDumpErrorFrom-piece, IsFrontRead-more}
+use Rattle.svn_report.proofs.Fronts.{IsDumpErrorFrom-end}
 use Rattle.svn_report.proofs.pieces.read_dump.Goals as goal
 
-pub returns-in_err-feed-in-Ok-clause-error : goal.returns-in_err-feed-in-Ok-clause-error
-returns-in_err-feed-in-Ok-clause-error g c =
-    let told = err_from_is_err_and c.from_residual-in_err-feed-in-Ok.result c.from_residual-in_err-feed-in-Ok.ensures.1 in
-    rw (told.1, told.2) (IsDumpErrorFrom-piece (g.P.Pull.state c.args.input.now) (g.P.Pull.state c.loop.input) (g.P.Pull.state c.pull.new.self)
-    c.loop.feed c.loop.invariant.front _
-    (rw (c.deref.ensures.value) (Consumes-piece _ _ c.in-Ok.n c.loop.piece.len c.pull.new.slice _ c.in-Ok.ensures.bound (search rules) c.in-Ok.ensures.bytes.0))
-    _ c.in_err-feed-in-Ok.ensures.decided (search rules) (search rules) (search rules))
+pub returns-clause-ok : goal.returns-clause-ok
+returns-clause-ok g c =
+    let read = c.in_ok-feed_from.ensures.ok in
+    record { bytes = read.bytes; all = read.all; read = c.in_ok-finish.ensures.ok read.bytes read.read }
 
-pub loop-preserved : goal.loop-preserved
-loop-preserved g c = record {
-  front = IsFrontRead-more (g.P.Pull.state c.args.input.now) (g.P.Pull.state c.loop.input) (g.P.Pull.state c.pull.new.self)
-      c.loop.feed c.loop.invariant.front _
-      (rw (c.deref.ensures.value) (Consumes-piece _ _ c.in-Ok.n c.loop.piece.len c.pull.new.slice _ c.in-Ok.ensures.bound (search rules) c.in-Ok.ensures.bytes.0))
-      c.feed-in-Ok.new.self c.feed-in-Ok.ensures.read c.in_ok-feed-in-Ok.ensures.undecided;
-  calls = search rules;
-  failures = search rules;
-  ends = search rules;
-  count = search rules;
-  going = c.in_ok-feed-in-Ok.ensures.ok;
-  room = search rules;
-}
-
-pub returns-in-Ok-eq0-clause-ok : goal.returns-in-Ok-eq0-clause-ok
-returns-in-Ok-eq0-clause-ok g c =
-    let read = c.loop.invariant.front in
-    record {
-      bytes = read.front;
-      all = search (rules, read.given, c.loop.invariant.ends, c.in-Ok-eq0.ensures.bytes, c.in-Ok-eq0.ensures.ends, c.in-Ok-eq0.ensures.failed);
-      read = c.in_ok-finish-in-Ok-eq0.ensures.ok read.front read.read;
-    }
-
-pub returns-in_err-finish-in-Ok-eq0-clause-error : goal.returns-in_err-finish-in-Ok-eq0-clause-error
-returns-in_err-finish-in-Ok-eq0-clause-error g c =
-    let told = err_from_is_err_and c.from_residual-in_err-finish-in-Ok-eq0.result c.from_residual-in_err-finish-in-Ok-eq0.ensures.1 in
-    let read = c.loop.invariant.front in
-    rw (told.1, told.2) (IsDumpErrorFrom-end (g.P.Pull.state c.args.input.now) (g.P.Pull.state c.pull.new.self) read.front _
-    (search (rules, read.given, c.loop.invariant.ends, c.in-Ok-eq0.ensures.bytes, c.in-Ok-eq0.ensures.ends, c.in-Ok-eq0.ensures.failed))
-    read.undecided (c.in_err-finish-in-Ok-eq0.ensures.refused read.front read.read))
+pub returns-in_err-finish-clause-error : goal.returns-in_err-finish-clause-error
+returns-in_err-finish-clause-error g c =
+    let told = err_from_is_err_and c.from_residual-in_err-finish.result c.from_residual-in_err-finish.ensures.1 in
+    let read = c.in_ok-feed_from.ensures.ok in
+    rw (told.1, told.2) (IsDumpErrorFrom-end (g.P.Pull.state c.args.input.now) (g.P.Pull.state c.feed_from.new.input) read.bytes _
+    read.all read.undecided (c.in_err-finish.ensures.refused read.bytes read.read))

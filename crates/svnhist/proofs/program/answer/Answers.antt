@@ -1,7 +1,8 @@
 use Rattle.std.proofs.Common.{map, sym, subst, rules}
 use Rattle.std.specs.Prelude.{string_bytes}
 use Rattle.svnhist.specs.Arguments.{ArgumentsValue, IsArguments}
-use Rattle.svnhist.specs.Asked.{IsMisused, texts_of}
+use Rattle.devices.specs.Arguments.{texts_of}
+use Rattle.svnhist.specs.Asked.{IsMisused}
 use Rattle.svnhist.proofs.Misuses.{IsMisused-wrong, map-some}
 use Rattle.svnhist.proofs.program.answer.Goals as goal
 

@@ -1,4 +1,5 @@
 use Rattle.std.proofs.Common.{◌≡◌, ◌+◌, ℕ, ◌∙◌, length, arith, ap}
+use Rattle.std.specs.List.{flat_map}
 use denote.Param.Send.{sendable}
 use Rattle.std.proofs.Crossing.{crosses}
 use Rattle.std.proofs.lemmas.List.{length-map}
@@ -10,13 +11,13 @@ use Rattle.query_answer.specs.Repo.{trees_in_bytes}
 use Rattle.query_pool.specs.Serving.{results_of}
 use Rattle.query_pool.proofs.Gathered.{gathered_each}
 use Rattle.svn_report.specs.Answering.{IsTextAt, lent_lines}
-use Rattle.svn_report.proofs.AnswerTexts.{answers_from-texts}
+use Rattle.svn_report.proofs.AnswerTexts.{flat_map-texts, texts_from-each}
 use Rattle.svn_report.proofs.SharedRepos.{repo_sync}
 use Rattle.value_memo.proofs.SharedMemos.{memo_sync}
 use Rattle.svn_report.proofs.batch.Batch.answers.Goals as goal
 
-pub returns-in-Ok : goal.returns-in-Ok
-returns-in-Ok g c =
+pub returns-in-Ok-clause-texts : goal.returns-in-Ok-clause-texts
+returns-in-Ok-clause-texts g c =
     let batch = c.args.self.now in
     let dump = batch.repo.now in
     let lent = batch.lines.now in
@@ -30,8 +31,12 @@ returns-in-Ok g c =
     let each = gathered_each (λ place text. IsTextAt dump batch.first lent place text.items) (length lent) (results_of c.in_ok-parts.parts.items) texts
     c.in-Ok.ensures.each_once whole c.in-Ok.ensures.by_place c.in_ok-parts.ensures.gives in
     let number : (place : ℕ) → batch.first + place + 1 ≡ place + (batch.first + 1) = λ place. omega arith in
-    answers_from-texts (λ text. text.items) history trees (batch.first + 1) lines texts paired
+    texts_from-each (λ text. text.items) history trees (batch.first + 1) lines texts paired
     (λ place below text at. each place text at ∙ ap (λ n. answer_text n (answer_of history trees (query_of (slice_index_or lines place [])))) (number place))
+
+pub returns-in-Ok-clause-joined : goal.returns-in-Ok-clause-joined
+returns-in-Ok-clause-joined g c =
+    flat_map-texts (λ text. text.items) c.in-Ok.texts.items ∙ ap (flat_map (λ text. text)) (returns-in-Ok-clause-texts g c)
 
 pub serve-requires-sync-J : goal.serve-requires-sync-J
 serve-requires-sync-J g c κs within = search (sendable, crosses, repo_sync, memo_sync) depth 40 fits 100000

@@ -1,12 +1,12 @@
 //! Opening files by their paths.
 ghost use Rattle.std.specs.Prelude.{ℕ, List, IfNone, IfSome};
 
-use devices::Device;
+use crate::device::Device;
 use std::fs;
 use std::rt::Files;
 
 /// What opens the files of a run.
-pub(crate) trait Open<D> {
+pub trait Open<D> {
     // Which inputs a path may open.
     ghost opens: { Self → List ℕ → D → Type 0 };
 
@@ -21,7 +21,7 @@ pub(crate) trait Open<D> {
 
 /// The files of the system. What is in them is not known, only that none was read or failed before it is given out.
 #[derive(Clone, Copy)]
-pub(crate) struct SystemFiles<'r, R>(pub &'r R);
+pub struct SystemFiles<'r, R>(pub &'r R);
 
 impl<R: Files> Open<Device<R::File>> for SystemFiles<'_, R> {
     ghost use Rattle.std.specs.Prelude.{◌≡◌, false, ⊤};

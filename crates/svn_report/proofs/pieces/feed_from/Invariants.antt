@@ -1,7 +1,7 @@
 use Rattle.std.proofs.Common.{◌≡◌, ◌+◌, ◌*◌, ◌≤◌, None, vec_len}
 use Rattle.svn_report.specs.ReportFrom.{most_bytes}
 use Rattle.svn_report.proofs.Fronts.{IsFrontRead}
-use Rattle.svn_report.proofs.pieces.read_dump.Given as goal
+use Rattle.svn_report.proofs.pieces.feed_from.Given as goal
 
 abbrev pub invariant-loop : goal.invariant-loop
 invariant-loop g l = record {
