@@ -1,0 +1,106 @@
+-- Bytes of a piece that come to the reader of a dump, after others.
+use Rattle.std.proofs.Common.{◌≡◌, ℕ, ◌+◌, ◌<◌, ◌≤◌, None, inl, inr, List, [], ◌++◌, length, take, drop, refl, sym, ap, subst, ◌∙◌, append_assoc, append-nil, arith, length-append, take-append-drop}
+use Rattle.std.proofs.lemmas.List.{length-take-le}
+use Rattle.devices.specs.Device.{PullState}
+use Rattle.svn_dump.specs.Decided.{IsDecidedError}
+use Rattle.svn_dump.specs.Feed.{FeedValue, HasRead}
+use Rattle.svn_dump.specs.Growth.{GrowsTo}
+use Rattle.svn_dump.specs.declared.error.DumpError.{DumpError}
+use Rattle.svn_dump.specs.declared.error.DumpError.TheVariants as refusal
+use Rattle.svn_dump.proofs.Growth.{GrowsTo-twice, GrowsTo_same}
+use Rattle.svn_report.specs.ReportError.{run_error_of_dump}
+use Rattle.live_history.specs.History.{IsFed}
+use Rattle.live_history.specs.ReadAhead.{IsReadEnd, ReadAheadValue, stream}
+use Rattle.live_history.specs.Stream.{AreLast, AreTaken, IsReadUpTo, Stream}
+use Rattle.live_history.specs.TalkEnd.{IsPieceEnd}
+use Rattle.live_history.specs.declared.talk_error.TalkError.{TalkError}
+use Rattle.live_history.specs.declared.talk_error.TalkError.TheVariants.{Cut, Run}
+use Rattle.live_history.proofs.ReadAheads.{Consumes-taken, Consumes-unread}
+use Rattle.live_history.proofs.Streams.{AreLast-more, AreTaken-more, AreTaken-none, IsLost-more, IsReadUpTo-more}
+
+-- nothing has come yet
+pub IsFed-none : (feed : FeedValue) (none : ℕ) (old : Stream) → none ≡ 0 → feed.error ≡ None → IsFed feed none old old feed
+IsFed-none feed none old nothing going = record {
+  bytes = [];
+  all = sym nothing;
+  taken = AreTaken-none old;
+  read = λ before has. subst (HasRead feed) (sym (append-nil before)) has;
+  grows = GrowsTo_same feed.reader.draft;
+  going = going;
+}
+
+module _ {feed fed : FeedValue} {done : ℕ} {old mid : Stream} (first : IsFed feed done old mid fed) where
+  -- more was read, and nothing taken
+  pub IsFed-read : {new : Stream} → AreTaken mid new [] → IsFed feed done old new fed
+  IsFed-read {new} read = record {
+    bytes = first.bytes;
+    all = first.all;
+    taken = subst (AreTaken old new) (append-nil first.bytes) (AreTaken-more first.taken read);
+    read = first.read;
+    grows = first.grows;
+    going = first.going;
+  }
+
+  -- some more have
+  pub IsFed-more : {next : FeedValue} {new : Stream} (all : ℕ) (bytes : List ℕ) → all ≡ done + length bytes → AreTaken mid new bytes → ((before : List ℕ) → HasRead fed before → HasRead next (before ++ bytes))
+      → GrowsTo fed.reader.draft next.reader.draft → next.error ≡ None → IsFed feed all old new next
+  IsFed-more {next} {new} all bytes whole taken read grows going = record {
+    bytes = first.bytes ++ bytes;
+    all = omega (arith, whole, first.all, length-append first.bytes bytes);
+    taken = AreTaken-more first.taken taken;
+    read = λ before has. subst (HasRead next) (append_assoc before first.bytes bytes) (read (before ++ first.bytes) (first.read before has));
+    grows = GrowsTo-twice first.grows grows;
+    going = going;
+  }
+
+  -- no more can be read
+  pub IsPieceEnd-unread : (before : List ℕ) (size : ℕ) (after : PullState) (error : TalkError) → IsReadEnd mid after error → IsPieceEnd before size old after error
+  IsPieceEnd-unread before size after error end = record {
+    rest = first.bytes ++ end.rest;
+    read = IsReadUpTo-more first.taken end.read;
+    why = inr (inr (inr (IsLost-more first.taken after error end.why)));
+  }
+
+  -- there are no more
+  pub IsPieceEnd-cut : (before : List ℕ) (size : ℕ) (after : PullState) → done < size → AreLast mid after [] → IsPieceEnd before size old after Cut
+  IsPieceEnd-cut before size after short last =
+      let all = AreLast-more first.taken last in
+      record {
+        rest = first.bytes ++ [];
+        read = record { bytes = all.bytes; failures = omega (arith, all.ended.failures) };
+        why = inr (inr (inl (record { is = refl; ended = all.ended; short = omega (arith, short, first.all, length-append first.bytes []) })));
+      }
+
+  -- the next bytes decide a refusal
+  pub IsPieceEnd-decided : (before : List ℕ) (size : ℕ) (ahead : ReadAheadValue) (after : PullState) (count : ℕ) (error : DumpError) → mid ≡ stream ahead after → count ≤ length ahead.unread → done + count ≤ size
+      → HasRead feed before → ((bytes : List ℕ) → HasRead fed bytes → IsDecidedError (bytes ++ take count ahead.unread) error) → IsPieceEnd before size old after (Run (run_error_of_dump error))
+  IsPieceEnd-decided before size ahead after count error here inside within has decided =
+      let left : IsReadUpTo mid after ahead.unread = rw here (record { bytes = Consumes-unread ahead.unread after.left; failures = omega arith }) in
+      let read = IsReadUpTo-more first.taken left in
+      by error (decided (before ++ first.bytes) (first.read before has)) read
+    where
+      by : (each : DumpError) → IsDecidedError ((before ++ first.bytes) ++ take count ahead.unread) each → IsReadUpTo old after (first.bytes ++ ahead.unread) → IsPieceEnd before size old after (Run (run_error_of_dump each))
+      by refusal.Memory first_line read = record { rest = first.bytes ++ ahead.unread; read = read; why = inr (inr (inr (inr refl))) }
+      by (refusal.Refused number at) decides read = record {
+        rest = first.bytes ++ ahead.unread;
+        read = read;
+        why = inl (record {
+          front = first.bytes ++ take count ahead.unread;
+          more = drop count ahead.unread;
+          number = number;
+          at = at;
+          is = refl;
+          whole = ap (λ rest. first.bytes ++ rest) (sym (take-append-drop count ahead.unread)) ∙ sym (append_assoc first.bytes (take count ahead.unread) (drop count ahead.unread));
+          within = omega (arith, within, first.all, length-append first.bytes (take count ahead.unread), length-take-le count ahead.unread inside);
+          why = inl (rw (sym (append_assoc before first.bytes (take count ahead.unread))) decides);
+        });
+      }
+
+-- the first unread bytes are taken
+pub AreTaken-front : (ahead later : ReadAheadValue) (input : PullState) (count : ℕ) → later.unread ≡ drop count ahead.unread → later.reads ≡ ahead.reads → AreTaken (stream ahead input) (stream later input) (take count ahead.unread)
+AreTaken-front ahead later input count rest reads = record {
+  bytes = Consumes-taken ahead.unread (take count ahead.unread) later.unread input.left (sym (take-append-drop count ahead.unread) ∙ ap (λ more. take count ahead.unread ++ more) (sym rest));
+  limit = ap (λ n. input.calls + n) reads;
+  ends = refl;
+  failures = refl;
+}

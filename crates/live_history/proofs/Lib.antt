@@ -1,0 +1,10 @@
+mod Ends
+mod FedPieces
+mod Histories
+mod Ongoing
+mod Queries
+mod QueryLines
+mod ReadAheads
+mod Streams
+mod Talks
+mod WholeTalks

@@ -1,0 +1,43 @@
+-- Bytes that are taken off an input after others.
+use Rattle.std.proofs.Common.{ℕ, ◌+◌, List, [], ◌++◌, inl, inr, refl, ap, ◌∙◌, arith}
+use Rattle.std.proofs.KnownBytes.{Consumes-nil, Consumes-trans}
+use Rattle.devices.specs.Device.{PullState}
+use Rattle.live_history.specs.Stream.{AreLast, AreTaken, HasEnded, IsCutLine, IsLost, IsReadUpTo, Stream}
+use Rattle.live_history.specs.declared.talk_error.TalkError.{TalkError}
+
+pub AreTaken-none : (old : Stream) → AreTaken old old []
+AreTaken-none old = record { bytes = Consumes-nil old.come; limit = refl; ends = refl; failures = refl }
+
+module _ {old mid : Stream} {taken : List ℕ} (first : AreTaken old mid taken) where
+  pub AreTaken-more : {new : Stream} {more : List ℕ} → AreTaken mid new more → AreTaken old new (taken ++ more)
+  AreTaken-more {new} {more} next = record {
+    bytes = Consumes-trans old.come mid.come new.come taken more first.bytes next.bytes;
+    limit = next.limit ∙ first.limit;
+    ends = next.ends ∙ first.ends;
+    failures = next.failures ∙ first.failures;
+  }
+
+  pub HasEnded-more : {after : PullState} → HasEnded mid after → HasEnded old after
+  HasEnded-more next = record {
+    end = next.end;
+    ends = next.ends ∙ ap (λ n. n + 1) first.ends;
+    failures = next.failures ∙ first.failures;
+    sound = next.sound;
+  }
+
+  pub AreLast-more : {after : PullState} {more : List ℕ} → AreLast mid after more → AreLast old after (taken ++ more)
+  AreLast-more {after} {more} next = record { bytes = Consumes-trans old.come mid.come after.left taken more first.bytes next.bytes; ended = HasEnded-more next.ended }
+
+  pub IsReadUpTo-more : {after : PullState} {more : List ℕ} → IsReadUpTo mid after more → IsReadUpTo old after (taken ++ more)
+  IsReadUpTo-more {after} {more} next = record {
+    bytes = Consumes-trans old.come mid.come after.left taken more first.bytes next.bytes;
+    failures = omega (arith, next.failures, first.failures);
+  }
+
+  pub IsLost-more : (after : PullState) (error : TalkError) → IsLost mid after error → IsLost old after error
+  IsLost-more after error (inl (is, inl failed)) = inl (is, inl failed)
+  IsLost-more after error (inl (is, inr used)) = inl (is, inr (used ∙ first.limit))
+  IsLost-more after error (inr memory) = inr memory
+
+  pub IsCutLine-more : {after : PullState} {rest : List ℕ} {error : TalkError} → IsCutLine mid after rest error → IsCutLine old after rest error
+  IsCutLine-more next = record { is = next.is; ended = HasEnded-more next.ended; some = next.some; line = next.line }

@@ -1,0 +1,61 @@
+use Rattle.std.proofs.Common.{◌≡◌, ◌-◌, ◌≤◌, ◌++◌, length, take, refl, sym, ap, subst, arith, length-drop}
+use Rattle.std.proofs.lemmas.List.{length-take-le}
+use Rattle.std.proofs.lemmas.Result.{err_from_is_err_and}
+use Rattle.svn_dump.specs.Decided.{IsDecidedError}
+use Rattle.live_history.specs.History.{IsFed}
+use Rattle.live_history.specs.ReadAhead.{stream}
+use Rattle.live_history.specs.Stream.{AreTaken}
+use Rattle.live_history.proofs.FedPieces.{AreTaken-front, IsFed-more, IsFed-none, IsFed-read, IsPieceEnd-cut, IsPieceEnd-decided, IsPieceEnd-unread}
+use Rattle.live_history.proofs.feeding.feed_piece.Goals as goal
+
+pub bytes-init : goal.bytes-init
+bytes-init g c = record {
+  fed = IsFed-none c.args.feed.now (c.args.size - c.args.size) (stream c.args.ahead.now (g.I.Pull.state c.args.input.now)) (omega arith) c.requires.going;
+  within = omega arith;
+  few = omega arith;
+  less = omega arith;
+}
+
+pub returns-in_err-read_some-clause-error : goal.returns-in_err-read_some-clause-error
+returns-in_err-read_some-clause-error g c =
+    let told = err_from_is_err_and c.from_residual.result c.from_residual.ensures.1 in
+    rw (told.1, told.2) (λ before has. IsPieceEnd-unread c.bytes.invariant.fed before c.args.size (g.I.Pull.state c.read_some.new.input) _ c.in_err-read_some.ensures.error)
+
+pub returns-then-not-branch-clause-error : goal.returns-then-not-branch-clause-error
+returns-then-not-branch-clause-error g c = λ before has.
+    IsPieceEnd-cut c.bytes.invariant.fed before c.args.size (g.I.Pull.state c.read_some.new.input) (omega (arith, c.bytes.invariant.within, c.bytes-test.true))
+    (c.in_ok-read_some.ensures.end c.if-not-branch.true)
+
+pub returns-in_err-feed-clause-error : goal.returns-in_err-feed-clause-error
+returns-in_err-feed-clause-error g c =
+    let told = err_from_is_err_and c.from_residual-in_err-feed.result c.from_residual-in_err-feed.ensures.1 in
+    let ahead = c.read_some.new.self in
+    let count = c.min-len.result in
+    let fed = IsFed-read c.bytes.invariant.fed (c.in_ok-read_some.ensures.taken c.if-not-branch.false) in
+    rw (told.1, told.2) (λ before has. IsPieceEnd-decided fed before c.args.size ahead (g.I.Pull.state c.read_some.new.input) count _ refl
+    (omega (arith, c.min-len.ensures, ap length c.unread.ensures)) (omega (arith, c.min-len.ensures, c.bytes.invariant.within)) has
+    (λ bytes read. subst (λ all. IsDecidedError (bytes ++ take count all) c.in_err-feed.field-0.0) c.unread-in-bytes.ensures (c.in_err-feed.ensures.decided bytes read)))
+
+pub bytes-preserved : goal.bytes-preserved
+bytes-preserved g c =
+    let ahead = c.read_some.new.self in
+    let input = g.I.Pull.state c.read_some.new.input in
+    let count = c.min-len.result in
+    let piece = take count c.unread-in-bytes.result.now in
+    let same : take count ahead.unread ≡ piece = ap (take count) (sym c.unread-in-bytes.ensures) in
+    let inside : count ≤ length c.unread-in-bytes.result.now = omega (arith, c.min-len.ensures, ap length c.unread.ensures, ap length c.unread-in-bytes.ensures) in
+    let long = length-take-le count c.unread-in-bytes.result.now inside in
+    let taken = subst (AreTaken (stream ahead input) (stream c.take.new.self input)) same (AreTaken-front ahead c.take.new.self input count c.take.ensures.unread c.take.ensures.reads) in
+    let fed = IsFed-read c.bytes.invariant.fed (c.in_ok-read_some.ensures.taken c.if-not-branch.false) in
+    let left = ap length c.take.ensures.unread in
+    record {
+      fed = IsFed-more fed (c.args.size - (c.bytes.left - count)) piece (omega (arith, long, c.bytes.invariant.within, c.min-len.ensures)) taken c.in_ok-feed.ensures.read c.in_ok-feed.ensures.grows c.in_ok-feed.ensures.ok;
+      within = omega (arith, c.bytes.invariant.within);
+      few = omega (arith, c.bytes.invariant.few, c.in_ok-feed.ensures.count, long, left, length-drop count ahead.unread, c.take.ensures.reads, c.in_ok-read_some.ensures.room, inside, ap length c.unread-in-bytes.ensures);
+      less = omega (arith, c.bytes.invariant.less, left, length-drop count ahead.unread, c.take.ensures.reads, c.in_ok-read_some.ensures.room);
+    }
+
+pub returns-clause-ok : goal.returns-clause-ok
+returns-clause-ok g c =
+    let left : c.args.size - c.bytes.left ≡ c.args.size = omega (arith, c.bytes-test.false, c.bytes.invariant.within) in
+    subst (λ size. IsFed c.args.feed.now size (stream c.args.ahead.now (g.I.Pull.state c.args.input.now)) (stream c.bytes.ahead (g.I.Pull.state c.bytes.input)) c.bytes.feed) left c.bytes.invariant.fed

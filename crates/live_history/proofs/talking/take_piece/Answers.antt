@@ -1,0 +1,57 @@
+use Rattle.std.proofs.Common.{◌<◌, subst, arith}
+use Rattle.std.specs.Prelude.{IfSome}
+use Rattle.std.proofs.lemmas.Result.{err_from_is_err_and}
+use Rattle.live_history.specs.ReadAhead.{room, stream}
+use Rattle.live_history.specs.Replies.{IsUpToNext}
+use Rattle.live_history.proofs.Ongoing.{IsAfterPiece-ready, IsEndEarly-piece, IsEndEarly-unsaid}
+use Rattle.live_history.proofs.talking.take_piece.Goals as goal
+
+pub returns-in_err-grown-in-Ok-Some-clause-error : goal.returns-in_err-grown-in-Ok-Some-clause-error
+returns-in_err-grown-in-Ok-Some-clause-error g c =
+    let told = err_from_is_err_and c.from_residual.result c.from_residual.ensures.1 in
+    let old = stream c.args.ahead.now (g.I.Pull.state c.args.input.now) in
+    let gone = (g.O.Push.state c.args.output.now).gone in
+    let after = g.I.Pull.state c.reply_up_to_piece.new.input in
+    let mid = stream c.reply_up_to_piece.new.ahead after in
+    let between = g.O.Push.state c.reply_up_to_piece.new.output in
+    let answered = c.reply_up_to_piece.new.answered in
+    rw (told.1, told.2) (λ state is same.
+    IsEndEarly-piece state old gone mid between answered c.in-Ok-Some.size (subst (IsUpToNext state old gone mid after between answered) c.in-Ok-Some.field-0-is (c.in-Ok-Some.ensures.ok state is.dump same))
+    (g.I.Pull.state c.grow.new.input) _ (c.in_err-grown-in-Ok-Some.ensures.error state.dump is))
+
+pub returns-in-Ok-clause-taken : goal.returns-in-Ok-clause-taken
+returns-in-Ok-clause-taken g c = λ state is same.
+    let old = stream c.args.ahead.now (g.I.Pull.state c.args.input.now) in
+    let gone = (g.O.Push.state c.args.output.now).gone in
+    let after = g.I.Pull.state c.reply_up_to_piece.new.input in
+    let mid = stream c.reply_up_to_piece.new.ahead after in
+    let between = g.O.Push.state c.reply_up_to_piece.new.output in
+    let answered = c.reply_up_to_piece.new.answered in
+    IsAfterPiece-ready state old gone mid between answered c.in-Ok-Some.size (subst (IsUpToNext state old gone mid after between answered) c.in-Ok-Some.field-0-is (c.in-Ok-Some.ensures.ok state is.dump same))
+    c.grow.new.ahead (g.I.Pull.state c.grow.new.input) c.in_ok-grown-in-Ok-Some.grown (c.in_ok-grown-in-Ok-Some.ensures.ok state.dump is) (g.O.Push.state c.say_ready.new.output) c.in-Ok.ensures.said
+
+pub returns-in-Ok-clause-less : goal.returns-in-Ok-clause-less
+returns-in-Ok-clause-less g c =
+    let less = subst (λ found. IfSome found (λ size. room c.reply_up_to_piece.new.ahead < room c.args.ahead.now)) c.in-Ok-Some.field-0-is c.in-Ok-Some.ensures.less in
+    omega (arith, less, c.in_ok-grown-in-Ok-Some.ensures.room)
+
+pub returns-in-Err-say_ready-clause-error : goal.returns-in-Err-say_ready-clause-error
+returns-in-Err-say_ready-clause-error g c = λ state is same.
+    let old = stream c.args.ahead.now (g.I.Pull.state c.args.input.now) in
+    let gone = (g.O.Push.state c.args.output.now).gone in
+    let after = g.I.Pull.state c.reply_up_to_piece.new.input in
+    let mid = stream c.reply_up_to_piece.new.ahead after in
+    let between = g.O.Push.state c.reply_up_to_piece.new.output in
+    let answered = c.reply_up_to_piece.new.answered in
+    IsEndEarly-unsaid state old gone mid between answered c.in-Ok-Some.size (subst (IsUpToNext state old gone mid after between answered) c.in-Ok-Some.field-0-is (c.in-Ok-Some.ensures.ok state is.dump same))
+    c.grow.new.ahead (g.I.Pull.state c.grow.new.input) c.in_ok-grown-in-Ok-Some.grown (c.in_ok-grown-in-Ok-Some.ensures.ok state.dump is) (g.O.Push.state c.say_ready.new.output) c.in-Err-say_ready.e
+    c.in-Err-say_ready.ensures.error
+
+pub returns-in-Ok-None-clause-end : goal.returns-in-Ok-None-clause-end
+returns-in-Ok-None-clause-end g c = λ state is same.
+    let old = stream c.args.ahead.now (g.I.Pull.state c.args.input.now) in
+    let gone = (g.O.Push.state c.args.output.now).gone in
+    let after = g.I.Pull.state c.reply_up_to_piece.new.input in
+    let mid = stream c.reply_up_to_piece.new.ahead after in
+    let between = g.O.Push.state c.reply_up_to_piece.new.output in
+    subst (IsUpToNext state old gone mid after between c.reply_up_to_piece.new.answered) c.in-Ok-None.field-0-is (c.in-Ok-None.ensures.ok state is.dump same)

@@ -1,0 +1,58 @@
+use Rattle.std.proofs.Common.{◌≡◌, ◌≤◌, ◌+◌, None, Option, Some, refl, subst, arith}
+use Rattle.std.specs.Prelude.{IfNone, IfSome}
+use Rattle.std.proofs.lemmas.Result.{err_from_is_err_and}
+use Rattle.svn_dump.specs.Draft.{IsWholeHistory}
+use Rattle.live_history.specs.History.{IsHistoryOf}
+use Rattle.live_history.specs.ReadAhead.{room, stream}
+use Rattle.live_history.specs.Talk.{TalkState, after_turns}
+use Rattle.live_history.specs.Talking.{IsAfterPiece}
+use Rattle.live_history.proofs.Ends.{AreAllReplied-more, IsEndEarly-more}
+use Rattle.live_history.proofs.Ongoing.{IsAfterPiece-more, IsAfterPiece-none}
+use Rattle.live_history.proofs.talking.take_turns.Goals as goal
+
+-- what holds where there is none
+none-of : {X : Type 0} (P : Type 0) (found : Option X) → ((x : X) → found ≡ Some x → ⊥) → IfNone found P → P
+none-of P None not is = is
+none-of P (Some x) not is = absurd (not x refl)
+
+pub pieces-init : goal.pieces-init
+pieces-init g c = record {
+  after = λ state is same.
+      let old = stream c.args.ahead.now (g.I.Pull.state c.args.input.now) in
+      let sent = g.O.Push.state c.args.output.now in
+      subst (λ n. IsAfterPiece state old sent.gone old sent n c.args.history) same (IsAfterPiece-none state old sent c.args.history is);
+  whole = c.requires.whole;
+  few = c.requires.few;
+  flushed = λ is. is;
+  sound = λ is. is;
+}
+
+pub returns-in_err-grown-clause-error : goal.returns-in_err-grown-clause-error
+returns-in_err-grown-clause-error g c =
+    let told = err_from_is_err_and c.from_residual.result c.from_residual.ensures.1 in
+    rw (told.1, told.2) (λ state is same.
+    let first = c.pieces.invariant.after state is same in
+    IsEndEarly-more first.replied (c.in_err-grown.ensures.error (after_turns state first.turns) first.history_is first.answered_is))
+
+pub pieces-preserved : goal.pieces-preserved
+pieces-preserved g c =
+    let found = c.in_ok-grown.ensures in
+    let new = stream c.take_piece.new.ahead (g.I.Pull.state c.take_piece.new.input) in
+    let sent = g.O.Push.state c.take_piece.new.output in
+    let few = subst (λ next. IfSome next (λ grown. grown.paused.count + room c.take_piece.new.ahead ≤ c.pieces.history.paused.count + room c.pieces.ahead)) c.in-Some.is found.few in
+    record {
+      after = λ state is same.
+          let first = c.pieces.invariant.after state is same in
+          let taken = subst (λ next. IfSome next (λ grown. (later : TalkState) → IsHistoryOf later.dump c.pieces.history → later.answered ≡ c.pieces.answered
+          → IsAfterPiece later (stream c.pieces.ahead (g.I.Pull.state c.pieces.input)) (g.O.Push.state c.pieces.output).gone new sent c.take_piece.new.answered grown)) c.in-Some.is found.taken in
+          IsAfterPiece-more first (taken (after_turns state first.turns) first.history_is first.answered_is);
+      whole = subst (λ next. IfSome next (λ grown. IsWholeHistory grown.repo)) c.in-Some.is found.whole;
+      few = omega (arith, few, c.pieces.invariant.few);
+      flushed = λ is. found.flushed (c.pieces.invariant.flushed is);
+      sound = λ is. found.sound (c.pieces.invariant.sound is);
+    }
+
+pub returns-clause-ok : goal.returns-clause-ok
+returns-clause-ok g c = λ state is same.
+    let first = c.pieces.invariant.after state is same in
+    AreAllReplied-more first.replied (none-of _ c.in_ok-grown.field-0 c.in_default.not-Some c.in_ok-grown.ensures.end (after_turns state first.turns) first.history_is first.answered_is)

@@ -1,0 +1,10 @@
+pub mod History
+pub mod ReadAhead
+pub mod Replies
+pub mod Stream
+pub mod Talk
+pub mod TalkEnd
+pub mod TalkError
+pub mod Talking
+pub mod Turn
+pub mod Turns

@@ -1,0 +1,191 @@
+-- How a talk ends: with its input, or before it.
+use Rattle.std.specs.Prelude.{◌≡◌, ◌⊎◌, ℕ, ◌<◌, ◌≤◌, All, IsFalse, IsTrue, List, [], ◌++◌, Option, Some, length, take, ⊤}
+use Rattle.std.specs.Io.KnownBytes.{Appends, append_known}
+use Rattle.devices.specs.Device.{PullState, PushState}
+use Rattle.devices.specs.declared.sending.SendError.{SendError}
+use Rattle.devices.specs.declared.source.Source.TheVariants as source
+use Rattle.svn_text.specs.Line.{line_text}
+use Rattle.svn_text.specs.Number.{greatest_length, number_up_to}
+use Rattle.svn_dump.specs.Decided.{IsDecided}
+use Rattle.svn_dump.specs.DumpError.{IsFirstAt}
+use Rattle.svn_dump.specs.Record.{HistoryOfBytes}
+use Rattle.svn_dump.specs.declared.error.DumpError.TheVariants.{Refused}
+use Rattle.block_map.specs.declared.fault.Fault.{Fault}
+use Rattle.svn_report.specs.Load.{IsReadWhole, most_reads}
+use Rattle.svn_report.specs.ReportError.{IsFirstFault}
+use Rattle.svn_report.specs.ReportFrom.{IsFaultyFrom, IsRefusedFrom, IsUnreadFrom}
+use Rattle.svn_report.specs.declared.run_error.RunError.{RunError}
+use Rattle.svn_report.specs.declared.run_error.RunError.TheVariants as run
+use Rattle.live_history.specs.Stream.{AreLast, AreTaken, HasEnded, IsCutLine, IsLost, IsReadUpTo, Stream, stream_of}
+use Rattle.live_history.specs.Talk.{IsLawfulDump, IsTalk, TalkState, after_turns, ready_text, start_of}
+use Rattle.live_history.specs.Turn.{IsTurn, Turn, piece_line, query, turns_bytes}
+use Rattle.live_history.specs.declared.talk_error.TalkError.{TalkError}
+use Rattle.live_history.specs.declared.talk_error.TalkError.TheVariants.{Cut, Run, TooMany, Unsent}
+
+-- how many queries a talk answers at most
+abbrev pub most_answered : ℕ
+most_answered = 4294967295
+
+-- ---- why a piece of so many bytes was not taken to a dump; `rest` is what was read after its line
+
+-- its bytes up to there decide the refusal, or all of them do
+pub record IsRefusedPiece (dump : List ℕ) (size : ℕ) (rest : List ℕ) (error : TalkError) : Type 0 where
+  pub front : List ℕ
+  pub more : List ℕ
+  pub number : ℕ
+  pub at : ℕ
+  pub is : error ≡ Run (run.Dump (Refused number at))
+  pub whole : rest ≡ front ++ more
+  pub within : length front ≤ size
+  pub why : IsDecided (dump ++ front) number at ⊎ ((length front ≡ size) × IsFirstAt (dump ++ front) number at)
+
+-- with them the dump has a faulty record
+pub record IsFaultyPiece (dump : List ℕ) (size : ℕ) (rest : List ℕ) (error : TalkError) : Type 0 where
+  pub bytes : List ℕ
+  pub more : List ℕ
+  pub fault : Fault
+  pub is : error ≡ Run (run.Fault fault)
+  pub whole : rest ≡ bytes ++ more
+  pub all : length bytes ≡ size
+  pub first : IsFirstFault (dump ++ bytes) fault
+
+-- the input ended in it
+pub record IsCutPiece (old : Stream) (after : PullState) (size : ℕ) (rest : List ℕ) (error : TalkError) : Type 0 where
+  pub is : error ≡ Cut
+  pub ended : HasEnded old after
+  pub short : length rest < size
+
+abbrev pub IsPieceReason : List ℕ → ℕ → Stream → PullState → List ℕ → TalkError → Type 0
+IsPieceReason dump size old after rest error =
+    IsRefusedPiece dump size rest error ⊎ IsFaultyPiece dump size rest error
+    ⊎ IsCutPiece old after size rest error ⊎ IsLost old after error
+
+pub record IsPieceEnd (dump : List ℕ) (size : ℕ) (old : Stream) (after : PullState) (error : TalkError) : Type 0 where
+  pub rest : List ℕ
+  pub read : IsReadUpTo old after rest
+  pub why : IsPieceReason dump size old after rest error
+
+-- ---- why a talk ended before its input; `rest` is what was read after the turns that were replied to
+
+-- a piece was not taken
+pub record IsEndInPiece (state : TalkState) (old : Stream) (after : PullState) (rest : List ℕ) (error : TalkError) : Type 0 where
+  pub digits : List ℕ
+  pub size : ℕ
+  pub number : number_up_to greatest_length digits ≡ Some size
+  pub bytes : List ℕ
+  pub whole : rest ≡ line_text (piece_line digits) ++ bytes
+  pub why : IsPieceReason state.dump size old after bytes error
+
+-- as many queries were answered as may be, and another one came
+pub record IsOneTooMany (state : TalkState) (rest : List ℕ) (error : TalkError) : Type 0 where
+  pub is : error ≡ TooMany
+  pub all : most_answered ≤ state.answered
+  pub line : List ℕ
+  pub more : List ℕ
+  pub query_is : IsTurn (query line)
+  pub whole : rest ≡ line_text line ++ more
+
+-- a front of what is said for further turns went out, before the device failed
+pub record IsUnsent (state : TalkState) (sent : PushState) (rest part : List ℕ) (error : TalkError) : Type 0 where
+  pub cause : SendError
+  pub is : error ≡ Unsent cause
+  pub turns : List Turn
+  pub more : List ℕ
+  pub are : All IsTurn turns
+  pub whole : rest ≡ turns_bytes turns ++ more
+  pub said : List ℕ
+  pub talk : IsTalk state turns said
+  pub part_is : part ≡ take cause.sent said
+  pub failed : IsTrue sent.has_failed
+
+abbrev pub IsEndReason : TalkState → Stream → PullState → PushState → List ℕ → List ℕ → TalkError → Type 0
+IsEndReason state old after sent rest part error =
+    ((part ≡ []) × (IsCutLine old after rest error ⊎ IsEndInPiece state old after rest error
+    ⊎ IsOneTooMany state rest error ⊎ IsLost old after error))
+    ⊎ IsUnsent state sent rest part error
+
+-- ---- talks
+
+-- `gone` is what went out before
+module _ (state : TalkState) (old : Stream) (gone : Option (List ℕ)) where
+  -- these turns were read and replied to
+  pub record AreReplied (new : Stream) (sent : PushState) (turns : List Turn) : Type 0 where
+    pub are : All IsTurn turns
+    pub taken : AreTaken old new (turns_bytes turns)
+    pub said : List ℕ
+    pub talk : IsTalk state turns said
+    pub sent_is : Appends gone sent.gone said
+
+  -- and they were the last ones
+  pub record AreAllReplied (after : PullState) (sent : PushState) : Type 0 where
+    pub turns : List Turn
+    pub are : All IsTurn turns
+    pub last : AreLast old after (turns_bytes turns)
+    pub said : List ℕ
+    pub talk : IsTalk state turns said
+    pub sent_is : Appends gone sent.gone said
+
+  -- some were replied to, and then the talk ended
+  pub record IsEndEarly (after : PullState) (sent : PushState) (error : TalkError) : Type 0 where
+    pub turns : List Turn
+    pub rest : List ℕ
+    pub are : All IsTurn turns
+    pub read : IsReadUpTo old after (turns_bytes turns ++ rest)
+    pub said : List ℕ
+    pub part : List ℕ
+    pub talk : IsTalk state turns said
+    pub sent_is : Appends gone sent.gone (said ++ part)
+    pub why : IsEndReason (after_turns state turns) old after sent rest part error
+
+-- ---- a talk about a dump that a device gives
+
+abbrev pub IsNoHistory : PullState → PullState → RunError → Type 0
+IsNoHistory old new run.TooMany = ⊥
+IsNoHistory old new (run.Dump refused) = IsRefusedFrom old new refused
+IsNoHistory old new (run.Fault fault) = IsFaultyFrom old new fault
+IsNoHistory old new (run.Read which) = (which ≡ source.Dump) × IsUnreadFrom old new
+IsNoHistory old new run.Memory = ⊤
+
+-- the dump has no lawful history, and nothing was read of the input or went out
+pub record IsNoTalk (dump dump_after : PullState) (input after : PullState) (output sent : PushState) (error : TalkError) : Type 0 where
+  pub reason : RunError
+  pub is : error ≡ Run reason
+  pub why : IsNoHistory dump dump_after reason
+  pub unread : after ≡ input
+  pub unsent : sent ≡ output
+
+-- all of a dump was read, and it has a lawful history
+pub record IsOpen (dump dump_after : PullState) (history : HistoryOfBytes) (bytes : List ℕ) : Type 0 where
+  pub all : IsReadWhole dump dump_after bytes
+  pub is : IsLawfulDump bytes history
+
+module _ (dump dump_after : PullState) (input after : PullState) (output sent : PushState) where
+  -- the youngest revision was said, and all turns of the input were replied to
+  pub record IsWholeTalk : Type 0 where
+    pub history : HistoryOfBytes
+    pub bytes : List ℕ
+    pub opened : IsOpen dump dump_after history bytes
+    pub talk : AreAllReplied (start_of bytes) (stream_of most_reads input) (append_known output.gone (ready_text history)) after sent
+    pub flushed : IsTrue sent.is_flushed
+    pub sound : IsFalse sent.has_failed
+
+  -- the youngest revision was said, some turns were replied to, and then the talk ended
+  pub record IsTalkEnd (error : TalkError) : Type 0 where
+    pub history : HistoryOfBytes
+    pub bytes : List ℕ
+    pub opened : IsOpen dump dump_after history bytes
+    pub talk : IsEndEarly (start_of bytes) (stream_of most_reads input) (append_known output.gone (ready_text history)) after sent error
+
+  -- a front of that went out, before the output failed
+  pub record IsReadyUnsent (error : TalkError) : Type 0 where
+    pub history : HistoryOfBytes
+    pub bytes : List ℕ
+    pub opened : IsOpen dump dump_after history bytes
+    pub cause : SendError
+    pub is : error ≡ Unsent cause
+    pub part : Appends output.gone sent.gone (take cause.sent (ready_text history))
+    pub failed : IsTrue sent.has_failed
+    pub unread : after ≡ input
+
+  abbrev pub IsTalkError : TalkError → Type 0
+  IsTalkError error = IsNoTalk dump dump_after input after output sent error ⊎ IsReadyUnsent error ⊎ IsTalkEnd error

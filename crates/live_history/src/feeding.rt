@@ -1,0 +1,40 @@
+//! Bytes of an input that come to the reader of a dump.
+ghost use Rattle.std.specs.Prelude.{◌≡◌, ◌+◌, ◌^◌, ◌<◌, ◌≤◌, ℕ, List, None, IfErr, OnOk};
+ghost use Rattle.svn_dump.specs.Feed.{HasRead};
+ghost use Rattle.live_history.specs.History.{IsFed};
+ghost use Rattle.live_history.specs.ReadAhead.{room, stream};
+ghost use Rattle.live_history.specs.TalkEnd.{IsPieceEnd};
+
+use crate::read_ahead::ReadAhead;
+use crate::talk_error::TalkError;
+use devices::Pull;
+use svn_dump::Feed;
+
+/// Takes so many bytes off the input, which come to a reader.
+pub(crate) fn feed_piece<I: Pull>(
+    feed: &mut Feed,
+    size: u64,
+    ahead: &mut ReadAhead,
+    input: &mut I,
+) -> Result<(), TalkError>
+    requires few { feed.old.count + room ahead.old < 2 ^ 64 }
+    requires going { feed.old.error ≡ None }
+    ensures ok { OnOk result
+        (IsFed feed.old size (stream ahead.old (I.state input.old)) (stream ahead.new (I.state input.new)) feed.new) }
+    ensures few { OnOk result (feed.new.count + room ahead.new ≤ feed.old.count + room ahead.old) }
+    ensures room { OnOk result (room ahead.new ≤ room ahead.old) }
+    ensures error { IfErr result (λ e. (before : List ℕ) → HasRead feed.old before
+        → IsPieceEnd before size (stream ahead.old (I.state input.old)) (I.state input.new) e) }
+{
+    let mut left = size;
+    'bytes: while left > 0 {
+        if !ahead.read_some(input)? {
+            return Err(TalkError::Cut);
+        }
+        let len = (ahead.unread().len() as u64).min(left) as usize;
+        feed.feed(&ahead.unread()[..len])?;
+        ahead.take(len);
+        left -= len as u64;
+    }
+    Ok(())
+}

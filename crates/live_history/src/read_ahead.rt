@@ -1,0 +1,176 @@
+//! Bytes of an input that were read before they are needed.
+ghost use Rattle.std.specs.Prelude.{◌≡◌, ◌+◌, ◌<◌, ◌≤◌, [], drop, length, IfErr, IfNone, IfOk, IfSome, IsFalse, IsTrue};
+ghost use Rattle.svn_text.specs.Cut.{Lacks};
+ghost use Rattle.svn_report.specs.Load.{most_reads};
+ghost use Rattle.live_history.specs.ReadAhead.{HasLine, IsLineEnd, IsReadEnd, room, stream};
+ghost use Rattle.live_history.specs.Stream.{AreLast, AreTaken};
+
+use crate::talk_error::TalkError;
+use devices::{Pull, Source};
+use std::alloc::{AllocError, Global};
+use std::marker::Model;
+use svn_report::RunError;
+use svn_text::split_at_byte;
+
+/// How many reads a talk makes at most.
+const MOST_READS: u64 = 4_294_967_296;
+
+/// How many bytes one read gives at most.
+const MOST_BYTES: usize = 65_536;
+
+/// Bytes of an input that were read and not taken yet, and room for one more read. No byte is searched twice for the end
+/// of a line.
+#[derive(Drop)]
+pub(crate) struct ReadAhead {
+    alloc: Global,
+    /// What was read; the first `taken` bytes were taken.
+    bytes: Vec<u8>,
+    taken: usize,
+    /// How many of the others are known to be no newline.
+    searched: usize,
+    piece: Vec<u8>,
+    /// How many reads may still be made.
+    reads: u64,
+}
+
+impl Model for ReadAhead {
+    ghost use Rattle.std.specs.Prelude.{◌≡◌, ◌+◌, ◌≤◌, drop, length, take, vec_len};
+    ghost use Rattle.svn_text.specs.Cut.{Lacks};
+    ghost use Rattle.svn_report.specs.ReportFrom.{most_bytes};
+    ghost use Rattle.live_history.specs.ReadAhead.{ReadAheadValue};
+
+    ghost Value = { ReadAheadValue };
+
+    ghost view = { λ ahead. record { unread = drop ahead.taken ahead.bytes.items; reads = ahead.reads } };
+
+    ghost invariant = { λ ahead. (ahead.taken + ahead.searched ≤ length ahead.bytes.items)
+        × Lacks 10 (take ahead.searched (drop ahead.taken ahead.bytes.items)) × (vec_len ahead.piece ≡ most_bytes) };
+}
+
+impl ReadAhead {
+    /// Nothing was read yet.
+    pub(crate) fn new(alloc: Global) -> Result<Self, AllocError>
+        ensures unread { IfOk result (λ ahead. ahead.unread ≡ []) }
+        ensures reads { IfOk result (λ ahead. ahead.reads ≡ most_reads) }
+    {
+        let mut piece = Vec::with_capacity(alloc, MOST_BYTES)?;
+        piece.resize(MOST_BYTES, 0)?;
+        Ok(ReadAhead {
+            alloc,
+            bytes: Vec::new(alloc),
+            taken: 0,
+            searched: 0,
+            piece,
+            reads: MOST_READS,
+        })
+    }
+
+    /// The bytes that were read and not taken yet.
+    pub(crate) fn unread(&self) -> &[u8]
+        ensures { result.now ≡ self.now.unread }
+    {
+        &self.bytes.as_slice()[self.taken..]
+    }
+
+    /// Takes so many bytes.
+    pub(crate) fn take(&mut self, count: usize)
+        requires { count ≤ length self.old.unread }
+        ensures unread { self.new.unread ≡ drop count self.old.unread }
+        ensures reads { self.new.reads ≡ self.old.reads }
+    {
+        self.taken += count;
+        self.searched = self.searched.saturating_sub(count);
+    }
+
+    /// Reads once, and says how many bytes came: 0 is the end of the input.
+    pub(crate) fn read<I: Pull>(&mut self, input: &mut I) -> Result<usize, TalkError>
+        ensures more { IfOk result (λ count. length self.new.unread ≡ length self.old.unread + count) }
+        ensures taken { IfOk result (λ count. 0 < count
+            → AreTaken (stream self.old (I.state input.old)) (stream self.new (I.state input.new)) []) }
+        ensures end { IfOk result (λ count. count ≡ 0
+            → AreLast (stream self.old (I.state input.old)) (I.state input.new) self.new.unread) }
+        ensures less { IfOk result (λ _. room self.new < room self.old) }
+        ensures error { IfErr result (IsReadEnd (stream self.old (I.state input.old)) (I.state input.new)) }
+    {
+        if self.reads == 0 {
+            return Err(TalkError::Run(RunError::Read(Source::Input)));
+        }
+        self.reads -= 1;
+        self.forget()?;
+        match input.pull(self.piece.as_mut_slice()) {
+            Err(_) => Err(TalkError::Run(RunError::Read(Source::Input))),
+            Ok(count) => {
+                self.bytes.extend_from_slice(&self.piece[..count])?;
+                Ok(count)
+            }
+        }
+    }
+
+    /// Reads once where all that was read is taken. `false` where nothing is left.
+    pub(crate) fn read_some<I: Pull>(&mut self, input: &mut I) -> Result<bool, TalkError>
+        ensures some { IfOk result (λ more. IsTrue more → 0 < length self.new.unread) }
+        ensures taken { IfOk result (λ more. IsTrue more
+            → AreTaken (stream self.old (I.state input.old)) (stream self.new (I.state input.new)) []) }
+        ensures end { IfOk result (λ more. IsFalse more
+            → AreLast (stream self.old (I.state input.old)) (I.state input.new) []) }
+        ensures room { IfOk result (λ more. room self.new ≤ room self.old) }
+        ensures error { IfErr result (IsReadEnd (stream self.old (I.state input.old)) (I.state input.new)) }
+    {
+        if self.unread().is_empty() {
+            Ok(self.read(input)? > 0)
+        } else {
+            Ok(true)
+        }
+    }
+
+    /// Keeps nothing of the bytes that were taken.
+    fn forget(&mut self) -> Result<(), AllocError>
+        ensures { self.new ≡ self.old }
+    {
+        if self.taken > 0 {
+            self.bytes = Vec::from_slice(self.alloc, self.unread())?;
+            self.taken = 0;
+        }
+        Ok(())
+    }
+
+    /// Reads until there is a whole line, and answers its length; `None` where nothing is left.
+    pub(crate) fn read_line<I: Pull>(&mut self, input: &mut I) -> Result<Option<usize>, TalkError>
+        ensures line { IfOk result (λ found. IfSome found (HasLine self.new.unread)) }
+        ensures taken { IfOk result (λ found. IfSome found (λ _.
+            AreTaken (stream self.old (I.state input.old)) (stream self.new (I.state input.new)) [])) }
+        ensures end { IfOk result (λ found. IfNone found
+            (AreLast (stream self.old (I.state input.old)) (I.state input.new) [])) }
+        ensures room { IfOk result (λ found. room self.new ≤ room self.old) }
+        ensures error { IfErr result (IsLineEnd (stream self.old (I.state input.old)) (I.state input.new)) }
+    {
+        'reads: loop {
+            if let Some(len) = self.line() {
+                return Ok(Some(len));
+            }
+            if self.read(input)? == 0 {
+                return if self.unread().is_empty() {
+                    Ok(None)
+                } else {
+                    Err(TalkError::Cut)
+                };
+            }
+        }
+    }
+
+    /// The length of the first line, where all of it was read.
+    fn line(&mut self) -> Option<usize>
+        ensures kept { self.new ≡ self.old }
+        ensures line { IfSome result (HasLine self.old.unread) }
+        ensures none { IfNone result (Lacks 10 self.old.unread) }
+    {
+        let searched = self.searched;
+        match split_at_byte(b'\n', &self.unread()[searched..]) {
+            Some((front, _)) => Some(searched + front.len()),
+            None => {
+                self.searched = self.unread().len();
+                None
+            }
+        }
+    }
+}

@@ -1,0 +1,140 @@
+//! Replies to queries.
+ghost use Rattle.std.specs.Prelude.{◌≡◌, ◌+◌, ◌^◌, ◌<◌, ◌≤◌, length, IfErr, IfOk, IfSome, IsFalse, IsTrue, OnOk};
+ghost use Rattle.devices.specs.Device.{PullState};
+ghost use Rattle.std.specs.List.{flat_map};
+ghost use Rattle.query_pool.specs.Serving.{most_workers};
+ghost use Rattle.svn_text.specs.Line.{line_text};
+ghost use Rattle.svn_dump.specs.Dump.{history_in_bytes};
+ghost use Rattle.svn_report.specs.Answering.{lent_lines};
+ghost use Rattle.svn_report.specs.Report.{most_queries};
+ghost use Rattle.live_history.specs.ReadAhead.{room, stream};
+ghost use Rattle.live_history.specs.Replies.{AreRepliedTo, IsUpToNext, replies};
+ghost use Rattle.live_history.specs.Talk.{IsLawfulDump, TalkState};
+ghost use Rattle.live_history.specs.TalkEnd.{IsEndEarly};
+ghost use Rattle.live_history.specs.Turns.{HasQuery};
+
+use crate::read_ahead::ReadAhead;
+use crate::talk_error::TalkError;
+use crate::turns::{Next, first_queries, read_next};
+use devices::{Pull, Push, send};
+use query_answer::Repo;
+use std::alloc::{AllocError, Global};
+use std::sync::Wait;
+use std::thread::Threads;
+use svn_report::answer_batch;
+use value_memo::Memo;
+
+/// How many queries are answered at a time for each worker, if so many are there.
+const SHARE: usize = 16;
+
+/// Replies to queries up to the next piece, and answers how many bytes it has; `None` at the end of the input.
+pub(crate) fn reply_up_to_piece<R: Threads + Wait + Sync, I: Pull, O: Push>(
+    rt: &R,
+    alloc: Global,
+    repo: &Repo,
+    workers: usize,
+    answered: &mut u32,
+    ahead: &mut ReadAhead,
+    input: &mut I,
+    output: &mut O,
+) -> Result<Option<u64>, TalkError>
+    requires some_worker { 0 < workers }
+    requires few_workers { workers ≤ most_workers }
+    ensures ok { IfOk result (λ next. (state : TalkState) → IsLawfulDump state.dump (history_in_bytes repo.now)
+        → state.answered ≡ answered.old
+        → IsUpToNext state (stream ahead.old (I.state input.old)) (O.state output.old).gone
+        (stream ahead.new (I.state input.new)) (I.state input.new) (O.state output.new) answered.new next) }
+    ensures room { IfOk result (λ next. room ahead.new ≤ room ahead.old) }
+    ensures less { IfOk result (λ next. IfSome next (λ _. room ahead.new < room ahead.old)) }
+    ensures flushed { IfOk result (λ _. IsTrue (O.state output.old).is_flushed → IsTrue (O.state output.new).is_flushed) }
+    ensures sound { IfOk result
+        (λ _. IsFalse (O.state output.old).has_failed → IsFalse (O.state output.new).has_failed) }
+    ensures error { IfErr result (λ e. (state : TalkState) → IsLawfulDump state.dump (history_in_bytes repo.now)
+        → state.answered ≡ answered.old
+        → IsEndEarly state (stream ahead.old (I.state input.old)) (O.state output.old).gone
+        (I.state input.new) (O.state output.new) e) }
+{
+    let memo = repo.memo(alloc)?;
+    'turns: loop {
+        match read_next(ahead, input)? {
+            Next::Query => {
+                reply_to_queries(rt, alloc, repo, &memo, workers, answered, ahead, output)?;
+            }
+            Next::Piece(size) => return Ok(Some(size)),
+            Next::End => return Ok(None),
+        }
+    }
+}
+
+/// Replies to the first queries of which all is there.
+fn reply_to_queries<'r, R: Threads + Wait + Sync, O: Push>(
+    rt: &R,
+    alloc: Global,
+    repo: &'r Repo,
+    memo: &Memo<'r>,
+    workers: usize,
+    answered: &mut u32,
+    ahead: &mut ReadAhead,
+    output: &mut O,
+) -> Result<(), TalkError>
+    requires query { HasQuery ahead.old.unread }
+    requires cells { length repo.now.values ≤ length memo.now }
+    requires some_worker { 0 < workers }
+    requires few_workers { workers ≤ most_workers }
+    ensures ok { OnOk result ((state : TalkState) → IsLawfulDump state.dump (history_in_bytes repo.now)
+        → state.answered ≡ answered.old → (input : PullState)
+        → AreRepliedTo state (stream ahead.old input) (O.state output.old).gone (stream ahead.new input)
+        (O.state output.new) answered.new) }
+    ensures less { OnOk result (room ahead.new < room ahead.old) }
+    ensures flushed { OnOk result (IsTrue (O.state output.new).is_flushed) }
+    ensures sound { OnOk result (IsFalse (O.state output.new).has_failed) }
+    ensures error { IfErr result (λ e. (state : TalkState) → IsLawfulDump state.dump (history_in_bytes repo.now)
+        → state.answered ≡ answered.old → (input : PullState)
+        → IsEndEarly state (stream ahead.old input) (O.state output.old).gone input (O.state output.new) e) }
+{
+    let most = (SHARE * workers).min((u32::MAX - *answered) as usize);
+    if most == 0 {
+        return Err(TalkError::TooMany);
+    }
+    let (lines, rest) = first_queries(alloc, ahead.unread(), most)?;
+    let text = reply_text(rt, alloc, repo, memo, *answered, lines.as_slice(), workers)?;
+    send(output, text.as_slice())?;
+    let count = ahead.unread().len() - rest.len();
+    *answered += lines.len() as u32;
+    drop(lines);
+    ahead.take(count);
+    Ok(())
+}
+
+/// The replies to these query lines.
+fn reply_text<'r, R: Threads + Wait + Sync>(
+    rt: &R,
+    alloc: Global,
+    repo: &'r Repo,
+    memo: &Memo<'r>,
+    answered: u32,
+    lines: &[&[u8]],
+    workers: usize,
+) -> Result<Vec<u8>, AllocError>
+    requires cells { length repo.now.values ≤ length memo.now }
+    requires few { length lines.now ≤ most_queries }
+    requires numbered { answered + length lines.now < 2 ^ 32 }
+    requires some_worker { 0 < workers }
+    requires few_workers { workers ≤ most_workers }
+    ensures { IfOk result (λ text. text.items ≡ replies repo.now answered (lent_lines lines.now)) }
+{
+    let texts = answer_batch(rt, alloc, repo, memo, answered, lines, workers)?;
+    with_empty_lines(alloc, texts.as_slice())
+}
+
+/// Texts one after another, an empty line after each.
+fn with_empty_lines(alloc: Global, texts: &[Vec<u8>]) -> Result<Vec<u8>, AllocError>
+    ensures { IfOk result (λ all. all.items ≡ flat_map (λ text. line_text text.items) texts.now) }
+{
+    let mut all = Vec::new(alloc);
+    for text in texts {
+        all.extend_from_slice(text.as_slice())?;
+        all.push(b'\n')?;
+    }
+    Ok(all)
+}

@@ -1,0 +1,9 @@
+//! Talks about small dumps.
+#![tactic(auto)]
+
+#[cfg(test)]
+mod ends;
+#[cfg(test)]
+mod host;
+#[cfg(test)]
+mod talks;
