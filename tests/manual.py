@@ -6,7 +6,7 @@ import subprocess
 
 from tree import ROOT
 
-NAMES = ["svnhist", "svnask"]
+NAMES = ["svnhist", "svnhist-live", "svnask"]
 MANDOC = ["mandoc", "-T", "lint", "-W", "warning"]
 # These options are of man-db, which runs groff.
 MAN = ["man", "--warnings", "-E", "UTF-8", "-l", "-Tutf8", "-Z"]
@@ -40,7 +40,7 @@ def run_manual():
     """Of each page its head; and of each formatter its name, no warnings, and the warnings that it gave."""
     outcomes = []
     for name in NAMES:
-        outcomes.append(("head of " + name, [(name.upper(), "svnhist")], heads_in(name)))
+        outcomes.append(("head of " + name, [(name.upper().replace("-", r"\-"), "svnhist")], heads_in(name)))
         if shutil.which("mandoc"):
             outcomes.append(("mandoc " + name, "", warnings_of(MANDOC, name, subprocess.PIPE)))
         if is_man_db():
