@@ -9,7 +9,7 @@ import re
 import subprocess
 from typing import Dict, List, Tuple
 
-from tree import ROOT, command, copied_tree
+from tree import ROOT, Programs, command, copied_tree
 
 Outcome = Tuple[str, str, str]
 
@@ -53,12 +53,12 @@ def commands_of(block: str) -> List[Tuple[str, str]]:
 
 
 def environment_of(root: str, folder: str) -> Dict[str, str]:
-    """What the commands run with, wherever the checks run: the program of the root, which svnask asks, too, the
+    """What the commands run with, wherever the checks run: the programs of the root, of which svnask asks one, the
     commands of the examples, and a home without settings. The pages show dates by UTC."""
     tools = os.path.join(folder, "tools")
     for name, lines in TOOLS.items():
         command(tools, name, lines)
-    for name in ("svnhist", "svnask"):
+    for name in ("svnhist", "svnhist-live", "svnask"):
         os.symlink(os.path.join(root, name), os.path.join(tools, name))
     kept = {name: value for name, value in os.environ.items() if not name.startswith("PARALLEL")}
     return dict(kept, PATH=tools + os.pathsep + os.environ.get("PATH", os.defpath), TZ="UTC", HOME=folder,
@@ -85,7 +85,7 @@ def blocks_to_run(page: str, root: str, environment: Dict[str, str]) -> List[str
 
 
 def run_commands(root: str, folder: str) -> List[Outcome]:
-    """Runs the commands of the pages in a root, which has the program. Of each command its name, what the page shows,
+    """Runs the commands of the pages in a root, which has the programs. Of each command its name, what the page shows,
     and what was printed."""
     environment = environment_of(root, folder)
     outcomes = []
@@ -96,6 +96,6 @@ def run_commands(root: str, folder: str) -> List[Outcome]:
     return outcomes
 
 
-def run_pages(program: str, folder: str) -> List[Outcome]:
+def run_pages(programs: Programs, folder: str) -> List[Outcome]:
     """Runs the commands of the pages in a copy of the source tree."""
-    return run_commands(copied_tree(folder, program), folder)
+    return run_commands(copied_tree(folder, programs), folder)

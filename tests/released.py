@@ -108,10 +108,10 @@ def run_package(parts, folder):
              installed(root, "sh", "-c", "examples/strip-texts < interop/branches.dump | wc -c"))]
 
 
-def committed(folder, program):
+def committed(folder, programs):
     """A copy of the source tree, as a repository in which all is committed. Returns its root and its tree."""
     os.mkdir(folder)
-    root = copied_tree(folder, program)
+    root = copied_tree(folder, programs)
     shutil.copy(os.path.join(ROOT, ".gitignore"), root)
     shutil.copytree(os.path.join(ROOT, "packaging"), os.path.join(root, "packaging"),
                     ignore=shutil.ignore_patterns("__pycache__"))
@@ -139,11 +139,11 @@ def refusal(root):
     return done.returncode, done.stdout.decode("utf-8", "replace") + done.stderr.decode("utf-8", "replace")
 
 
-def refused_releases(program, folder):
+def refused_releases(programs, folder):
     """What `scripts/release` says of a tree that `./test` did not pass on, of another program, and of changes."""
     if shutil.which("git") is None:
         return
-    root, tree = committed(os.path.join(folder, "refused"), program)
+    root, tree = committed(os.path.join(folder, "refused"), programs)
     tested, built = os.path.join(root, "out", "tested"), os.path.join(root, "crates", "svnhist", "out")
     yield "a release untested", (1, "release: ./test did not pass on this tree\n"), refusal(root)
     write(tested, "0" * 40 + "\n" + "0" * 64 + "  svnhist\n")
@@ -164,10 +164,10 @@ def versions_of_pages():
     yield "the version in CHANGELOG.md", version(), newest and newest[1]
 
 
-def run_released(program, folder):
+def run_released(programs, folder):
     """Of each outcome its name, what is wanted and what was found."""
-    with open(program, "rb") as file:
+    with open(programs.svnhist, "rb") as file:
         parts = Parts(file.read(), LICENCES)
     twice = ("the tarball twice", True, tarball(of_tarball(parts), WHEN) == tarball(of_tarball(parts), WHEN))
-    judged = list(versions_of_pages()) + list(refused_releases(program, folder))
+    judged = list(versions_of_pages()) + list(refused_releases(programs, folder))
     return [twice] + judged + run_tarball(parts, folder) + run_package(parts, folder)

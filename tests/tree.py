@@ -2,15 +2,22 @@
 import os
 import shutil
 import subprocess
-from typing import List, Optional
+from typing import List, NamedTuple, Optional
 
 ROOT = os.path.dirname(os.path.dirname(os.path.abspath(__file__)))
-PARTS = ["svnhist", "svnask", "ask", "crates.txt", "crates", "scripts", "examples", "interop"]
+PARTS = ["svnhist", "svnhist-live", "svnask", "ask", "crates.txt", "crates", "scripts", "examples", "interop"]
 LEFT_OUT = shutil.ignore_patterns("out", "proofs", "must-fail", "__pycache__")
 
 
-def copied_tree(folder: str, program: Optional[str] = None) -> str:
-    """The root of a copy in the folder, with the built program in its place if one is given."""
+class Programs(NamedTuple):
+    """The paths of the built programs, by the names of their crates."""
+
+    svnhist: str
+    svnhist_live: str
+
+
+def copied_tree(folder: str, programs: Optional[Programs] = None) -> str:
+    """The root of a copy in the folder, with the built programs in their places if they are given."""
     root = os.path.join(folder, "tree")
     os.mkdir(root)
     for part in PARTS:
@@ -19,18 +26,18 @@ def copied_tree(folder: str, program: Optional[str] = None) -> str:
             shutil.copytree(source, copy, ignore=LEFT_OUT)
         else:
             shutil.copy2(source, copy)
-    if program is not None:
-        place_program(root, program)
+    for crate, program in programs._asdict().items() if programs is not None else []:
+        place_program(root, crate, program)
     return root
 
 
-def place_program(root: str, program: str) -> None:
-    """Puts the program where a build leaves it, with the list of the sources that it is made from."""
-    built = os.path.join("crates", "svnhist", "out", "svnhist")
-    os.makedirs(os.path.dirname(os.path.join(root, built)), exist_ok=True)
-    shutil.copy(program, os.path.join(root, built))
-    with open(os.path.join(root, "crates", "svnhist", "out", "made-from"), "wb") as file:
-        subprocess.run(["scripts/list-sources", built], cwd=root, stdout=file, check=True)
+def place_program(root: str, crate: str, program: str) -> None:
+    """Puts the program of a crate where a build leaves it, with the list of the sources that it is made from."""
+    out = os.path.join("crates", crate, "out")
+    os.makedirs(os.path.join(root, out), exist_ok=True)
+    shutil.copy(program, os.path.join(root, out, crate))
+    with open(os.path.join(root, out, "made-from"), "wb") as file:
+        subprocess.run(["scripts/list-sources", crate, os.path.join(out, crate)], cwd=root, stdout=file, check=True)
 
 
 def command(folder: str, name: str, lines: List[str]) -> None:
