@@ -8,7 +8,7 @@ from typing import Dict, Iterator, List, NamedTuple
 ROOT = os.path.dirname(os.path.dirname(os.path.abspath(__file__)))
 # The pages for those who change svnhist. All other ones are for its users.
 FOR_DEVELOPERS = ["DECISIONS.md", "code-map.md", "developing.md", "glossary.md", "releasing.md"]
-MANUALS = ["svnhist.1", "svnask.1"]
+MANUALS = ["svnhist.1", "svnhist-live.1", "svnask.1"]
 MODULE = "usr/lib/python3/dist-packages/svnask/"
 PAGES = "usr/share/doc/svnhist/"
 EXAMPLE = re.compile(r"(?:examples|interop)/[\w-]+\.(?:dump|bundle|queries|report)")
@@ -24,9 +24,10 @@ class File(NamedTuple):
 
 
 class Parts(NamedTuple):
-    """What a release is made of beside the sources: the program, and the licences of what is linked into it by name."""
+    """What a release is made of beside the sources: the programs, and the licences of what is linked into them, both by
+    their names."""
 
-    program: bytes
+    programs: Dict[str, bytes]
     licences: Dict[str, bytes]
 
 
@@ -94,12 +95,16 @@ def of_tarball(parts: Parts) -> List[File]:
     """The files of the tarball: the folder has the shape of the source tree, so that the commands of the pages run in
     it as they stand."""
     others = ["CHANGELOG.md", "LICENSE"]
-    files = [File("svnhist", parts.program, 0o755), File("svnask", read("svnask"), 0o755)]
+    files = programs(parts) + [File("svnask", read("svnask"), 0o755)]
     files += [File(name, read(name)) for name in others] + [File("COPYRIGHT", read("packaging", "copyright"))]
     files += [File("ask/svnask/" + file.path, file.content) for file in module()]
     files += [File("man/man1/" + name, manual(name)) for name in MANUALS]
     files += [File("licenses/" + name, content) for name, content in parts.licences.items()]
     return sorted(in_folder("svnhist-%s/" % version(), files + pages(others)))
+
+
+def programs(parts: Parts) -> List[File]:
+    return [File(name, text, 0o755) for name, text in parts.programs.items()]
 
 
 def in_folder(folder: str, files: List[File]) -> Iterator[File]:
@@ -113,7 +118,7 @@ def of_system(script: bytes) -> bytes:
 
 
 def notices(parts: Parts) -> bytes:
-    """The licences of what is linked into the program, one after another."""
+    """The licences of what is linked into the programs, one after another."""
     return b"\n".join(b"==== %s\n\n%s" % (name.encode("ascii"), text) for name, text in sorted(parts.licences.items()))
 
 
@@ -123,7 +128,7 @@ def packed(content: bytes) -> bytes:
 
 def of_package(parts: Parts, debian_changelog: bytes) -> List[File]:
     """The files that the Debian package installs."""
-    files = [File("usr/bin/svnhist", parts.program, 0o755), File("usr/bin/svnask", of_system(read("svnask")), 0o755)]
+    files = list(in_folder("usr/bin/", programs(parts) + [File("svnask", of_system(read("svnask")), 0o755)]))
     files += in_folder(MODULE, module())
     files += [File("usr/share/man/man1/%s.gz" % name, packed(manual(name))) for name in MANUALS]
     files += in_folder(PAGES, pages([]))

@@ -1,24 +1,42 @@
-"""The program of a release: the object of the program that `./test` passed, linked with the C library into one file
+"""The programs of a release: the object of each program that `./test` passed, linked with the C library into one file
 that needs no library."""
 import glob
 import os
 import shutil
 import subprocess
 import tempfile
-from typing import Dict, List
+from typing import Dict, List, NamedTuple
 
 from archives import NotMade, filled
 from contents import ROOT, File, Parts, read, version
 
-PROGRAM = os.path.join(ROOT, "crates", "svnhist", "out", "svnhist")
-OBJECT = PROGRAM + ".o"
-MADE_FROM = os.path.join(os.path.dirname(PROGRAM), "made-from")
 ARCHIVES = ["libos_c.a", "liblibc_c.a"]
 TARGET = "x86_64-unknown-linux-gnu"
 LINK = ["gcc", "-static-pie", "-Wl,--gc-sections", "-Wl,-z,relro,-z,now,-z,noexecstack", "-Wl,--build-id=sha1", "-s"]
 STRIP = ["strip", "--strip-unneeded", "-R", ".comment", "-R", ".note"]
 LGPL = "/usr/share/common-licenses/LGPL-2.1"
 NOTICES_OF_GLIBC = "/usr/share/doc/libc6-dev/copyright"
+
+
+class Program(NamedTuple):
+    """A program: the name by which it is called, its crate, and the arguments of a short run at the top of the tree."""
+
+    name: str
+    crate: str
+    trial: List[str]
+
+    def built(self) -> str:
+        return os.path.join(ROOT, "crates", self.crate, "out", self.crate)
+
+    def object_file(self) -> str:
+        return self.built() + ".o"
+
+    def made_from(self) -> str:
+        return os.path.join(os.path.dirname(self.built()), "made-from")
+
+
+PROGRAMS = [Program("svnhist", "svnhist", ["examples/branch.dump", "examples/branch.queries", "0", "1"]),
+            Program("svnhist-live", "svnhist_live", ["examples/branch.dump", "1"])]
 
 
 def content(path: str) -> bytes:
@@ -48,35 +66,39 @@ def archives() -> List[str]:
     return [os.path.join(kit(), "c", name) for name in ARCHIVES]
 
 
-def is_of_object() -> bool:
+def is_of_object(program: Program) -> bool:
     """Whether the object is there, and linked as `rt` links it gives the built program."""
-    if not os.path.exists(OBJECT):
+    if not os.path.exists(program.object_file()):
         return False
     with tempfile.TemporaryDirectory(prefix="svnhist-link-") as folder:
-        linked = os.path.join(folder, "svnhist")
+        linked = os.path.join(folder, program.name)
         printed([os.path.join(kit(), "bin", "rattle-link"), "--target", TARGET, "--toolchain",
-                 os.path.join(kit(), "toolchain"), "-o", linked, OBJECT] + archives())
-        return content(linked) == content(PROGRAM)
+                 os.path.join(kit(), "toolchain"), "-o", linked, program.object_file()] + archives())
+        return content(linked) == content(program.built())
 
 
-def make_object() -> None:
+def make_object(program: Program) -> None:
     """Has the launcher build the program once more where its object is not kept."""
-    if is_of_object():
+    if is_of_object(program):
         return
-    os.remove(MADE_FROM)
-    with open(os.path.join(ROOT, "examples", "first.bundle"), "rb") as bundle:
-        subprocess.run([os.path.join(ROOT, "svnhist")], stdin=bundle, stdout=subprocess.DEVNULL, check=True)
-    if not is_of_object():
-        raise NotMade("the object in crates/svnhist/out is not that of the program")
+    os.remove(program.made_from())
+    subprocess.run([os.path.join(ROOT, program.name)] + program.trial, cwd=ROOT, stdin=subprocess.DEVNULL,
+                   stdout=subprocess.DEVNULL, check=True)
+    if not is_of_object(program):
+        raise NotMade("the object in crates/%s/out is not that of the program" % program.crate)
 
 
-def link(to: str) -> None:
-    printed(LINK + ["-o", to, OBJECT] + archives())
+def link_words(to: str, of: str) -> List[str]:
+    return LINK + ["-o", to, of]
+
+
+def link(program: Program, to: str) -> None:
+    printed(link_words(to, program.object_file()) + archives())
     printed(STRIP + [to])
 
 
 def named_ports() -> List[str]:
-    """The ported crates of the kit that the crates of the program name."""
+    """The ported crates of the kit that the crates of the programs name."""
     lines = [line.partition(":") for line in content(os.path.join(ROOT, "crates.txt")).decode("ascii").splitlines()
              if not line.startswith("#")]
     return sorted({name for line in lines for name in line[2].split()} - {line[0] for line in lines})
@@ -93,8 +115,8 @@ def licences_of(port: str) -> List[str]:
 
 
 def linked_ports() -> List[str]:
-    """The ported crates that are linked into the program: those that are named, and those below them that have a licence
-    of their own. The others are the kit's."""
+    """The ported crates that are linked into the programs: those that are named, and those below them that have a
+    licence of their own. The others are the kit's."""
     found, left = set(), named_ports()
     while left:
         port = left.pop()
@@ -105,7 +127,7 @@ def linked_ports() -> List[str]:
 
 
 def licences() -> Dict[str, bytes]:
-    """The licences of what is linked into the program."""
+    """The licences of what is linked into the programs."""
     found = {"LGPL-2.1": content(LGPL), "glibc-copyright": content(NOTICES_OF_GLIBC)}
     for port in linked_ports():
         paths = licences_of(port)
@@ -123,13 +145,18 @@ def built_using() -> str:
     return "glibc (= %s)" % version_of("libc6-dev")
 
 
+def relink_lines(program: Program) -> List[str]:
+    """The commands that link a program anew in the folder of the archive."""
+    return [" ".join(link_words(program.name, program.name + ".o") + ARCHIVES), " ".join(STRIP + [program.name])]
+
+
 def of_relink(parts: Parts) -> List[File]:
-    """What links the program anew, with another version of the GNU C library, too."""
+    """What links the programs anew, with another version of the GNU C library, too."""
     words = {"VERSION": version(), "GLIBC": "libc6-dev " + version_of("libc6-dev"),
              "GCC": printed(["gcc", "--version"]).split("\n")[0],
-             "COMMAND": " ".join(LINK + ["-o", "svnhist", "svnhist.o"] + ARCHIVES),
-             "STRIP": " ".join(STRIP + ["svnhist"])}
-    files = [File("README", filled("relink", words)), File("svnhist.o", content(OBJECT))]
+             "COMMANDS": "\n    ".join(line for program in PROGRAMS for line in relink_lines(program))}
+    files = [File("README", filled("relink", words))]
+    files += [File(program.name + ".o", content(program.object_file())) for program in PROGRAMS]
     files += [File("LICENSE", read("LICENSE")), File("COPYRIGHT", read("packaging", "copyright"))]
     files += [File(os.path.basename(path), content(path)) for path in archives()]
     files += [File("licenses/" + name, text) for name, text in parts.licences.items()]

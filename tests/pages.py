@@ -14,7 +14,7 @@ from tree import ROOT, Programs, command, copied_tree
 Outcome = Tuple[str, str, str]
 
 PAGES = ["README.md", "docs/recipes.md", "docs/queries.md", "docs/dump-format.md", "docs/svnask.md", "docs/svnhist.1",
-         "docs/svnask.1"]
+         "docs/svnhist-live.1", "docs/svnask.1"]
 CONSOLE = re.compile(r"^```console\n(.*?)^```$", re.MULTILINE | re.DOTALL)
 EXAMPLE = re.compile(r"^\.EX\n(.*?)^\.EE$", re.MULTILINE | re.DOTALL)
 # A command of GNU parallel, which not every machine has. Only a block with one may need what such a block made.
