@@ -1,0 +1,57 @@
+-- What a talk is asked for by its arguments, and why there is none.
+use Rattle.std.specs.Prelude.{◌≡◌, ◌⊎◌, ℕ, List, Option, Some, None, ⊤}
+use Rattle.devices.specs.Device.{PullState, PushState}
+use Rattle.devices.specs.declared.source.Source.TheVariants as source
+use Rattle.svn_report.specs.declared.run_error.RunError.TheVariants.{Memory, Read}
+use Rattle.live_history.specs.TalkEnd.{IsTalkError, IsWholeTalk}
+use Rattle.live_history.specs.declared.talk_error.TalkError.{TalkError}
+use Rattle.live_history.specs.declared.talk_error.TalkError.TheVariants.{Run}
+use Rattle.svnhist_live.specs.Arguments.{ArgumentsValue, IsArguments}
+
+module _ {D : Type 0} (opens : List ℕ → D → Type 0) (refuses : List ℕ → Type 0) (state : D → PullState) (input after : PullState) (output sent : PushState) where
+  -- the talk about the dump that a path opens
+  pub record IsTalkOn (path : List ℕ) : Type 0 where
+    pub dump : D
+    pub read : D
+    pub opened : opens path dump
+    pub right : IsWholeTalk (state dump) (state read) input after output sent
+
+  -- why it ended before its input did
+  pub record IsErrorOnDump (path : List ℕ) (error : TalkError) : Type 0 where
+    pub dump : D
+    pub read : D
+    pub opened : opens path dump
+    pub why : IsTalkError (state dump) (state read) input after output sent error
+
+  -- the path opens nothing
+  pub record IsUnopened (path : List ℕ) (error : TalkError) : Type 0 where
+    pub is : error ≡ Run (Read source.Dump)
+    pub refused : refuses path
+    pub unread : after ≡ input
+    pub unsent : sent ≡ output
+
+  -- why there is no whole talk about a path's dump
+  abbrev pub IsErrorOn : List ℕ → TalkError → Type 0
+  IsErrorOn path error = IsUnopened path error ⊎ IsErrorOnDump path error
+
+  -- ---- by the arguments
+
+  abbrev pub IsTalkAsked : Option (List (List ℕ)) → Type 0
+  IsTalkAsked None = ⊥
+  IsTalkAsked (Some texts) = (asked : ArgumentsValue) × IsArguments texts asked × IsTalkOn asked.dump
+
+  abbrev pub IsErrorAsked : Option (List (List ℕ)) → TalkError → Type 0
+  IsErrorAsked None error = error ≡ Run Memory
+  IsErrorAsked (Some texts) error =
+      (asked : ArgumentsValue) × IsArguments texts asked × IsErrorOn asked.dump error
+
+-- nothing is asked for
+abbrev pub IsMisused : Option (List (List ℕ)) → Type 0
+IsMisused None = ⊤
+IsMisused (Some texts) = (asked : ArgumentsValue) → IsArguments texts asked → ⊥
+
+-- there is no whole talk, and the status and the line are those of the reason
+pub record IsEnded (IsAsked : TalkError → Type 0) (IsLine : TalkError → Type 0) : Type 0 where
+  pub error : TalkError
+  pub asked : IsAsked error
+  pub line : IsLine error

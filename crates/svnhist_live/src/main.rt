@@ -1,0 +1,20 @@
+//! Answers questions about the history of a Subversion repository as long as they come, while its dump grows.
+#![tactic(auto)]
+
+mod arguments;
+mod program;
+
+use devices::{Device, SystemFiles, arguments_of};
+use std::process::ExitCode;
+
+fn main(rt: HostRuntime) -> ExitCode {
+    program::run(
+        &rt,
+        rt.alloc(),
+        &SystemFiles(&rt),
+        arguments_of(&rt),
+        &mut Device::new(rt.stdin()),
+        &mut Device::new(rt.stdout()),
+        &mut Device::new(rt.stderr()),
+    )
+}

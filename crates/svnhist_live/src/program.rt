@@ -1,0 +1,133 @@
+//! The program: turns in, replies out.
+ghost use Rattle.std.specs.Prelude.{◌≡◌, ◌≢◌, ◌<◌, ◌≤◌, IfErr, IfOk, IsErrOf, IsFalse, IsOkAnd, IsTrue, OnOk};
+ghost use Rattle.std.specs.Process.{exit_status};
+ghost use Rattle.std.specs.IoError.{error_kind};
+ghost use Rattle.query_pool.specs.Serving.{most_workers};
+ghost use Rattle.devices.specs.Arguments.{texts_of};
+ghost use Rattle.devices.specs.Sending.{PrintsLine};
+ghost use Rattle.live_history.specs.TalkError.{IsTalkErrorLine};
+ghost use Rattle.svnhist_live.specs.Asked.{IsEnded, IsErrorAsked, IsErrorOn, IsMisused, IsTalkAsked, IsTalkOn};
+ghost use Rattle.svnhist_live.specs.ProgramLines.{usage_line};
+
+use crate::arguments::{Arguments, read_arguments};
+use devices::{Open, Pull, Push, Source, print_line};
+use live_history::{TalkError, talk};
+use std::alloc::Global;
+use std::io::{self, ErrorKind};
+use std::process::ExitCode;
+use std::random::RandomSource;
+use std::sync::Wait;
+use std::thread::Threads;
+use svn_report::RunError;
+
+const USAGE: &[u8] = b"svnhist: usage: svnhist-live DUMP WORKERS\n";
+
+/// Does what the arguments after the program's name ask for, and answers the status with which the program ends. Where
+/// the talk ends before its input does, one line for `errors` says why.
+pub(crate) fn run<
+    R: RandomSource + Threads + Wait + Sync,
+    F: Open<D>,
+    D: Pull + Drop,
+    I: Pull,
+    O: Push,
+    E: Push,
+>(
+    rt: &R,
+    alloc: Global,
+    files: &F,
+    arguments: io::Result<Vec<String>>,
+    input: &mut I,
+    output: &mut O,
+    errors: &mut E,
+) -> ExitCode
+    ensures done { exit_status result ≡ 0 → IsTalkAsked (F.opens files.now) (F.refuses files.now) D.state
+        (I.state input.old) (I.state input.new) (O.state output.old) (O.state output.new) (texts_of arguments) }
+    ensures misused { exit_status result ≡ 2 → IsMisused (texts_of arguments) }
+    ensures usage_line { exit_status result ≡ 2 → PrintsLine (E.state errors.old) (E.state errors.new) usage_line }
+    ensures unread { exit_status result ≡ 2 → input.new ≡ input.old }
+    ensures unsent { exit_status result ≡ 2 → output.new ≡ output.old }
+    ensures ended { exit_status result ≢ 0 → exit_status result ≢ 2 → IsEnded
+        (IsErrorAsked (F.opens files.now) (F.refuses files.now) D.state
+        (I.state input.old) (I.state input.new) (O.state output.old) (O.state output.new) (texts_of arguments))
+        (λ e. IsTalkErrorLine (exit_status result) e (E.state errors.old) (E.state errors.new)) }
+    ensures known { exit_status result ≤ 4 }
+    ensures silent { exit_status result ≡ 0 → errors.new ≡ errors.old }
+    ensures no_texts { IfErr arguments (λ e. error_kind e ≢ ErrorKind.OutOfMemory → exit_status result ≡ 2) }
+    ensures no_memory { IfErr arguments (λ e. error_kind e ≡ ErrorKind.OutOfMemory → exit_status result ≡ 4) }
+{
+    match talk_asked(rt, alloc, files, arguments, input, output) {
+        Ok(true) => ExitCode::from(0),
+        Ok(false) => {
+            print_line(errors, USAGE);
+            ExitCode::from(2)
+        }
+        Err(error) => ExitCode::from(error.print(alloc, errors)),
+    }
+}
+
+/// The talk that the arguments ask for. `false` where they ask for nothing.
+fn talk_asked<
+    R: RandomSource + Threads + Wait + Sync,
+    F: Open<D>,
+    D: Pull + Drop,
+    I: Pull,
+    O: Push,
+>(
+    rt: &R,
+    alloc: Global,
+    files: &F,
+    arguments: io::Result<Vec<String>>,
+    input: &mut I,
+    output: &mut O,
+) -> Result<bool, TalkError>
+    ensures done { IfOk result (λ asked. IsTrue asked → IsTalkAsked (F.opens files.now) (F.refuses files.now) D.state
+        (I.state input.old) (I.state input.new) (O.state output.old) (O.state output.new) (texts_of arguments)) }
+    ensures misused { IfOk result (λ asked. IsFalse asked → IsMisused (texts_of arguments)) }
+    ensures unread { IfOk result (λ asked. IsFalse asked → input.new ≡ input.old) }
+    ensures unsent { IfOk result (λ asked. IsFalse asked → output.new ≡ output.old) }
+    ensures error { IfErr result (IsErrorAsked (F.opens files.now) (F.refuses files.now) D.state
+        (I.state input.old) (I.state input.new) (O.state output.old) (O.state output.new) (texts_of arguments)) }
+    ensures no_texts { IfErr arguments (λ e. error_kind e ≢ ErrorKind.OutOfMemory → IsOkAnd result IsFalse) }
+    ensures no_memory { IfErr arguments (λ e. error_kind e ≡ ErrorKind.OutOfMemory
+        → IsErrOf result (TalkError.Run RunError.Memory)) }
+{
+    match arguments {
+        Ok(texts) => match read_arguments(texts.as_slice()) {
+            Some(asked) => {
+                talk_about(rt, alloc, files, &asked, input, output)?;
+                Ok(true)
+            }
+            None => Ok(false),
+        },
+        Err(e) if e.kind() == ErrorKind::OutOfMemory => Err(TalkError::Run(RunError::Memory)),
+        Err(_) => Ok(false),
+    }
+}
+
+/// The talk about a file.
+fn talk_about<
+    R: RandomSource + Threads + Wait + Sync,
+    F: Open<D>,
+    D: Pull + Drop,
+    I: Pull,
+    O: Push,
+>(
+    rt: &R,
+    alloc: Global,
+    files: &F,
+    asked: &Arguments<'_>,
+    input: &mut I,
+    output: &mut O,
+) -> Result<(), TalkError>
+    requires some_worker { 0 < asked.now.workers }
+    requires few_workers { asked.now.workers ≤ most_workers }
+    ensures done { OnOk result (IsTalkOn (F.opens files.now) (F.refuses files.now) D.state (I.state input.old)
+        (I.state input.new) (O.state output.old) (O.state output.new) asked.now.dump.now) }
+    ensures error { IfErr result (IsErrorOn (F.opens files.now) (F.refuses files.now) D.state (I.state input.old)
+        (I.state input.new) (O.state output.old) (O.state output.new) asked.now.dump.now) }
+{
+    match files.open(asked.dump) {
+        Some(mut dump) => talk(rt, alloc, &mut dump, asked.workers, input, output),
+        None => Err(TalkError::Run(RunError::Read(Source::Dump))),
+    }
+}
