@@ -8,6 +8,7 @@ Queries with a range of revisions are drawn apart (`ranges.py`), so all else of 
 any.
 """
 import random
+from typing import List, Tuple
 
 import ranges
 
@@ -89,7 +90,7 @@ def has_line(lines, name):
     return any(line.startswith(name + b":") for line in lines)
 
 
-def changed(lot, text):
+def changed(lot: random.Random, text: bytes) -> bytes:
     """A text in which one byte is replaced, removed or inserted."""
     at = lot.randrange(len(text) + 1)
     return text[:at] + lot.choice((lot.choice(BYTES), lot.choice(BYTES), b"")) + text[at + lot.choice((0, 1, 1)):]
@@ -515,8 +516,8 @@ def query(draft):
     return changed(lot, line).replace(b"\n", b"\r") if draft.chance(0.03) else line
 
 
-def bundle_of(seed):
-    lot = random.Random(seed)
+def parts_of(lot: random.Random, seed: int) -> Tuple["Draft", List[bytes], bytes]:
+    """The draft of a history, queries about it, and its dump."""
     draft = Draft(lot)
     youngest = lot.randint(0, 12) if draft.chance(0.1) else lot.randint(4, 12)
     faulty = lot.randint(1, max(youngest, 1)) if draft.chance(0.1) else None
@@ -532,5 +533,11 @@ def bundle_of(seed):
             dump = changed(lot, dump)
     if draft.chance(0.01):
         dump = dump[:lot.randrange(len(dump))]
+    return draft, queries, dump
+
+
+def bundle_of(seed):
+    lot = random.Random(seed)
+    draft, queries, dump = parts_of(lot, seed)
     head = lot.choice(ODD_HEADS) if draft.chance(0.005) else b"%d %d %%d" % (lot.randint(0, 5), lot.randint(1, 4))
     return (head % len(queries) if b"%" in head else head) + b"\n" + b"".join(line + b"\n" for line in queries) + dump

@@ -1,10 +1,12 @@
 """Gives a program its input through a pipe, in pieces, and moves the blocks of a dump."""
 import fcntl
 import os
+import random
 import select
 import signal
 import subprocess
 import threading
+from typing import List, Tuple
 
 # The command of Linux that sets the size of a pipe, which Python before 3.10 has no name for.
 SET_PIPE_SIZE = getattr(fcntl, "F_SETPIPE_SZ", 1031)
@@ -18,22 +20,22 @@ BODY_LINES = b"\nNode-path: a\n\n"
 LONG_HEADER = b"UUID: 0\nX: "
 
 
-def empty_lines(size):
+def empty_lines(size: int) -> bytes:
     return b"\n" * size
 
 
-def long_body(size):
+def long_body(size: int) -> bytes:
     """A block of this size with a body that looks like blocks."""
     length = size - len(BODY_HEADER % 0)
     return BODY_HEADER % length + (BODY_LINES * (1 + length // len(BODY_LINES)))[:length]
 
 
-def long_header(size):
+def long_header(size: int) -> bytes:
     """A block of this size with a long line."""
     return LONG_HEADER + b"y" * (size - len(LONG_HEADER) - 2) + b"\n\n"
 
 
-def moved(lot, dump):
+def moved(lot: random.Random, dump: bytes) -> Tuple[bytes, int]:
     """The dump with its blocks later by some bytes, which do not affect its history, and the number of these bytes.
 
     So a read of the program ends at a drawn place of the blocks. A dump without the right first line stays as it is.
@@ -46,7 +48,7 @@ def moved(lot, dump):
     return dump[:start] + more + dump[start:], size
 
 
-def cut(lot, text):
+def cut(lot: random.Random, text: bytes) -> List[bytes]:
     """The text in pieces of drawn sizes."""
     most = lot.choice((1000, 100000) if len(text) > READ // 2 else (7, 70, 70, 70, 1000))
     pieces = []

@@ -1,0 +1,114 @@
+"""A literal reading of a talk: the turns in its input, what is said for each of them, and how the talk ends.
+
+A turn is a query on a line of its own, or a line `piece BYTES` and so many further bytes of the dump. As the rest of
+the model this was written from the documentation alone.
+"""
+import re
+from typing import Any, Iterator, List, NamedTuple, Optional
+
+from loading import model
+
+# A reason against a dump, with its number and the byte of its block.
+AT_BYTE = re.compile(r"dump refused: ([0-9]+) [A-Za-z]+ at byte ([0-9]+)")
+CUT = "standard input ends within a turn"
+
+
+class Said(NamedTuple):
+    """What is said, and how many bytes of the input had come by then."""
+
+    at: int
+    text: bytes
+
+
+class Talk(NamedTuple):
+    """What is said in a talk, and its exit status and its line on standard error, without the name of the program."""
+
+    said: List[Said]
+    status: int
+    line: str
+
+
+def piece_size(line: bytes) -> Optional[int]:
+    """How many bytes of a piece follow a line, or None if it is a query."""
+    word, space, digits = line.partition(b" ")
+    size: Optional[int] = model.number_of(digits, model.GREATEST_LENGTH)
+    return size if word + space == b"piece " else None
+
+
+def ready(history: Any) -> bytes:
+    """The youngest revision of a history."""
+    trees, _ = history
+    return b"ready %d\n\n" % (len(trees) - 1)
+
+
+def answer(history: Any, number: int, line: bytes) -> bytes:
+    status, *lines = model.answer_of(history, line)
+    return b"#%d %s\n" % (number, status) + b"".join(each + b"\n" for each in lines) + b"\n"
+
+
+def may_change(front: bytes, number: int, at: int) -> bool:
+    """Whether a reason against these bytes may be none, or another one, if more of the dump follows them."""
+    if number == 1:
+        return bool(model.FIRST_NAME.startswith(front))
+    if number == 4:
+        return b"\n\n" not in front[at:]
+    return number == 5 or (number == 8 and at == len(front))
+
+
+def raise_decided(front: bytes) -> None:
+    """Raises the refusal of each dump that begins with these bytes, if they decide one."""
+    try:
+        model.records_of(front)
+    except model.NoReport as reason:
+        _, line = reason.args
+        place = AT_BYTE.fullmatch(line)
+        assert place
+        if not may_change(front, int(place[1]), int(place[2])):
+            raise
+
+
+def read_cut(dump: bytes) -> None:
+    """Raises why a talk ends whose input ends within a piece; the bytes are those of the dump up to there."""
+    raise_decided(dump)
+    raise model.NoReport(1, CUT)
+
+
+def replies(dump: bytes, given: bytes) -> Iterator[Said]:
+    """What is said, one after another, until there is a reason to end."""
+    history = model.history_of(dump)
+    yield Said(0, ready(history))
+    at = count = 0
+    while at < len(given):
+        line, newline, _ = given[at:].partition(b"\n")
+        if not newline:
+            raise model.NoReport(1, CUT)
+        at += len(line) + 1
+        size = piece_size(line)
+        if size is None:
+            count += 1
+            yield Said(at, answer(history, count, line))
+        else:
+            piece = given[at:at + size]
+            dump += piece
+            at += len(piece)
+            if len(piece) < size:
+                read_cut(dump)
+            history = model.history_of(dump)
+            yield Said(at, ready(history))
+
+
+def talk_of(dump: bytes, given: bytes) -> Talk:
+    """The talk about a dump with these bytes as its input."""
+    said: List[Said] = []
+    try:
+        for each in replies(dump, given):
+            said.append(each)
+    except model.NoReport as reason:
+        return Talk(said, *reason.args)
+    return Talk(said, 0, "")
+
+
+def is_over(dump: bytes, given: bytes) -> bool:
+    """Whether a talk ends with these bytes of its input, whatever follows them."""
+    talk = talk_of(dump, given)
+    return talk.status != 0 and talk.line != CUT
