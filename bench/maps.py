@@ -7,6 +7,7 @@ to the map, and an addition adds a node for each component of its path and one f
 """
 import os
 import random
+from typing import List, Tuple
 
 from measure import Failed, generate, peak_of, run
 from merges import query
@@ -30,7 +31,7 @@ MOST_FOR_TWICE = 2.3
 MOST_MEMORY_FOR_TWICE = 2.1
 
 
-def pegs_at_ends(records):
+def pegs_at_ends(records: List[Tuple[str, int, str]]) -> List[Tuple[str, int]]:
     """The last record of each revision, unless it is a deletion. Its path exists at the end of the revision."""
     return [(path, rev) for (path, rev, action), (_, following, _) in zip(records, records[1:])
             if following > rev and action != "delete"]
@@ -44,7 +45,7 @@ def drawn_lines(pegs, verbs):
             else Question(lot, pegs).line(verb) for verb in verbs]
 
 
-def write_mix(path, mix, revisions):
+def write_mix(path: str, mix: str, revisions: int) -> None:
     with open(path, "wb") as file:
         generate(["--mix", mix, "--revisions", str(revisions), "--records", str(RECORDS)] + MIXES[mix], file)
 
@@ -144,7 +145,7 @@ def measured(program, folder, mix, given):
     return found
 
 
-def print_criterion(text, most, value):
+def print_criterion(text: str, most: float, value: float) -> None:
     print("| %s | %g | %.2f | %s |" % (text, most, value, "met" if value <= most else "**not met**"))
 
 

@@ -7,6 +7,7 @@ import os
 import random
 import shutil
 import subprocess
+from typing import List, Optional, Tuple
 
 from measure import Failed, generate, run
 
@@ -18,11 +19,11 @@ ASKED = {"locate": 200000, "segments": 200000, "log": 20000}
 ASKED_OF_SUBVERSION = 20
 
 
-def records_of(path):
+def records_of(path: str) -> List[Tuple[str, int, str]]:
     """The records of a dump: path, revision and action."""
     found = []
     rev = 0
-    name = None
+    name = ""
     with open(path, "rb") as file:
         for line in file:
             if line.startswith(b"Revision-number: "):
@@ -37,15 +38,15 @@ def records_of(path):
 class Question:
     """A peg from the later half of the history, and an earlier revision."""
 
-    def __init__(self, lot, pegs):
+    def __init__(self, lot: random.Random, pegs: List[Tuple[str, int]]) -> None:
         self.path, self.rev = lot.choice(pegs[len(pegs) // 2:])
         self.other = lot.randrange(self.rev)
 
-    def line(self, verb):
+    def line(self, verb: str) -> str:
         fields = [verb, "%s@%d" % (self.path, self.rev)] + (["%d" % self.other] if verb == "locate" else [])
         return "\t".join(fields) + "\n"
 
-    def to_subversion(self, verb, url):
+    def to_subversion(self, verb: str, url: str) -> Optional[List[str]]:
         """The same query as a command of Subversion, which has none for location segments."""
         peg = "%s/%s@%d" % (url, self.path, self.rev)
         return {"locate": ["svn", "info", "-r", str(self.other), peg], "log": ["svn", "log", "-q", peg]}.get(verb)
@@ -74,16 +75,17 @@ def load(dump: str, repository: str) -> None:
         raise Failed("svnadmin load ended with %d: %s" % (taken.status, taken.errors.decode("utf-8", "replace").strip()))
 
 
-def of_subversion(questions, verb, url):
+def of_subversion(questions: List[Question], verb: str, url: str) -> Optional[float]:
     """The seconds that Subversion takes per query, or None if it has no such command."""
     asked = [question.to_subversion(verb, url) for question in questions[:ASKED_OF_SUBVERSION]]
-    if None in asked:
+    commands = [words for words in asked if words is not None]
+    if len(commands) < len(asked):
         return None
     # if the path did not exist, svn reports that and ends with status 1
-    return sum(run(words, file=os.devnull).wall for words in asked) / len(asked)
+    return sum(run(words, file=os.devnull).wall for words in commands) / len(commands)
 
 
-def milliseconds(seconds):
+def milliseconds(seconds: Optional[float]) -> str:
     return "%.3f" % (seconds * 1e3) if seconds is not None else "-"
 
 

@@ -12,6 +12,7 @@ import shutil
 import subprocess
 import tempfile
 import time
+from typing import IO, Iterator, List
 
 from maps import SIZES, pegs_at_ends, write_mix
 from measure import Failed
@@ -31,9 +32,9 @@ LEAST_OF_BINDINGS = 100
 MEMORY = "/dev/shm"
 
 
-def revisions_of(dump):
+def revisions_of(dump: str) -> Iterator[bytes]:
     """The bytes before the first revision of a dump, and then those of each revision."""
-    lines = []
+    lines: List[bytes] = []
     with open(dump, "rb") as file:
         for line in file:
             if line.startswith(b"Revision-number: "):
@@ -43,21 +44,22 @@ def revisions_of(dump):
     yield b"".join(lines)
 
 
-def feed(loading, dump, seconds):
-    """Feeds a process with a dump up to the end of the revision at which the time is over. Returns that revision."""
+def feed(taker: IO[bytes], dump: str, seconds: float) -> int:
+    """Writes a dump up to the end of the revision at which the time is over. Returns that revision."""
     began = time.perf_counter()
     for number, piece in enumerate(revisions_of(dump), -1):
-        loading.stdin.write(piece)
+        taker.write(piece)
         if time.perf_counter() - began > seconds:
             break
     return number
 
 
-def load_part(dump, repository, seconds):
+def load_part(dump: str, repository: str, seconds: float) -> int:
     """Loads what can be loaded in some time. Returns the last revision."""
     subprocess.run(["svnadmin", "create", repository], check=True)
     loading = subprocess.Popen(["svnadmin", "load", "-q", "--no-flush-to-disk", repository], stdin=subprocess.PIPE)
-    last = feed(loading, dump, seconds)
+    assert loading.stdin is not None
+    last = feed(loading.stdin, dump, seconds)
     loading.stdin.close()
     if loading.wait() != 0:
         raise Failed("svnadmin load ended with %d" % loading.returncode)
