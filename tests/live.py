@@ -191,7 +191,8 @@ def run_streams(files: Files) -> Iterator[tuple[str, Outcome, Outcome]]:
             ("a full disk", '"$1" "$2" "$3" >/dev/full', full),
             ("a closed output", '"$1" "$2" "$3" >&-', full),
             ("a directory as the input", '"$1" "$2" "$3" <"$4"', unread),
-            ("a closed input", '"$1" "$2" "$3" <&-', unread)):
+            # The dump is opened in its place, and has ended when turns are read.
+            ("a closed input", '"$1" "$2" "$3" <&-', wanted(0, ready(CUTS[0])))):
         yield name, right, outcome_of_shell(files, command)
     yield "an output that nobody reads", full, outcome_without_reader(files)
 
