@@ -37,7 +37,7 @@ struct Limited<'a> {
 
 impl Write for Limited<'_> {
     fn write(&mut self, bytes: &[u8]) -> io::Result<usize> {
-        let count = bytes.len().min(self.most - self.taken.len());
+        let count = bytes.len().min(self.most.saturating_sub(self.taken.len()));
         self.taken.extend_from_slice(&bytes[..count])?;
         Ok(count)
     }
