@@ -1,15 +1,18 @@
 -- Turns that are replied to after others, and why a talk ends after them.
-use Rattle.std.proofs.Common.{◌≡◌, ℕ, List, [], ◌++◌, Option, inl, inr, sym, ap, subst, ◌∙◌, append_assoc}
+use Rattle.std.proofs.Common.{◌≡◌, ℕ, ◌≤◌, List, [], ◌++◌, Option, inl, inr, sym, ap, subst, ◌∙◌, append_assoc}
+use Rattle.std.specs.Prelude.{IsFalse, IsTrue}
 use Rattle.std.proofs.KnownBytes.{Appends-nil, Appends-trans}
 use Rattle.std.proofs.lemmas.List.Concat.{flat_map-append}
 use Rattle.std.proofs.lemmas.List.Elements.{All-append, All-nil}
 use Rattle.devices.specs.Device.{PullState, PushState}
+use Rattle.live_history.specs.Replies.{AreReplied}
 use Rattle.live_history.specs.Stream.{AreTaken, IsReadUpTo, Stream}
 use Rattle.live_history.specs.Talk.{TalkState, after_turns}
-use Rattle.live_history.specs.TalkEnd.{AreAllReplied, AreReplied, IsEndEarly, IsEndReason, IsPieceReason}
+use Rattle.live_history.specs.TalkEnd.{AreAllReplied, IsEndEarly, IsEndReason, IsOutputKept, IsPieceReason, most_answered}
 use Rattle.live_history.specs.Turn.{IsTurn, Turn, turn_bytes, turns_bytes}
 use Rattle.live_history.specs.declared.talk_error.TalkError.{TalkError}
-use Rattle.live_history.proofs.Streams.{AreLast-more, AreTaken-more, AreTaken-none, HasEnded-more, IsCutLine-more, IsLost-more, IsReadUpTo-more}
+use Rattle.live_history.specs.declared.talk_error.TalkError.TheVariants.{Cut, Run, TooMany, Unsent}
+use Rattle.live_history.proofs.Streams.{AreLast-more, AreTaken-more, AreTaken-none, HasEnded-more, IsCutLine-more, IsReadUpTo-more, IsUnread-more, IsUnreadLine-more}
 use Rattle.live_history.proofs.Talks.{IsTalk-append, IsTalk-none, after_turns-append}
 
 -- the same reason, seen from before some bytes that were taken
@@ -17,8 +20,9 @@ module _ {old mid : Stream} {taken : List ℕ} (first : AreTaken old mid taken) 
   pub IsPieceReason-more : (dump : List ℕ) (size : ℕ) (rest : List ℕ) → IsPieceReason dump size mid after rest error → IsPieceReason dump size old after rest error
   IsPieceReason-more dump size rest (inl refused) = inl refused
   IsPieceReason-more dump size rest (inr (inl faulty)) = inr (inl faulty)
-  IsPieceReason-more dump size rest (inr (inr (inl cut))) = inr (inr (inl (record { is = cut.is; ended = HasEnded-more first cut.ended; short = cut.short })))
-  IsPieceReason-more dump size rest (inr (inr (inr lost))) = inr (inr (inr (IsLost-more first after error lost)))
+  IsPieceReason-more dump size rest (inr (inr (inl cut))) = inr (inr (inl (record { is = cut.is; ended = HasEnded-more first cut.ended; part = cut.part })))
+  IsPieceReason-more dump size rest (inr (inr (inr (inl lost)))) = inr (inr (inr (inl (record { is = lost.is; unread = IsUnread-more first lost.unread; part = lost.part }))))
+  IsPieceReason-more dump size rest (inr (inr (inr (inr memory)))) = inr (inr (inr (inr memory)))
 
   pub IsEndReason-more : (state : TalkState) (sent : PushState) (rest part : List ℕ) → IsEndReason state mid after sent rest part error → IsEndReason state old after sent rest part error
   IsEndReason-more state sent rest part (inl (none, inl cut)) = inl (none, inl (IsCutLine-more first cut))
@@ -34,8 +38,16 @@ module _ {old mid : Stream} {taken : List ℕ} (first : AreTaken old mid taken) 
     })),
   )
   IsEndReason-more state sent rest part (inl (none, inr (inr (inl many)))) = inl (none, inr (inr (inl many)))
-  IsEndReason-more state sent rest part (inl (none, inr (inr (inr lost)))) = inl (none, inr (inr (inr (IsLost-more first after error lost))))
+  IsEndReason-more state sent rest part (inl (none, inr (inr (inr (inl lost))))) = inl (none, inr (inr (inr (inl (IsUnreadLine-more first lost)))))
+  IsEndReason-more state sent rest part (inl (none, inr (inr (inr (inr memory))))) = inl (none, inr (inr (inr (inr memory))))
   IsEndReason-more state sent rest part (inr unsent) = inr unsent
+
+-- an output that was flushed and has not failed
+pub IsOutputKept-sound : (sent : PushState) (error : TalkError) → IsTrue sent.is_flushed → IsFalse sent.has_failed → IsOutputKept sent error
+IsOutputKept-sound sent (Run reason) flushed sound = (flushed, sound)
+IsOutputKept-sound sent TooMany flushed sound = (flushed, sound)
+IsOutputKept-sound sent Cut flushed sound = (flushed, sound)
+IsOutputKept-sound sent (Unsent cause) flushed sound = tt
 
 -- no turn was replied to yet
 pub AreReplied-none : (state : TalkState) (old : Stream) (sent : PushState) → AreReplied state old sent.gone old sent []
@@ -79,6 +91,7 @@ module _ {state : TalkState} {old mid : Stream} {gone : Option (List ℕ)} {betw
   AreAllReplied-more {after} {sent} next = record {
     turns = turns ++ next.turns;
     are = All-append IsTurn turns next.turns first.are next.are;
+    few = subst (λ later. later.answered ≤ most_answered) (sym (after_turns-append state turns next.turns)) next.few;
     last = rw (sym (bytes-more next.turns)) (AreLast-more first.taken next.last);
     said = first.said ++ next.said;
     talk = IsTalk-append state turns next.turns first.said next.said first.talk next.talk;

@@ -1,5 +1,5 @@
 -- A history that was read, or that has grown by a piece, and why there is none.
-use Rattle.std.proofs.Common.{ℕ, inl, inr, List, ◌++◌, refl, arith}
+use Rattle.std.proofs.Common.{ℕ, ◌≤◌, inl, inr, List, ◌++◌, length, refl, arith}
 use Rattle.devices.specs.Device.{PullState}
 use Rattle.svn_dump.specs.Dump.{DumpValue, history_in_bytes}
 use Rattle.svn_dump.specs.DumpError.{IsRefusal}
@@ -10,15 +10,16 @@ use Rattle.svn_dump.specs.declared.error.DumpError.TheVariants as refusal
 use Rattle.svn_report.specs.Load.{IsReadWhole}
 use Rattle.svn_report.specs.LoadRepo.{IsLoadError}
 use Rattle.svn_report.specs.ReportError.{run_error_of_dump, run_error_of_load}
-use Rattle.svn_report.specs.ReportFrom.{IsDumpErrorFrom}
+use Rattle.svn_report.specs.ReportFrom.{IsDumpErrorFrom, most_bytes}
 use Rattle.svn_report.specs.declared.repository.LoadError.{LoadError}
 use Rattle.svn_report.specs.declared.repository.LoadError.TheVariants as load
 use Rattle.svn_report.specs.declared.run_error.RunError.{RunError}
 use Rattle.svn_report.specs.declared.run_error.RunError.TheVariants as run
 use Rattle.live_history.specs.History.{IsFed}
+use Rattle.live_history.specs.PieceEnd.{IsPieceEnd}
 use Rattle.live_history.specs.ReadAhead.{ReadAheadValue, stream}
 use Rattle.live_history.specs.Stream.{IsReadUpTo, Stream}
-use Rattle.live_history.specs.TalkEnd.{IsNoHistory, IsPieceEnd}
+use Rattle.live_history.specs.TalkEnd.{IsNoHistory}
 use Rattle.live_history.specs.declared.talk_error.TalkError.TheVariants.{Run}
 use Rattle.live_history.proofs.ReadAheads.{Consumes-unread}
 use Rattle.live_history.proofs.Streams.{IsReadUpTo-more}
@@ -39,7 +40,7 @@ IsNoHistory-load old new bytes dump load.Memory all read first = tt
 
 -- ---- a piece of which all bytes have come
 
-module _ {feed fed : FeedValue} {size : ℕ} {old : Stream} (ahead : ReadAheadValue) (after : PullState) (first : IsFed feed size old (stream ahead after) fed) (before : List ℕ) where
+module _ {feed fed : FeedValue} {size : ℕ} {old : Stream} (ahead : ReadAheadValue) (after : PullState) (first : IsFed feed size old (stream ahead after) fed) (near : length ahead.unread ≤ most_bytes) (before : List ℕ) where
   rest_read : IsReadUpTo old after (first.bytes ++ ahead.unread)
   rest_read = IsReadUpTo-more first.taken (record { bytes = Consumes-unread ahead.unread after.left; failures = omega arith })
 
@@ -56,6 +57,7 @@ module _ {feed fed : FeedValue} {size : ℕ} {old : Stream} (ahead : ReadAheadVa
       is = refl;
       whole = refl;
       within = omega (arith, first.all);
+      near = near;
       why = inr (first.all, refused);
     });
   }
@@ -73,6 +75,7 @@ module _ {feed fed : FeedValue} {size : ℕ} {old : Stream} (ahead : ReadAheadVa
       is = refl;
       whole = refl;
       all = first.all;
+      near = near;
       first = record { history = history_in_bytes dump; read = read; first = faulty };
     }));
   }

@@ -1,25 +1,27 @@
 -- A talk that goes on with a piece.
-use Rattle.std.proofs.Common.{◌≡◌, ℕ, inl, inr, List, [], ◌∷◌, ◌++◌, Option, Some, refl, sym, ap, subst, ◌∙◌, append-nil, arith, take}
+use Rattle.std.proofs.Common.{◌≡◌, ℕ, ◌≤◌, inl, inr, List, [], ◌∷◌, ◌++◌, Option, Some, length, refl, sym, ap, subst, ◌∙◌, append-nil, arith, take}
 use Rattle.std.specs.Io.KnownBytes.{Appends}
-use Rattle.std.specs.Prelude.{IsTrue}
+use Rattle.std.specs.Prelude.{IsFalse, IsTrue}
 use Rattle.std.proofs.lemmas.List.Elements.{All-cons, All-nil}
 use Rattle.devices.specs.Device.{PullState, PushState}
 use Rattle.devices.specs.declared.sending.SendError.{SendError}
 use Rattle.svn_text.specs.Line.{line_text}
 use Rattle.svn_dump.specs.Dump.{history_in_bytes}
+use Rattle.svn_report.specs.ReportFrom.{most_bytes}
 use Rattle.svn_report.specs.declared.run_error.RunError.TheVariants as run
 use Rattle.live_history.specs.History.{IsGrown, IsHistoryOf}
+use Rattle.live_history.specs.PieceEnd.{IsPieceEnd}
 use Rattle.live_history.specs.ReadAhead.{ReadAheadValue, stream}
-use Rattle.live_history.specs.Replies.{IsUpToPiece}
+use Rattle.live_history.specs.Replies.{AreReplied, IsUpToPiece}
 use Rattle.live_history.specs.Stream.{AreTaken, IsReadUpTo, Stream}
 use Rattle.live_history.specs.Talk.{IsTalk, TalkState, after_turns, ready_text}
-use Rattle.live_history.specs.TalkEnd.{AreReplied, IsEndEarly, IsPieceEnd}
+use Rattle.live_history.specs.TalkEnd.{IsEndEarly, IsOutputKept}
 use Rattle.live_history.specs.Talking.{IsAfterPiece, IsUnsaid}
 use Rattle.live_history.specs.Turn.{IsTurn, Turn, piece, piece_line, turn_bytes, turns_bytes}
 use Rattle.live_history.specs.declared.history.History.{History}
 use Rattle.live_history.specs.declared.talk_error.TalkError.{TalkError}
 use Rattle.live_history.specs.declared.talk_error.TalkError.TheVariants.{Run, Unsent}
-use Rattle.live_history.proofs.Ends.{AreReplied-more, AreReplied-none, IsEndEarly-more, IsEndEarly-now, IsPieceReason-more}
+use Rattle.live_history.proofs.Ends.{AreReplied-more, AreReplied-none, IsEndEarly-more, IsEndEarly-now, IsOutputKept-sound, IsPieceReason-more}
 use Rattle.live_history.proofs.ReadAheads.{Consumes-unread}
 use Rattle.live_history.proofs.Streams.{AreTaken-more, IsReadUpTo-more}
 use Rattle.live_history.proofs.Talks.{IsTalk-none, IsTalk-one, after_turns-append}
@@ -52,7 +54,7 @@ module _ (state : TalkState) (old : Stream) (gone : Option (List ℕ)) (mid : St
         })),
       )))
 
-  module _ (ahead : ReadAheadValue) (input : PullState) (grown : History) (is : IsGrown state.dump size mid (stream ahead input) grown) where
+  module _ (ahead : ReadAheadValue) (input : PullState) (grown : History) (is : IsGrown state.dump size mid (stream ahead input) grown) (near : length ahead.unread ≤ most_bytes) where
     abbrev turn : Turn
     turn = piece up.line.digits is.bytes
 
@@ -78,8 +80,8 @@ module _ (state : TalkState) (old : Stream) (gone : Option (List ℕ)) (mid : St
         (inl (refl, inr (inr (inr (inr refl))))))
 
     -- a front of it went out
-    pub IsEndEarly-unsent : (sent : PushState) (cause : SendError) → Appends between.gone sent.gone (take cause.sent ready) → IsTrue sent.has_failed → IsEndEarly state old gone input sent (Unsent cause)
-    IsEndEarly-unsent sent cause part failed = IsEndEarly-queries input sent (Unsent cause) (record {
+    pub IsEndEarly-unsent : (sent : PushState) (cause : SendError) → cause.sent ≤ length ready → Appends between.gone sent.gone (take cause.sent ready) → IsTrue sent.has_failed → IsEndEarly state old gone input sent (Unsent cause)
+    IsEndEarly-unsent sent cause within part failed = IsEndEarly-queries input sent (Unsent cause) (record {
       turns = [];
       rest = turns_bytes (turn ∷ []) ++ ahead.unread;
       are = All-nil IsTurn;
@@ -94,9 +96,12 @@ module _ (state : TalkState) (old : Stream) (gone : Option (List ℕ)) (mid : St
         turns = turn ∷ [];
         more = ahead.unread;
         are = All-cons IsTurn turn [] turn_is (All-nil IsTurn);
+        some = omega arith;
         whole = refl;
+        near = near;
         said = ready;
         talk = talk;
+        within = within;
         part_is = refl;
         failed = failed;
       });
@@ -127,7 +132,12 @@ module _ (state : TalkState) (old : Stream) (gone : Option (List ℕ)) (mid : St
 
     pub IsEndEarly-unsaid : (sent : PushState) (error : TalkError) → IsUnsaid ready between sent error → IsEndEarly state old gone input sent error
     IsEndEarly-unsaid sent error (inl (memory, same)) = rw (memory, same) IsEndEarly-silent
-    IsEndEarly-unsaid sent error (inr part) = rw part.is (IsEndEarly-unsent sent part.cause part.part part.failed)
+    IsEndEarly-unsaid sent error (inr part) = rw part.is (IsEndEarly-unsent sent part.cause part.within part.part part.failed)
+
+-- where not all of a text went out
+pub IsOutputKept-unsaid : (text : List ℕ) (old sent : PushState) (error : TalkError) → IsUnsaid text old sent error → IsTrue old.is_flushed → IsFalse old.has_failed → IsOutputKept sent error
+IsOutputKept-unsaid text old sent error (inl (memory, same)) flushed sound = rw same (IsOutputKept-sound old error flushed sound)
+IsOutputKept-unsaid text old sent error (inr part) flushed sound = rw part.is tt
 
 -- no piece was taken yet
 pub IsAfterPiece-none : (state : TalkState) (old : Stream) (sent : PushState) (history : History) → IsHistoryOf state.dump history → IsAfterPiece state old sent.gone old sent state.answered history

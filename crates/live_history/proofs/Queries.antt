@@ -1,18 +1,20 @@
 -- Replies to queries, after other turns.
-use Rattle.std.proofs.Common.{◌≡◌, ◌⊎◌, ℕ, ◌+◌, ◌-◌, ◌<◌, ◌≤◌, inl, inr, All, List, [], ◌∷◌, ◌++◌, Option, length, map, take, drop, refl, sym, ap, subst, ◌∙◌, append-nil, arith, length-append}
+use Rattle.std.proofs.Common.{◌≡◌, ◌⊎◌, ℕ, ◌+◌, ◌-◌, ◌<◌, ◌≤◌, inl, inr, All, List, [], ◌∷◌, ◌++◌, Option, length, map, take, drop, refl, sym, ap, subst, ◌∙◌, append_assoc, append-nil, arith, length-append}
 use Rattle.std.specs.Io.KnownBytes.{Appends}
 use Rattle.std.specs.List.{flat_map}
 use Rattle.std.specs.Prelude.{IsTrue}
 use Rattle.std.proofs.Math.Seq.{take-append_seam}
-use Rattle.std.proofs.lemmas.List.Elements.{All-map, All-nil}
+use Rattle.std.proofs.lemmas.List.{length-map}
+use Rattle.std.proofs.lemmas.List.Elements.{All-head, All-map, All-nil}
 use Rattle.devices.specs.Device.{PullState, PushState}
 use Rattle.devices.specs.declared.sending.SendError.{SendError}
 use Rattle.svn_text.specs.Line.{line_text}
 use Rattle.svn_dump.specs.Dump.{DumpValue, history_in_bytes}
+use Rattle.svn_report.specs.ReportFrom.{most_bytes}
 use Rattle.svn_report.specs.declared.run_error.RunError.TheVariants as run
-use Rattle.live_history.specs.ReadAhead.{IsLineEnd, ReadAheadValue, stream}
+use Rattle.live_history.specs.ReadAhead.{AreNear, IsLineEnd, ReadAheadValue, stream}
 use Rattle.live_history.specs.Replies.{AreRepliedTo, replies}
-use Rattle.live_history.specs.Stream.{AreLast, AreTaken, IsCutLine, IsLost, IsReadUpTo, Stream}
+use Rattle.live_history.specs.Stream.{AreLast, AreTaken, IsCutLine, IsReadUpTo, IsUnreadLine, Stream}
 use Rattle.live_history.specs.Talk.{IsLawfulDump, IsTalk, TalkState, after_turns}
 use Rattle.live_history.specs.TalkEnd.{AreAllReplied, IsEndEarly, most_answered}
 use Rattle.live_history.specs.Turn.{IsTurn, query, turn_bytes, turns_bytes}
@@ -21,7 +23,7 @@ use Rattle.live_history.specs.declared.talk_error.TalkError.{TalkError}
 use Rattle.live_history.specs.declared.talk_error.TalkError.TheVariants.{Run, TooMany, Unsent}
 use Rattle.live_history.proofs.Ends.{AreReplied-more, AreReplied-none, IsEndEarly-more, IsEndEarly-now}
 use Rattle.live_history.proofs.FedPieces.{AreTaken-front}
-use Rattle.live_history.proofs.ReadAheads.{Consumes-unread}
+use Rattle.live_history.proofs.ReadAheads.{AreNear-line, Consumes-unread}
 use Rattle.live_history.proofs.Streams.{AreLast-more, AreTaken-more}
 use Rattle.live_history.proofs.Talks.{IsTalk-none, IsTalk-queries, after_turns-append, after_turns-queries}
 
@@ -80,15 +82,16 @@ module _ {state : TalkState} {old mid : Stream} {gone : Option (List ℕ)} {betw
   pub IsEndEarly-line : (after : PullState) (error : TalkError) → IsLineEnd mid after error → IsEndEarly state old gone after between error
   IsEndEarly-line after error end = IsEndEarly-then after between error (by end.why)
     where
-      by : IsCutLine mid after end.rest error ⊎ IsLost mid after error → IsEndEarly now mid between.gone after between error
+      by : IsCutLine mid after end.rest error ⊎ IsUnreadLine mid after end.rest error ⊎ (error ≡ Run run.Memory) → IsEndEarly now mid between.gone after between error
       by (inl cut) = IsEndEarly-now now mid between.gone after between error end.rest refl end.read (inl (refl, inl cut))
       by (inr lost) = IsEndEarly-now now mid between.gone after between error end.rest refl end.read (inl (refl, inr (inr (inr lost))))
 
   -- the input ended then
-  pub AreAllReplied-then : (after : PullState) → AreLast mid after [] → AreAllReplied state old gone after between
-  AreAllReplied-then after last = record {
+  pub AreAllReplied-then : (after : PullState) → answered ≤ most_answered → AreLast mid after [] → AreAllReplied state old gone after between
+  AreAllReplied-then after few last = record {
     turns = first.turns;
     are = first.replied.are;
+    few = subst (λ later. later.answered ≤ most_answered) (sym first.after_is) few;
     last = subst (AreLast old after) (append-nil (turns_bytes first.turns)) (AreLast-more first.replied.taken last);
     said = first.replied.said;
     talk = first.replied.talk;
@@ -97,6 +100,15 @@ module _ {state : TalkState} {old mid : Stream} {gone : Option (List ℕ)} {betw
 
 -- ---- queries that were read ahead
 
+-- what follows them is near
+pub AreNear-queries : (bytes rest : List ℕ) (lines : List (List ℕ)) → AreQueries bytes lines rest → 0 < length lines → AreNear bytes → length rest ≤ most_bytes
+AreNear-queries bytes rest [] are some near = absurd (omega (arith, some))
+AreNear-queries bytes rest (line ∷ lines) are some near =
+    let more = flat_map line_text lines ++ rest in
+    let whole : bytes ≡ line_text line ++ more = are.whole ∙ append_assoc (line_text line) (flat_map line_text lines) rest in
+    let first = All-head (λ each. IsTurn (query each)) line lines are.are in
+    omega (arith, AreNear-line bytes line more near whole first.0, length-append (flat_map line_text lines) rest)
+
 module _ (state : TalkState) (ahead : ReadAheadValue) (input : PullState) (sent : PushState) where
   -- there is no memory
   pub IsEndEarly-memory : IsEndEarly state (stream ahead input) sent.gone input sent (Run run.Memory)
@@ -104,10 +116,10 @@ module _ (state : TalkState) (ahead : ReadAheadValue) (input : PullState) (sent 
       IsEndEarly-now state (stream ahead input) sent.gone input sent (Run run.Memory) ahead.unread refl (unread-read ahead input) (inl (refl, inr (inr (inr (inr refl)))))
 
   -- as many were answered as may be
-  pub IsEndEarly-many : HasQuery ahead.unread → most_answered ≤ state.answered → IsEndEarly state (stream ahead input) sent.gone input sent TooMany
-  IsEndEarly-many (line, rest, first) all =
+  pub IsEndEarly-many : HasQuery ahead.unread → AreNear ahead.unread → most_answered ≤ state.answered → IsEndEarly state (stream ahead input) sent.gone input sent TooMany
+  IsEndEarly-many (line, rest, first) near all =
       IsEndEarly-now state (stream ahead input) sent.gone input sent TooMany ahead.unread refl (unread-read ahead input)
-      (inl (refl, inr (inr (inl (record { is = refl; all = all; line = line; more = rest; query_is = first.is; whole = first.whole })))))
+      (inl (refl, inr (inr (inl (record { is = refl; all = all; line = line; more = rest; query_is = first.is; whole = first.whole; near = AreNear-line ahead.unread line rest near first.whole first.is.0 })))))
 
 module _ (dump : DumpValue) (state : TalkState) (is : IsLawfulDump state.dump (history_in_bytes dump)) (ahead : ReadAheadValue) (input : PullState) (lines : List (List ℕ)) (rest : List ℕ) (are : AreQueries ahead.unread lines rest) where
   abbrev text : List ℕ
@@ -120,8 +132,9 @@ module _ (dump : DumpValue) (state : TalkState) (is : IsLawfulDump state.dump (h
   talk = IsTalk-queries (history_in_bytes dump) state lines is
 
   -- a front of the replies to them went out
-  pub IsEndEarly-part : (gone : Option (List ℕ)) (sent : PushState) (cause : SendError) → Appends gone sent.gone (take cause.sent text) → IsTrue sent.has_failed → IsEndEarly state (stream ahead input) gone input sent (Unsent cause)
-  IsEndEarly-part gone sent cause part failed = record {
+  pub IsEndEarly-part : (gone : Option (List ℕ)) (sent : PushState) (cause : SendError) → 0 < length lines → AreNear ahead.unread → cause.sent ≤ length text → Appends gone sent.gone (take cause.sent text) → IsTrue sent.has_failed
+      → IsEndEarly state (stream ahead input) gone input sent (Unsent cause)
+  IsEndEarly-part gone sent cause some near within part failed = record {
     turns = [];
     rest = ahead.unread;
     are = All-nil IsTurn;
@@ -136,9 +149,12 @@ module _ (dump : DumpValue) (state : TalkState) (is : IsLawfulDump state.dump (h
       turns = map query lines;
       more = rest;
       are = are_turns;
+      some = omega (arith, some, length-map lines query);
       whole = are.whole ∙ ap (λ front. front ++ rest) (sym (turns_bytes-queries lines));
+      near = AreNear-queries ahead.unread rest lines are some near;
       said = text;
       talk = talk;
+      within = within;
       part_is = refl;
       failed = failed;
     });

@@ -1,15 +1,17 @@
 -- Bytes that are read ahead of an input, and the lines that they begin with.
-use Rattle.std.proofs.Common.{◌≡◌, ℕ, ◌+◌, ◌-◌, ◌≤◌, ◌==◌, false, inl, inr, List, [], ◌∷◌, ◌++◌, None, Option, Some, length, get_or, take, drop, sym, ap, subst, ◌∙◌, refl, append_assoc, arith, length-append, length-drop, take-append-drop, take_all}
+use Rattle.std.proofs.Common.{◌≡◌, ℕ, ◌+◌, ◌-◌, ◌≤◌, ◌==◌, false, true, inl, inr, List, [], ◌∷◌, ◌++◌, None, Option, Some, length, get_or, take, drop, sym, ap, subst, ◌∙◌, refl, append_assoc, arith, length-append, length-drop, take-append-drop, take_all}
 use Rattle.std.specs.Io.KnownBytes.{Consumes, Keeps, prepend_known}
 use Rattle.std.proofs.KnownBytes.{Consumes-kept, Consumes-trans}
 use Rattle.std.proofs.lemmas.Bool.{cases_lt}
-use Rattle.std.proofs.Math.Seq.{take-append_seam}
+use Rattle.std.proofs.Math.ListN.{get_or-append}
+use Rattle.std.proofs.Math.Seq.{get_or-append_seam, take-append_seam}
 use Rattle.std.proofs.lemmas.List.{drop-take, length-take-le, take-append-le, take-take}
-use Rattle.std.proofs.lemmas.List.Elements.{All-append, All-drop, All-nil}
+use Rattle.std.proofs.lemmas.List.Elements.{All-append, All-drop, All-get_or, All-nil}
 use Rattle.svn_text.specs.Cut.{IsCutAt, Lacks}
 use Rattle.svn_text.specs.Line.{line_text}
 use Rattle.svn_text.proofs.Cuts.{CutsFirst, CutsFirst-IsCutAt, slice_split-cut}
-use Rattle.live_history.specs.ReadAhead.{HasLine}
+use Rattle.svn_report.specs.ReportFrom.{most_bytes}
+use Rattle.live_history.specs.ReadAhead.{AreNear, HasLine}
 
 -- ---- what is to come
 
@@ -70,6 +72,34 @@ HasLine-found bytes searched front back within none found =
       len_is = omega (arith, length-append before front, length-take-le searched bytes within);
     }
 
+-- bytes without a newline end before the first one
+Lacks-before : (front back line rest : List ℕ) → Lacks 10 front → front ++ back ≡ line_text line ++ rest → length front ≤ length line
+Lacks-before front back line rest none same = elim (cases_lt (length line) (length front)) [
+  | inl less ↦
+      let at : get_or front (length line) 0 ≡ 10 =
+      sym (get_or-append front back 0 (length line) less)
+      ∙ ap (λ bytes. get_or bytes (length line) 0) (same ∙ append_assoc line (10 ∷ []) rest)
+      ∙ get_or-append_seam line 10 rest 0 in
+      let never : true ≡ false = subst (λ each. (each == 10) ≡ false) at (All-get_or (λ each. (each == 10) ≡ false) front (length line) 0 less none) in
+      cc
+  | inr all ↦ all
+]
+
+-- what follows the first line is near
+pub AreNear-line : (bytes line rest : List ℕ) → AreNear bytes → bytes ≡ line_text line ++ rest → Lacks 10 line → length rest ≤ most_bytes
+AreNear-line bytes line rest near whole first =
+    let before = Lacks-before near.front near.back line rest near.first (sym near.whole ∙ whole) in
+    omega (arith, before, near.near, ap length near.whole, ap length whole, length-append near.front near.back, length-append (line_text line) rest, length-append line (10 ∷ []))
+
+pub AreNear-searched : (bytes : List ℕ) (searched : ℕ) → searched ≤ length bytes → Lacks 10 (take searched bytes) → length bytes ≤ searched + most_bytes → AreNear bytes
+AreNear-searched bytes searched within none near = record {
+  front = take searched bytes;
+  back = drop searched bytes;
+  whole = sym (take-append-drop searched bytes);
+  first = none;
+  near = omega (arith, near, length-drop searched bytes);
+}
+
 -- the first line is one alone
 pub first_line-one : (bytes line rest other more : List ℕ) → bytes ≡ line_text line ++ rest → Lacks 10 line → bytes ≡ line_text other ++ more → Lacks 10 other → line ≡ other
 first_line-one bytes line rest other more one first two second =
@@ -87,3 +117,15 @@ Consumes-piece old new count len given rest within inside is =
 pub HasLine-take : (bytes : List ℕ) (len : ℕ) (has : HasLine bytes len) → take len bytes ≡ has.line
 HasLine-take bytes len has =
     ap (λ n. take n bytes) (sym has.len_is) ∙ ap (take (length has.line)) (has.whole ∙ append_assoc has.line (10 ∷ []) has.rest) ∙ take-append_seam has.line (10 ∷ has.rest)
+
+-- and with its newline
+pub HasLine-taken : (bytes : List ℕ) (len : ℕ) (has : HasLine bytes len) → take (len + 1) bytes ≡ line_text has.line
+HasLine-taken bytes len has =
+    let long : len + 1 ≡ length (line_text has.line) = omega (arith, has.len_is, length-append has.line (10 ∷ [])) in
+    ap (λ n. take n bytes) long ∙ ap (take (length (line_text has.line))) has.whole ∙ take-append_seam (line_text has.line) has.rest
+
+-- what is left after it
+pub near-left : (bytes left : List ℕ) (len : ℕ) → HasLine bytes len → AreNear bytes → left ≡ drop (len + 1) bytes → length left ≤ most_bytes
+near-left bytes left len has near left_is =
+    let whole = ap length has.whole in
+    omega (arith, AreNear-line bytes has.line has.rest near has.whole has.first, ap length left_is, length-drop (len + 1) bytes, whole, has.len_is, length-append (line_text has.line) has.rest, length-append has.line (10 ∷ []))

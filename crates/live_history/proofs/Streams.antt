@@ -1,8 +1,9 @@
 -- Bytes that are taken off an input after others.
-use Rattle.std.proofs.Common.{ℕ, ◌+◌, List, [], ◌++◌, inl, inr, refl, ap, ◌∙◌, arith}
+use Rattle.std.proofs.Common.{◌≡◌, ◌⊎◌, ℕ, ◌+◌, List, [], ◌++◌, inl, inr, refl, ap, ◌∙◌, arith}
+use Rattle.std.specs.Prelude.{IsTrue}
 use Rattle.std.proofs.KnownBytes.{Consumes-nil, Consumes-trans}
 use Rattle.devices.specs.Device.{PullState}
-use Rattle.live_history.specs.Stream.{AreLast, AreTaken, HasEnded, IsCutLine, IsLost, IsReadUpTo, Stream}
+use Rattle.live_history.specs.Stream.{AreLast, AreTaken, HasEnded, IsCutLine, IsReadUpTo, IsUnread, IsUnreadLine, Stream}
 use Rattle.live_history.specs.declared.talk_error.TalkError.{TalkError}
 
 pub AreTaken-none : (old : Stream) → AreTaken old old []
@@ -34,10 +35,15 @@ module _ {old mid : Stream} {taken : List ℕ} (first : AreTaken old mid taken) 
     failures = omega (arith, next.failures, first.failures);
   }
 
-  pub IsLost-more : (after : PullState) (error : TalkError) → IsLost mid after error → IsLost old after error
-  IsLost-more after error (inl (is, inl failed)) = inl (is, inl failed)
-  IsLost-more after error (inl (is, inr used)) = inl (is, inr (used ∙ first.limit))
-  IsLost-more after error (inr memory) = inr memory
+  pub IsUnread-more : {after : PullState} → IsUnread mid after → IsUnread old after
+  IsUnread-more {after} next = record { no_end = next.no_end ∙ first.ends; why = by next.why }
+    where
+      by : IsTrue after.has_failed ⊎ (after.calls ≡ mid.limit) → IsTrue after.has_failed ⊎ (after.calls ≡ old.limit)
+      by (inl failed) = inl failed
+      by (inr used) = inr (used ∙ first.limit)
+
+  pub IsUnreadLine-more : {after : PullState} {rest : List ℕ} {error : TalkError} → IsUnreadLine mid after rest error → IsUnreadLine old after rest error
+  IsUnreadLine-more next = record { is = next.is; unread = IsUnread-more next.unread; line = next.line }
 
   pub IsCutLine-more : {after : PullState} {rest : List ℕ} {error : TalkError} → IsCutLine mid after rest error → IsCutLine old after rest error
   IsCutLine-more next = record { is = next.is; ended = HasEnded-more next.ended; some = next.some; line = next.line }

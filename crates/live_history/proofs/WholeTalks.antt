@@ -12,7 +12,7 @@ use Rattle.live_history.specs.History.{IsHistoryFrom}
 use Rattle.live_history.specs.ReadAhead.{ReadAheadValue, stream}
 use Rattle.live_history.specs.Stream.{stream_of}
 use Rattle.live_history.specs.Talk.{ready_text, start_of}
-use Rattle.live_history.specs.TalkEnd.{AreAllReplied, IsEndEarly, IsNoHistory, IsTalkError, IsWholeTalk}
+use Rattle.live_history.specs.TalkEnd.{AreAllReplied, IsEndEarly, IsNoHistory, IsOutputKept, IsTalkError, IsWholeTalk}
 use Rattle.live_history.specs.Talking.{IsUnsaid}
 use Rattle.live_history.specs.declared.history.History.{History}
 use Rattle.live_history.specs.declared.talk_error.TalkError.{TalkError}
@@ -50,6 +50,7 @@ module _ (dump read input : PullState) (output : PushState) (history : History) 
     opened = record { all = from.all; is = from.is.dump };
     cause = part.cause;
     is = part.is;
+    within = part.within;
     part = part.part;
     failed = part.failed;
     unread = refl;
@@ -64,6 +65,7 @@ module _ (dump read input : PullState) (output : PushState) (history : History) 
       talk = subst (λ old. AreAllReplied (start_of from.bytes) old (append_known output.gone ready) after sent) (stream-start ahead input nothing all) (record {
         turns = talk.turns;
         are = talk.are;
+        few = talk.few;
         last = talk.last;
         said = talk.said;
         talk = talk.talk;
@@ -73,8 +75,8 @@ module _ (dump read input : PullState) (output : PushState) (history : History) 
       sound = sound;
     }
 
-    pub IsTalkError-said : (error : TalkError) → IsEndEarly (start_of from.bytes) (stream ahead input) mid.gone after sent error → IsTalkError dump read input after output sent error
-    IsTalkError-said error talk = inr (inr (record {
+    pub IsTalkError-said : (error : TalkError) → IsEndEarly (start_of from.bytes) (stream ahead input) mid.gone after sent error → IsOutputKept sent error → IsTalkError dump read input after output sent error
+    IsTalkError-said error talk kept = inr (inr (record {
       history = history_in_bytes history.repo;
       bytes = from.bytes;
       opened = record { all = from.all; is = from.is.dump };
@@ -89,4 +91,5 @@ module _ (dump read input : PullState) (output : PushState) (history : History) 
         sent_is = Appends-after output.gone mid.gone sent.gone ready (talk.said ++ talk.part) first talk.sent_is;
         why = talk.why;
       });
+      kept = kept;
     }))

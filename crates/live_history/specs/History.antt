@@ -1,6 +1,7 @@
 -- A history that was read and may grow.
-use Rattle.std.specs.Prelude.{◌≡◌, ℕ, None, List, ◌++◌, length}
+use Rattle.std.specs.Prelude.{◌≡◌, ◌⊎◌, ℕ, None, List, [], ◌++◌, length}
 use Rattle.devices.specs.Device.{PullState}
+use Rattle.svn_dump.specs.Decided.{IsUndecided}
 use Rattle.svn_dump.specs.Dump.{history_in_bytes}
 use Rattle.svn_dump.specs.Feed.{FeedValue, HasRead, IsPausedAt}
 use Rattle.svn_dump.specs.Growth.{GrowsTo}
@@ -26,6 +27,7 @@ pub record IsFed (feed : FeedValue) (size : ℕ) (old new : Stream) (fed : FeedV
   pub all : length bytes ≡ size
   pub taken : AreTaken old new bytes
   pub read : (before : List ℕ) → HasRead feed before → HasRead fed (before ++ bytes)
+  pub undecided : (bytes ≡ []) ⊎ ((before : List ℕ) → HasRead feed before → IsUndecided (before ++ bytes))
   pub grows : GrowsTo feed.reader.draft fed.reader.draft
   pub going : fed.error ≡ None
 

@@ -1,4 +1,5 @@
 pub mod History
+pub mod PieceEnd
 pub mod ReadAhead
 pub mod Replies
 pub mod Stream

@@ -4,7 +4,7 @@ use Rattle.std.specs.Io.KnownBytes.{Consumes, IsAtEnd}
 use Rattle.devices.specs.Device.{PullState}
 use Rattle.devices.specs.declared.source.Source.TheVariants.{Input}
 use Rattle.svn_text.specs.Cut.{Lacks}
-use Rattle.svn_report.specs.declared.run_error.RunError.TheVariants.{Memory, Read}
+use Rattle.svn_report.specs.declared.run_error.RunError.TheVariants.{Read}
 use Rattle.live_history.specs.declared.talk_error.TalkError.{TalkError}
 use Rattle.live_history.specs.declared.talk_error.TalkError.TheVariants.{Cut, Run}
 
@@ -42,16 +42,22 @@ module _ (old : Stream) where
     pub bytes : Consumes old.come after.left last
     pub ended : HasEnded after
 
-  -- the device failed, or all reads were made that may be; or memory ran out
-  abbrev pub IsLost : PullState → TalkError → Type 0
-  IsLost after error =
-      ((error ≡ Run (Read Input)) × (IsTrue after.has_failed ⊎ (after.calls ≡ old.limit))) ⊎ (error ≡ Run Memory)
+  -- it was not read to its end: no call reached that, and one failed or all were made that may be
+  pub record IsUnread (after : PullState) : Type 0 where
+    pub no_end : after.ends ≡ old.ends
+    pub why : IsTrue after.has_failed ⊎ (after.calls ≡ old.limit)
 
   -- these bytes, which are a line without its newline, were the last ones
   pub record IsCutLine (after : PullState) (rest : List ℕ) (error : TalkError) : Type 0 where
     pub is : error ≡ Cut
     pub ended : HasEnded after
     pub some : 0 < length rest
+    pub line : Lacks 10 rest
+
+  -- no more could be read than these bytes, which have no newline
+  pub record IsUnreadLine (after : PullState) (rest : List ℕ) (error : TalkError) : Type 0 where
+    pub is : error ≡ Run (Read Input)
+    pub unread : IsUnread after
     pub line : Lacks 10 rest
 
   -- these bytes were read, and then no more could be

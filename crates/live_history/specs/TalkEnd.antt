@@ -6,17 +6,17 @@ use Rattle.devices.specs.declared.sending.SendError.{SendError}
 use Rattle.devices.specs.declared.source.Source.TheVariants as source
 use Rattle.svn_text.specs.Line.{line_text}
 use Rattle.svn_text.specs.Number.{greatest_length, number_up_to}
-use Rattle.svn_dump.specs.Decided.{IsDecided}
+use Rattle.svn_dump.specs.Decided.{IsDecided, IsUndecided}
 use Rattle.svn_dump.specs.DumpError.{IsFirstAt}
 use Rattle.svn_dump.specs.Record.{HistoryOfBytes}
 use Rattle.svn_dump.specs.declared.error.DumpError.TheVariants.{Refused}
 use Rattle.block_map.specs.declared.fault.Fault.{Fault}
 use Rattle.svn_report.specs.Load.{IsReadWhole, most_reads}
 use Rattle.svn_report.specs.ReportError.{IsFirstFault}
-use Rattle.svn_report.specs.ReportFrom.{IsFaultyFrom, IsRefusedFrom, IsUnreadFrom}
+use Rattle.svn_report.specs.ReportFrom.{IsFaultyFrom, IsRefusedFrom, IsUnreadFrom, most_bytes}
 use Rattle.svn_report.specs.declared.run_error.RunError.{RunError}
 use Rattle.svn_report.specs.declared.run_error.RunError.TheVariants as run
-use Rattle.live_history.specs.Stream.{AreLast, AreTaken, HasEnded, IsCutLine, IsLost, IsReadUpTo, Stream, stream_of}
+use Rattle.live_history.specs.Stream.{AreLast, HasEnded, IsCutLine, IsReadUpTo, IsUnread, IsUnreadLine, Stream, stream_of}
 use Rattle.live_history.specs.Talk.{IsLawfulDump, IsTalk, TalkState, after_turns, ready_text, start_of}
 use Rattle.live_history.specs.Turn.{IsTurn, Turn, piece_line, query, turns_bytes}
 use Rattle.live_history.specs.declared.talk_error.TalkError.{TalkError}
@@ -37,6 +37,7 @@ pub record IsRefusedPiece (dump : List ℕ) (size : ℕ) (rest : List ℕ) (erro
   pub is : error ≡ Run (run.Dump (Refused number at))
   pub whole : rest ≡ front ++ more
   pub within : length front ≤ size
+  pub near : length more ≤ most_bytes
   pub why : IsDecided (dump ++ front) number at ⊎ ((length front ≡ size) × IsFirstAt (dump ++ front) number at)
 
 -- with them the dump has a faulty record
@@ -47,23 +48,30 @@ pub record IsFaultyPiece (dump : List ℕ) (size : ℕ) (rest : List ℕ) (error
   pub is : error ≡ Run (run.Fault fault)
   pub whole : rest ≡ bytes ++ more
   pub all : length bytes ≡ size
+  pub near : length more ≤ most_bytes
   pub first : IsFirstFault (dump ++ bytes) fault
 
+-- the bytes are not all of it, and, if there are any, decide no refusal
+pub record IsPartOfPiece (dump : List ℕ) (size : ℕ) (rest : List ℕ) : Type 0 where
+  pub short : length rest < size
+  pub undecided : (rest ≡ []) ⊎ IsUndecided (dump ++ rest)
+
 -- the input ended in it
-pub record IsCutPiece (old : Stream) (after : PullState) (size : ℕ) (rest : List ℕ) (error : TalkError) : Type 0 where
+pub record IsCutPiece (dump : List ℕ) (size : ℕ) (old : Stream) (after : PullState) (rest : List ℕ) (error : TalkError) : Type 0 where
   pub is : error ≡ Cut
   pub ended : HasEnded old after
-  pub short : length rest < size
+  pub part : IsPartOfPiece dump size rest
+
+-- no more of it could be read
+pub record IsUnreadPiece (dump : List ℕ) (size : ℕ) (old : Stream) (after : PullState) (rest : List ℕ) (error : TalkError) : Type 0 where
+  pub is : error ≡ Run (run.Read source.Input)
+  pub unread : IsUnread old after
+  pub part : IsPartOfPiece dump size rest
 
 abbrev pub IsPieceReason : List ℕ → ℕ → Stream → PullState → List ℕ → TalkError → Type 0
 IsPieceReason dump size old after rest error =
     IsRefusedPiece dump size rest error ⊎ IsFaultyPiece dump size rest error
-    ⊎ IsCutPiece old after size rest error ⊎ IsLost old after error
-
-pub record IsPieceEnd (dump : List ℕ) (size : ℕ) (old : Stream) (after : PullState) (error : TalkError) : Type 0 where
-  pub rest : List ℕ
-  pub read : IsReadUpTo old after rest
-  pub why : IsPieceReason dump size old after rest error
+    ⊎ IsCutPiece dump size old after rest error ⊎ IsUnreadPiece dump size old after rest error ⊎ (error ≡ Run run.Memory)
 
 -- ---- why a talk ended before its input; `rest` is what was read after the turns that were replied to
 
@@ -84,6 +92,7 @@ pub record IsOneTooMany (state : TalkState) (rest : List ℕ) (error : TalkError
   pub more : List ℕ
   pub query_is : IsTurn (query line)
   pub whole : rest ≡ line_text line ++ more
+  pub near : length more ≤ most_bytes
 
 -- a front of what is said for further turns went out, before the device failed
 pub record IsUnsent (state : TalkState) (sent : PushState) (rest part : List ℕ) (error : TalkError) : Type 0 where
@@ -92,34 +101,30 @@ pub record IsUnsent (state : TalkState) (sent : PushState) (rest part : List ℕ
   pub turns : List Turn
   pub more : List ℕ
   pub are : All IsTurn turns
+  pub some : 0 < length turns
   pub whole : rest ≡ turns_bytes turns ++ more
+  pub near : length more ≤ most_bytes
   pub said : List ℕ
   pub talk : IsTalk state turns said
+  pub within : cause.sent ≤ length said
   pub part_is : part ≡ take cause.sent said
   pub failed : IsTrue sent.has_failed
 
 abbrev pub IsEndReason : TalkState → Stream → PullState → PushState → List ℕ → List ℕ → TalkError → Type 0
 IsEndReason state old after sent rest part error =
     ((part ≡ []) × (IsCutLine old after rest error ⊎ IsEndInPiece state old after rest error
-    ⊎ IsOneTooMany state rest error ⊎ IsLost old after error))
+    ⊎ IsOneTooMany state rest error ⊎ IsUnreadLine old after rest error ⊎ (error ≡ Run run.Memory)))
     ⊎ IsUnsent state sent rest part error
 
 -- ---- talks
 
 -- `gone` is what went out before
 module _ (state : TalkState) (old : Stream) (gone : Option (List ℕ)) where
-  -- these turns were read and replied to
-  pub record AreReplied (new : Stream) (sent : PushState) (turns : List Turn) : Type 0 where
-    pub are : All IsTurn turns
-    pub taken : AreTaken old new (turns_bytes turns)
-    pub said : List ℕ
-    pub talk : IsTalk state turns said
-    pub sent_is : Appends gone sent.gone said
-
-  -- and they were the last ones
+  -- all turns of the input were replied to
   pub record AreAllReplied (after : PullState) (sent : PushState) : Type 0 where
     pub turns : List Turn
     pub are : All IsTurn turns
+    pub few : (after_turns state turns).answered ≤ most_answered
     pub last : AreLast old after (turns_bytes turns)
     pub said : List ℕ
     pub talk : IsTalk state turns said
@@ -154,6 +159,13 @@ pub record IsNoTalk (dump dump_after : PullState) (input after : PullState) (out
   pub unread : after ≡ input
   pub unsent : sent ≡ output
 
+-- where anything but the output failed, what went out was flushed, and the output has not failed
+abbrev pub IsOutputKept : PushState → TalkError → Type 0
+IsOutputKept sent (Unsent cause) = ⊤
+IsOutputKept sent (Run reason) = IsTrue sent.is_flushed × IsFalse sent.has_failed
+IsOutputKept sent TooMany = IsTrue sent.is_flushed × IsFalse sent.has_failed
+IsOutputKept sent Cut = IsTrue sent.is_flushed × IsFalse sent.has_failed
+
 -- all of a dump was read, and it has a lawful history
 pub record IsOpen (dump dump_after : PullState) (history : HistoryOfBytes) (bytes : List ℕ) : Type 0 where
   pub all : IsReadWhole dump dump_after bytes
@@ -175,6 +187,7 @@ module _ (dump dump_after : PullState) (input after : PullState) (output sent : 
     pub bytes : List ℕ
     pub opened : IsOpen dump dump_after history bytes
     pub talk : IsEndEarly (start_of bytes) (stream_of most_reads input) (append_known output.gone (ready_text history)) after sent error
+    pub kept : IsOutputKept sent error
 
   -- a front of that went out, before the output failed
   pub record IsReadyUnsent (error : TalkError) : Type 0 where
@@ -183,6 +196,7 @@ module _ (dump dump_after : PullState) (input after : PullState) (output sent : 
     pub opened : IsOpen dump dump_after history bytes
     pub cause : SendError
     pub is : error ≡ Unsent cause
+    pub within : cause.sent ≤ length (ready_text history)
     pub part : Appends output.gone sent.gone (take cause.sent (ready_text history))
     pub failed : IsTrue sent.has_failed
     pub unread : after ≡ input

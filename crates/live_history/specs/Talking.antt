@@ -1,5 +1,5 @@
 -- A talk that goes on with a piece.
-use Rattle.std.specs.Prelude.{◌≡◌, ◌⊎◌, ℕ, IsTrue, List, Option, take}
+use Rattle.std.specs.Prelude.{◌≡◌, ◌⊎◌, ℕ, ◌≤◌, IsTrue, List, Option, length, take}
 use Rattle.std.specs.Io.KnownBytes.{Appends}
 use Rattle.devices.specs.Device.{PushState}
 use Rattle.devices.specs.declared.sending.SendError.{SendError}
@@ -7,7 +7,7 @@ use Rattle.svn_report.specs.declared.run_error.RunError.TheVariants.{Memory}
 use Rattle.live_history.specs.History.{IsHistoryOf}
 use Rattle.live_history.specs.Stream.{Stream}
 use Rattle.live_history.specs.Talk.{TalkState, after_turns}
-use Rattle.live_history.specs.TalkEnd.{AreReplied}
+use Rattle.live_history.specs.Replies.{AreReplied}
 use Rattle.live_history.specs.Turn.{Turn}
 use Rattle.live_history.specs.declared.history.History.{History}
 use Rattle.live_history.specs.declared.talk_error.TalkError.{TalkError}
@@ -24,6 +24,7 @@ pub record IsAfterPiece (state : TalkState) (old : Stream) (gone : Option (List 
 pub record IsPartSaid (text : List ℕ) (old new : PushState) (error : TalkError) : Type 0 where
   pub cause : SendError
   pub is : error ≡ Unsent cause
+  pub within : cause.sent ≤ length text
   pub part : Appends old.gone new.gone (take cause.sent text)
   pub failed : IsTrue new.has_failed
 

@@ -4,7 +4,7 @@ use Rattle.std.specs.List.{flat_map}
 use Rattle.devices.specs.Device.{PullState}
 use Rattle.svn_text.specs.Line.{line_text}
 use Rattle.svn_text.specs.Number.{greatest_length, number_up_to}
-use Rattle.live_history.specs.ReadAhead.{ReadAheadValue, stream}
+use Rattle.live_history.specs.ReadAhead.{AreNear, ReadAheadValue, stream}
 use Rattle.live_history.specs.Stream.{AreLast, AreTaken, Stream}
 use Rattle.live_history.specs.Turn.{IsTurn, piece_line, query}
 use Rattle.live_history.specs.declared.turns.Next.{Next}
@@ -25,7 +25,7 @@ pub record IsLineTaken (old new : Stream) (size : ℕ) : Type 0 where
   pub taken : AreTaken old new (line_text (piece_line digits))
 
 abbrev pub IsNext : Stream → ReadAheadValue → PullState → Next → Type 0
-IsNext old later after next.Query = HasQuery later.unread × AreTaken old (stream later after) []
+IsNext old later after next.Query = HasQuery later.unread × AreNear later.unread × AreTaken old (stream later after) []
 IsNext old later after (next.Piece size) = IsLineTaken old (stream later after) size
 IsNext old later after next.End = AreLast old after []
 

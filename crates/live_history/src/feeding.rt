@@ -1,9 +1,10 @@
 //! Bytes of an input that come to the reader of a dump.
-ghost use Rattle.std.specs.Prelude.{◌≡◌, ◌+◌, ◌^◌, ◌<◌, ◌≤◌, ℕ, List, None, IfErr, OnOk};
+ghost use Rattle.std.specs.Prelude.{◌≡◌, ◌+◌, ◌^◌, ◌<◌, ◌≤◌, ℕ, List, None, length, IfErr, OnOk};
 ghost use Rattle.svn_dump.specs.Feed.{HasRead};
+ghost use Rattle.svn_report.specs.ReportFrom.{most_bytes};
 ghost use Rattle.live_history.specs.History.{IsFed};
+ghost use Rattle.live_history.specs.PieceEnd.{IsPieceEnd};
 ghost use Rattle.live_history.specs.ReadAhead.{room, stream};
-ghost use Rattle.live_history.specs.TalkEnd.{IsPieceEnd};
 
 use crate::read_ahead::ReadAhead;
 use crate::talk_error::TalkError;
@@ -19,10 +20,12 @@ pub(crate) fn feed_piece<I: Pull>(
 ) -> Result<(), TalkError>
     requires few { feed.old.count + room ahead.old < 2 ^ 64 }
     requires going { feed.old.error ≡ None }
+    requires near { length ahead.old.unread ≤ most_bytes }
     ensures ok { OnOk result
         (IsFed feed.old size (stream ahead.old (I.state input.old)) (stream ahead.new (I.state input.new)) feed.new) }
     ensures few { OnOk result (feed.new.count + room ahead.new ≤ feed.old.count + room ahead.old) }
     ensures room { OnOk result (room ahead.new ≤ room ahead.old) }
+    ensures near { OnOk result (length ahead.new.unread ≤ most_bytes) }
     ensures error { IfErr result (λ e. (before : List ℕ) → HasRead feed.old before
         → IsPieceEnd before size (stream ahead.old (I.state input.old)) (I.state input.new) e) }
 {

@@ -20,16 +20,17 @@ pub(crate) struct History {
 }
 
 impl History {
-    ghost use Rattle.std.specs.Prelude.{◌≡◌, ◌+◌, ◌*◌, ◌^◌, ◌<◌, ◌≤◌, ℕ, List, IfErr, IfOk};
+    ghost use Rattle.std.specs.Prelude.{◌≡◌, ◌+◌, ◌*◌, ◌^◌, ◌<◌, ◌≤◌, ℕ, List, length, IfErr, IfOk};
     ghost use Rattle.query_pool.specs.Serving.{most_workers};
     ghost use Rattle.svn_dump.specs.Draft.{IsWholeHistory};
     ghost use Rattle.svn_dump.specs.Dump.{history_in_bytes};
     ghost use Rattle.svn_report.specs.Load.{most_reads};
     ghost use Rattle.svn_report.specs.ReportFrom.{most_bytes};
     ghost use Rattle.live_history.specs.History.{IsGrown, IsHistoryFrom, IsHistoryOf};
+    ghost use Rattle.live_history.specs.PieceEnd.{IsPieceEnd};
     ghost use Rattle.live_history.specs.ReadAhead.{room, stream};
     ghost use Rattle.live_history.specs.Talk.{ready_text};
-    ghost use Rattle.live_history.specs.TalkEnd.{IsNoHistory, IsPieceEnd};
+    ghost use Rattle.live_history.specs.TalkEnd.{IsNoHistory};
 
     /// The history of the dump that a device gives, read to its end.
     pub(crate) fn read<R: RandomSource + Threads + Wait + Sync, D: Pull>(
@@ -64,6 +65,7 @@ impl History {
     ) -> Result<Self, TalkError>
         requires whole { IsWholeHistory self.repo }
         requires few { self.paused.count + room ahead.old < 2 ^ 64 }
+        requires near { length ahead.old.unread ≤ most_bytes }
         requires some_worker { 0 < workers }
         requires few_workers { workers ≤ most_workers }
         ensures ok { IfOk result (λ grown. (before : List ℕ) → IsHistoryOf before self
@@ -71,6 +73,7 @@ impl History {
         ensures whole { IfOk result (λ grown. IsWholeHistory grown.repo) }
         ensures few { IfOk result (λ grown. grown.paused.count + room ahead.new ≤ self.paused.count + room ahead.old) }
         ensures room { IfOk result (λ grown. room ahead.new ≤ room ahead.old) }
+        ensures near { IfOk result (λ grown. length ahead.new.unread ≤ most_bytes) }
         ensures error { IfErr result (λ e. (before : List ℕ) → IsHistoryOf before self
             → IsPieceEnd before size (stream ahead.old (I.state input.old)) (I.state input.new) e) }
     {

@@ -2,7 +2,8 @@
 ghost use Rattle.std.specs.Prelude.{◌≡◌, ◌+◌, ◌<◌, ◌≤◌, [], drop, length, IfErr, IfNone, IfOk, IfSome, IsFalse, IsTrue};
 ghost use Rattle.svn_text.specs.Cut.{Lacks};
 ghost use Rattle.svn_report.specs.Load.{most_reads};
-ghost use Rattle.live_history.specs.ReadAhead.{HasLine, IsLineEnd, IsReadEnd, room, stream};
+ghost use Rattle.svn_report.specs.ReportFrom.{most_bytes};
+ghost use Rattle.live_history.specs.ReadAhead.{AreNear, HasLine, IsLineEnd, IsReadEnd, room, stream};
 ghost use Rattle.live_history.specs.Stream.{AreLast, AreTaken};
 
 use crate::talk_error::TalkError;
@@ -44,7 +45,8 @@ impl Model for ReadAhead {
     ghost view = { λ ahead. record { unread = drop ahead.taken ahead.bytes.items; reads = ahead.reads } };
 
     ghost invariant = { λ ahead. (ahead.taken + ahead.searched ≤ length ahead.bytes.items)
-        × Lacks 10 (take ahead.searched (drop ahead.taken ahead.bytes.items)) × (vec_len ahead.piece ≡ most_bytes) };
+        × Lacks 10 (take ahead.searched (drop ahead.taken ahead.bytes.items)) × (vec_len ahead.piece ≡ most_bytes)
+        × (length ahead.bytes.items ≤ ahead.taken + ahead.searched + most_bytes) };
 }
 
 impl ReadAhead {
@@ -83,20 +85,24 @@ impl ReadAhead {
     }
 
     /// Reads once, and says how many bytes came: 0 is the end of the input.
-    pub(crate) fn read<I: Pull>(&mut self, input: &mut I) -> Result<usize, TalkError>
+    fn read<I: Pull>(&mut self, input: &mut I) -> Result<usize, TalkError>
+        requires { Lacks 10 self.old.unread }
+        ensures few { IfOk result (λ count. count ≤ most_bytes) }
         ensures more { IfOk result (λ count. length self.new.unread ≡ length self.old.unread + count) }
         ensures taken { IfOk result (λ count. 0 < count
             → AreTaken (stream self.old (I.state input.old)) (stream self.new (I.state input.new)) []) }
         ensures end { IfOk result (λ count. count ≡ 0
             → AreLast (stream self.old (I.state input.old)) (I.state input.new) self.new.unread) }
         ensures less { IfOk result (λ _. room self.new < room self.old) }
-        ensures error { IfErr result (IsReadEnd (stream self.old (I.state input.old)) (I.state input.new)) }
+        ensures error { IfErr result
+            (λ e. IsReadEnd (stream self.old (I.state input.old)) (I.state input.new) e self.old.unread) }
     {
         if self.reads == 0 {
             return Err(TalkError::Run(RunError::Read(Source::Input)));
         }
         self.reads -= 1;
         self.forget()?;
+        self.searched = self.unread().len();
         match input.pull(self.piece.as_mut_slice()) {
             Err(_) => Err(TalkError::Run(RunError::Read(Source::Input))),
             Ok(count) => {
@@ -114,7 +120,9 @@ impl ReadAhead {
         ensures end { IfOk result (λ more. IsFalse more
             → AreLast (stream self.old (I.state input.old)) (I.state input.new) []) }
         ensures room { IfOk result (λ more. room self.new ≤ room self.old) }
-        ensures error { IfErr result (IsReadEnd (stream self.old (I.state input.old)) (I.state input.new)) }
+        ensures near { IfOk result (λ _. length self.old.unread ≤ most_bytes → length self.new.unread ≤ most_bytes) }
+        ensures error { IfErr result
+            (λ e. IsReadEnd (stream self.old (I.state input.old)) (I.state input.new) e []) }
     {
         if self.unread().is_empty() {
             Ok(self.read(input)? > 0)
@@ -137,6 +145,7 @@ impl ReadAhead {
     /// Reads until there is a whole line, and answers its length; `None` where nothing is left.
     pub(crate) fn read_line<I: Pull>(&mut self, input: &mut I) -> Result<Option<usize>, TalkError>
         ensures line { IfOk result (λ found. IfSome found (HasLine self.new.unread)) }
+        ensures near { IfOk result (λ found. IfSome found (λ _. AreNear self.new.unread)) }
         ensures taken { IfOk result (λ found. IfSome found (λ _.
             AreTaken (stream self.old (I.state input.old)) (stream self.new (I.state input.new)) [])) }
         ensures end { IfOk result (λ found. IfNone found
@@ -159,18 +168,14 @@ impl ReadAhead {
     }
 
     /// The length of the first line, where all of it was read.
-    fn line(&mut self) -> Option<usize>
-        ensures kept { self.new ≡ self.old }
-        ensures line { IfSome result (HasLine self.old.unread) }
-        ensures none { IfNone result (Lacks 10 self.old.unread) }
+    fn line(&self) -> Option<usize>
+        ensures line { IfSome result (HasLine self.now.unread) }
+        ensures near { IfSome result (λ _. AreNear self.now.unread) }
+        ensures none { IfNone result (Lacks 10 self.now.unread) }
     {
-        let searched = self.searched;
-        match split_at_byte(b'\n', &self.unread()[searched..]) {
-            Some((front, _)) => Some(searched + front.len()),
-            None => {
-                self.searched = self.unread().len();
-                None
-            }
+        match split_at_byte(b'\n', &self.unread()[self.searched..]) {
+            Some((front, _)) => Some(self.searched + front.len()),
+            None => None,
         }
     }
 }

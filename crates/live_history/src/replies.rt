@@ -7,10 +7,11 @@ ghost use Rattle.svn_text.specs.Line.{line_text};
 ghost use Rattle.svn_dump.specs.Dump.{history_in_bytes};
 ghost use Rattle.svn_report.specs.Answering.{lent_lines};
 ghost use Rattle.svn_report.specs.Report.{most_queries};
-ghost use Rattle.live_history.specs.ReadAhead.{room, stream};
-ghost use Rattle.live_history.specs.Replies.{AreRepliedTo, IsUpToNext, replies};
+ghost use Rattle.svn_report.specs.ReportFrom.{most_bytes};
+ghost use Rattle.live_history.specs.ReadAhead.{AreNear, room, stream};
+ghost use Rattle.live_history.specs.Replies.{AreRepliedTo, IsUpToNext, KeepsOutput, replies};
 ghost use Rattle.live_history.specs.Talk.{IsLawfulDump, TalkState};
-ghost use Rattle.live_history.specs.TalkEnd.{IsEndEarly};
+ghost use Rattle.live_history.specs.TalkEnd.{IsEndEarly, most_answered};
 ghost use Rattle.live_history.specs.Turns.{HasQuery};
 
 use crate::read_ahead::ReadAhead;
@@ -40,12 +41,15 @@ pub(crate) fn reply_up_to_piece<R: Threads + Wait + Sync, I: Pull, O: Push>(
 ) -> Result<Option<u64>, TalkError>
     requires some_worker { 0 < workers }
     requires few_workers { workers ≤ most_workers }
+    requires few_answered { answered.old ≤ most_answered }
     ensures ok { IfOk result (λ next. (state : TalkState) → IsLawfulDump state.dump (history_in_bytes repo.now)
         → state.answered ≡ answered.old
         → IsUpToNext state (stream ahead.old (I.state input.old)) (O.state output.old).gone
         (stream ahead.new (I.state input.new)) (I.state input.new) (O.state output.new) answered.new next) }
+    ensures few_answered { IfOk result (λ next. answered.new ≤ most_answered) }
     ensures room { IfOk result (λ next. room ahead.new ≤ room ahead.old) }
     ensures less { IfOk result (λ next. IfSome next (λ _. room ahead.new < room ahead.old)) }
+    ensures near { IfOk result (λ next. IfSome next (λ _. length ahead.new.unread ≤ most_bytes)) }
     ensures flushed { IfOk result (λ _. IsTrue (O.state output.old).is_flushed → IsTrue (O.state output.new).is_flushed) }
     ensures sound { IfOk result
         (λ _. IsFalse (O.state output.old).has_failed → IsFalse (O.state output.new).has_failed) }
@@ -53,6 +57,7 @@ pub(crate) fn reply_up_to_piece<R: Threads + Wait + Sync, I: Pull, O: Push>(
         → state.answered ≡ answered.old
         → IsEndEarly state (stream ahead.old (I.state input.old)) (O.state output.old).gone
         (I.state input.new) (O.state output.new) e) }
+    ensures kept { IfErr result (KeepsOutput (O.state output.old) (O.state output.new)) }
 {
     let memo = repo.memo(alloc)?;
     'turns: loop {
@@ -78,6 +83,7 @@ fn reply_to_queries<'r, R: Threads + Wait + Sync, O: Push>(
     output: &mut O,
 ) -> Result<(), TalkError>
     requires query { HasQuery ahead.old.unread }
+    requires near { AreNear ahead.old.unread }
     requires cells { length repo.now.values ≤ length memo.now }
     requires some_worker { 0 < workers }
     requires few_workers { workers ≤ most_workers }
@@ -85,12 +91,14 @@ fn reply_to_queries<'r, R: Threads + Wait + Sync, O: Push>(
         → state.answered ≡ answered.old → (input : PullState)
         → AreRepliedTo state (stream ahead.old input) (O.state output.old).gone (stream ahead.new input)
         (O.state output.new) answered.new) }
+    ensures few { OnOk result (answered.new ≤ most_answered) }
     ensures less { OnOk result (room ahead.new < room ahead.old) }
     ensures flushed { OnOk result (IsTrue (O.state output.new).is_flushed) }
     ensures sound { OnOk result (IsFalse (O.state output.new).has_failed) }
     ensures error { IfErr result (λ e. (state : TalkState) → IsLawfulDump state.dump (history_in_bytes repo.now)
         → state.answered ≡ answered.old → (input : PullState)
         → IsEndEarly state (stream ahead.old input) (O.state output.old).gone input (O.state output.new) e) }
+    ensures kept { IfErr result (KeepsOutput (O.state output.old) (O.state output.new)) }
 {
     let most = (SHARE * workers).min((u32::MAX - *answered) as usize);
     if most == 0 {

@@ -6,8 +6,9 @@ ghost use Rattle.svn_dump.specs.Draft.{IsWholeHistory};
 ghost use Rattle.svn_dump.specs.Dump.{history_in_bytes};
 ghost use Rattle.live_history.specs.History.{IsHistoryOf};
 ghost use Rattle.live_history.specs.ReadAhead.{room, stream};
+ghost use Rattle.live_history.specs.Replies.{KeepsOutput};
 ghost use Rattle.live_history.specs.Talk.{TalkState, ready_text};
-ghost use Rattle.live_history.specs.TalkEnd.{AreAllReplied, IsEndEarly, IsTalkError, IsWholeTalk};
+ghost use Rattle.live_history.specs.TalkEnd.{AreAllReplied, IsEndEarly, IsTalkError, IsWholeTalk, most_answered};
 ghost use Rattle.live_history.specs.Talking.{IsAfterPiece, IsUnsaid};
 
 use crate::history::History;
@@ -92,6 +93,7 @@ fn take_turns<R: Threads + Wait + Sync, I: Pull, O: Push>(
     ensures error { IfErr result (λ e. (state : TalkState) → IsHistoryOf state.dump history → state.answered ≡ 0
         → IsEndEarly state (stream ahead.old (I.state input.old)) (O.state output.old).gone (I.state input.new)
         (O.state output.new) e) }
+    ensures kept { IfErr result (KeepsOutput (O.state output.old) (O.state output.new)) }
 {
     let mut history = history;
     let mut answered = 0;
@@ -125,6 +127,7 @@ fn take_piece<R: Threads + Wait + Sync, I: Pull, O: Push>(
     requires few { history.paused.count + room ahead.old < 2 ^ 64 }
     requires some_worker { 0 < workers }
     requires few_workers { workers ≤ most_workers }
+    requires few_answered { answered.old ≤ most_answered }
     ensures taken { IfOk result (λ next. IfSome next (λ grown. (state : TalkState) → IsHistoryOf state.dump history
         → state.answered ≡ answered.old
         → IsAfterPiece state (stream ahead.old (I.state input.old)) (O.state output.old).gone
@@ -132,6 +135,7 @@ fn take_piece<R: Threads + Wait + Sync, I: Pull, O: Push>(
     ensures whole { IfOk result (λ next. IfSome next (λ grown. IsWholeHistory grown.repo)) }
     ensures few { IfOk result (λ next. IfSome next (λ grown.
         grown.paused.count + room ahead.new ≤ history.paused.count + room ahead.old)) }
+    ensures few_answered { IfOk result (λ next. answered.new ≤ most_answered) }
     ensures less { IfOk result (λ next. IfSome next (λ _. room ahead.new < room ahead.old)) }
     ensures end { IfOk result (λ next. IfNone next ((state : TalkState) → IsHistoryOf state.dump history
         → state.answered ≡ answered.old
@@ -145,6 +149,7 @@ fn take_piece<R: Threads + Wait + Sync, I: Pull, O: Push>(
         → state.answered ≡ answered.old
         → IsEndEarly state (stream ahead.old (I.state input.old)) (O.state output.old).gone (I.state input.new)
         (O.state output.new) e) }
+    ensures kept { IfErr result (KeepsOutput (O.state output.old) (O.state output.new)) }
 {
     match reply_up_to_piece(
         rt,

@@ -1,6 +1,7 @@
 //! The turns of a talk in its input.
 ghost use Rattle.std.specs.Prelude.{◌<◌, ◌≤◌, ℕ, length, IfErr, IfNone, IfOk, IfSome};
 ghost use Rattle.svn_report.specs.Answering.{lent_lines};
+ghost use Rattle.svn_report.specs.ReportFrom.{most_bytes};
 ghost use Rattle.live_history.specs.ReadAhead.{IsLineEnd, room, stream};
 ghost use Rattle.live_history.specs.Turn.{IsPieceLine};
 ghost use Rattle.live_history.specs.Turns.{AreQueries, HasQuery, IfPiece, IsFirstQuery, IsNext};
@@ -29,6 +30,7 @@ pub(crate) fn read_next<I: Pull>(ahead: &mut ReadAhead, input: &mut I) -> Result
     ensures next { IfOk result (IsNext (stream ahead.old (I.state input.old)) ahead.new (I.state input.new)) }
     ensures room { IfOk result (λ next. room ahead.new ≤ room ahead.old) }
     ensures less { IfOk result (λ next. IfPiece next (room ahead.new < room ahead.old)) }
+    ensures near { IfOk result (λ next. IfPiece next (length ahead.new.unread ≤ most_bytes)) }
     ensures error { IfErr result (IsLineEnd (stream ahead.old (I.state input.old)) (I.state input.new)) }
 {
     let Some(len) = ahead.read_line(input)? else {

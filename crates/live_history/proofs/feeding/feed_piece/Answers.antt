@@ -14,16 +14,19 @@ bytes-init g c = record {
   within = omega arith;
   few = omega arith;
   less = omega arith;
+  near = c.requires.near;
 }
 
 pub returns-in_err-read_some-clause-error : goal.returns-in_err-read_some-clause-error
 returns-in_err-read_some-clause-error g c =
     let told = err_from_is_err_and c.from_residual.result c.from_residual.ensures.1 in
-    rw (told.1, told.2) (λ before has. IsPieceEnd-unread c.bytes.invariant.fed before c.args.size (g.I.Pull.state c.read_some.new.input) _ c.in_err-read_some.ensures.error)
+    rw (told.1, told.2) (λ before has.
+    IsPieceEnd-unread c.bytes.invariant.fed before c.args.size (g.I.Pull.state c.read_some.new.input) _ has (omega (arith, c.bytes.invariant.within, c.bytes-test.true))
+    c.in_err-read_some.ensures.error)
 
 pub returns-then-not-branch-clause-error : goal.returns-then-not-branch-clause-error
 returns-then-not-branch-clause-error g c = λ before has.
-    IsPieceEnd-cut c.bytes.invariant.fed before c.args.size (g.I.Pull.state c.read_some.new.input) (omega (arith, c.bytes.invariant.within, c.bytes-test.true))
+    IsPieceEnd-cut c.bytes.invariant.fed before c.args.size (g.I.Pull.state c.read_some.new.input) has (omega (arith, c.bytes.invariant.within, c.bytes-test.true))
     (c.in_ok-read_some.ensures.end c.if-not-branch.true)
 
 pub returns-in_err-feed-clause-error : goal.returns-in_err-feed-clause-error
@@ -33,7 +36,7 @@ returns-in_err-feed-clause-error g c =
     let count = c.min-len.result in
     let fed = IsFed-read c.bytes.invariant.fed (c.in_ok-read_some.ensures.taken c.if-not-branch.false) in
     rw (told.1, told.2) (λ before has. IsPieceEnd-decided fed before c.args.size ahead (g.I.Pull.state c.read_some.new.input) count _ refl
-    (omega (arith, c.min-len.ensures, ap length c.unread.ensures)) (omega (arith, c.min-len.ensures, c.bytes.invariant.within)) has
+    (omega (arith, c.min-len.ensures, ap length c.unread.ensures)) (omega (arith, c.min-len.ensures, c.bytes.invariant.within)) (c.in_ok-read_some.ensures.near c.bytes.invariant.near) has
     (λ bytes read. subst (λ all. IsDecidedError (bytes ++ take count all) c.in_err-feed.field-0.0) c.unread-in-bytes.ensures (c.in_err-feed.ensures.decided bytes read)))
 
 pub bytes-preserved : goal.bytes-preserved
@@ -49,10 +52,11 @@ bytes-preserved g c =
     let fed = IsFed-read c.bytes.invariant.fed (c.in_ok-read_some.ensures.taken c.if-not-branch.false) in
     let left = ap length c.take.ensures.unread in
     record {
-      fed = IsFed-more fed (c.args.size - (c.bytes.left - count)) piece (omega (arith, long, c.bytes.invariant.within, c.min-len.ensures)) taken c.in_ok-feed.ensures.read c.in_ok-feed.ensures.grows c.in_ok-feed.ensures.ok;
+      fed = IsFed-more fed (c.args.size - (c.bytes.left - count)) piece (omega (arith, long, c.bytes.invariant.within, c.min-len.ensures)) taken c.in_ok-feed.ensures.read c.in_ok-feed.ensures.undecided c.in_ok-feed.ensures.grows c.in_ok-feed.ensures.ok;
       within = omega (arith, c.bytes.invariant.within);
       few = omega (arith, c.bytes.invariant.few, c.in_ok-feed.ensures.count, long, left, length-drop count ahead.unread, c.take.ensures.reads, c.in_ok-read_some.ensures.room, inside, ap length c.unread-in-bytes.ensures);
       less = omega (arith, c.bytes.invariant.less, left, length-drop count ahead.unread, c.take.ensures.reads, c.in_ok-read_some.ensures.room);
+      near = omega (arith, left, length-drop count ahead.unread, c.in_ok-read_some.ensures.near c.bytes.invariant.near);
     }
 
 pub returns-clause-ok : goal.returns-clause-ok

@@ -1,4 +1,5 @@
-use Rattle.std.proofs.Common.{◌+◌, ◌-◌, ◌≤◌}
+use Rattle.std.proofs.Common.{◌+◌, ◌-◌, ◌≤◌, length}
+use Rattle.svn_report.specs.ReportFrom.{most_bytes}
 use Rattle.live_history.specs.History.{IsFed}
 use Rattle.live_history.specs.ReadAhead.{room, stream}
 use Rattle.live_history.proofs.feeding.feed_piece.Given as goal
@@ -9,6 +10,7 @@ invariant-bytes g l = record {
   within : l.left ≤ l.fn.size;
   few : l.feed.count + room l.ahead ≤ l.fn.feed.count + room l.fn.ahead;
   less : room l.ahead ≤ room l.fn.ahead;
+  near : length l.ahead.unread ≤ most_bytes;
 }
 
 abbrev pub decreases-bytes : goal.decreases-bytes

@@ -10,7 +10,7 @@ use Rattle.live_history.proofs.replies.reply_to_queries.Goals as goal
 
 pub returns-then-most-eq0-clause-error : goal.returns-then-most-eq0-clause-error
 returns-then-most-eq0-clause-error g c = λ state is same input.
-    IsEndEarly-many state c.args.ahead.now input (g.O.Push.state c.args.output.now) c.requires.query (omega (arith, same, c.if-most-eq0.true, c.min-most.ensures, c.requires.some_worker))
+    IsEndEarly-many state c.args.ahead.now input (g.O.Push.state c.args.output.now) c.requires.query c.requires.near (omega (arith, same, c.if-most-eq0.true, c.min-most.ensures, c.requires.some_worker))
 
 pub returns-in_err-lines-clause-error : goal.returns-in_err-lines-clause-error
 returns-in_err-lines-clause-error g c =
@@ -36,8 +36,28 @@ returns-in_err-send-clause-error g c =
     rw (told.1, told.2) (λ state is same input.
     let text : c.as_slice-2.result.now ≡ replies dump state.answered lines =
     c.as_slice-2.ensures.value ∙ c.in_ok-text.ensures ∙ ap (λ all. replies dump c.args.answered.now (lent_lines all)) c.as_slice.ensures.value ∙ ap (λ n. replies dump n lines) (sym same) in
-    IsEndEarly-part dump state is ahead input lines rest are old.gone new cause
+    let counted = length-map c.in_ok-lines.lines.items (λ line. line.now) in
+    IsEndEarly-part dump state is ahead input lines rest are old.gone new cause (omega (arith, counted, c.in_ok-lines.ensures.some)) c.requires.near
+    (omega (arith, c.in_err-send.ensures.within, ap length text))
     (subst (λ all. Appends old.gone new.gone (take cause.sent all)) text c.in_err-send.ensures.sent) (search (rules, c.in_err-send.ensures.failed)))
+
+pub returns-then-most-eq0-clause-kept : goal.returns-then-most-eq0-clause-kept
+returns-then-most-eq0-clause-kept g c = λ flushed sound. (flushed, sound)
+
+pub returns-in_err-lines-clause-kept : goal.returns-in_err-lines-clause-kept
+returns-in_err-lines-clause-kept g c =
+    let told = err_from_is_err_and c.from_residual.result c.from_residual.ensures.1 in
+    rw (told.1, told.2) (λ flushed sound. (flushed, sound))
+
+pub returns-in_err-text-clause-kept : goal.returns-in_err-text-clause-kept
+returns-in_err-text-clause-kept g c =
+    let told = err_from_is_err_and c.from_residual-in_err-text.result c.from_residual-in_err-text.ensures.1 in
+    rw (told.1, told.2) (λ flushed sound. (flushed, sound))
+
+pub returns-in_err-send-clause-kept : goal.returns-in_err-send-clause-kept
+returns-in_err-send-clause-kept g c =
+    let told = err_from_is_err_and c.from_residual-in_err-send.result c.from_residual-in_err-send.ensures.1 in
+    rw (told.1, told.2) (λ flushed sound. tt)
 
 pub returns-clause-ok : goal.returns-clause-ok
 returns-clause-ok g c = λ state is same input.

@@ -2,6 +2,7 @@ use Rattle.std.proofs.Common.{refl, subst, arith}
 use Rattle.std.proofs.lemmas.Result.{err_from_is_err_and}
 use Rattle.live_history.specs.ReadAhead.{stream}
 use Rattle.live_history.specs.Turns.{IsNext}
+use Rattle.live_history.proofs.Ends.{IsOutputKept-sound}
 use Rattle.live_history.proofs.Queries.{AreAllReplied-then, AreRepliedTo-more, AreRepliedTo-none, AreRepliedTo-read, IsEndEarly-line, IsEndEarly-memory, IsEndEarly-then}
 use Rattle.live_history.proofs.replies.reply_up_to_piece.Goals as goal
 
@@ -15,6 +16,7 @@ turns-init g c = record {
   replied = λ state is same. AreRepliedTo-none state (stream c.args.ahead.now (g.I.Pull.state c.args.input.now)) (g.O.Push.state c.args.output.now) c.args.answered.now same;
   flushed = λ is. is;
   sound = λ is. is;
+  few = c.requires.few_answered;
   less = omega arith;
 }
 
@@ -29,9 +31,10 @@ turns-preserved g c =
     let next = subst (IsNext (stream c.turns.ahead (g.I.Pull.state c.turns.input)) c.read_next.new.ahead input) c.in-Query.is c.in_ok-read_next.ensures.next in
     let replied = c.in_ok-reply_to_queries-in-Query.ensures in
     record {
-      replied = λ state is same. AreRepliedTo-more (AreRepliedTo-read (c.turns.invariant.replied state is same) next.1) (replied.ok (record { dump = state.dump; answered = c.turns.answered }) is refl input);
+      replied = λ state is same. AreRepliedTo-more (AreRepliedTo-read (c.turns.invariant.replied state is same) next.2) (replied.ok (record { dump = state.dump; answered = c.turns.answered }) is refl input);
       flushed = λ is. replied.flushed;
       sound = λ is. replied.sound;
+      few = replied.few;
       less = omega (arith, replied.less, c.in_ok-read_next.ensures.room, c.turns.invariant.less);
     }
 
@@ -40,11 +43,26 @@ returns-in_err-reply_to_queries-in-Query-clause-error g c =
     let told = err_from_is_err_and c.from_residual-in_err-reply_to_queries-in-Query.result c.from_residual-in_err-reply_to_queries-in-Query.ensures.1 in
     let input = g.I.Pull.state c.read_next.new.input in
     let next = subst (IsNext (stream c.turns.ahead (g.I.Pull.state c.turns.input)) c.read_next.new.ahead input) c.in-Query.is c.in_ok-read_next.ensures.next in
-    rw (told.1, told.2) (λ state is same. IsEndEarly-then (AreRepliedTo-read (c.turns.invariant.replied state is same) next.1) input (g.O.Push.state c.reply_to_queries.new.output) _
+    rw (told.1, told.2) (λ state is same. IsEndEarly-then (AreRepliedTo-read (c.turns.invariant.replied state is same) next.2) input (g.O.Push.state c.reply_to_queries.new.output) _
     (c.in_err-reply_to_queries-in-Query.ensures.error (record { dump = state.dump; answered = c.turns.answered }) is refl input))
+
+pub returns-in_err-memo-clause-kept : goal.returns-in_err-memo-clause-kept
+returns-in_err-memo-clause-kept g c =
+    let told = err_from_is_err_and c.from_residual.result c.from_residual.ensures.1 in
+    rw (told.1, told.2) (λ flushed sound. (flushed, sound))
+
+pub returns-in_err-read_next-clause-kept : goal.returns-in_err-read_next-clause-kept
+returns-in_err-read_next-clause-kept g c =
+    let told = err_from_is_err_and c.from_residual-in_err-read_next.result c.from_residual-in_err-read_next.ensures.1 in
+    rw (told.1, told.2) (λ flushed sound. IsOutputKept-sound (g.O.Push.state c.turns.output) c.in_err-read_next.field-0.0 (c.turns.invariant.flushed flushed) (c.turns.invariant.sound sound))
+
+pub returns-in_err-reply_to_queries-in-Query-clause-kept : goal.returns-in_err-reply_to_queries-in-Query-clause-kept
+returns-in_err-reply_to_queries-in-Query-clause-kept g c =
+    let told = err_from_is_err_and c.from_residual-in_err-reply_to_queries-in-Query.result c.from_residual-in_err-reply_to_queries-in-Query.ensures.1 in
+    rw (told.1, told.2) (λ flushed sound. c.in_err-reply_to_queries-in-Query.ensures.kept (c.turns.invariant.flushed flushed) (c.turns.invariant.sound sound))
 
 pub returns-in-End-clause-ok : goal.returns-in-End-clause-ok
 returns-in-End-clause-ok g c = λ state is same.
     let after = g.I.Pull.state c.read_next.new.input in
-    AreAllReplied-then (c.turns.invariant.replied state is same) after
+    AreAllReplied-then (c.turns.invariant.replied state is same) after c.turns.invariant.few
     (subst (IsNext (stream c.turns.ahead (g.I.Pull.state c.turns.input)) c.read_next.new.ahead after) c.in-End.is c.in_ok-read_next.ensures.next)

@@ -4,6 +4,7 @@ use Rattle.svn_dump.specs.Dump.{history_in_bytes}
 use Rattle.live_history.specs.ReadAhead.{room, stream}
 use Rattle.live_history.specs.Replies.{AreRepliedTo}
 use Rattle.live_history.specs.Talk.{IsLawfulDump, TalkState}
+use Rattle.live_history.specs.TalkEnd.{most_answered}
 use Rattle.live_history.proofs.replies.reply_up_to_piece.Given as goal
 
 abbrev pub invariant-turns : goal.invariant-turns
@@ -12,6 +13,7 @@ invariant-turns g l = record {
       → AreRepliedTo state (stream l.fn.ahead (g.I.Pull.state l.fn.input)) (g.O.Push.state l.fn.output).gone (stream l.ahead (g.I.Pull.state l.input)) (g.O.Push.state l.output) l.answered;
   flushed : IsTrue (g.O.Push.state l.fn.output).is_flushed → IsTrue (g.O.Push.state l.output).is_flushed;
   sound : IsFalse (g.O.Push.state l.fn.output).has_failed → IsFalse (g.O.Push.state l.output).has_failed;
+  few : l.answered ≤ most_answered;
   less : room l.ahead ≤ room l.fn.ahead;
 }
 

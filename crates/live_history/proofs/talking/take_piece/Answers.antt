@@ -1,9 +1,12 @@
 use Rattle.std.proofs.Common.{◌<◌, subst, arith}
 use Rattle.std.specs.Prelude.{IfSome}
 use Rattle.std.proofs.lemmas.Result.{err_from_is_err_and}
+use Rattle.svn_dump.specs.Dump.{history_in_bytes}
 use Rattle.live_history.specs.ReadAhead.{room, stream}
 use Rattle.live_history.specs.Replies.{IsUpToNext}
-use Rattle.live_history.proofs.Ongoing.{IsAfterPiece-ready, IsEndEarly-piece, IsEndEarly-unsaid}
+use Rattle.live_history.specs.Talk.{ready_text}
+use Rattle.live_history.proofs.Ends.{IsOutputKept-sound}
+use Rattle.live_history.proofs.Ongoing.{IsAfterPiece-ready, IsEndEarly-piece, IsEndEarly-unsaid, IsOutputKept-unsaid}
 use Rattle.live_history.proofs.talking.take_piece.Goals as goal
 
 pub returns-in_err-grown-in-Ok-Some-clause-error : goal.returns-in_err-grown-in-Ok-Some-clause-error
@@ -28,7 +31,8 @@ returns-in-Ok-clause-taken g c = λ state is same.
     let between = g.O.Push.state c.reply_up_to_piece.new.output in
     let answered = c.reply_up_to_piece.new.answered in
     IsAfterPiece-ready state old gone mid between answered c.in-Ok-Some.size (subst (IsUpToNext state old gone mid after between answered) c.in-Ok-Some.field-0-is (c.in-Ok-Some.ensures.ok state is.dump same))
-    c.grow.new.ahead (g.I.Pull.state c.grow.new.input) c.in_ok-grown-in-Ok-Some.grown (c.in_ok-grown-in-Ok-Some.ensures.ok state.dump is) (g.O.Push.state c.say_ready.new.output) c.in-Ok.ensures.said
+    c.grow.new.ahead (g.I.Pull.state c.grow.new.input) c.in_ok-grown-in-Ok-Some.grown (c.in_ok-grown-in-Ok-Some.ensures.ok state.dump is) c.in_ok-grown-in-Ok-Some.ensures.near (g.O.Push.state c.say_ready.new.output)
+    c.in-Ok.ensures.said
 
 pub returns-in-Ok-clause-less : goal.returns-in-Ok-clause-less
 returns-in-Ok-clause-less g c =
@@ -44,8 +48,19 @@ returns-in-Err-say_ready-clause-error g c = λ state is same.
     let between = g.O.Push.state c.reply_up_to_piece.new.output in
     let answered = c.reply_up_to_piece.new.answered in
     IsEndEarly-unsaid state old gone mid between answered c.in-Ok-Some.size (subst (IsUpToNext state old gone mid after between answered) c.in-Ok-Some.field-0-is (c.in-Ok-Some.ensures.ok state is.dump same))
-    c.grow.new.ahead (g.I.Pull.state c.grow.new.input) c.in_ok-grown-in-Ok-Some.grown (c.in_ok-grown-in-Ok-Some.ensures.ok state.dump is) (g.O.Push.state c.say_ready.new.output) c.in-Err-say_ready.e
-    c.in-Err-say_ready.ensures.error
+    c.grow.new.ahead (g.I.Pull.state c.grow.new.input) c.in_ok-grown-in-Ok-Some.grown (c.in_ok-grown-in-Ok-Some.ensures.ok state.dump is) c.in_ok-grown-in-Ok-Some.ensures.near (g.O.Push.state c.say_ready.new.output)
+    c.in-Err-say_ready.e c.in-Err-say_ready.ensures.error
+
+pub returns-in_err-grown-in-Ok-Some-clause-kept : goal.returns-in_err-grown-in-Ok-Some-clause-kept
+returns-in_err-grown-in-Ok-Some-clause-kept g c =
+    let told = err_from_is_err_and c.from_residual.result c.from_residual.ensures.1 in
+    let between = g.O.Push.state c.reply_up_to_piece.new.output in
+    rw (told.1, told.2) (λ flushed sound. IsOutputKept-sound between c.in_err-grown-in-Ok-Some.field-0.0 (c.in-Ok-Some.ensures.flushed flushed) (c.in-Ok-Some.ensures.sound sound))
+
+pub returns-in-Err-say_ready-clause-kept : goal.returns-in-Err-say_ready-clause-kept
+returns-in-Err-say_ready-clause-kept g c = λ flushed sound.
+    IsOutputKept-unsaid (ready_text (history_in_bytes c.in_ok-grown-in-Ok-Some.grown.repo)) (g.O.Push.state c.reply_up_to_piece.new.output) (g.O.Push.state c.say_ready.new.output) c.in-Err-say_ready.e
+    c.in-Err-say_ready.ensures.error (c.in-Ok-Some.ensures.flushed flushed) (c.in-Ok-Some.ensures.sound sound)
 
 pub returns-in-Ok-None-clause-end : goal.returns-in-Ok-None-clause-end
 returns-in-Ok-None-clause-end g c = λ state is same.

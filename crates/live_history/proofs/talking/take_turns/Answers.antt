@@ -23,6 +23,7 @@ pieces-init g c = record {
       subst (λ n. IsAfterPiece state old sent.gone old sent n c.args.history) same (IsAfterPiece-none state old sent c.args.history is);
   whole = c.requires.whole;
   few = c.requires.few;
+  few_answered = omega arith;
   flushed = λ is. is;
   sound = λ is. is;
 }
@@ -33,6 +34,11 @@ returns-in_err-grown-clause-error g c =
     rw (told.1, told.2) (λ state is same.
     let first = c.pieces.invariant.after state is same in
     IsEndEarly-more first.replied (c.in_err-grown.ensures.error (after_turns state first.turns) first.history_is first.answered_is))
+
+pub returns-in_err-grown-clause-kept : goal.returns-in_err-grown-clause-kept
+returns-in_err-grown-clause-kept g c =
+    let told = err_from_is_err_and c.from_residual.result c.from_residual.ensures.1 in
+    rw (told.1, told.2) (λ flushed sound. c.in_err-grown.ensures.kept (c.pieces.invariant.flushed flushed) (c.pieces.invariant.sound sound))
 
 pub pieces-preserved : goal.pieces-preserved
 pieces-preserved g c =
@@ -48,6 +54,7 @@ pieces-preserved g c =
           IsAfterPiece-more first (taken (after_turns state first.turns) first.history_is first.answered_is);
       whole = subst (λ next. IfSome next (λ grown. IsWholeHistory grown.repo)) c.in-Some.is found.whole;
       few = omega (arith, few, c.pieces.invariant.few);
+      few_answered = found.few_answered;
       flushed = λ is. found.flushed (c.pieces.invariant.flushed is);
       sound = λ is. found.sound (c.pieces.invariant.sound is);
     }

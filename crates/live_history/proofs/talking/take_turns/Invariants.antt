@@ -1,9 +1,10 @@
-use Rattle.std.proofs.Common.{◌≡◌, ◌+◌, ◌^◌, ◌<◌}
+use Rattle.std.proofs.Common.{◌≡◌, ◌+◌, ◌^◌, ◌<◌, ◌≤◌}
 use Rattle.std.specs.Prelude.{IsFalse, IsTrue}
 use Rattle.svn_dump.specs.Draft.{IsWholeHistory}
 use Rattle.live_history.specs.History.{IsHistoryOf}
 use Rattle.live_history.specs.ReadAhead.{room, stream}
 use Rattle.live_history.specs.Talk.{TalkState}
+use Rattle.live_history.specs.TalkEnd.{most_answered}
 use Rattle.live_history.specs.Talking.{IsAfterPiece}
 use Rattle.live_history.proofs.talking.take_turns.Given as goal
 
@@ -13,6 +14,7 @@ invariant-pieces g l = record {
       → IsAfterPiece state (stream l.fn.ahead (g.I.Pull.state l.fn.input)) (g.O.Push.state l.fn.output).gone (stream l.ahead (g.I.Pull.state l.input)) (g.O.Push.state l.output) l.answered l.history;
   whole : IsWholeHistory l.history.repo;
   few : l.history.paused.count + room l.ahead < 2 ^ 64;
+  few_answered : l.answered ≤ most_answered;
   flushed : IsTrue (g.O.Push.state l.fn.output).is_flushed → IsTrue (g.O.Push.state l.output).is_flushed;
   sound : IsFalse (g.O.Push.state l.fn.output).has_failed → IsFalse (g.O.Push.state l.output).has_failed;
 }

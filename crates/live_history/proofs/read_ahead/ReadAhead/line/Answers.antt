@@ -1,6 +1,6 @@
-use Rattle.std.proofs.Common.{drop, take, length, sym, ap, subst, ◌∙◌, arith, length-drop, take_all}
+use Rattle.std.proofs.Common.{drop, take, length, ap, subst, arith, length-drop}
 use Rattle.svn_text.specs.Cut.{IsCutAt, Lacks}
-use Rattle.live_history.proofs.ReadAheads.{HasLine-found, Lacks-both, drop-whole}
+use Rattle.live_history.proofs.ReadAheads.{AreNear-searched, HasLine-found, Lacks-both, drop-whole}
 use Rattle.live_history.proofs.read_ahead.ReadAhead.line.Goals as goal
 
 pub returns-in-None-clause-none : goal.returns-in-None-clause-none
@@ -20,13 +20,10 @@ returns-in-Some-clause-line c =
     (subst (λ all. IsCutAt 10 (drop searched all) c.in-Some.front.now c.in-Some.field-0-1.now) c.unread.ensures
     (subst (λ rest. IsCutAt 10 rest c.in-Some.front.now c.in-Some.field-0-1.now) (drop-whole searched c.unread.result.now) c.in-Some.ensures))
 
-pub invariant_of-self : goal.invariant_of-self
-invariant_of-self c =
-    let bytes = c.self.inside.bytes.items in
-    let taken = c.self.inside.taken in
+pub returns-in-Some-clause-near : goal.returns-in-Some-clause-near
+returns-in-Some-clause-near c =
     let unread = ap (λ each. each.unread) c.self.view_is in
-    let long = ap length (c.unread-in-None.ensures ∙ sym unread) in (
-      omega (arith, long, length-drop taken bytes, c.self.invariant.0),
-      subst (Lacks 10) (sym (take_all (length c.unread-in-None.result.now) (drop taken bytes) (omega (arith, long)))) (subst (Lacks 10) (sym unread) (returns-in-None-clause-none c)),
-      c.self.invariant.2,
-    )
+    let searched = c.self.inside.searched in
+    let long = length-drop c.self.inside.taken c.self.inside.bytes.items in
+    AreNear-searched c.args.self.now.unread searched (omega (arith, c.self.invariant.0, ap length unread, long)) (subst (λ all. Lacks 10 (take searched all)) unread c.self.invariant.1)
+    (omega (arith, c.self.invariant.0, c.self.invariant.3, ap length unread, long))

@@ -11,7 +11,11 @@ returns-then-self-eq0-clause-error g c =
     record {
       rest = c.args.self.now.unread;
       read = record { bytes = Consumes-unread c.args.self.now.unread input.left; failures = omega arith };
-      why = inl (refl, inr (omega (arith, ap (λ each. each.reads) c.self.view_is, c.if-self-eq0.true)));
+      why = inl (record {
+        is = refl;
+        all = refl;
+        unread_is = record { no_end = refl; why = inr (omega (arith, ap (λ each. each.reads) c.self.view_is, c.if-self-eq0.true)) };
+      });
     }
 
 pub returns-in_err-forget-clause-error : goal.returns-in_err-forget-clause-error
@@ -34,7 +38,11 @@ returns-in-Err-clause-error g c =
         bytes = Consumes-unread-kept c.args.self.now.unread input.left after.left c.in-Err.ensures.bytes;
         failures = omega (arith, c.in-Err.ensures.failures);
       };
-      why = inl (refl, inl (search (rules, c.in-Err.ensures.failed)));
+      why = inl (record {
+        is = refl;
+        all = refl;
+        unread_is = record { no_end = search (rules, c.in-Err.ensures.ends); why = inl (search (rules, c.in-Err.ensures.failed)) };
+      });
     }
 
 pub returns-in_err-extend_from_slice-in-Ok-clause-error : goal.returns-in_err-extend_from_slice-in-Ok-clause-error

@@ -13,4 +13,5 @@ invariant_of-self c =
       subst (λ n. Lacks 10 (take n (drop (taken + c.args.count) bytes))) (sym c.saturating_sub-self-inside.ensures)
           (subst (λ rest. Lacks 10 (take (c.self.inside.searched - c.args.count) rest)) (drop-drop c.args.count taken bytes) left),
       c.self.invariant.2,
+      omega (arith, c.saturating_sub-self-inside.ensures, c.self.invariant.3, c.self.invariant.0),
     )
