@@ -41,7 +41,7 @@ module _ {D : Type 0} (opens : List ℕ → D → Type 0) (refuses : List ℕ �
   IsTalkAsked (Some texts) = (asked : ArgumentsValue) × IsArguments texts asked × IsTalkOn asked.dump
 
   abbrev pub IsErrorAsked : Option (List (List ℕ)) → TalkError → Type 0
-  IsErrorAsked None error = error ≡ Run Memory
+  IsErrorAsked None error = (error ≡ Run Memory) × (after ≡ input) × (sent ≡ output)
   IsErrorAsked (Some texts) error =
       (asked : ArgumentsValue) × IsArguments texts asked × IsErrorOn asked.dump error
 
