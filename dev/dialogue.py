@@ -2,24 +2,19 @@
 
 What is still to come of the input may depend on what was printed: `wait_for` returns when that is there.
 """
+from __future__ import annotations
+
 import fcntl
 import os
 import select
 import subprocess
 import time
+from collections.abc import Sequence
 from types import TracebackType
-from typing import List, NamedTuple, Optional, Sequence, Type
+from typing import NamedTuple, Optional
 
-from pieces import PAGE, READ, SET_PIPE_SIZE
-
-
-class Outcome(NamedTuple):
-    """How a program ended, and what it printed on standard output and on standard error. The status is None where
-    something did not come in time; the errors say what."""
-
-    status: Optional[int]
-    output: bytes
-    errors: bytes
+from dev.pieces import PAGE, READ, SET_PIPE_SIZE
+from dev.running import Outcome, Words
 
 
 class Late(Exception):
@@ -29,7 +24,7 @@ class Late(Exception):
 class Dialogue:
     """A running program. Each call waits so many seconds at most."""
 
-    def __init__(self, words: Sequence[str], seconds: float, is_narrow: bool = True) -> None:
+    def __init__(self, words: Words, seconds: float, is_narrow: bool = True) -> None:
         """A narrow input takes a write of up to a page only when those before it were read."""
         self.seconds = seconds
         self.child = subprocess.Popen(words, stdin=subprocess.PIPE, stdout=subprocess.PIPE, stderr=subprocess.PIPE,
@@ -44,11 +39,11 @@ class Dialogue:
         if is_narrow:
             fcntl.fcntl(self.input, SET_PIPE_SIZE, PAGE)
 
-    def __enter__(self) -> "Dialogue":
+    def __enter__(self) -> Dialogue:
         return self
 
-    def __exit__(self, kind: Optional[Type[BaseException]], value: Optional[BaseException],
-                 trace: Optional[TracebackType]) -> None:
+    def __exit__(self, kind: type[BaseException] | None, value: BaseException | None,
+                 trace: TracebackType | None) -> None:
         self.child.kill()
         self.child.wait()
         for file in (self.child.stdin, self.child.stdout, self.child.stderr):
@@ -120,7 +115,7 @@ class Step(NamedTuple):
     is_last: bool = False
 
 
-def take(dialogue: Dialogue, steps: List[Step]) -> Outcome:
+def take(dialogue: Dialogue, steps: Sequence[Step]) -> Outcome:
     for step in steps:
         dialogue.write(step.text)
         if step.size is not None:
@@ -130,7 +125,7 @@ def take(dialogue: Dialogue, steps: List[Step]) -> Outcome:
     return dialogue.outcome()
 
 
-def run(words: Sequence[str], steps: List[Step], seconds: float) -> Outcome:
+def run(words: Words, steps: Sequence[Step], seconds: float) -> Outcome:
     """The outcome of a command whose input comes in these steps. What does not come in so many seconds fails it."""
     is_narrow = all(len(step.text) <= PAGE for step in steps)
     with Dialogue(words, seconds, is_narrow) as dialogue:

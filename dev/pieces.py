@@ -1,4 +1,6 @@
 """Gives a program its input through a pipe, in pieces, and moves the blocks of a dump."""
+from __future__ import annotations
+
 import fcntl
 import os
 import random
@@ -6,7 +8,9 @@ import select
 import signal
 import subprocess
 import threading
-from typing import List, Tuple
+from collections.abc import Sequence
+
+from dev.running import Outcome, Words
 
 # The command of Linux that sets the size of a pipe, which Python before 3.10 has no name for.
 SET_PIPE_SIZE = getattr(fcntl, "F_SETPIPE_SZ", 1031)
@@ -35,7 +39,7 @@ def long_header(size: int) -> bytes:
     return LONG_HEADER + b"y" * (size - len(LONG_HEADER) - 2) + b"\n\n"
 
 
-def moved(lot: random.Random, dump: bytes) -> Tuple[bytes, int]:
+def moved(lot: random.Random, dump: bytes) -> tuple[bytes, int]:
     """The dump with its blocks later by some bytes, which do not affect its history, and the number of these bytes.
 
     So a read of the program ends at a drawn place of the blocks. A dump without the right first line stays as it is.
@@ -48,7 +52,7 @@ def moved(lot: random.Random, dump: bytes) -> Tuple[bytes, int]:
     return dump[:start] + more + dump[start:], size
 
 
-def cut(lot: random.Random, text: bytes) -> List[bytes]:
+def cut(lot: random.Random, text: bytes) -> list[bytes]:
     """The text in pieces of drawn sizes."""
     most = lot.choice((1000, 100000) if len(text) > READ // 2 else (7, 70, 70, 70, 1000))
     pieces = []
@@ -60,7 +64,7 @@ def cut(lot: random.Random, text: bytes) -> List[bytes]:
     return pieces
 
 
-def feed(pipe, pieces):
+def feed(pipe: int, pieces: Sequence[bytes]) -> None:
     """Writes the pieces one by one, small ones only when those before them are taken, until nobody takes them."""
     if all(len(piece) <= PAGE for piece in pieces):
         fcntl.fcntl(pipe, SET_PIPE_SIZE, PAGE)
@@ -74,8 +78,8 @@ def feed(pipe, pieces):
         pass
 
 
-def run(words, pieces, seconds):
-    """The exit status of a command with this input, and what was printed on standard output and on standard error."""
+def run(words: Words, pieces: Sequence[bytes], seconds: float) -> Outcome:
+    """How a command with this input ended."""
     reader, pipe = os.pipe()
     child = subprocess.Popen(words, stdin=reader, stdout=subprocess.PIPE, stderr=subprocess.PIPE)
     os.close(reader)
@@ -88,5 +92,5 @@ def run(words, pieces, seconds):
         report, errors = child.communicate()
         limit.cancel()
     if child.returncode == -signal.SIGKILL:
-        return None, b"", b"no end after %d seconds\n" % seconds
-    return child.returncode, report, errors
+        return Outcome(None, b"", b"no end after %d seconds\n" % seconds)
+    return Outcome(child.returncode, report, errors)
