@@ -10,6 +10,8 @@
 
 Paths, names and messages are bytes, as in the dump. A dump that svnhist does not accept raises `Refused`.
 """
+from pathlib import Path
+
 from .answers import (Answer, Inherited, Line, Locate, Located, Log, Logged, Merge, Mergeinfo, Merges, Pair, Query,
                       Segment, Segments, Where)
 from .changes import Change
@@ -20,3 +22,4 @@ from .store import Record, Revision
 __all__ = ["Answer", "Change", "Denied", "Error", "Failed", "History", "Inherited", "Line", "Locate", "Located", "Log",
            "Logged", "Merge", "Mergeinfo", "Merges", "Pair", "Query", "Record", "Refused", "Revision", "Segment",
            "Segments", "Where"]
+__version__ = Path(__file__).with_name("VERSION").read_text("ascii").strip()

@@ -10,6 +10,7 @@ import time
 import traceback
 from typing import Any, BinaryIO, Iterable, Iterator, List, NoReturn, Optional
 
+from . import __version__
 from .errors import Damaged, Denied, Error, Failed, Refused, Usage
 from .history import History
 from .refusals import about_record, explained
@@ -36,18 +37,13 @@ class Parser(argparse.ArgumentParser):
         raise Usage(message)
 
 
-def version() -> str:
-    with open(os.path.join(os.path.dirname(__file__), "VERSION"), encoding="ascii") as file:
-        return file.read().strip()
-
-
 def parser() -> Parser:
     words = Parser(prog="svnask", description="Answers a question about the history of a Subversion repository from "
                    "its dump, as 'svn' would print it.")
     words.add_argument("dump", metavar="DUMP", help="a dump, or - for the standard input")
     words.add_argument("--json", action="store_true", help="print one object a line, for scripts")
     words.add_argument("--no-cache", action="store_true", help="read the dump anew, and keep nothing of it")
-    words.add_argument("-V", "--version", action="version", version="svnask " + version())
+    words.add_argument("-V", "--version", action="version", version="svnask " + __version__)
     verbs = words.add_subparsers(dest="verb", metavar="VERB", required=True, parser_class=Parser)
     for verb in VERBS:
         below = verbs.add_parser(verb.name, help=verb.help, description=verb.help)
@@ -206,7 +202,7 @@ def main(arguments: Optional[List[str]] = None) -> int:
         if signal.getsignal(number) != signal.SIG_IGN:
             signal.signal(number, stop)
     try:
-        run(sys.argv[1:] if arguments is None else arguments)
+        call(sys.argv[1:] if arguments is None else arguments)
     except Error as error:
         say("svnask: %s" % error, *error.advice)
         return error.status
@@ -231,7 +227,7 @@ def main(arguments: Optional[List[str]] = None) -> int:
     return 0
 
 
-def run(arguments: List[str]) -> None:
+def call(arguments: List[str]) -> None:
     if sys.stdout is None:
         raise Failed("cannot write: the standard output is closed")
     try:
@@ -242,6 +238,14 @@ def run(arguments: List[str]) -> None:
         return
     with opened(words.dump) as file:
         answer(words, file)
+
+
+def run() -> NoReturn:
+    """The command, where the module is installed. Before `main` has its own handlers an interrupt ends it silently, as
+    it does the script `svnask`."""
+    if signal.getsignal(signal.SIGINT) is signal.default_int_handler:
+        signal.signal(signal.SIGINT, signal.SIG_DFL)
+    sys.exit(main())
 
 
 def drop_output() -> None:
