@@ -11,9 +11,8 @@ import lzma
 import os
 import re
 from pathlib import Path
-from typing import NamedTuple
+from typing import Any, NamedTuple
 
-from dev.checks import Check
 from dev.dumps import DIR, END, FILE, Node, Revision, added, changed, copied, first_lines, mergeinfo, section
 from dev.running import Limits, Outcome, Words, run
 from dev.tree import DOCS, EXAMPLES
@@ -157,67 +156,41 @@ TOO_MANY = "more than 1000000 queries"
 TABLED = re.compile(r"^\| `svnhist: (.*?)` \|", re.MULTILINE)
 
 
-def refused(status: int, line: str) -> Outcome:
-    return Outcome(status, b"", b"svnhist: %s\n" % line.encode())
-
-
 class Mistakes(ProgramTest):
     def setUp(self) -> None:
         super().setUp()
         self.made("good", WHOLE)
         self.made("queries", b"log\ttrunk@1\n")
 
-    def run_on(
-        self, words: Words, given: str = os.devnull, taker: Path | None = None, limits: Limits = Limits()
-    ) -> Outcome:
+    def run_on(self, words: Words, given: str = os.devnull, **settings: Any) -> Outcome:
         """A run in the folder, with the content of a file as its input."""
-        return run([self.programs.svnhist, *words], self.folder / given, taker=taker, limits=limits, folder=self.folder)
+        return run([self.programs.svnhist, *words], self.folder / given, folder=self.folder, **settings)
+
+    def check_refusal(self, name: str, status: int, line: str, words: Words, **settings: Any) -> None:
+        self.compare(name, Outcome(status, b"", b"svnhist: %s\n" % line.encode()), self.run_on(words, **settings))
 
     def test_dumps_that_are_refused(self) -> None:
-        for mistake in REFUSED + EDITS:
-            with self.subTest(mistake.name):
-                self.made("dump", mistake.dump)
-                wanted = refused(1, f"dump refused: {mistake.refusal}")
-                self.assertEqual(self.run_on(["dump", "queries", "0", "1"]), wanted)
+        for name, dump, refusal in REFUSED + EDITS:
+            self.made("dump", dump)
+            self.check_refusal(name, 1, f"dump refused: {refusal}", ["dump", "queries", "0", "1"])
 
     def test_files_that_are_no_dump_and_no_queries(self) -> None:
         for name, path in UNREAD:
-            self.check_all(
-                [
-                    Check(f"{name} as the dump", refused(3, NO_DUMP), self.run_on([path, "queries", "0", "1"])),
-                    Check(f"{name} as the queries", refused(3, NO_QUERIES), self.run_on(["missing", path, "0", "1"])),
-                ]
-            )
+            self.check_refusal(f"{name} as the dump", 3, NO_DUMP, [path, "queries", "0", "1"])
+            self.check_refusal(f"{name} as the queries", 3, NO_QUERIES, ["missing", path, "0", "1"])
 
     def test_arguments_in_another_order(self) -> None:
         self.made("long", b"\n" * 1000001)
-        self.check_all(
-            [
-                Check(
-                    "dump and queries swapped",
-                    refused(1, "dump refused: 1 Magic at byte 0"),
-                    self.run_on(["queries", "good", "0", "1"]),
-                ),
-                Check(
-                    "a long dump and queries swapped", refused(1, TOO_MANY), self.run_on(["queries", "long", "0", "1"])
-                ),
-                Check("a dump and no arguments", refused(2, USAGE), self.run_on([], "good")),
-            ]
-        )
+        magic = "dump refused: 1 Magic at byte 0"
+        self.check_refusal("dump and queries swapped", 1, magic, ["queries", "good", "0", "1"])
+        self.check_refusal("a long dump and queries swapped", 1, TOO_MANY, ["queries", "long", "0", "1"])
+        self.check_refusal("a dump and no arguments", 2, USAGE, [], given="good")
 
     def test_what_the_system_refuses(self) -> None:
         self.made("large", b"x" * (64 << 20))
-        self.check_all(
-            [
-                Check("a directory as the input", refused(3, NO_INPUT), self.run_on([], ".")),
-                Check(
-                    "a full disk",
-                    refused(3, NO_OUTPUT),
-                    self.run_on(["good", "queries", "0", "1"], taker=Path("/dev/full")),
-                ),
-                Check("little memory", refused(4, NO_MEMORY), self.run_on([], "large", limits=Limits(memory=32 << 20))),
-            ]
-        )
+        self.check_refusal("a directory as the input", 3, NO_INPUT, [], given=".")
+        self.check_refusal("a full disk", 3, NO_OUTPUT, ["good", "queries", "0", "1"], taker=Path("/dev/full"))
+        self.check_refusal("little memory", 4, NO_MEMORY, [], given="large", limits=Limits(memory=32 << 20))
 
     def test_the_table_of_lines_has_each_of_these(self) -> None:
         """Each test above wants a line, and the table of docs/dump-format.md has them all and no other one."""
@@ -227,12 +200,9 @@ class Mistakes(ProgramTest):
         self.assertEqual(set(TABLED.findall((DOCS / "dump-format.md").read_text("utf-8"))), lines | others)
 
     def test_arguments_of_strip_texts(self) -> None:
-        for words, wanted in (
-            (["good"], Outcome(2, b"", STRIP_USAGE)),
-            (["-h"], Outcome(0, STRIP_USAGE, b"")),
-            (["--help"], Outcome(0, STRIP_USAGE, b"")),
-        ):
-            self.check_all([Check(" ".join(words), wanted, run([STRIP, *words], folder=self.folder))])
+        self.compare("good", Outcome(2, b"", STRIP_USAGE), run([STRIP, "good"], folder=self.folder))
+        for word in ("-h", "--help"):
+            self.compare(word, Outcome(0, STRIP_USAGE, b""), run([STRIP, word], folder=self.folder))
 
     def check_statuses(self, queries: list[bytes], status: bytes) -> None:
         """A run of which each answer has this status."""
