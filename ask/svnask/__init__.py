@@ -10,13 +10,50 @@
 
 Paths, names and messages are bytes, as in the dump. A dump that svnhist does not accept raises `Refused`.
 """
-from .answers import (Answer, Inherited, Line, Locate, Located, Log, Logged, Merge, Mergeinfo, Merges, Pair, Query,
-                      Segment, Segments, Where)
+from .answers import (
+    Answer,
+    Inherited,
+    Line,
+    Locate,
+    Located,
+    Log,
+    Logged,
+    Merge,
+    Mergeinfo,
+    Merges,
+    Pair,
+    Query,
+    Segment,
+    Segments,
+    Where,
+)
 from .changes import Change
 from .errors import Denied, Error, Failed, Refused
 from .history import History
 from .store import Record, Revision
 
-__all__ = ["Answer", "Change", "Denied", "Error", "Failed", "History", "Inherited", "Line", "Locate", "Located", "Log",
-           "Logged", "Merge", "Mergeinfo", "Merges", "Pair", "Query", "Record", "Refused", "Revision", "Segment",
-           "Segments", "Where"]
+__all__ = [
+    "Answer",
+    "Change",
+    "Denied",
+    "Error",
+    "Failed",
+    "History",
+    "Inherited",
+    "Line",
+    "Locate",
+    "Located",
+    "Log",
+    "Logged",
+    "Merge",
+    "Mergeinfo",
+    "Merges",
+    "Pair",
+    "Query",
+    "Record",
+    "Refused",
+    "Revision",
+    "Segment",
+    "Segments",
+    "Where",
+]

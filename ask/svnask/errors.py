@@ -1,5 +1,7 @@
 """Why there is no answer."""
-from typing import Sequence
+from __future__ import annotations
+
+from collections.abc import Sequence
 
 
 class Error(Exception):

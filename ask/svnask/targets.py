@@ -1,6 +1,8 @@
 """What a user names: a path with a peg revision, and revisions by number, `HEAD` or a date."""
+from __future__ import annotations
+
 import re
-from typing import List, NamedTuple, Optional, Tuple
+from typing import NamedTuple
 
 from .digits import number
 from .errors import Denied
@@ -29,7 +31,7 @@ def decoded(text: bytes) -> str:
     return text.decode("utf-8", "surrogateescape")
 
 
-def split_peg(text: str) -> Tuple[str, str]:
+def split_peg(text: str) -> tuple[str, str]:
     """The path and the peg. The peg is after the last `@` of the last component; an `@` at the end says that there is
     none, and lets a path have one."""
     folder, slash, name = text.rpartition("/")
@@ -80,14 +82,14 @@ def target_of(history: History, text: str) -> Target:
     return Target(path_of(path), known(history, revision_of(history, peg) if peg else history.head))
 
 
-def range_of(history: History, text: str) -> Tuple[int, int]:
+def range_of(history: History, text: str) -> tuple[int, int]:
     """`LO:HI`, in either order, or one revision."""
     lo, colon, hi = split_range(text)
     first = revision_of(history, lo)
     return first, revision_of(history, hi) if colon else first
 
 
-def split_range(text: str) -> Tuple[str, str, str]:
+def split_range(text: str) -> tuple[str, str, str]:
     """The two sides of a range. A date in braces may have colons."""
     depth = 0
     for at, letter in enumerate(text):
@@ -95,11 +97,11 @@ def split_range(text: str) -> Tuple[str, str, str]:
         if letter == ":" and depth == 0:
             if at == len(text) - 1 or at == 0:
                 raise syntax_error(text)
-            return text[:at], ":", text[at + 1:]
+            return text[:at], ":", text[at + 1 :]
     return text, "", ""
 
 
-def change_of_option(word: str) -> Tuple[int, int]:
+def change_of_option(word: str) -> tuple[int, int]:
     """The range of a word of `-c`: `N`, `N-M`, or `-N`, which is N, too, for what is printed."""
     found = CHANGE.match(word)
     if found is None:
@@ -112,12 +114,12 @@ def change_of_option(word: str) -> Tuple[int, int]:
     return first, last if dash else first
 
 
-def changes_of_option(texts: List[str]) -> List[Tuple[int, int]]:
+def changes_of_option(texts: list[str]) -> list[tuple[int, int]]:
     """The ranges of `-c`, which are words between commas and white space."""
     return [change_of_option(word) for text in texts for word in re.split("[, \n\r\t\v]+", text) if word]
 
 
-def ranges_of(history: History, ranges: List[str], changes: List[str]) -> Optional[List[Tuple[int, int]]]:
+def ranges_of(history: History, ranges: list[str], changes: list[str]) -> list[tuple[int, int]] | None:
     """The ranges of `-r` and `-c`, or none where neither is given."""
     changed = changes_of_option(changes)
     if ranges and changed:

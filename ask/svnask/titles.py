@@ -1,5 +1,5 @@
 """What a picture tells of each of its marks, under the pointer."""
-from typing import Dict, List, Tuple
+from __future__ import annotations
 
 from . import dates, log
 from .graph import Copy, Dot, Graph, Lane, Merge
@@ -10,7 +10,7 @@ from .texts import readable
 MOST_LISTED = 24
 
 
-def listed(revisions: List[int]) -> str:
+def listed(revisions: list[int]) -> str:
     """Rising revisions, of many only the newest ones."""
     shown = ", ".join("r%d" % rev for rev in revisions[-MOST_LISTED:])
     more = len(revisions) - MOST_LISTED
@@ -64,7 +64,7 @@ class Titles:
         self._history = history
         self._graph = graph
         # What is to be told of a revision of a lane.
-        self._notes: Dict[Tuple[int, int], List[str]] = {}
+        self._notes: dict[tuple[int, int], list[str]] = {}
         for copy in graph.copies:
             self._note(copy.lane, copy.life.first, about_copy(copy))
         for number, lane in enumerate(graph.lanes):
