@@ -24,7 +24,11 @@ def first_difference(wanted: bytes, found: bytes) -> tuple[str, str]:
 class Checks(unittest.TestCase):
     """A test of many runs, each of which has a name."""
 
+    def compare(self, name: str, wanted: object, found: object) -> None:
+        with self.subTest(name):
+            if wanted != found:
+                self.fail(f"\n    wanted: {wanted!r:.600}\n    found:  {found!r:.600}")
+
     def check_all(self, checks: Iterable[Check]) -> None:
         for check in checks:
-            with self.subTest(check.name):
-                self.assertEqual(check.wanted, check.found)
+            self.compare(*check)

@@ -47,18 +47,24 @@ class Limits:
 
 
 def run(words: Words, given: bytes | Path = b"", *, taker: Path | None = None, limits: Limits = Limits(),
-        environment: Mapping[str, str] | None = None, folder: Path | None = None) -> Outcome:
+        environment: Mapping[str, str | None] | None = None, folder: Path | None = None) -> Outcome:
     """Runs a command whose standard input is this text or file. What it prints may go to a file, and is not kept then.
-    The variables stand beside those of this process."""
+    The variables stand beside those of this process; one that is None is taken away."""
+    variables: dict[str, str | None] = {**os.environ, **(environment or {})}
     with ExitStack() as files:
         output: int | IO[bytes] = subprocess.PIPE
         if taker is not None:
             output = files.enter_context(open(taker, "wb"))
-        source = files.enter_context(open(given, "rb")) if isinstance(given, Path) else None
+        source = None
+        if isinstance(given, Path):
+            # By the system's call, since it may be a directory.
+            source = os.open(given, os.O_RDONLY)
+            files.callback(os.close, source)
         try:
             done = subprocess.run(words, stdin=source, input=None if isinstance(given, Path) else given, stdout=output,
-                                  stderr=subprocess.PIPE, timeout=limits.seconds, preexec_fn=limits.set, cwd=folder,
-                                  env={**os.environ, **(environment or {})})
+                                  stderr=subprocess.PIPE, timeout=limits.seconds, cwd=folder, check=False,
+                                  preexec_fn=None if limits.memory is None else limits.set,
+                                  env={name: value for name, value in variables.items() if value is not None})
         except subprocess.TimeoutExpired:
             return Outcome(None, b"", b"no end after %d seconds\n" % limits.seconds)
     return Outcome(done.returncode, done.stdout or b"", done.stderr)
@@ -111,7 +117,7 @@ def best_of(times: int, runs: Callable[[], Measured]) -> Measured:
 def started(words: Words, *, feeder: Words = ("true",), report: Path = Path(os.devnull), limits: Limits = Limits(120)) -> Measured:
     """Runs a command by a small process, since the system counts what the process that starts a command had before as
     memory of the command. What it prints goes to a file."""
-    starting = [sys.executable, "-I", "-S", STARTER, str(int(limits.seconds)), str(limits.memory or -1), report]
+    starting: list[Word] = [sys.executable, "-I", "-S", STARTER, str(int(limits.seconds)), str(limits.memory or -1), report]
     with subprocess.Popen(feeder, stdout=subprocess.PIPE) as feeding:
         done = subprocess.run([*starting, *words], stdin=feeding.stdout, stdout=subprocess.PIPE, stderr=subprocess.PIPE,
                               check=True)

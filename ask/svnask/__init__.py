@@ -10,6 +10,8 @@
 
 Paths, names and messages are bytes, as in the dump. A dump that svnhist does not accept raises `Refused`.
 """
+from pathlib import Path
+
 from .answers import (
     Answer,
     Inherited,
@@ -57,3 +59,4 @@ __all__ = [
     "Segments",
     "Where",
 ]
+__version__ = Path(__file__).with_name("VERSION").read_text("ascii").strip()

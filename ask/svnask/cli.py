@@ -13,6 +13,7 @@ import traceback
 from collections.abc import Iterable, Iterator
 from typing import Any, BinaryIO, NoReturn
 
+from . import __version__
 from .errors import Damaged, Denied, Error, Failed, Refused, Usage
 from .history import History
 from .refusals import about_record, explained
@@ -39,11 +40,6 @@ class Parser(argparse.ArgumentParser):
         raise Usage(message)
 
 
-def version() -> str:
-    with open(os.path.join(os.path.dirname(__file__), "VERSION"), encoding="ascii") as file:
-        return file.read().strip()
-
-
 def parser() -> Parser:
     made = Parser(
         prog="svnask",
@@ -53,7 +49,7 @@ def parser() -> Parser:
     made.add_argument("dump", metavar="DUMP", help="a dump, or - for the standard input")
     made.add_argument("--json", action="store_true", help="print one object a line, for scripts")
     made.add_argument("--no-cache", action="store_true", help="read the dump anew, and keep nothing of it")
-    made.add_argument("-V", "--version", action="version", version="svnask " + version())
+    made.add_argument("-V", "--version", action="version", version="svnask " + __version__)
     verbs = made.add_subparsers(dest="verb", metavar="VERB", required=True, parser_class=Parser)
     for verb in VERBS:
         below = verbs.add_parser(verb.name, help=verb.help, description=verb.help)
@@ -212,7 +208,7 @@ def main(arguments: list[str] | None = None) -> int:
         if signal.getsignal(number) != signal.SIG_IGN:
             signal.signal(number, stop)
     try:
-        run(sys.argv[1:] if arguments is None else arguments)
+        call(sys.argv[1:] if arguments is None else arguments)
     except Error as error:
         say("svnask: %s" % error, *error.advice)
         return error.status
@@ -239,7 +235,7 @@ def main(arguments: list[str] | None = None) -> int:
     return 0
 
 
-def run(arguments: list[str]) -> None:
+def call(arguments: list[str]) -> None:
     if sys.stdout is None:
         raise Failed("cannot write: the standard output is closed")
     try:
@@ -250,6 +246,14 @@ def run(arguments: list[str]) -> None:
         return
     with opened(given.dump) as file:
         answer(given, file)
+
+
+def run() -> NoReturn:
+    """The command, where the module is installed. Before `main` has its own handlers an interrupt ends it silently, as
+    it does the script `svnask`."""
+    if signal.getsignal(signal.SIGINT) is signal.default_int_handler:
+        signal.signal(signal.SIGINT, signal.SIG_DFL)
+    sys.exit(main())
 
 
 def drop_output() -> None:
