@@ -29,7 +29,7 @@ def lives_of(history: History, patterns: Sequence[bytes]) -> list[Life]:
 def answered(answer: Answer) -> list[int]:
     """The revisions of an answer to `log` about a life, the newest first. That svnhist has no such path can't be."""
     if not isinstance(answer, Logged) or not answer.ok:
-        raise RuntimeError("svnhist says %s of %r" % (answer.status, answer.query))
+        raise RuntimeError(f"svnhist says {answer.status} of {answer.query!r}")
     return answer.revisions
 
 

@@ -79,7 +79,7 @@ def joined(arguments: list[str]) -> list[str]:
             value = word[2:]
         elif name in VALUED:
             value = next(left, None)
-        found.append(word if value is None else "%s=%s" % (name, value))
+        found.append(word if value is None else f"{name}={value}")
     return found
 
 
@@ -113,8 +113,8 @@ def opened(name: str) -> BinaryIO:
     try:
         return sys.stdin.buffer if name == "-" else open(name, "rb")
     except IsADirectoryError as error:
-        hint = ": svnadmin dump -q %s | svnask - .." % name if os.path.isdir(os.path.join(name, "db")) else ""
-        raise Failed("%s is a directory%s" % (name, hint)) from error
+        hint = f": svnadmin dump -q {name} | svnask - .." if os.path.isdir(os.path.join(name, "db")) else ""
+        raise Failed(f"{name} is a directory{hint}") from error
     except (OSError, ValueError) as error:
         raise Failed("cannot read %s: %s" % (name, getattr(error, "strerror", error))) from error
 
@@ -210,7 +210,7 @@ def main(arguments: list[str] | None = None) -> int:
     try:
         call(sys.argv[1:] if arguments is None else arguments)
     except Error as error:
-        say("svnask: %s" % error, *error.advice)
+        say(f"svnask: {error}", *error.advice)
         return error.status
     except Stopped as stopped:
         end_by(stopped.args[0])
@@ -218,7 +218,7 @@ def main(arguments: list[str] | None = None) -> int:
         # Like other filters it says nothing where nobody reads what it writes.
         end_by(signal.SIGPIPE)
     except OSError as error:
-        say("svnask: cannot write: %s" % error.strerror)
+        say(f"svnask: cannot write: {error.strerror}")
         drop_output()
         return 3
     except MemoryError:

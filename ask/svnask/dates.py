@@ -139,7 +139,7 @@ def unreadable(text: str) -> Denied:
 def moment_of(rev: int, date_of: Callable[[int], bytes | None]) -> Moment:
     date = date_of(rev)
     if date is None:
-        raise Denied("E160000", "Failed to find time on revision %d" % rev)
+        raise Denied("E160000", f"Failed to find time on revision {rev}")
     found = read(date)
     if found is None:
         raise Denied("E125003", "Bogus date")

@@ -55,7 +55,7 @@ class History:
                 return cls(opened(file, is_cached, seen), of_file(file))
         except OSError as error:
             name = dump if isinstance(dump, str) else dump.name
-            raise Failed("cannot read %s, or copy what is needed of it: %s" % (name, error.strerror)) from error
+            raise Failed(f"cannot read {name}, or copy what is needed of it: {error.strerror}") from error
 
     @property
     def is_from_cache(self) -> bool:

@@ -237,5 +237,5 @@ def names_of(lanes: list[Lane], named: list[int]) -> dict[int, str]:
     for number in named:
         life = lanes[number].lives[-1]
         name = shortened(readable(life.path), LONGEST_NAME)
-        names[number] = "%s %s" % (name, span_of(life)) if counts[life.path] > 1 else name
+        names[number] = f"{name} {span_of(life)}" if counts[life.path] > 1 else name
     return names

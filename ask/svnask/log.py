@@ -46,7 +46,7 @@ class Trace(NamedTuple):
 
 
 def not_found(target: Target, rev: int) -> Denied:
-    return Denied("E160013", "File not found: revision %d, path '%s'" % (rev, decoded(target.path)))
+    return Denied("E160013", f"File not found: revision {rev}, path '{decoded(target.path)}'")
 
 
 def not_reached(history: History, target: Target) -> Denied:
@@ -55,14 +55,14 @@ def not_reached(history: History, target: Target) -> Denied:
     for path in above:
         kind = history.kind(path, target.rev)
         if kind == "file":
-            return Denied("E160016", "'%s' is not a directory in revision %d" % (decoded(path), target.rev))
+            return Denied("E160016", f"'{decoded(path)}' is not a directory in revision {target.rev}")
         if kind is not None:
             break
     return not_found(target, target.rev)
 
 
 def not_located(target: Target, rev: int) -> Denied:
-    return Denied("E195012", "Unable to find repository location for '%s' in revision %d" % (decoded(target.path), rev))
+    return Denied("E195012", f"Unable to find repository location for '{decoded(target.path)}' in revision {rev}")
 
 
 def trace(history: History, target: Target) -> Trace | None:

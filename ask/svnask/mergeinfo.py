@@ -73,7 +73,7 @@ class Catalog:
             return self._read(query)
         if not answer.ok:
             # The target is there, and so is each path below it that has a value.
-            raise RuntimeError("svnhist says %s of %r" % (answer.status, query))
+            raise RuntimeError(f"svnhist says {answer.status} of {query!r}")
         if not answer.text and not self._has_value(query):
             return None
         value = {path: runs_of(ranges.encode("ascii")) for path, ranges in answer.value.items()}
@@ -187,7 +187,7 @@ def bounds_of(source: Target, question: Question) -> tuple[int, int]:
         return 1, source.rev
     for rev in question.range:
         if rev > source.rev:
-            raise Denied("E160006", "No such revision %d" % rev)
+            raise Denied("E160006", f"No such revision {rev}")
     return min(question.range), max(question.range)
 
 

@@ -131,10 +131,10 @@ def bad_peg(field: bytes) -> str | None:
     found = PEG.match(field)
     if found is None:
         if shown.partition("@")[2].strip("@"):
-            return "the peg revision of '%s' is not a number" % shown
+            return f"the peg revision of '{shown}' is not a number"
         return "'%s' has no peg revision: '%s@REV'" % (shown, shown.rstrip("@"))
     if number(found[2]) > 2147483647:
-        return "the revision of '%s' is above 2147483647" % shown
+        return f"the revision of '{shown}' is above 2147483647"
     if {b".", b".."} & set(found[1].split(b"/")):
-        return "'%s' has a component '.' or '..'" % shown
+        return f"'{shown}' has a component '.' or '..'"
     return None

@@ -42,12 +42,12 @@ def split_peg(text: str) -> tuple[str, str]:
 def path_of(text: str) -> bytes:
     """A path of the repository, with or without `^/` or a slash at its front."""
     if URL.match(text):
-        raise Denied("E170000", "'%s' is a URL, and a dump has none: name the path in it, such as trunk" % text)
+        raise Denied("E170000", f"'{text}' is a URL, and a dump has none: name the path in it, such as trunk")
     if text.startswith("^/") or text == "^":
         text = text[1:]
     parts = [part for part in encoded(text).split(b"/") if part not in (b"", b".")]
     if b".." in parts:
-        raise Denied("E195002", "a path may not have '..': '%s'" % text)
+        raise Denied("E195002", f"a path may not have '..': '{text}'")
     return b"/" + b"/".join(parts)
 
 
@@ -67,12 +67,12 @@ def revision_of(history: History, text: str) -> int:
 
 
 def syntax_error(text: str) -> Denied:
-    return Denied("E205000", "Syntax error in revision argument '%s'" % text)
+    return Denied("E205000", f"Syntax error in revision argument '{text}'")
 
 
 def known(history: History, rev: int) -> int:
     if rev > history.head:
-        raise Denied("E160006", "No such revision %d" % rev)
+        raise Denied("E160006", f"No such revision {rev}")
     return rev
 
 
@@ -105,10 +105,10 @@ def change_of_option(word: str) -> tuple[int, int]:
     """The range of a word of `-c`: `N`, `N-M`, or `-N`, which is N, too, for what is printed."""
     found = CHANGE.match(word)
     if found is None:
-        raise Denied("E205000", "Non-numeric change argument (%s) given to -c" % word)
+        raise Denied("E205000", f"Non-numeric change argument ({word}) given to -c")
     back, first, dash, last = found[1], number(found[2]), found[3], number(found[4] or "0")
     if back and dash:
-        raise Denied("E205000", "Negative number in range (%s) not supported with -c" % word)
+        raise Denied("E205000", f"Negative number in range ({word}) not supported with -c")
     if first == 0:
         raise Denied("E205000", "There is no change 0")
     return first, last if dash else first

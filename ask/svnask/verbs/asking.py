@@ -24,7 +24,7 @@ class AskVerb(Verb):
             with open(given.queries, "rb") as file:
                 lines = file.read().split(b"\n")
         except OSError as error:
-            raise Failed("cannot read %s: %s" % (given.queries, error.strerror)) from error
+            raise Failed(f"cannot read {given.queries}: {error.strerror}") from error
         if lines[-1] == b"":
             lines.pop()
         for answer in history.ask([Line(line) for line in lines]):

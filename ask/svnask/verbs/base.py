@@ -38,7 +38,7 @@ class Verb:
 def counted(text: str) -> int:
     """The number that an argument is."""
     if re.match("[0-9]+\\Z", text) is None:
-        raise ArgumentTypeError("'%s' is not a number" % text)
+        raise ArgumentTypeError(f"'{text}' is not a number")
     return number(text)
 
 

@@ -20,7 +20,7 @@ def add_patterns(parser: ArgumentParser, default: str) -> None:
         "patterns",
         metavar="PATTERN",
         nargs="*",
-        help="paths, in which *, ? and [..] stand for letters of a name; %s if none is given" % default,
+        help=f"paths, in which *, ? and [..] stand for letters of a name; {default} if none is given",
     )
 
 

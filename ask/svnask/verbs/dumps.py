@@ -49,7 +49,7 @@ class ByteVerb(Verb):
 
     def block(self, history: History, given: Namespace) -> tuple[int, Record | None]:
         if not 0 <= given.offset <= history.index.size:
-            raise Failed("the dump has %d bytes" % history.index.size, 1)
+            raise Failed(f"the dump has {history.index.size} bytes", 1)
         found: tuple[int, Record | None] = (0, None)
         for at, record in history.blocks():
             if at > given.offset:

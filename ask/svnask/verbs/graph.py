@@ -25,7 +25,7 @@ class GraphVerb(Verb):
 
     def text(self, history: History, given: Namespace) -> Iterator[bytes]:
         if given.output is not None and history.is_read_from(given.output):
-            raise Usage("-o %s would overwrite the dump" % given.output)
+            raise Usage(f"-o {given.output} would overwrite the dump")
         if given.output == "":
             raise Usage("-o takes the name of a file")
         pieces = picture.svg_of(history, graph.graph_of(history, patterns_of(given)))
@@ -65,7 +65,7 @@ def write(name: str, pieces: Iterable[bytes]) -> None:
             with open(final, "wb") as file:
                 file.writelines(pieces)
     except OSError as error:
-        raise Failed("cannot write %s: %s" % (name, error.strerror)) from error
+        raise Failed(f"cannot write {name}: {error.strerror}") from error
 
 
 def replace(final: str, pieces: Iterable[bytes]) -> None:

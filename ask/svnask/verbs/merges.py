@@ -30,7 +30,7 @@ class MergeinfoVerb(Verb):
         target = target_of(history, given.source)
         answer = one(history.ask([Mergeinfo(*target)]))
         if answer.status == "malformed-mergeinfo":
-            raise Denied("E200020", "the mergeinfo of '%s' can't be read" % decoded(target.path))
+            raise Denied("E200020", f"the mergeinfo of '{decoded(target.path)}' can't be read")
         if not answer.ok:
             raise log.not_found(target, target.rev)
         return answer.value
