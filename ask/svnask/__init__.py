@@ -12,14 +12,51 @@ Paths, names and messages are bytes, as in the dump. A dump that svnhist does no
 """
 from pathlib import Path
 
-from .answers import (Answer, Inherited, Line, Locate, Located, Log, Logged, Merge, Mergeinfo, Merges, Pair, Query,
-                      Segment, Segments, Where)
+from .answers import (
+    Answer,
+    Inherited,
+    Line,
+    Locate,
+    Located,
+    Log,
+    Logged,
+    Merge,
+    Mergeinfo,
+    Merges,
+    Pair,
+    Query,
+    Segment,
+    Segments,
+    Where,
+)
 from .changes import Change
 from .errors import Denied, Error, Failed, Refused
 from .history import History
 from .store import Record, Revision
 
-__all__ = ["Answer", "Change", "Denied", "Error", "Failed", "History", "Inherited", "Line", "Locate", "Located", "Log",
-           "Logged", "Merge", "Mergeinfo", "Merges", "Pair", "Query", "Record", "Refused", "Revision", "Segment",
-           "Segments", "Where"]
+__all__ = [
+    "Answer",
+    "Change",
+    "Denied",
+    "Error",
+    "Failed",
+    "History",
+    "Inherited",
+    "Line",
+    "Locate",
+    "Located",
+    "Log",
+    "Logged",
+    "Merge",
+    "Mergeinfo",
+    "Merges",
+    "Pair",
+    "Query",
+    "Record",
+    "Refused",
+    "Revision",
+    "Segment",
+    "Segments",
+    "Where",
+]
 __version__ = Path(__file__).with_name("VERSION").read_text("ascii").strip()

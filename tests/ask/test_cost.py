@@ -21,7 +21,7 @@ class Runs(base.Case):
         run = engine.run
         counted: list[int] = []
 
-        def counting(dump: str, queries: list[Query]) -> Iterator[Answer]:
+        def counting(dump: str, queries: list[Query[Answer]]) -> Iterator[Answer]:
             counted.append(len(queries))
             return run(dump, queries)
 

@@ -152,7 +152,7 @@ class ShowRevs(base.Case):
         run = engine.run
         lines = {"merged": b"r4\nr5*", "eligible": b"r6\nr11"}
 
-        def other(dump: str, queries: list[Query]) -> Iterator[Answer]:
+        def other(dump: str, queries: list[Query[Answer]]) -> Iterator[Answer]:
             for answer in run(dump, queries):
                 query = answer.query
                 yield query.answer("ok", lines[query.verb]) if isinstance(query, Pair) else answer

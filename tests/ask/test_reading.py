@@ -38,7 +38,7 @@ class Reading(base.Case):
         for dump in sorted(INTEROP.glob("*.dump")):
             recorded = INTEROP / dump.stem.partition("-")[0]
             lines = recorded.with_suffix(".queries").read_bytes().splitlines()
-            answers = self.history(dump).ask([Line(b"/", 0, line) for line in lines])
+            answers = self.history(dump).ask([Line(line) for line in lines])
             report = b"".join(
                 b"#%d %s\n" % (number, answer.status.encode()) + b"".join(line + b"\n" for line in answer.lines)
                 for number, answer in enumerate(answers, 1)
