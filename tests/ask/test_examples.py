@@ -19,7 +19,9 @@ class Examples(base.Case):
         names = ["svnask"] + [found.name for found in pkgutil.walk_packages(svnask.__path__, "svnask.")]
         count = 0
         for name in names:
-            done = doctest.testmod(importlib.import_module(name), extraglobs={"history": history})
+            module = importlib.import_module(name)
+            # Where nothing is said, `-v` of the tests would have it print each example.
+            done = doctest.testmod(module, verbose=False, extraglobs={"history": history})
             self.assertEqual(done.failed, 0, name)
             count += done.attempted
         self.assertGreater(count, 20)
