@@ -117,7 +117,7 @@ def best_of(times: int, runs: Callable[[], Measured]) -> Measured:
 def started(words: Words, *, feeder: Words = ("true",), report: Path = Path(os.devnull), limits: Limits = Limits(120)) -> Measured:
     """Runs a command by a small process, since the system counts what the process that starts a command had before as
     memory of the command. What it prints goes to a file."""
-    starting: list[Word] = [sys.executable, "-I", "-S", STARTER, str(int(limits.seconds)), str(limits.memory or -1), report]
+    starting = [sys.executable, "-I", "-S", STARTER, str(int(limits.seconds)), str(limits.memory or -1), report]
     with subprocess.Popen(feeder, stdout=subprocess.PIPE) as feeding:
         done = subprocess.run([*starting, *words], stdin=feeding.stdout, stdout=subprocess.PIPE, stderr=subprocess.PIPE,
                               check=True)

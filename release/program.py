@@ -5,7 +5,6 @@ from __future__ import annotations
 import shutil
 import subprocess
 import tempfile
-from collections.abc import Sequence
 from pathlib import Path
 from typing import NamedTuple
 
@@ -28,7 +27,7 @@ class Program(NamedTuple):
 
     name: str
     crate: str
-    trial: Sequence[str]
+    trial: tuple[str, ...]
 
     def built(self) -> Path:
         return built(self.crate)
@@ -41,8 +40,8 @@ class Program(NamedTuple):
 
 
 PROGRAMS = (
-    Program("svnhist", "svnhist", ["examples/branch.dump", "examples/branch.queries", "0", "1"]),
-    Program("svnhist-live", "svnhist_live", ["examples/branch.dump", "1"]),
+    Program("svnhist", "svnhist", ("examples/branch.dump", "examples/branch.queries", "0", "1")),
+    Program("svnhist-live", "svnhist_live", ("examples/branch.dump", "1")),
 )
 
 

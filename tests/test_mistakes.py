@@ -11,9 +11,8 @@ import lzma
 import os
 import re
 from pathlib import Path
-from typing import NamedTuple
+from typing import Any, NamedTuple
 
-from dev.checks import Check
 from dev.dumps import DIR, END, FILE, Node, Revision, added, changed, copied, first_lines, mergeinfo, section
 from dev.running import Limits, Outcome, Words, run
 from dev.tree import DOCS, EXAMPLES
@@ -52,12 +51,20 @@ class Mistake(NamedTuple):
 
 PATHS = [b"trunk", b"trunk/src", b"with space", b"a@b", "\u00fc".encode()]
 WHOLE = FIRST + revision(1, *map(added, PATHS), added(b"trunk/src/a", FILE))
-COPY = copied(b"branch", b"trunk", 1)
+SECOND = WHOLE + revision(2)
+COPY, AGAIN = copied(b"branch", b"trunk", 1), copied(b"y", b"branch/x", 1)
 EDITED = with_mergeinfo(b"trunk", b"/main:1", len(b"/trunk:1"))
 LONGER, SHORTER = (with_message(2, text, len(b"a message")) for text in (b"a longer message", b"message"))
 # Records that `svnrdump` writes: a new directory, and a property that was deleted.
 PART_3 = Node(b"tags", b"add", DIR, properties=END, has_changes=True)
 DELETION_3 = Node(b"trunk", b"change", properties=section({b"a": None}), has_changes=True)
+
+
+def appended(name: str, more: bytes, reason: str) -> Mistake:
+    """More bytes after a whole dump, which are refused at their first one."""
+    return Mistake(name, WHOLE + more, f"{reason} at byte {len(WHOLE)}")
+
+
 REFUSED = [
     Mistake("nothing", b"", "1 Magic at byte 0"),
     Mistake("gzip", gzip.compress(WHOLE), "1 Magic at byte 0"),
@@ -71,63 +78,41 @@ REFUSED = [
     Mistake("an empty line before the first", b"\n" + WHOLE, "1 Magic at byte 0"),
     Mistake("CR LF", WHOLE.replace(b"\n", b"\r\n"), "2 Version at byte 0"),
     Mistake("progress", FIRST + b"* Dumped revision 0.\n" + WHOLE[len(FIRST) :], f"3 Header at byte {len(FIRST)}"),
-    Mistake("a line after the end", WHOLE + b"bye\n", f"3 Header at byte {len(WHOLE)}"),
+    appended("a line after the end", b"bye\n", "3 Header"),
     Mistake("a block that is cut off", FIRST + ZERO[:-1], f"5 Truncated at byte {len(FIRST)}"),
-    Mistake("a message at the end", WHOLE + b"svnadmin: E160006\n", f"5 Truncated at byte {len(WHOLE)}"),
-    Mistake("an edited value", WHOLE + EDITED, f"6 Props at byte {len(WHOLE)}"),
-    Mistake("two dumps", WHOLE + HEAD + revision(2), f"7 BadRecord at byte {len(WHOLE)}"),
-    Mistake("a part in format 3", WHOLE + revision(2, PART_3), f"10 Delta at byte {len(WHOLE + revision(2))}"),
-    Mistake("a deletion in format 3", WHOLE + revision(2, DELETION_3), f"6 Props at byte {len(WHOLE + revision(2))}"),
+    appended("a message at the end", b"svnadmin: E160006\n", "5 Truncated"),
+    appended("an edited value", EDITED, "6 Props"),
+    appended("two dumps", HEAD + revision(2), "7 BadRecord"),
+    Mistake("a part in format 3", SECOND + bytes(PART_3), f"10 Delta at byte {len(SECOND)}"),
+    Mistake("a deletion in format 3", SECOND + bytes(DELETION_3), f"6 Props at byte {len(SECOND)}"),
     Mistake("a part", HEAD + UUID + revision(5), f"8 Revision at byte {len(HEAD + UUID)}"),
-    Mistake("a revision that was dropped", WHOLE + revision(3), f"8 Revision at byte {len(WHOLE)}"),
+    appended("a revision that was dropped", revision(3), "8 Revision"),
     Mistake("no revision", HEAD + UUID, f"8 Revision at byte {len(HEAD + UUID)}"),
     Mistake("a parent that was left out", FIRST + revision(1, added(b"trunk/src")), "16 NoParent at record 1"),
     Mistake("a part with all that exists", WHOLE + revision(2, added(b"trunk")), "17 Exists at record 7"),
     Mistake("a change of what a copy lacks", WHOLE + revision(2, COPY, changed(b"branch/x")), "18 Missing at record 8"),
-    Mistake(
-        "a copy of what a copy lacks",
-        WHOLE + revision(2, COPY, copied(b"y", b"branch/x", 1)),
-        "19 NoSource at record 8",
-    ),
+    Mistake("a copy of what a copy lacks", WHOLE + revision(2, COPY, AGAIN), "19 NoSource at record 8"),
 ]
 # The same of dumps that were edited.
 EDITS = [
     Mistake("a longer message", WHOLE + LONGER, f"3 Header at byte {len(WHOLE + LONGER) - 8}"),
-    Mistake(
-        "no empty line after headers",
-        WHOLE + b"Node-path: trunk\nNode-action: change\nContent-length: 2\na\n\n",
-        f"3 Header at byte {len(WHOLE)}",
+    appended(
+        "no empty line after headers", b"Node-path: trunk\nNode-action: change\nContent-length: 2\na\n\n", "3 Header"
     ),
-    Mistake(
-        "a header twice", WHOLE + b"Node-path: trunk\n" + bytes(changed(b"trunk")), f"3 Header at byte {len(WHOLE)}"
-    ),
-    Mistake(
-        "a lesser length",
-        WHOLE + re.sub(rb"\nContent-length: \d", b"\nContent-length: ", EDITED),
-        f"4 Length at byte {len(WHOLE)}",
-    ),
-    Mistake(
-        "a length that is no number",
-        WHOLE + EDITED.replace(b"\nContent-length: ", b"\nContent-length: x"),
-        f"4 Length at byte {len(WHOLE)}",
-    ),
-    Mistake(
-        "no newlines at the end", WHOLE + bytes(changed(b"trunk")).rstrip(b"\n"), f"5 Truncated at byte {len(WHOLE)}"
-    ),
+    appended("a header twice", b"Node-path: trunk\n" + bytes(changed(b"trunk")), "3 Header"),
+    appended("a lesser length", re.sub(rb"\nContent-length: \d", b"\nContent-length: ", EDITED), "4 Length"),
+    appended("a length that is no number", EDITED.replace(b"\nContent-length: ", b"\nContent-length: x"), "4 Length"),
+    appended("no newlines at the end", bytes(changed(b"trunk")).rstrip(b"\n"), "5 Truncated"),
     Mistake(
         "a shorter message",
         WHOLE + SHORTER + bytes(changed(b"trunk")),
         f"7 BadRecord at byte {len(WHOLE + SHORTER) + 1}",
     ),
-    Mistake("no action", WHOLE + b"Node-path: trunk\nNode-acton: change\n\n", f"7 BadRecord at byte {len(WHOLE)}"),
-    Mistake(
-        "an empty line in headers",
-        WHOLE + b"Node-path: trunk\n\nNode-action: change\n\n",
-        f"7 BadRecord at byte {len(WHOLE)}",
-    ),
-    Mistake("a revision twice", WHOLE + revision(1), f"8 Revision at byte {len(WHOLE)}"),
-    Mistake("a path with a dot", WHOLE + bytes(changed(b"./trunk")), f"9 BadPath at byte {len(WHOLE)}"),
-    Mistake("a source that is not earlier", WHOLE + bytes(COPY), f"11 CopyRevision at byte {len(WHOLE)}"),
+    appended("no action", b"Node-path: trunk\nNode-acton: change\n\n", "7 BadRecord"),
+    appended("an empty line in headers", b"Node-path: trunk\n\nNode-action: change\n\n", "7 BadRecord"),
+    appended("a revision twice", revision(1), "8 Revision"),
+    appended("a path with a dot", bytes(changed(b"./trunk")), "9 BadPath"),
+    appended("a source that is not earlier", bytes(COPY), "11 CopyRevision"),
     Mistake(
         "the root in place of a directory",
         FIRST + revision(1, added(b"")),
@@ -141,58 +126,22 @@ EDITS = [
         "a path that is still a source", WHOLE.replace(b"trunk", b"main") + revision(2, COPY), "19 NoSource at record 7"
     ),
 ]
+# fmt: off
 BAD = [
-    b"\xef\xbb\xbflog\ttrunk@1",
-    b"log\ttrunk@1\r",
-    b"log trunk@1",
-    b"log\t\ttrunk@1",
-    b"log\\ttrunk@1",
-    b" log\ttrunk@1",
-    b"log\ttrunk@1 ",
-    b"log\ttrunk@1\t",
-    b"",
-    b"# trunk",
-    b"LOG\ttrunk@1",
-    b"Log\ttrunk@1",
-    b"log\ttrunk@HEAD",
-    b"log\ttrunk@{2026-11-25}",
-    b"log\ttrunk@r1",
-    b"log\ttrunk@+1",
-    b"log\ttrunk@1,000",
-    b"log\ttrunk@0:1",
-    b"log\ttrunk",
-    b"log\ttrunk@",
-    b"log\ta@b",
-    b'log\t"trunk@1"',
-    b"log\t./trunk@1",
-    b"log\t.@1",
-    b"locate\ttrunk@1",
-    b"merged\ttrunk@1",
-    b"eligible\ttrunk@1",
-    b"log\ta\tb@1",
-    b"locate\ttrunk@1\tr0",
+    b"\xef\xbb\xbflog\ttrunk@1", b"log\ttrunk@1\r", b"log trunk@1", b"log\t\ttrunk@1", b"log\\ttrunk@1",
+    b" log\ttrunk@1", b"log\ttrunk@1 ", b"log\ttrunk@1\t", b"", b"# trunk", b"LOG\ttrunk@1", b"Log\ttrunk@1",
+    b"log\ttrunk@HEAD", b"log\ttrunk@{2026-11-25}", b"log\ttrunk@r1", b"log\ttrunk@+1", b"log\ttrunk@1,000",
+    b"log\ttrunk@0:1", b"log\ttrunk", b"log\ttrunk@", b"log\ta@b", b'log\t"trunk@1"', b"log\t./trunk@1", b"log\t.@1",
+    b"locate\ttrunk@1", b"merged\ttrunk@1", b"eligible\ttrunk@1", b"log\ta\tb@1", b"locate\ttrunk@1\tr0",
     b"locate\ttrunk@1\tHEAD",
 ]
 ELSEWHERE = [
-    b"^/trunk",
-    b"https://host/svn/repo/trunk",
-    b"file:///srv/repo/trunk",
-    b"repo/trunk",
-    b"with%20space",
-    b"a%40b",
-    b'"trunk"',
-    b"'with space'",
-    b"a@b@",
-    b"trunk@",
-    b"Trunk",
-    b"trunk\\src",
-    b"trunk/*",
-    b" trunk",
-    b"trunk ",
-    b"\xfc",
-    b"u\xcc\x88",
+    b"^/trunk", b"https://host/svn/repo/trunk", b"file:///srv/repo/trunk", b"repo/trunk", b"with%20space", b"a%40b",
+    b'"trunk"', b"'with space'", b"a@b@", b"trunk@", b"Trunk", b"trunk\\src", b"trunk/*", b" trunk", b"trunk ",
+    b"\xfc", b"u\xcc\x88",
 ]
 MEANT = [b"", b"trunk", b"/trunk", b"trunk/src", b"trunk/", b"with space", b"a@b", b"\xc3\xbc"]
+# fmt: on
 STRIP = EXAMPLES / "strip-texts"
 STRIP_USAGE = b"usage: strip-texts < DUMP > STRIPPED\n"
 UNREAD = [("a directory", "."), ("no file", "missing"), ("a hyphen", "-"), ("a URL", "file:///srv/repo")]
@@ -207,67 +156,41 @@ TOO_MANY = "more than 1000000 queries"
 TABLED = re.compile(r"^\| `svnhist: (.*?)` \|", re.MULTILINE)
 
 
-def refused(status: int, line: str) -> Outcome:
-    return Outcome(status, b"", b"svnhist: %s\n" % line.encode())
-
-
 class Mistakes(ProgramTest):
     def setUp(self) -> None:
         super().setUp()
         self.made("good", WHOLE)
         self.made("queries", b"log\ttrunk@1\n")
 
-    def run_on(
-        self, words: Words, given: str = os.devnull, taker: Path | None = None, limits: Limits = Limits()
-    ) -> Outcome:
+    def run_on(self, words: Words, given: str = os.devnull, **settings: Any) -> Outcome:
         """A run in the folder, with the content of a file as its input."""
-        return run([self.programs.svnhist, *words], self.folder / given, taker=taker, limits=limits, folder=self.folder)
+        return run([self.programs.svnhist, *words], self.folder / given, folder=self.folder, **settings)
+
+    def check_refusal(self, name: str, status: int, line: str, words: Words, **settings: Any) -> None:
+        self.compare(name, Outcome(status, b"", b"svnhist: %s\n" % line.encode()), self.run_on(words, **settings))
 
     def test_dumps_that_are_refused(self) -> None:
-        for mistake in REFUSED + EDITS:
-            with self.subTest(mistake.name):
-                self.made("dump", mistake.dump)
-                wanted = refused(1, f"dump refused: {mistake.refusal}")
-                self.assertEqual(self.run_on(["dump", "queries", "0", "1"]), wanted)
+        for name, dump, refusal in REFUSED + EDITS:
+            self.made("dump", dump)
+            self.check_refusal(name, 1, f"dump refused: {refusal}", ["dump", "queries", "0", "1"])
 
     def test_files_that_are_no_dump_and_no_queries(self) -> None:
         for name, path in UNREAD:
-            self.check_all(
-                [
-                    Check(f"{name} as the dump", refused(3, NO_DUMP), self.run_on([path, "queries", "0", "1"])),
-                    Check(f"{name} as the queries", refused(3, NO_QUERIES), self.run_on(["missing", path, "0", "1"])),
-                ]
-            )
+            self.check_refusal(f"{name} as the dump", 3, NO_DUMP, [path, "queries", "0", "1"])
+            self.check_refusal(f"{name} as the queries", 3, NO_QUERIES, ["missing", path, "0", "1"])
 
     def test_arguments_in_another_order(self) -> None:
         self.made("long", b"\n" * 1000001)
-        self.check_all(
-            [
-                Check(
-                    "dump and queries swapped",
-                    refused(1, "dump refused: 1 Magic at byte 0"),
-                    self.run_on(["queries", "good", "0", "1"]),
-                ),
-                Check(
-                    "a long dump and queries swapped", refused(1, TOO_MANY), self.run_on(["queries", "long", "0", "1"])
-                ),
-                Check("a dump and no arguments", refused(2, USAGE), self.run_on([], "good")),
-            ]
-        )
+        magic = "dump refused: 1 Magic at byte 0"
+        self.check_refusal("dump and queries swapped", 1, magic, ["queries", "good", "0", "1"])
+        self.check_refusal("a long dump and queries swapped", 1, TOO_MANY, ["queries", "long", "0", "1"])
+        self.check_refusal("a dump and no arguments", 2, USAGE, [], given="good")
 
     def test_what_the_system_refuses(self) -> None:
         self.made("large", b"x" * (64 << 20))
-        self.check_all(
-            [
-                Check("a directory as the input", refused(3, NO_INPUT), self.run_on([], ".")),
-                Check(
-                    "a full disk",
-                    refused(3, NO_OUTPUT),
-                    self.run_on(["good", "queries", "0", "1"], taker=Path("/dev/full")),
-                ),
-                Check("little memory", refused(4, NO_MEMORY), self.run_on([], "large", limits=Limits(memory=32 << 20))),
-            ]
-        )
+        self.check_refusal("a directory as the input", 3, NO_INPUT, [], given=".")
+        self.check_refusal("a full disk", 3, NO_OUTPUT, ["good", "queries", "0", "1"], taker=Path("/dev/full"))
+        self.check_refusal("little memory", 4, NO_MEMORY, [], given="large", limits=Limits(memory=32 << 20))
 
     def test_the_table_of_lines_has_each_of_these(self) -> None:
         """Each test above wants a line, and the table of docs/dump-format.md has them all and no other one."""
@@ -277,12 +200,9 @@ class Mistakes(ProgramTest):
         self.assertEqual(set(TABLED.findall((DOCS / "dump-format.md").read_text("utf-8"))), lines | others)
 
     def test_arguments_of_strip_texts(self) -> None:
-        for words, wanted in (
-            (["good"], Outcome(2, b"", STRIP_USAGE)),
-            (["-h"], Outcome(0, STRIP_USAGE, b"")),
-            (["--help"], Outcome(0, STRIP_USAGE, b"")),
-        ):
-            self.check_all([Check(" ".join(words), wanted, run([STRIP, *words], folder=self.folder))])
+        self.compare("good", Outcome(2, b"", STRIP_USAGE), run([STRIP, "good"], folder=self.folder))
+        for word in ("-h", "--help"):
+            self.compare(word, Outcome(0, STRIP_USAGE, b""), run([STRIP, word], folder=self.folder))
 
     def check_statuses(self, queries: list[bytes], status: bytes) -> None:
         """A run of which each answer has this status."""

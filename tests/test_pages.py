@@ -16,20 +16,11 @@ from dev.tree import DOCS, ROOT
 
 PAGES = ["README.md", "CONTRIBUTING.md", "SECURITY.md", *sorted(f"docs/{path.name}" for path in DOCS.glob("*.md"))]
 OTHER_PAGES = ["interop/README.md", "model/README.md"]
+# fmt: off
 FOLDERS = (
-    "ask",
-    "bench",
-    "crates",
-    "dev",
-    "docs",
-    "examples",
-    "interop",
-    "model",
-    "release",
-    "scripts",
-    "tests",
-    ".ci",
+    "ask", "bench", "crates", "dev", "docs", "examples", "interop", "model", "release", "scripts", "tests", ".ci",
 )
+# fmt: on
 BUILT = ("out", "__pycache__", ".mypy_cache")
 SPAN = re.compile(r"`([^`\n]+)`")
 WORD = re.compile(r"[^\W\d]\w*")

@@ -217,25 +217,17 @@ class Stripped(ProgramTest):
 
     def test_what_is_left(self) -> None:
         left = Outcome(0, LEFT, b"")
-        self.check_all(
-            [
-                Check("of a file", left, run([STRIP], self.made("whole", WHOLE))),
-                Check("of a pipe", left, run([STRIP], WHOLE)),
-                Check("in format 3", Outcome(0, in_format_3(LEFT), b""), run([STRIP], in_format_3(WHOLE))),
-                self.compared("the same report", WHOLE, Path(os.devnull)),
-            ]
-        )
+        self.compare("of a file", left, run([STRIP], self.made("whole", WHOLE)))
+        self.compare("of a pipe", left, run([STRIP], WHOLE))
+        self.compare("in format 3", Outcome(0, in_format_3(LEFT), b""), run([STRIP], in_format_3(WHOLE)))
+        self.check_all([self.compared("the same report", WHOLE, Path(os.devnull))])
 
     def test_sections_of_changes(self) -> None:
         whole = changing([change.entries for change in CHANGES], b"text\n")
         left = changing([change.left for change in CHANGES], None)
         lines = (b"mergeinfo\ta@%d\n" % rev for rev in range(1, len(CHANGES) + 2))
-        self.check_all(
-            [
-                Check("what is left of changes", Outcome(0, left, b""), run([STRIP], whole)),
-                self.compared("changes", whole, self.made("queries", b"".join(lines))),
-            ]
-        )
+        self.compare("what is left of changes", Outcome(0, left, b""), run([STRIP], whole))
+        self.check_all([self.compared("changes", whole, self.made("queries", b"".join(lines)))])
 
     def test_records_that_do_not_fit(self) -> None:
         self.check_all(self.compared(name, dump, Path(os.devnull)) for name, dump in FAULTY.items())

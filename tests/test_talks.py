@@ -7,14 +7,12 @@ from __future__ import annotations
 import itertools
 import os
 import subprocess
-from collections.abc import Iterator, Sequence
+from collections.abc import Sequence
 from pathlib import Path
-from typing import NamedTuple
 
 from dev import dialogue
-from dev.checks import Check
 from dev.dialogue import Step
-from dev.dumps import Revision, added, deleted
+from dev.dumps import Revision, added, deleted, first_lines
 from dev.running import SECONDS, Outcome, Word, run
 from tests.base import ProgramTest, example
 
@@ -60,120 +58,13 @@ def spaced(report: bytes) -> bytes:
     return report.replace(b"\n#", b"\n\n#") + b"\n"
 
 
-class Case(NamedTuple):
-    """A talk whose input comes at once, and how it must end."""
-
-    name: str
-    given: bytes
-    wanted: Outcome
-
-
-def cut_inputs() -> Iterator[Case]:
-    """Inputs that end within a turn."""
-    yield Case("an input that ends in the middle of a line", QUERY + b"log\ttr", wanted(1, ready(3) + ANSWER, CUT))
-    yield Case("an input that ends in the line before a piece", b"piece 1", wanted(1, ready(3), CUT))
-    yield Case(
-        "an input that ends after the line before a piece", QUERY + b"piece 1\n", wanted(1, ready(3) + ANSWER, CUT)
-    )
-    yield Case("an input that ends in the middle of a piece", turn(SECOND)[:-40], wanted(1, ready(3), CUT))
-    yield Case(
-        "a piece that claims the greatest length", b"piece 9223372036854775807\n" + SECOND, wanted(1, ready(3), CUT)
-    )
-
-
-def right_inputs() -> Iterator[Case]:
-    yield Case("no input", b"", wanted(0, ready(3)))
-    yield Case("pieces", PIECES, wanted(0, GROWN))
-    yield Case("an empty piece", b"piece 0\n" + PIECES, wanted(0, ready(3) + GROWN))
-    yield Case("leading zeros before a piece", b"piece 000%d\n" % len(SECOND) + SECOND, wanted(0, ready(3) + ready(5)))
-    yield Case(
-        "a length that is above the greatest",
-        b"piece 9223372036854775808\n" + turn(SECOND),
-        wanted(0, ready(3) + b"#1 bad-query\n\n" + ready(5)),
-    )
-    yield Case(
-        "the same question before and after a piece",
-        QUERY + turn(SECOND) + QUERY,
-        wanted(0, ready(3) + ANSWER + ready(5) + ANSWER.replace(b"#1", b"#2")),
-    )
-
-
-def wrong_pieces() -> Iterator[Case]:
-    """Pieces whose line has another length, and pieces that do not follow the dump."""
-    at = len(FIRST)
-    rest = b"\n" + bytes(added(b"branches/new")) + QUERY
-    new = bytes(Revision(4))
-    yield Case(
-        "a piece that is longer than its line says",
-        b"piece %d\n" % len(new) + new + rest,
-        wanted(
-            0,
-            ready(3) + ready(4) + b"#1 bad-query\n\n#2 bad-query\n\n#3 bad-query\n\n#4 bad-query\n\n"
-            b"#5 bad-query\n\n" + ANSWER.replace(b"#1", b"#6"),
-        ),
-    )
-    yield Case(
-        "a piece that is shorter than its line says", b"piece %d\n" % (len(new) + 1) + new, wanted(1, ready(3), CUT)
-    )
-    yield Case(
-        "a piece without the end of its last block",
-        turn(new[:-1]),
-        wanted(1, ready(3), f"dump refused: 5 Truncated at byte {at}"),
-    )
-    yield Case(
-        "a piece that takes a question after it",
-        b"piece %d\n" % (len(new) + len(QUERY)) + new + QUERY,
-        wanted(1, ready(3), f"dump refused: 3 Header at byte {at + len(new)}"),
-    )
-    yield Case(
-        "a piece with a first line of a dump",
-        turn(b"SVN-fs-dump-format-version: 2\n\n" + SECOND),
-        wanted(1, ready(3), f"dump refused: 7 BadRecord at byte {at}"),
-    )
-    yield Case(
-        "a piece that leaves a revision out",
-        QUERY + turn(THIRD) + QUERY,
-        wanted(1, ready(3) + ANSWER, f"dump refused: 8 Revision at byte {at}"),
-    )
-    yield Case(
-        "a piece with a faulty record",
-        turn(new + bytes(deleted(b"x"))) + QUERY,
-        wanted(1, ready(3), "dump refused: 18 Missing at record 5"),
-    )
-    yield Case(
-        "a piece that ends early, but whose bytes are refused",
-        b"piece 1000\n" + new + b"x\n",
-        wanted(1, ready(3), f"dump refused: 3 Header at byte {at + len(new)}"),
-    )
-
-
-class Call(NamedTuple):
-    """A call with these arguments, and how it must end if its input is one question."""
-
-    name: str
-    words: Sequence[Word]
-    wanted: Outcome
-
-
-def wrong_arguments(dump: Path, missing: Path) -> Iterator[Call]:
-    wrong: dict[str, Sequence[Word]] = {
-        "no arguments": [],
-        "one argument": [dump],
-        "three arguments": [dump, "1", "1"],
-        "WORKERS of no bytes": [dump, ""],
-        "WORKERS 0 and no dump": [missing, "0"],
-        **{f"WORKERS {workers}": [dump, workers] for workers in ("0", "65", "x", "-1")},
-    }
-    for name, words in wrong.items():
-        yield Call(name, words, wanted(2, b"", USAGE))
-
-
 class Talks(ProgramTest):
     needed = ("svnhist", "svnhist_live")
 
     def setUp(self) -> None:
         super().setUp()
         self.dump = self.made("dump", FIRST)
+        self.missing = self.folder / "missing"
 
     def words(self, workers: int = 1) -> list[Word]:
         return [self.programs.svnhist_live, self.dump, str(workers)]
@@ -181,77 +72,95 @@ class Talks(ProgramTest):
     def talk(self, steps: Sequence[Step], workers: int = 1) -> Outcome:
         return dialogue.run(self.words(workers), steps, SECONDS)
 
-    def check_cases(self, cases: Iterator[Case]) -> None:
-        self.check_all(Check(case.name, case.wanted, self.talk([Step(case.given)])) for case in cases)
+    def check_talk(self, name: str, given: bytes, said: bytes, line: str = "") -> None:
+        """A talk whose input comes at once: what is said, and why it is refused, if it is."""
+        self.compare(name, wanted(1 if line else 0, said, line), self.talk([Step(given)]))
 
-    def check_calls(self, calls: Iterator[Call]) -> None:
-        self.check_all(
-            Check(
-                call.name, call.wanted, dialogue.run([self.programs.svnhist_live, *call.words], [Step(QUERY)], SECONDS)
-            )
-            for call in calls
-        )
-
-    def wrong_dumps(self) -> Iterator[Call]:
-        unread = "cannot read the dump"
-        for name, dump, status, line in (
-            ("no dump", self.folder / "missing", 3, unread),
-            ("a directory as the dump", self.folder, 3, unread),
-            ("an empty dump", Path(os.devnull), 1, "dump refused: 1 Magic at byte 0"),
-            ("a refused dump", self.made("refused", FIRST + b"x\n"), 1, f"dump refused: 3 Header at byte {len(FIRST)}"),
-            (
-                "a faulty dump",
-                self.made("faulty", FIRST + bytes(deleted(b"x"))),
-                1,
-                "dump refused: 18 Missing at record 5",
-            ),
-        ):
-            yield Call(name, [dump, "1"], wanted(status, b"", line))
+    def check_call(self, name: str, words: Sequence[Word], status: int, line: str, said: bytes = b"") -> None:
+        """A call with these arguments, whose input is one question."""
+        found = dialogue.run([self.programs.svnhist_live, *words], [Step(QUERY)], SECONDS)
+        self.compare(name, wanted(status, said, line), found)
 
     def test_inputs(self) -> None:
-        self.check_cases(right_inputs())
+        zeros = b"piece 000%d\n" % len(SECOND) + SECOND
+        above = b"piece 9223372036854775808\n" + turn(SECOND)
+        again = ready(3) + ANSWER + ready(5) + ANSWER.replace(b"#1", b"#2")
+        self.check_talk("no input", b"", ready(3))
+        self.check_talk("pieces", PIECES, GROWN)
+        self.check_talk("an empty piece", b"piece 0\n" + PIECES, ready(3) + GROWN)
+        self.check_talk("leading zeros before a piece", zeros, ready(3) + ready(5))
+        self.check_talk("a length above the greatest", above, ready(3) + b"#1 bad-query\n\n" + ready(5))
+        self.check_talk("the same question before and after a piece", QUERY + turn(SECOND) + QUERY, again)
 
     def test_inputs_that_end_within_a_turn(self) -> None:
-        self.check_cases(cut_inputs())
+        answered, most = ready(3) + ANSWER, b"piece 9223372036854775807\n"
+        self.check_talk("in the middle of a line", QUERY + b"log\ttr", answered, CUT)
+        self.check_talk("in the line before a piece", b"piece 1", ready(3), CUT)
+        self.check_talk("after the line before a piece", QUERY + b"piece 1\n", answered, CUT)
+        self.check_talk("in the middle of a piece", turn(SECOND)[:-40], ready(3), CUT)
+        self.check_talk("a piece that claims the greatest length", most + SECOND, ready(3), CUT)
 
-    def test_wrong_pieces(self) -> None:
-        self.check_cases(wrong_pieces())
+    def test_pieces_whose_line_has_another_length(self) -> None:
+        new, rest = bytes(Revision(4)), b"\n" + bytes(added(b"branches/new")) + QUERY
+        bad = b"".join(b"#%d bad-query\n\n" % number for number in range(1, 6))
+        said = ready(3) + ready(4) + bad + ANSWER.replace(b"#1", b"#6")
+        header = f"dump refused: 3 Header at byte {len(FIRST + new)}"
+        with_query = b"piece %d\n" % len(new + QUERY) + new + QUERY
+        self.check_talk("a longer piece", turn(new) + rest, said)
+        self.check_talk("a shorter piece", b"piece %d\n" % (len(new) + 1) + new, ready(3), CUT)
+        self.check_talk("a question after a piece", with_query, ready(3), header)
+        self.check_talk("an early end after what is refused", b"piece 1000\n" + new + b"x\n", ready(3), header)
+
+    def test_pieces_that_do_not_follow_the_dump(self) -> None:
+        new, place = bytes(Revision(4)), f"at byte {len(FIRST)}"
+        faulty = turn(new + bytes(deleted(b"x"))) + QUERY
+        self.check_talk("no end of the last block", turn(new[:-1]), ready(3), f"dump refused: 5 Truncated {place}")
+        self.check_talk("a first line", turn(first_lines() + SECOND), ready(3), f"dump refused: 7 BadRecord {place}")
+        said = ready(3) + ANSWER
+        self.check_talk("no next revision", QUERY + turn(THIRD) + QUERY, said, f"dump refused: 8 Revision {place}")
+        self.check_talk("a faulty record", faulty, ready(3), "dump refused: 18 Missing at record 5")
 
     def test_wrong_arguments(self) -> None:
         """Nothing is said then."""
-        self.check_calls(wrong_arguments(self.dump, self.folder / "missing"))
+        self.check_call("no arguments", [], 2, USAGE)
+        self.check_call("one argument", [self.dump], 2, USAGE)
+        self.check_call("three arguments", [self.dump, "1", "1"], 2, USAGE)
+        self.check_call("WORKERS 0 and no dump", [self.missing, "0"], 2, USAGE)
+        for workers in ("0", "65", "x", "-1", ""):
+            self.check_call(f"WORKERS {workers}", [self.dump, workers], 2, USAGE)
+        self.check_call("WORKERS 064", [self.dump, "064"], 0, "", ready(3) + ANSWER)
 
     def test_dumps_that_are_not_read(self) -> None:
-        self.check_calls(self.wrong_dumps())
+        unread, header = "cannot read the dump", f"dump refused: 3 Header at byte {len(FIRST)}"
+        refused, faulty = self.made("refused", FIRST + b"x\n"), self.made("faulty", FIRST + bytes(deleted(b"x")))
+        self.check_call("no dump", [self.missing, "1"], 3, unread)
+        self.check_call("a directory", [self.folder, "1"], 3, unread)
+        self.check_call("an empty dump", [os.devnull, "1"], 1, "dump refused: 1 Magic at byte 0")
+        self.check_call("a refused dump", [refused, "1"], 1, header)
+        self.check_call("a faulty dump", [faulty, "1"], 1, "dump refused: 18 Missing at record 5")
 
-    def test_workers_with_a_leading_zero(self) -> None:
-        self.check_calls(iter([Call("WORKERS 064", [self.dump, "064"], wanted(0, ready(3) + ANSWER))]))
+    def check_streams(self, name: str, redirected: str, right: Outcome) -> None:
+        """A talk by sh, with its streams redirected. The folder is the fourth argument."""
+        command = f'"$1" "$2" "$3" {redirected}'
+        found = run(["sh", "-c", command, "sh", *self.words(), self.folder], Path(os.devnull))
+        self.compare(name, right, found)
 
     def test_standard_streams_that_fail(self) -> None:
-        full, unread = wanted(3, b"", "cannot write the report"), wanted(3, ready(3), "cannot read standard input")
-        for name, command, right in (
-            ("a full disk", '"$1" "$2" "$3" >/dev/full', full),
-            ("a closed output", '"$1" "$2" "$3" >&-', full),
-            ("a directory as the input", '"$1" "$2" "$3" <"$4"', unread),
-            # The dump is opened in its place, and has ended when turns are read.
-            ("a closed input", '"$1" "$2" "$3" <&-', wanted(0, ready(CUTS[0]))),
-        ):
-            found = run(["sh", "-c", command, "sh", *self.words(), self.folder], Path(os.devnull))
-            self.check_all([Check(name, right, found)])
+        unwritten, unread = wanted(3, b"", "cannot write the report"), wanted(3, ready(3), "cannot read standard input")
+        self.check_streams("a full disk", ">/dev/full", unwritten)
+        self.check_streams("a closed output", ">&-", unwritten)
+        self.check_streams("a directory as the input", '<"$4"', unread)
+        # The dump is opened in its place, and has ended when turns are read.
+        self.check_streams("a closed input", "<&-", wanted(0, ready(3)))
 
     def test_an_output_that_nobody_reads(self) -> None:
         reader, writer = os.pipe()
         os.close(reader)
-        with open(writer, "wb") as output:
-            done = subprocess.run(
-                self.words(),
-                stdin=subprocess.DEVNULL,
-                stdout=output,
-                stderr=subprocess.PIPE,
-                timeout=SECONDS,
-                check=False,
-            )
-        self.assertEqual(Outcome(done.returncode, b"", done.stderr), wanted(3, b"", "cannot write the report"))
+        with open(writer, "wb") as output, subprocess.Popen(
+            self.words(), stdin=subprocess.DEVNULL, stdout=output, stderr=subprocess.PIPE
+        ) as process:
+            _, errors = process.communicate(timeout=SECONDS)
+        self.assertEqual((process.returncode, errors), (3, b"svnhist: cannot write the report\n"))
 
     def test_replies_come_before_more_is_written(self) -> None:
         """Also where what was written ends within a turn."""
@@ -262,12 +171,8 @@ class Talks(ProgramTest):
         bounds = [min(end + half, len(given)) for end in itertools.accumulate(map(len, turns))]
         late = [Step(given[low:high], size) for low, high, size in zip([0, *bounds], bounds, sizes)]
         right = wanted(0, b"".join(replies))
-        self.check_all(
-            [
-                Check("at the end of each turn", right, self.talk(list(map(Step, turns, sizes)))),
-                Check("while the next turn has begun", right, self.talk(late)),
-            ]
-        )
+        self.compare("at the end of each turn", right, self.talk(list(map(Step, turns, sizes))))
+        self.compare("while the next turn has begun", right, self.talk(late))
 
     def test_a_refusal_comes_while_more_of_the_piece_is_to_come(self) -> None:
         refused = Step(b"piece 1000\nRevision-number: 9\n\n", len(ready(3)), True)
@@ -287,7 +192,5 @@ class Talks(ProgramTest):
         whole = self.made("whole", FIRST + SECOND + THIRD)
         report = run([self.programs.svnhist, whole, self.made("queries", queries), "0", "1"])
         right = report._replace(output=GROWN + spaced(report.output))
-        self.check_all(
-            Check(f"workers: {workers}", right, self.talk([Step(PIECES + queries)], workers))
-            for workers in (1, WORKERS)
-        )
+        for workers in (1, WORKERS):
+            self.compare(f"workers: {workers}", right, self.talk([Step(PIECES + queries)], workers))

@@ -23,85 +23,27 @@ from dev.tree import programs
 from tests.ask import base
 
 NAMES = ("branches", "merges", "merges-deltas", "again", "inherited", "malformed", "properties-svnrdump", "names")
+# fmt: off
 NUMBERS = (
-    b"0",
-    b"1",
-    b"7",
-    b"-1",
-    b"99",
-    b"2147483647",
-    b"2147483648",
-    b"9223372036854775808",
-    b"9" * 5000,
-    b"x",
-    b"",
-    b"007",
-    b"\xd9\xa3",
+    b"0", b"1", b"7", b"-1", b"99", b"2147483647", b"2147483648", b"9223372036854775808", b"9" * 5000, b"x", b"",
+    b"007", b"\xd9\xa3",
 )
 PIECES = (
-    b"\n",
-    b"\n\n",
-    b"\0",
-    b"\xff\xfe",
-    b"\x1b[2J",
-    b"PROPS-END\n",
-    b"K 13\nsvn:mergeinfo\n",
-    b"V 5\n",
-    b"D 3\nabc\n",
-    b"Node-path: trunk\n",
-    b"Node-action: delete\n",
-    b"\t",
-    b"\r",
-    b"/trunk:1-",
-    b"Node-copyfrom-rev: 1\nNode-copyfrom-path: \n",
-    b"Revision-number: 3\n\n",
-    b"Prop-delta: true\n",
-    b"UUID: \xc3\n\n",
-    b"Content-length: 0\n",
+    b"\n", b"\n\n", b"\0", b"\xff\xfe", b"\x1b[2J", b"PROPS-END\n", b"K 13\nsvn:mergeinfo\n", b"V 5\n", b"D 3\nabc\n",
+    b"Node-path: trunk\n", b"Node-action: delete\n", b"\t", b"\r", b"/trunk:1-",
+    b"Node-copyfrom-rev: 1\nNode-copyfrom-path: \n", b"Revision-number: 3\n\n", b"Prop-delta: true\n",
+    b"UUID: \xc3\n\n", b"Content-length: 0\n",
 )
 PATHS = (
-    "trunk",
-    "/",
-    "",
-    "branches/one",
-    "branches/two",
-    "tags/one-1.0",
-    "b/one",
-    "none",
-    "trunk/lib/util.c/x",
-    "^/trunk",
-    "^",
-    ".",
-    "..",
-    "a/../b",
-    "file:///trunk",
-    "@",
-    "trunk@@3",
-    "\t",
-    "\n",
-    "\udcff",
-    "\u6f22",
-    "\x1b[0m",
-    "-",
-    "*",
+    "trunk", "/", "", "branches/one", "branches/two", "tags/one-1.0", "b/one", "none", "trunk/lib/util.c/x", "^/trunk",
+    "^", ".", "..", "a/../b", "file:///trunk", "@", "trunk@@3", "\t", "\n", "\udcff", "\u6f22", "\x1b[0m", "-", "*",
 )
 PEGS = ("", "@", "@3", "@13", "@99", "@HEAD", "@{2024-01-01}", "@x", "@-1", "@" + "9" * 5000, "@r5", "@PREV")
 REVISIONS = (
-    "3",
-    "HEAD",
-    "{2024-01-01}",
-    "{soon}",
-    "{" + "9" * 5000 + "}",
-    "r5",
-    "99",
-    "-1",
-    "x",
-    "",
-    "0",
-    "BASE",
-    "\u0663",
+    "3", "HEAD", "{2024-01-01}", "{soon}", "{" + "9" * 5000 + "}", "r5", "99", "-1", "x", "", "0", "BASE", "\u0663",
 )
 PATTERNS = ("/branches/*", "*", "/*/*", "[", "[!a", "/tags/[a-z]*", "\udcff*", "/", "", "/trunk/*/*", "?", "**", "\t")
+# fmt: on
 SHOWN = re.compile(r"svnask: [^\x00-\x1f\x7f-\x9f]+(?:\n[^\x00-\x1f\x7f-\x9f]+)*\n")
 
 
@@ -146,14 +88,11 @@ def cut(chance: random.Random, dump: bytes) -> bytes:
     return dump[: chance.randint(0, len(dump))]
 
 
+# fmt: off
 CHANGES: Sequence[Callable[[random.Random, bytes], bytes]] = (
-    changed_number,
-    changed_number,
-    changed_bytes,
-    changed_lines,
-    changed_path,
-    cut,
+    changed_number, changed_number, changed_bytes, changed_lines, changed_path, cut,
 )
+# fmt: on
 
 
 def dump_of(chance: random.Random) -> bytes:
@@ -181,43 +120,30 @@ def words_of(chance: random.Random, folder: Path) -> list[str]:
     )
     pair = [target(), target()]
     number = chance.choice(("1", "9", "40", "5000", "0", "-3", "x", "9" * 5000))
+    # fmt: off
     found = chance.choice(
         (
-            ["log", target(), *ranges, *some("-v", "-q", "--stop-on-copy")],
-            ["show", revision],
+            ["log", target(), *ranges, *some("-v", "-q", "--stop-on-copy")], ["show", revision],
             ["mergeinfo", target()],
             ["mergeinfo", "--show-revs", chance.choice(("merged", "eligible")), *pair, *some("-R", "-r" + bounds)],
-            ["where", target(), revision],
-            ["segments", target()],
-            ["branches", *patterns],
-            ["contains", revision, *patterns],
-            ["info"],
-            ["unmerged", *patterns, *some("--into=" + target())],
-            ["changed-tags", *patterns],
-            ["graph", *patterns],
-            ["record", number],
-            ["byte", number],
+            ["where", target(), revision], ["segments", target()], ["branches", *patterns],
+            ["contains", revision, *patterns], ["info"], ["unmerged", *patterns, *some("--into=" + target())],
+            ["changed-tags", *patterns], ["graph", *patterns], ["record", number], ["byte", number],
             ["ask", str(folder / "queries")],
         )
     )
+    # fmt: on
     return found + some("--json", "--no-cache") + (some("--bogus", "more") if chance.random() < 0.1 else [])
 
 
 def queries_of(chance: random.Random) -> bytes:
+    # fmt: off
     lines = (
-        b"log\ttrunk@3",
-        b"locate\ttrunk@3\t1",
-        b"merged\ttrunk@3\tbranches/one@5",
-        b"eligible\t/@3\t/@3",
-        b"",
-        b"log trunk@3",
-        b"\t",
-        b"log\t",
-        b"log\ttrunk@" + b"9" * 5000,
-        b"log\ttrunk@3\t5:1",
-        b"segments\t\xff@1",
+        b"log\ttrunk@3", b"locate\ttrunk@3\t1", b"merged\ttrunk@3\tbranches/one@5", b"eligible\t/@3\t/@3", b"",
+        b"log trunk@3", b"\t", b"log\t", b"log\ttrunk@" + b"9" * 5000, b"log\ttrunk@3\t5:1", b"segments\t\xff@1",
         b"blame\ta@1",
     )
+    # fmt: on
     return b"\n".join(chance.choices(lines, k=chance.randint(0, 6)))
 
 

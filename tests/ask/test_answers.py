@@ -6,19 +6,11 @@ import unittest
 
 from svnask import Log
 
+# fmt: off
 PATHS = [
-    b"/",
-    b"/trunk",
-    b"/branches/1.8",
-    b"/a b",
-    b"/a /trunk",
-    b"/r1 /2",
-    b"/ ",
-    b"/x,1",
-    b"/[3]",
-    b"/\xc2\x85",
-    b"/8",
+    b"/", b"/trunk", b"/branches/1.8", b"/a b", b"/a /trunk", b"/r1 /2", b"/ ", b"/x,1", b"/[3]", b"/\xc2\x85", b"/8",
 ]
+# fmt: on
 
 
 class Logs(unittest.TestCase):

@@ -66,20 +66,16 @@ class Log(base.Case):
 
     def test_ranges_are_printed_one_after_another(self) -> None:
         """As `svn` 1.14 printed it of the repository."""
-        for words, wanted in (
-            ("-c -2,10 tags/one-1.0@7", [2]),
-            ("-c -3,-10,7-3 -l 4 tags/one-1.0/main.c@7", [3, 6, 3]),
-            ("-r 1 -r 4:9 -r 3:2 branches/two", [1, 5, 9, 2]),
-            ("-r 9 -r 1 -r 13 branches/two", [9, 1]),
-            ("-c 9-11,2 branches/two", [9, 11, 2]),
-            ("-c r11-r9 branches/two", [11, 9]),
-            ("-c , -l 2 trunk", [5, 2]),
-            ("-c rr5 trunk", [5]),
-            ("-c +5 trunk", [5]),
-            ("-c 5- trunk", [5, 2, 1]),
-            ("-r rr5 trunk", [5]),
+        # fmt: off
+        rows = (
+            ("-c -2,10 tags/one-1.0@7", [2]), ("-c -3,-10,7-3 -l 4 tags/one-1.0/main.c@7", [3, 6, 3]),
+            ("-r 1 -r 4:9 -r 3:2 branches/two", [1, 5, 9, 2]), ("-r 9 -r 1 -r 13 branches/two", [9, 1]),
+            ("-c 9-11,2 branches/two", [9, 11, 2]), ("-c r11-r9 branches/two", [11, 9]), ("-c , -l 2 trunk", [5, 2]),
+            ("-c rr5 trunk", [5]), ("-c +5 trunk", [5]), ("-c 5- trunk", [5, 2, 1]), ("-r rr5 trunk", [5]),
             ("-l +1 trunk", [5]),
-        ):
+        )
+        # fmt: on
+        for words, wanted in rows:
             self.assertEqual(self.revisions(base.dump_of("branches"), *words.split()), wanted, words)
 
     def test_a_range_before_the_path_was_made_is_left_out(self) -> None:
@@ -90,42 +86,29 @@ class Log(base.Case):
 
     def test_nothing_is_printed_before_an_error(self) -> None:
         """`svn` prints revision 10 in the last one: the path was nowhere in revision 9."""
-        for words, code in (
-            ("-r 1 -r 99 trunk", "E160006"),
-            ("-c 1,99 trunk", "E160006"),
-            ("-r 1 -r x trunk", "E205000"),
+        # fmt: off
+        rows = (
+            ("-r 1 -r 99 trunk", "E160006"), ("-c 1,99 trunk", "E160006"), ("-r 1 -r x trunk", "E205000"),
             ("-c 10,9 branches/one-again/new.c", "E160013"),
-        ):
+        )
+        # fmt: on
+        for words, code in rows:
             done = base.called(base.dump_of("branches"), "log", "-q", *words.split())
             self.assertEqual((done.status, done.output, done.said[:15]), (1, b"", "svnask: " + code), words)
 
     def test_ranges_that_svn_refuses(self) -> None:
-        for words, code in (
-            ("-c 0", "E205000"),
-            ("-c HEAD", "E205000"),
-            ("-c -3-5", "E205000"),
-            ("-c 3x", "E205000"),
-            ("-c {2024-01-01}", "E205000"),
-            ("-c 0-2", "E205000"),
-            ("-c 3--5", "E205000"),
-            ("-c --5", "E205000"),
-            ("-c 99", "E160006"),
-            ("-r 1 -r 99", "E160006"),
-            ("-c " + "9" * 5000, "E160006"),
-            ("-r " + "9" * 5000, "E160006"),
-            ("-r -1", "E205000"),
-            ("-r r", "E205000"),
-            ("-r \u0663", "E205000"),
-            ("-c 3 -r 3", "E195002"),
-            ("-r 99999999999", "E160006"),
-            ("-l --5", "E205000"),
-            ("-l \u00b2", "E205000"),
-            ("-l -5", "E200004"),
-            ("-l 0", "E200004"),
-            ("-c 0 -r x", "E205000"),
-            ("trunk@" + "9" * 5000, "E160006"),
+        # fmt: off
+        rows = (
+            ("-c 0", "E205000"), ("-c HEAD", "E205000"), ("-c -3-5", "E205000"), ("-c 3x", "E205000"),
+            ("-c {2024-01-01}", "E205000"), ("-c 0-2", "E205000"), ("-c 3--5", "E205000"), ("-c --5", "E205000"),
+            ("-c 99", "E160006"), ("-r 1 -r 99", "E160006"), ("-c " + "9" * 5000, "E160006"),
+            ("-r " + "9" * 5000, "E160006"), ("-r -1", "E205000"), ("-r r", "E205000"), ("-r \u0663", "E205000"),
+            ("-c 3 -r 3", "E195002"), ("-r 99999999999", "E160006"), ("-l --5", "E205000"), ("-l \u00b2", "E205000"),
+            ("-l -5", "E200004"), ("-l 0", "E200004"), ("-c 0 -r x", "E205000"), ("trunk@" + "9" * 5000, "E160006"),
             ("trunk@\u0663", "E205000"),
-        ):
+        )
+        # fmt: on
+        for words, code in rows:
             done = base.called(base.dump_of("branches"), "log", "-q", *words.split(" "))
             self.assertEqual((done.status, done.output, done.said[:15]), (1, b"", "svnask: %s" % code), words)
             self.assertEqual(done.said.count("\n"), 1)

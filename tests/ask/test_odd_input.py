@@ -15,23 +15,13 @@ from tests.ask import base
 
 DUMP = base.dump_of("branches")
 MANY = "9" * 5000
+# fmt: off
 ALL = (
-    ["log"],
-    ["log", "-v", "trunk"],
-    ["show", "1"],
-    ["mergeinfo", "trunk"],
-    ["where", "trunk", "1"],
-    ["mergeinfo", "--show-revs", "merged", "trunk", "branches/one"],
-    ["segments", "trunk"],
-    ["branches"],
-    ["contains", "1"],
-    ["unmerged"],
-    ["changed-tags"],
-    ["graph"],
-    ["info"],
-    ["record", "1"],
-    ["byte", "1"],
+    ["log"], ["log", "-v", "trunk"], ["show", "1"], ["mergeinfo", "trunk"], ["where", "trunk", "1"],
+    ["mergeinfo", "--show-revs", "merged", "trunk", "branches/one"], ["segments", "trunk"], ["branches"],
+    ["contains", "1"], ["unmerged"], ["changed-tags"], ["graph"], ["info"], ["record", "1"], ["byte", "1"],
 )
+# fmt: on
 
 
 class Odd(base.Case):
