@@ -34,6 +34,7 @@ from dev.running import Limits, Outcome, Word, run
 from dev.tree import CRATES, built
 from model import drawn_talks, turns
 
+FLAGS = ("-O2", "-std=c11", "-Wall", "-Wextra", "-fno-builtin", "-fPIC", "-shared")
 # Runs that are handed out at a time.
 PORTION = 64
 SWEPT_TESTS = "refused_growths_"
@@ -200,22 +201,7 @@ def compiler() -> list[Word]:
 
 def make_object(folder: Path) -> None:
     source = Path(__file__).with_name("refuse.c")
-    subprocess.run(
-        [
-            *compiler(),
-            "-O2",
-            "-std=c11",
-            "-Wall",
-            "-Wextra",
-            "-fno-builtin",
-            "-fPIC",
-            "-shared",
-            source,
-            "-o",
-            object_in(folder),
-        ],
-        check=True,
-    )
+    subprocess.run([*compiler(), *FLAGS, source, "-o", object_in(folder)], check=True)
 
 
 def kept(folder: Path, name: str, content: bytes) -> Path:

@@ -294,20 +294,9 @@ def refused_by_svnhist(tree: Tree) -> Iterator[Refused]:
     """Words that svnhist refuses before it reads, with the status and the line."""
     folder, missing = str(tree.folder), str(tree.folder / "missing")
     dump, queries = (str(tree.root / "examples" / f"branch.{kind}") for kind in ("dump", "queries"))
-    for words in (
-        ["x"],
-        [dump, queries, "0"],
-        [dump, queries, "0", "1", "1"],
-        ["--help", "x"],
-        [missing, missing, "", "1"],
-        [dump, queries, "-1", "1"],
-        [dump, queries, "2147483648", "1"],
-        [dump, queries, "99999999999999999999", "1"],
-        [dump, queries, "0", "0"],
-        [dump, queries, "0", ZEROS],
-        [dump, queries, "0", "65"],
-        [dump, queries, "0", "1x"],
-    ):
+    numbers = f"0; 0 1 1; -1 1; 2147483648 1; 99999999999999999999 1; 0 0; 0 {ZEROS}; 0 65; 0 1x".split(";")
+    wrong = [["x"], ["--help", "x"], [missing, missing, "", "1"]]
+    for words in wrong + [[dump, queries, *each.split()] for each in numbers]:
         yield Refused(words, 2, USAGE % SVNHIST_USAGE)
     yield Refused([missing, missing, "0", "1"], 3, NO_QUERIES)
     yield Refused([missing, queries, ZEROS + "2147483647", "64"], 3, NO_DUMP)
@@ -317,16 +306,8 @@ def refused_by_svnhist(tree: Tree) -> Iterator[Refused]:
 
 def refused_by_svnhist_live(tree: Tree) -> Iterator[Refused]:
     missing, dump = str(tree.folder / "missing"), str(tree.root / "examples" / "branch.dump")
-    words_of_calls: list[list[str]] = [
-        [],
-        ["x"],
-        [dump],
-        [dump, "1", "1"],
-        ["--help", "x"],
-        [missing, ""],
-        *([dump, workers] for workers in ("0", ZEROS, "65", "-1", "1x")),
-    ]
-    for words in words_of_calls:
+    wrong: list[list[str]] = [[], ["x"], [dump], [dump, "1", "1"], ["--help", "x"], [missing, ""]]
+    for words in wrong + [[dump, workers] for workers in ("0", ZEROS, "65", "-1", "1x")]:
         yield Refused(words, 2, USAGE % LIVE_USAGE)
     yield Refused([missing, "1"], 3, NO_DUMP)
     yield Refused([str(tree.folder), ZEROS + "64"], 3, NO_DUMP)

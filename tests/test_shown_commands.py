@@ -18,16 +18,12 @@ from dev.tree import INTEROP, ROOT
 from tests.base import ProgramTest
 from tests.copies import copied_tree, make_command
 
+# fmt: off
 PAGES = [
-    "README.md",
-    "docs/recipes.md",
-    "docs/queries.md",
-    "docs/dump-format.md",
-    "docs/svnask.md",
-    "docs/svnhist.1",
-    "docs/svnhist-live.1",
-    "docs/svnask.1",
+    "README.md", "docs/recipes.md", "docs/queries.md", "docs/dump-format.md", "docs/svnask.md", "docs/svnhist.1",
+    "docs/svnhist-live.1", "docs/svnask.1",
 ]
+# fmt: on
 CONSOLE = re.compile(r"^```console\n(.*?)^```$", re.MULTILINE | re.DOTALL)
 EXAMPLE = re.compile(r"^\.EX\n(.*?)^\.EE$", re.MULTILINE | re.DOTALL)
 # A command of GNU parallel, which not every machine has. Only a block with one may need what such a block made.

@@ -10,7 +10,7 @@
 
 Paths, names and messages are bytes, as in the dump. A dump that svnhist does not accept raises `Refused`.
 """
-from pathlib import Path
+import os
 
 from .answers import (
     Answer,
@@ -59,4 +59,6 @@ __all__ = [
     "Segments",
     "Where",
 ]
-__version__ = Path(__file__).with_name("VERSION").read_text("ascii").strip()
+# Without pathlib, which takes longer to import than the whole file to read.
+with open(os.path.join(os.path.dirname(__file__), "VERSION"), encoding="ascii") as _file:
+    __version__ = _file.read().strip()

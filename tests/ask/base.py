@@ -45,6 +45,11 @@ def names() -> list[str]:
     return sorted(path.stem for path in INTEROP.glob("*.svn"))
 
 
+def commands(text: str) -> list[list[str]]:
+    """The words of command lines, which semicolons separate."""
+    return [line.split() for line in text.split(";")]
+
+
 def command(*words: Word) -> list[Word]:
     """The command on these arguments."""
     return [sys.executable, SVNASK, *words]

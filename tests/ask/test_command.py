@@ -40,19 +40,9 @@ class Command(base.Case):
         self.assertIn("dump refused: 5 Truncated at byte 363", done.said)
 
     def test_lines_of_json_are_objects(self) -> None:
-        for words in (
-            ["log", "/"],
-            ["branches"],
-            ["segments", "branches/two"],
-            ["info"],
-            ["record", "4"],
-            ["show", "9"],
-            ["contains", "5"],
-            ["unmerged"],
-            ["changed-tags"],
-            ["mergeinfo", "trunk"],
-            ["where", "trunk", "3"],
-            ["mergeinfo", "--show-revs", "eligible", "trunk", "branches/two"],
+        for words in base.commands(
+            "log /; branches; segments branches/two; info; record 4; show 9; contains 5; unmerged; changed-tags; "
+            "mergeinfo trunk; where trunk 3; mergeinfo --show-revs eligible trunk branches/two"
         ):
             done = base.run("--json", DUMP, *words)
             self.assertEqual((done.status, done.said), (0, ""), words)
@@ -65,14 +55,9 @@ class Command(base.Case):
         self.assertEqual(json.loads(done.output)["path"].encode("utf-8", "surrogateescape"), b"/a\xff")
 
     def test_wrong_arguments_have_status_2(self) -> None:
-        wrong: list[list[base.Word]] = [
-            [],
-            [DUMP],
-            [DUMP, "blame"],
-            [DUMP, "log", "--bogus"],
-            [DUMP, "where", "trunk"],
-            [DUMP, "record", "x"],
-        ]
+        verbs = base.commands("blame; log --bogus; where trunk; record x")
+        wrong: list[list[base.Word]] = [[], [DUMP]]
+        wrong += [[DUMP, *words] for words in verbs]
         for words in wrong:
             done = base.run(*words)
             self.assertEqual((done.status, done.output), (2, b""), words)
@@ -113,18 +98,15 @@ class Command(base.Case):
         self.assertIn("is a directory: svnadmin dump -q ", done.said)
 
     def test_questions_without_an_answer_have_status_1(self) -> None:
-        for words, code in (
-            (["log", "nope"], "E160013"),
-            (["log", "trunk@99"], "E160006"),
-            (["log", "-l", "0"], "E200004"),
-            (["log", "-l", "x"], "E205000"),
-            (["log", "-r", "3:"], "E205000"),
-            (["log", "-r", "BASE"], "E195002"),
-            (["log", "file:///repo/trunk"], "E170000"),
-            (["log", "-c", "3", "-r", "3"], "E195002"),
-            (["log", "trunk/lib/util.c/x"], "E160013"),
-        ):
-            done = base.run(DUMP, *words)
+        # fmt: off
+        rows = (
+            ("log nope", "E160013"), ("log trunk@99", "E160006"), ("log -l 0", "E200004"), ("log -l x", "E205000"),
+            ("log -r 3:", "E205000"), ("log -r BASE", "E195002"), ("log file:///repo/trunk", "E170000"),
+            ("log -c 3 -r 3", "E195002"), ("log trunk/lib/util.c/x", "E160013"),
+        )
+        # fmt: on
+        for words, code in rows:
+            done = base.run(DUMP, *words.split())
             self.assertEqual((done.status, done.output), (1, b""), words)
             self.assertTrue(done.said.startswith("svnask: %s: " % code), done.said)
 
@@ -148,16 +130,9 @@ class Command(base.Case):
         whole = DUMP.read_bytes()
         part = whole[: whole.index(b"Revision-number: 0")] + whole[whole.index(b"Revision-number: 5") :]
         part_of_dump = self.made("part", part)
-        for words in (
-            ["log"],
-            ["log", "trunk@13"],
-            ["log", "-r", "12"],
-            ["where", "trunk", "99"],
-            ["show", "13"],
-            ["log", "-r", "{2024-01-01}"],
-            ["contains", "13"],
-            ["segments", "none"],
-            ["unmerged"],
+        for words in base.commands(
+            "log; log trunk@13; log -r 12; where trunk 99; show 13; log -r {2024-01-01}; contains 13; "
+            "segments none; unmerged"
         ):
             done = base.called(part_of_dump, *words)
             self.assertEqual((done.status, done.output), (1, b""), words)
@@ -165,14 +140,8 @@ class Command(base.Case):
 
     def test_of_a_dump_that_is_refused_nothing_else_is_said(self) -> None:
         dump = self.made("faulty", faulty())
-        for words in (
-            ["log", "-r", "99"],
-            ["log", "trunk@99"],
-            ["log", "-c", "0"],
-            ["where", "none", "99"],
-            ["ask", str(self.made("queries", b""))],
-            ["unmerged", "/trunk", "--into", "trunk"],
-        ):
+        asked = base.commands("log -r 99; log trunk@99; log -c 0; where none 99; unmerged /trunk --into trunk")
+        for words in (*asked, ["ask", str(self.made("queries", b""))]):
             done = base.called(dump, *words)
             self.assertEqual((done.status, done.output), (1, b""), words)
             self.assertIn("dump refused: 16 NoParent at record", done.said, words)

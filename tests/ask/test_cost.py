@@ -16,7 +16,7 @@ DUMP = base.dump_of("merges")
 
 
 class Runs(base.Case):
-    def runs(self, *words: base.Word) -> int:
+    def runs(self, *words: str) -> int:
         """How often a question runs svnhist."""
         run = engine.run
         counted: list[int] = []
@@ -32,28 +32,13 @@ class Runs(base.Case):
 
     def test_a_question_runs_svnhist_once(self) -> None:
         queries = self.made("queries", b"log\ttrunk@3\nlog\ttrunk@2\n")
-        once: list[list[base.Word]] = [
-            ["log", "trunk"],
-            ["log", "-r", "3", "branches/one@17"],
-            ["log", "-c", "3,5,9-7", "trunk@3"],
-            ["log", "-r", "18", "trunk@3"],
-            ["show", "3"],
-            ["mergeinfo", "trunk"],
-            ["info"],
-            ["mergeinfo", "--show-revs", "merged", "trunk", "branches/two"],
-            ["mergeinfo", "--show-revs", "eligible", "-R", "trunk", "branches/two"],
-            ["where", "trunk", "3"],
-            ["segments", "trunk"],
-            ["branches"],
-            ["contains", "5"],
-            ["unmerged"],
-            ["unmerged", "/*", "/*/*", "--into", "branches/two"],
-            ["changed-tags", "/*/*"],
-            ["graph"],
-            ["graph", "/*/*", "--json"],
-            ["ask", queries],
-        ]
-        for words in once:
+        asked = base.commands(
+            "log trunk; log -r 3 branches/one@17; log -c 3,5,9-7 trunk@3; log -r 18 trunk@3; show 3; mergeinfo trunk; "
+            "info; mergeinfo --show-revs merged trunk branches/two; where trunk 3; segments trunk; branches; "
+            "mergeinfo --show-revs eligible -R trunk branches/two; contains 5; unmerged; changed-tags /*/*; graph; "
+            "unmerged /* /*/* --into branches/two; graph /*/* --json"
+        )
+        for words in (*asked, ["ask", str(queries)]):
             self.assertEqual(self.runs(*words), 1, words)
         for verb in ("record", "byte"):
             self.assertEqual(self.runs(verb, "1"), 0, verb)

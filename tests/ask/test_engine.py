@@ -8,13 +8,11 @@ from svnask import engine
 from tests.ask import base
 
 DUMP = base.dump_of("branches")
-# fmt: off
-QUESTIONS = (
-    ["log", "trunk"], ["segments", "branches/two"], ["where", "trunk", "3"], ["mergeinfo", "trunk"],
-    ["mergeinfo", "--show-revs", "eligible", "trunk", "branches/two"], ["branches"], ["contains", "2"], ["unmerged"],
-    ["changed-tags", "/branches/*"], ["graph"], ["info"], ["show", "3"],
+QUESTIONS = base.commands(
+    "log trunk; segments branches/two; where trunk 3; mergeinfo trunk; "
+    "mergeinfo --show-revs eligible trunk branches/two; branches; contains 2; unmerged; changed-tags /branches/*; "
+    "graph; info; show 3"
 )
-# fmt: on
 
 
 class Engines(base.Case):

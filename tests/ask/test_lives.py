@@ -43,14 +43,12 @@ class Lives(base.Case):
         names = ["caf\u00e9", "cafe", "\u6f22", "\udcff", "a"]
         dump = dump_of([added(b"b"), *(added(b"b/" + base.as_bytes(name)) for name in names)])
         tree = Tree(self.history(self.made("dump", dump)).records())
-        for pattern, wanted in (
-            ("caf?", [1, 0]),
-            ("caf[\u00e9\u00e8]", [0]),
-            ("[!a]", [2, 3]),
-            ("?", [4, 2, 3]),
-            ("\u6f22", [2]),
-            ("[\udcff]", [3]),
-            ("*\u00e9", [0]),
-        ):
+        # fmt: off
+        rows = (
+            ("caf?", [1, 0]), ("caf[\u00e9\u00e8]", [0]), ("[!a]", [2, 3]), ("?", [4, 2, 3]), ("\u6f22", [2]),
+            ("[\udcff]", [3]), ("*\u00e9", [0]),
+        )
+        # fmt: on
+        for pattern, wanted in rows:
             found = tree.matching(b"/b/" + base.as_bytes(pattern))
             self.assertEqual([os.fsdecode(path) for path in found], ["/b/" + names[each] for each in wanted], pattern)

@@ -15,13 +15,10 @@ from tests.ask import base
 
 DUMP = base.dump_of("branches")
 MANY = "9" * 5000
-# fmt: off
-ALL = (
-    ["log"], ["log", "-v", "trunk"], ["show", "1"], ["mergeinfo", "trunk"], ["where", "trunk", "1"],
-    ["mergeinfo", "--show-revs", "merged", "trunk", "branches/one"], ["segments", "trunk"], ["branches"],
-    ["contains", "1"], ["unmerged"], ["changed-tags"], ["graph"], ["info"], ["record", "1"], ["byte", "1"],
+ALL = base.commands(
+    "log; log -v trunk; show 1; mergeinfo trunk; where trunk 1; mergeinfo --show-revs merged trunk branches/one; "
+    "segments trunk; branches; contains 1; unmerged; changed-tags; graph; info; record 1; byte 1"
 )
-# fmt: on
 
 
 class Odd(base.Case):
@@ -67,16 +64,13 @@ class Odd(base.Case):
 
     def test_numbers_may_have_many_digits(self) -> None:
         whole = DUMP.read_bytes()
-        for old in (
-            b"Revision-number: 3",
-            b"Node-copyfrom-rev: 2",
-            b"Prop-content-length: 10",
-            b"\nContent-length: 10",
-            b"K 7",
-            b"V 27",
-            b"Text-content-length: 1",
-            b"version: 2",
-        ):
+        # fmt: off
+        rows = (
+            b"Revision-number: 3", b"Node-copyfrom-rev: 2", b"Prop-content-length: 10", b"\nContent-length: 10",
+            b"K 7", b"V 27", b"Text-content-length: 1", b"version: 2",
+        )
+        # fmt: on
+        for old in rows:
             self.assertIn(old, whole)
             dump = self.made("dump", whole.replace(old, old[: old.rindex(b" ") + 1] + MANY.encode(), 1))
             for words in ALL:
@@ -182,17 +176,14 @@ class Odd(base.Case):
         self.assertEqual(json.loads(done.output)["changes"][0]["path"], "/a\x1b\x9b")
 
     def test_standard_streams_may_be_closed(self) -> None:
-        for words, status in (
-            ("%s log -q trunk >&-", 3),
-            ("- log <&-", 3),
-            ("%s log -q trunk <&-", 0),
-            ("%s log none 2>&-", 1),
-            ("%s log -q trunk 2>&- <&-", 0),
-            ("- info <&- >&- 2>&-", 3),
-            ("%s log none 2>/dev/full", 1),
-            ("%s log / >/dev/full 2>/dev/full", 3),
-            ("%s bogus >&-", 3),
-        ):
+        # fmt: off
+        rows = (
+            ("%s log -q trunk >&-", 3), ("- log <&-", 3), ("%s log -q trunk <&-", 0), ("%s log none 2>&-", 1),
+            ("%s log -q trunk 2>&- <&-", 0), ("- info <&- >&- 2>&-", 3), ("%s log none 2>/dev/full", 1),
+            ("%s log / >/dev/full 2>/dev/full", 3), ("%s bogus >&-", 3),
+        )
+        # fmt: on
+        for words, status in rows:
             line = f"{sys.executable} {SVNASK} " + (words % DUMP if "%s" in words else words)
             done = running.run(["sh", "-c", line])
             said = done.errors.decode()

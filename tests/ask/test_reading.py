@@ -57,25 +57,20 @@ class Reading(base.Case):
 
     def test_a_faulty_block_is_refused_as_by_the_engine(self) -> None:
         whole = base.content_of("branches")
-        for old, new in (
-            (b"version: 2", b"version: 1"),
-            (b"version: 2", b"version:2"),
-            (b"Node-kind: dir", b"Node-kind dir"),
-            (b"Node-path: trunk\n", b"Node-path: trunk\nNode-path: trunk\n"),
-            (b"K 7\nsvn:log", b"K 8\nsvn:log"),
-            (b"Prop-content-length: 10", b"Prop-content-length: x"),
-            (b"Content-length: 20", b"Content-length: 19"),
-            (b"PROPS-END\n", b"PROPS-ENDS"),
-            (b"Revision-number: 3", b"Revision-number: 4"),
-            (b"Node-path: trunk/lib\n", b"Node-path: trunk/./lib\n"),
-            (b"Node-action: add", b"Node-action: put"),
-            (b"Node-copyfrom-rev: 2", b"Node-copyfrom-rev: 3"),
-            (b"Node-copyfrom-rev: 2", b"Node-copyfrom-rev: x"),
-            (b"Node-path: trunk\n", b"Node-path: \n"),
-            (b"Node-path: trunk\n", b"Node-pat: trunk\n"),
+        # fmt: off
+        rows = (
+            (b"version: 2", b"version: 1"), (b"version: 2", b"version:2"), (b"Node-kind: dir", b"Node-kind dir"),
+            (b"Node-path: trunk\n", b"Node-path: trunk\nNode-path: trunk\n"), (b"K 7\nsvn:log", b"K 8\nsvn:log"),
+            (b"Prop-content-length: 10", b"Prop-content-length: x"), (b"Content-length: 20", b"Content-length: 19"),
+            (b"PROPS-END\n", b"PROPS-ENDS"), (b"Revision-number: 3", b"Revision-number: 4"),
+            (b"Node-path: trunk/lib\n", b"Node-path: trunk/./lib\n"), (b"Node-action: add", b"Node-action: put"),
+            (b"Node-copyfrom-rev: 2", b"Node-copyfrom-rev: 3"), (b"Node-copyfrom-rev: 2", b"Node-copyfrom-rev: x"),
+            (b"Node-path: trunk\n", b"Node-path: \n"), (b"Node-path: trunk\n", b"Node-pat: trunk\n"),
             (b"Node-path: trunk\n", b"Content-length: 10\n\nPROPS-END\nNode-path: trunk\n"),
             (b"Node-path: trunk\n", b"Content-length: 99999\n\nPROPS-END\nNode-path: trunk\n"),
-        ):
+        )
+        # fmt: on
+        for old, new in rows:
             self.assertIn(old, whole)
             self.check_refusal(whole.replace(old, new, 1))
 
