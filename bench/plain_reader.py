@@ -402,8 +402,7 @@ def answer_of(history: History, line: bytes) -> list[bytes]:
         return [b"malformed-mergeinfo"]
 
 
-def main() -> None:
-    _, dump, queries = sys.argv
+def main(dump: str, queries: str) -> None:
     with open(dump, "rb") as file:
         history = History(file.read())
     with open(queries, "rb") as file:
@@ -413,4 +412,4 @@ def main() -> None:
 
 
 if __name__ == "__main__":
-    main()
+    main(*sys.argv[1:])

@@ -95,8 +95,7 @@ def plain_reader(text: bytes) -> Reader:
 READERS = {"bindings": bindings_reader, "library": library_reader, "plain": plain_reader}
 
 
-def main() -> None:
-    _, name, path = sys.argv
+def main(name: str, path: str) -> None:
     with open(path, "rb") as file:
         read = READERS[name](file.read())
     began = time.perf_counter()
@@ -106,4 +105,4 @@ def main() -> None:
 
 
 if __name__ == "__main__":
-    main()
+    main(*sys.argv[1:])
