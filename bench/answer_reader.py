@@ -7,11 +7,12 @@ import sys
 from svnask import History, Log, Logged
 
 
-def main(dump: str, path: str, count: str) -> None:
+def main(words: list[str]) -> None:
+    _, dump, path, count = words
     with History.open(dump) as history:
         answers = history.ask([Log(path.encode(), history.head)] * int(count))
         print(sum(len(answer.revisions) for answer in answers if isinstance(answer, Logged)))
 
 
 if __name__ == "__main__":
-    main(*sys.argv[1:])
+    main(sys.argv)

@@ -10,11 +10,11 @@ from __future__ import annotations
 import random
 from typing import NamedTuple
 
-from bench.histories import MIXES, RELEASES, SIZES, generate, make_faulty
-from bench.measure import REFUSED, Timed, run_in_turns, words_of
+from bench.histories import MIXES, RELEASES, SIZES, generate, make_faulty, remove
+from bench.measure import REFUSED, Timed, check_same, run_in_turns, words_of
 from bench.parts import Cell, Measurements, Part, Row, Setup, most, table
 from bench.questions import TEN, VERBS, drawn_line, drawn_lines, later_half, pegs_at_ends, records_of, written
-from dev.running import Failed, peak_of
+from dev.running import peak_of
 
 REVISIONS = SIZES[-1]
 HISTORIES = {"additions": MIXES["additions"], "changes": MIXES["changes"], "releases": RELEASES}
@@ -80,30 +80,20 @@ def made_rows(history: History) -> list[Row]:
 def run_rows(history: History) -> dict[int, list[Row]]:
     """The times and the peaks of whole runs with ten queries, by workers, for each BLOCK."""
     lines = drawn_lines(history.pegs)
-    found = {
-        Kind(workers, block): history.timed("ten", lines, Kind(workers, block))
-        for workers in (4, 1)
-        for block in (0, *BLOCKS)
-    }
+    kinds = [Kind(workers, block) for workers in (4, 1) for block in (0, *BLOCKS)]
+    found = {kind: history.timed("ten", lines, kind) for kind in kinds}
     run_in_turns(found.values(), history.setup.times)
-    if len({each.checksum for each in found.values()}) > 1 or found[Kind(4, 0)].answered != len(TEN):
-        raise Failed(f"the reports on {history.name} differ, or do not answer all queries")
+    check_same(found.values(), len(TEN), history.name)
     peaks = {kind: peak_of(each.words) for kind, each in found.items()}
 
     def row(kind: Kind) -> Row:
         wall, peak, base = found[kind].wall, peaks[kind], Kind(kind.workers, 0)
         if kind == base:
             return [history.name, kind.block, wall, None, peak / 1e6, None]
-        return [
-            history.name,
-            kind.block,
-            wall,
-            MOST_OF_RUN.of(wall / found[base].wall),
-            peak / 1e6,
-            MOST_OF_MEMORY.of(peak / peaks[base]),
-        ]
+        time, memory = MOST_OF_RUN.of(wall / found[base].wall), MOST_OF_MEMORY.of(peak / peaks[base])
+        return [history.name, kind.block, wall, time, peak / 1e6, memory]
 
-    return {workers: [row(Kind(workers, block)) for block in (0, *BLOCKS)] for workers in (4, 1)}
+    return {workers: [row(kind) for kind in kinds if kind.workers == workers] for workers in (4, 1)}
 
 
 RUNS = f"history | BLOCK:, | seconds:.3f | relative, {MOST_OF_RUN}:.2f | peak MB:.1f | relative, {MOST_OF_MEMORY}:.2f"
@@ -126,14 +116,12 @@ def answers_of(history: History, lot: random.Random, verb: str) -> Answers:
     lines = [drawn_line(lot, later, verb) for _ in range(ASKED)]
     once = history.timed(verb, lines, one)
     once.keep_output()
-    if once.answered != len(lines):
-        raise Failed(f"the program answered {once.answered} of {len(lines)} queries")
+    check_same([once], len(lines), verb)
     many = lines * max(1, min(LEAST_ASKED // len(lines), MOST_REPORT // once.size))
     bases = [history.timed("none", [], kind) for kind in (one, four)]
     asked = [history.timed(verb, many, kind) for kind in (one, four)]
     run_in_turns(bases + asked, history.setup.times)
-    if asked[0].checksum != asked[1].checksum:
-        raise Failed(f"the answers to {verb} differ with four blocks")
+    check_same(asked, len(many), verb)
     return Answers(len(many), *((each.wall - base.wall) / len(many) for each, base in zip(asked, bases)))
 
 
@@ -164,8 +152,7 @@ def run(setup: Setup) -> Measurements:
     yield table("blocks-answers", "history" + verbs, [ratios_row(*each) for each in answers.items()])
     heading = "history | verb | questions:, | ms per question, one block:.5f | ms, four blocks:.5f"
     yield table("blocks-answers-times", heading, [row for each in answers.items() for row in times_rows(*each)])
-    for history in histories:
-        history.dump.unlink()
+    remove(*(history.dump for history in histories))
 
 
-PART = Part("blocks", "Blocks", __doc__, run, [MOST_OF_MADE, MOST_OF_RUN, MOST_OF_MEMORY, MOST_OF_ANSWERS])
+PART = Part(__name__, __doc__, run, [MOST_OF_MADE, MOST_OF_RUN, MOST_OF_MEMORY, MOST_OF_ANSWERS])

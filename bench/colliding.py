@@ -9,7 +9,6 @@ import ctypes
 import math
 import shutil
 import subprocess
-from collections.abc import Iterator
 from pathlib import Path
 
 # The low bits in which the places of keys agree. A table of 200,000 has 14 bits of them.
@@ -57,7 +56,7 @@ class Finder:
         self.library.find_names(ctypes.c_size_t(count), ctypes.c_uint32(MASK), numbers)
         return list(numbers)
 
-    def pairs(self, count: int) -> Iterator[tuple[int, int]]:
+    def pairs(self, count: int) -> list[tuple[int, int]]:
         """Pairs of a directory and a file, each by its number among `side(count)` of them."""
         directories, files = (ctypes.c_uint32 * count)(), (ctypes.c_uint32 * count)()
         many = side(count)
@@ -73,7 +72,7 @@ class Finder:
         )
         if found < count:
             raise ValueError(f"{found} of {count} pairs were found")
-        return zip(directories, files)
+        return list(zip(directories, files))
 
 
 def side(count: int) -> int:

@@ -573,12 +573,7 @@ class Releases(Changes):
             super().draw_record(is_first)
 
 
-MIXES: dict[str, type[History]] = {
-    "ordinary": History,
-    "changes": Changes,
-    "additions": Additions,
-    "releases": Releases,
-}
+MIXES = {"ordinary": History, "changes": Changes, "additions": Additions, "releases": Releases}
 
 
 def sizes(text: str) -> tuple[int, int]:
@@ -599,42 +594,30 @@ def at_least(least: int) -> Callable[[str], int]:
     return number
 
 
+def options() -> argparse.ArgumentParser:
+    about = "Writes the dump of a long synthetic history to standard output."
+    words = argparse.ArgumentParser(prog="generate", description=about)
+    add, some, any_number = words.add_argument, at_least(1), at_least(0)
+    add("--seed", type=int, default=1, help="seed of the random choices (default 1)")
+    add("--revisions", type=some, default=2000, help="number of revisions, 2000 to 200000 by design (default 2000)")
+    add("--records", type=some, default=24, help="records per revision (default 24)")
+    add("--mix", choices=MIXES, default="ordinary", help="what most records do (default ordinary)")
+    add("--width", type=some, default=100, help="most entries of a directory (default 100)")
+    add("--copy-depth", type=any_number, default=10, help="longest chain of copies (default 10)")
+    body = f"size of a text, chosen at random from LEAST to MOST, up to {MOST_TEXT} (default 0:650)"
+    add("--body", type=sizes, default=(0, 650), metavar="LEAST:MOST", help=body)
+    add("--format", type=int, choices=(2, 3), default=2, help="format of the dump (default 2)")
+    add("--no-checksums", dest="checksums", action="store_false", help="texts without their checksums")
+    values = "number of values of mergeinfo in the mix releases (default one for twelve revisions)"
+    add("--values", type=any_number, help=values)
+    largest = "size of the largest value of mergeinfo in the mix releases (default 20000)"
+    add("--value-size", type=at_least(LEAST_VALUE), default=20000, help=largest)
+    add("--faulty-end", action="store_true", help="end with a block that every reader refuses")
+    return words
+
+
 def main() -> None:
-    words = argparse.ArgumentParser(
-        prog="generate", description="Writes the dump of a long synthetic history to standard output."
-    )
-    words.add_argument("--seed", type=int, default=1, help="seed of the random choices (default 1)")
-    words.add_argument(
-        "--revisions",
-        type=at_least(1),
-        default=2000,
-        help="number of revisions, 2000 to 200000 by design (default 2000)",
-    )
-    words.add_argument("--records", type=at_least(1), default=24, help="records per revision (default 24)")
-    words.add_argument("--mix", choices=MIXES, default="ordinary", help="what most records do (default ordinary)")
-    words.add_argument("--width", type=at_least(1), default=100, help="most entries of a directory (default 100)")
-    words.add_argument("--copy-depth", type=at_least(0), default=10, help="longest chain of copies (default 10)")
-    words.add_argument(
-        "--body",
-        type=sizes,
-        default=(0, 650),
-        metavar="LEAST:MOST",
-        help=f"size of a text, chosen at random from LEAST to MOST, up to {MOST_TEXT} (default 0:650)",
-    )
-    words.add_argument("--format", type=int, choices=(2, 3), default=2, help="format of the dump (default 2)")
-    words.add_argument("--no-checksums", dest="checksums", action="store_false", help="texts without their checksums")
-    words.add_argument(
-        "--values",
-        type=at_least(0),
-        help="number of values of mergeinfo in the mix releases (default one for twelve revisions)",
-    )
-    words.add_argument(
-        "--value-size",
-        type=at_least(LEAST_VALUE),
-        default=20000,
-        help="size of the largest value of mergeinfo in the mix releases (default 20000)",
-    )
-    words.add_argument("--faulty-end", action="store_true", help="end with a block that every reader refuses")
+    words = options()
     given = words.parse_args()
     if given.values is None:
         given.values = given.revisions // 12

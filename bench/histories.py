@@ -68,10 +68,16 @@ def make_faulty(dump: Path, path: Path) -> Path:
     return path
 
 
-def load_into_cache(path: Path) -> None:
-    with open(path, "rb") as file:
-        while file.read(PIECE):
-            pass
+def load_into_cache(*paths: Path) -> None:
+    for path in paths:
+        with open(path, "rb") as file:
+            while file.read(PIECE):
+                pass
+
+
+def remove(*paths: Path) -> None:
+    for path in paths:
+        path.unlink()
 
 
 def revisions_of(dump: Path) -> Iterator[bytes]:

@@ -4,7 +4,7 @@ What is no plain record is written here on purpose, by its bytes: endless lines,
 """
 from __future__ import annotations
 
-from collections.abc import Iterable, Iterator
+from collections.abc import Iterable, Iterator, Sequence
 from typing import Callable
 
 from bench.colliding import side
@@ -384,15 +384,15 @@ def new_values(numbers: Iterable[int]) -> Pieces:
     yield from joined(piece for number in numbers for piece in changed_mergeinfo(b"a", [name_of(number)]))
 
 
-def new_nodes(count: int, pairs: Iterable[tuple[int, int]]) -> Pieces:
+def new_nodes(pairs: Sequence[tuple[int, int]]) -> Pieces:
     """Directories and files, which have the first nodes and names, and then the files of these pairs."""
-    many = side(count)
+    many = side(len(pairs))
     yield BEGIN + revision(1)
     yield from joined(new_directory(name_of(number)) for number in range(many))
     yield from joined(new_file(b"f%07x" % number) for number in range(many))
     yield from joined(new_file(b"%s/f%07x" % (name_of(directory), file)) for directory, file in pairs)
 
 
-def ordinary_pairs(count: int) -> Iterator[tuple[int, int]]:
+def ordinary_pairs(count: int) -> list[tuple[int, int]]:
     many, each = side(count), -(-count // side(count))
-    return ((number // each, number * 7 % many) for number in range(count))
+    return [(number // each, number * 7 % many) for number in range(count)]

@@ -22,9 +22,11 @@ import signal
 from collections.abc import Iterator
 from dataclasses import dataclass
 from pathlib import Path
+from typing import Any, Callable
 
 from bench import hostile_dumps as dumps
 from bench.colliding import Finder
+from bench.histories import remove
 from bench.hostile_dumps import MOST_WORKERS, Maker, Pieces
 from bench.measure import NOTHING, REFUSED, words_of
 from bench.parts import Cell, Limit, Measurements, Part, Row, Setup, most, table
@@ -122,23 +124,19 @@ SHAPES = [
     Shape(dumps.nested_copies_of_the_root, 2000, dumps.segments_of_the_nested_path),
 ]
 KEYS = 100000
+Keys = Callable[[int], Any]
 
 
 def colliding_shapes(finder: Finder) -> Iterator[tuple[Shape, Shape]]:
     """Keys that collide, and as many that do not."""
-    makers: dict[str, tuple[Maker, Maker]] = {
-        "names": (lambda count: dumps.new_names(finder.names(count)), lambda count: dumps.new_names(range(count))),
-        "mergeinfo": (
-            lambda count: dumps.new_values(finder.names(count)),
-            lambda count: dumps.new_values(range(count)),
-        ),
-        "nodes of the index": (
-            lambda count: dumps.new_nodes(count, finder.pairs(count)),
-            lambda count: dumps.new_nodes(count, dumps.ordinary_pairs(count)),
-        ),
-    }
-    for name, (colliding, others) in makers.items():
-        yield Shape(colliding, KEYS, name=name), Shape(others, KEYS, name=f"other {name}")
+
+    def pair(name: str, maker: Callable[[Any], Pieces], colliding: Keys, others: Keys) -> tuple[Shape, Shape]:
+        one, other = (lambda count: maker(colliding(count)), lambda count: maker(others(count)))
+        return Shape(one, KEYS, name=name), Shape(other, KEYS, name=f"other {name}")
+
+    yield pair("names", dumps.new_names, finder.names, range)
+    yield pair("mergeinfo", dumps.new_values, finder.names, range)
+    yield pair("nodes of the index", dumps.new_nodes, finder.pairs, dumps.ordinary_pairs)
 
 
 # ---- runs
@@ -151,9 +149,8 @@ class Input:
         self.shape = shape
         self.title = shape.title()
         self.size = size
-        self.dump, self.queries, self.report = (
-            setup.folder / f"hostile-{size}.{kind}" for kind in ("dump", "queries", "report")
-        )
+        kinds = ("dump", "queries", "report")
+        self.dump, self.queries, self.report = (setup.folder / f"hostile-{size}.{kind}" for kind in kinds)
         for path, make in ((self.dump, shape.dump), (self.queries, shape.asked)):
             with open(path, "wb") as file:
                 file.writelines(make(size))
@@ -213,10 +210,6 @@ class Input:
         with open(self.queries, "rb") as file:
             return sum(1 for _ in file)
 
-    def remove(self) -> None:
-        self.dump.unlink()
-        self.queries.unlink()
-
     def shown_wall(self) -> Cell:
         if self.wall == math.inf:
             return "not run"
@@ -237,7 +230,7 @@ def measured(setup: Setup, shape: Shape, entropy: Path | None = None) -> tuple[I
     for each in (once, twice):
         if entropy is not None:
             each.run_fixed(entropy)
-        each.remove()
+        remove(each.dump, each.queries)
     return once, twice
 
 
@@ -262,14 +255,8 @@ def shape_row(setup: Setup, shape: Shape, spared: int) -> Row:
         per_byte = max(max(0, each.peak - spared) / each.bytes for each in (once, twice))
         ratios = [twice.wall / once.wall, twice.peak / once.peak, per_byte]
     limits = (MOST_FOR_TWICE, MOST_MEMORY_FOR_TWICE, shape.most_per_byte)
-    return [
-        once.title,
-        once.bytes,
-        once.reported / 1e6,
-        once.shown_wall(),
-        once.peak / 1e6,
-        *(limit.of(ratio) for limit, ratio in zip(limits, ratios)),
-    ]
+    found = [limit.of(ratio) for limit, ratio in zip(limits, ratios)]
+    return [once.title, once.bytes, once.reported / 1e6, once.shown_wall(), once.peak / 1e6, *found]
 
 
 def colliding_rows(setup: Setup, finder: Finder, colliding: Shape, others: Shape) -> list[Row]:
@@ -283,7 +270,7 @@ def colliding_rows(setup: Setup, finder: Finder, colliding: Shape, others: Shape
 def run(setup: Setup) -> Measurements:
     base = Input(setup, Shape(dumps.without_records, 0), 0)
     base.run_first()
-    base.remove()
+    remove(base.dump, base.queries)
     yield f"A run on a dump without records takes {base.peak / 1e6:.1f} MB."
     yield table("hostile-input", SHAPES_HEADING, [shape_row(setup, shape, base.peak + DIFFERENCE) for shape in SHAPES])
     finder = Finder(setup.folder)
@@ -291,10 +278,5 @@ def run(setup: Setup) -> Measurements:
     yield table("colliding-keys", KEYS_HEADING, rows)
 
 
-PART = Part(
-    "hostile-input",
-    "Input that is made to do harm",
-    __doc__,
-    run,
-    [MOST_FOR_TWICE, MOST_MEMORY_FOR_TWICE, MOST_PER_BYTE, MOST_PER_BYTE_OF_DEEP_PATHS, MOST_OF_OTHERS],
-)
+LIMITS = [MOST_FOR_TWICE, MOST_MEMORY_FOR_TWICE, MOST_PER_BYTE, MOST_PER_BYTE_OF_DEEP_PATHS, MOST_OF_OTHERS]
+PART = Part(__name__, __doc__, run, LIMITS)

@@ -118,10 +118,4 @@ def run(setup: Setup) -> Measurements:
     yield table("log-of-the-root", heading, [root_row(sized, printer, setup.times) for sized in found])
 
 
-PART = Part(
-    "long-history-queries",
-    "Queries on a long history",
-    __doc__,
-    run,
-    [MOST_GROWTH, MOST_OF_PRINTING, LEAST_OF_SUBVERSION],
-)
+PART = Part(__name__, __doc__, run, [MOST_GROWTH, MOST_OF_PRINTING, LEAST_OF_SUBVERSION])

@@ -20,7 +20,7 @@ from pathlib import Path
 from typing import NamedTuple
 
 from bench.histories import RELEASES, SIZES, generate
-from bench.measure import Timed, compiled, run_in_turns, words_of
+from bench.measure import Build, Timed, check_same, compiled, run_in_turns
 from bench.parts import Cell, Limit, Measurements, Part, Row, Setup, most, table
 from bench.questions import MERGES, VERBS, Asked, Peg, drawn_lines, line, pegs_at_ends, records_of, written
 from dev.running import Failed, peak_of
@@ -39,14 +39,10 @@ DRAWN = 2
 # How often queries are asked where workers are compared and the answers are short.
 OFTEN = 10
 TEN_TIMES = ", ten times"
-MOST_OF_BEFORE = {
-    name: most(bound, f"{name}, time relative to the older build")
-    for name, bound in (("merged", 0.2), ("eligible", 0.2), ("mergeinfo", 1 / 3), ("mixed, about the targets", 0.6))
-}
-MOST_OF_ONE = {
-    name: most(0.35, f"{name}, time of four workers relative to one")
-    for name in ("merged" + TEN_TIMES, "eligible" + TEN_TIMES, "mergeinfo")
-}
+BOUNDS_OF_BEFORE = {"merged": 0.2, "eligible": 0.2, "mergeinfo": 1 / 3, "mixed, about the targets": 0.6}
+MOST_OF_BEFORE = {name: most(bound, f"{name}, relative to the older build") for name, bound in BOUNDS_OF_BEFORE.items()}
+COMPARED = ("merged" + TEN_TIMES, "eligible" + TEN_TIMES, "mergeinfo")
+MOST_OF_ONE = {name: most(0.35, f"{name}, time of four workers relative to one") for name in COMPARED}
 MOST_OF_PRINTING = most(2, "time of mergeinfo relative to printing it")
 
 
@@ -188,17 +184,7 @@ def lists_of(targets: Targets, lot: random.Random, pairs: list[Pair], mixed: int
 # ---- the runs
 
 
-class Kind(NamedTuple):
-    """A build, which may be the older one, and a number of workers."""
-
-    is_before: bool
-    workers: int
-
-    def __str__(self) -> str:
-        return f"{self.workers} workers{', older build' if self.is_before else ''}"
-
-
-ONE, FOUR, OLD = Kind(False, 1), Kind(False, 4), Kind(True, 1)
+ONE, FOUR, OLD = Build(False, 1), Build(False, 4), Build(True, 1)
 
 
 def judged(limits: Mapping[str, Limit], name: str, value: float) -> Cell:
@@ -208,39 +194,26 @@ def judged(limits: Mapping[str, Limit], name: str, value: float) -> Cell:
 class Work:
     """A list of queries, and the runs with it beside those without queries."""
 
-    def __init__(self, setup: Setup, name: str, lines: list[str], bases: Mapping[Kind, Timed]) -> None:
+    def __init__(self, setup: Setup, name: str, lines: list[str], dump: Path, bases: Mapping[Build, Timed]) -> None:
         self.name = name
         self.lines = lines
         # The older build is asked each query once.
-        self.bases = {kind: base for kind, base in bases.items() if not (kind.is_before and name.endswith(TEN_TIMES))}
+        self.bases = {each: base for each, base in bases.items() if not (each.is_before and name.endswith(TEN_TIMES))}
         queries = written(setup.folder / f"memo-{name.replace(' ', '-')}.queries", lines)
-        self.runs = {kind: Timed([*base.words[:2], queries, *base.words[3:]]) for kind, base in self.bases.items()}
+        self.runs = {build: build.timed(setup, dump, queries) for build in self.bases}
+        run_in_turns([*self.bases.values(), *self.runs.values()], setup.times)
+        check_same(self.runs.values(), len(lines), name)
 
-    def measure(self, times: int) -> Work:
-        run_in_turns([*self.bases.values(), *self.runs.values()], times)
-        if len({each.checksum for each in self.runs.values()}) > 1:
-            raise Failed(f"the reports on {self.name} differ")
-        if {each.answered for each in self.runs.values()} != {len(self.lines)}:
-            raise Failed(f"the program did not answer all queries on {self.name}")
-        return self
+    def seconds(self, build: Build) -> float:
+        return self.runs[build].wall - self.bases[build].wall
 
-    def seconds(self, kind: Kind) -> float:
-        return self.runs[kind].wall - self.bases[kind].wall
-
-    def megabytes(self, kind: Kind) -> float:
-        return (peak_of(self.runs[kind].words) - peak_of(self.bases[kind].words)) / 1e6
+    def megabytes(self, build: Build) -> float:
+        return (peak_of(self.runs[build].words) - peak_of(self.bases[build].words)) / 1e6
 
     def row(self) -> Row:
-        one, four = self.seconds(ONE), self.seconds(FOUR)
-        return [
-            self.name,
-            len(self.lines),
-            self.runs[ONE].lines - len(self.lines),
-            self.runs[ONE].size / 1e6,
-            one,
-            four,
-            judged(MOST_OF_ONE, self.name, four / one),
-        ]
+        one, four, count = self.seconds(ONE), self.seconds(FOUR), len(self.lines)
+        report, ratio = self.runs[ONE], judged(MOST_OF_ONE, self.name, four / one)
+        return [self.name, count, report.lines - count, report.size / 1e6, one, four, ratio]
 
     def before_row(self) -> Row:
         one, before = self.seconds(ONE), self.seconds(OLD)
@@ -277,44 +250,29 @@ def printing_rows(setup: Setup, work: Work) -> list[Row]:
 
 def described(targets: Targets, pairs: list[Pair]) -> str:
     values = {targets.value_at(target) for _, target in pairs}
-    return (
-        f"{len(pairs):,} targets with {len(values):,} distinct values of {targets.least:,} to {targets.most:,} bytes, "
-        f"of {len(targets.values):,} in the history."
-    )
+    sizes = f"{targets.least:,} to {targets.most:,} bytes, of {len(targets.values):,} in the history"
+    return f"{len(pairs):,} targets with {len(values):,} distinct values of {sizes}."
 
 
 def run(setup: Setup) -> Measurements:
     options = RELEASES + (QUICK_OPTIONS if setup.is_quick else [])
     dump = generate(setup.folder / "memo.dump", options, setup.scaled(SIZES[-1]))
-    kinds = [ONE, FOUR] + ([OLD] if setup.before else [])
-    bases = {
-        kind: Timed(
-            words_of(setup.before if kind.is_before and setup.before else setup.program, dump, workers=kind.workers)
-        )
-        for kind in kinds
-    }
+    builds = [ONE, FOUR] + ([OLD] if setup.before else [])
+    bases = {build: build.timed(setup, dump) for build in builds}
     lot = random.Random(7)
     targets = Targets(Asked(setup, dump))
     pairs = targets.pairs(lot, setup.scaled(ASKED))
     yield described(targets, pairs)
-    works = {
-        name: Work(setup, name, lines, bases).measure(setup.times)
-        for name, lines in lists_of(targets, lot, pairs, setup.scaled(MIXED)).items()
-    }
+    lists = lists_of(targets, lot, pairs, setup.scaled(MIXED))
+    works = {name: Work(setup, name, lines, dump, bases) for name, lines in lists.items()}
     yield table("long-mergeinfo", HEADING, [work.row() for work in works.values()])
-    whole = [work for work in works.values() if len(work.runs) == len(kinds)]
+    whole = [work for work in works.values() if len(work.runs) == len(builds)]
     if setup.before:
         yield table("long-mergeinfo-before", BEFORE, [work.before_row() for work in whole])
     heading = f"mergeinfo, printed by a C program | seconds:.3f | queries relative to it, {MOST_OF_PRINTING}:.2f"
     yield table("long-mergeinfo-printing", heading, printing_rows(setup, works["mergeinfo"]))
-    heading = "queries" + "".join(f" | more MB, {kind}:.1f" for kind in kinds)
-    yield table("long-mergeinfo-memory", heading, [[work.name, *map(work.megabytes, kinds)] for work in whole])
+    heading = "queries" + "".join(f" | more MB, workers {build}:.1f" for build in builds)
+    yield table("long-mergeinfo-memory", heading, [[work.name, *map(work.megabytes, builds)] for work in whole])
 
 
-PART = Part(
-    "long-mergeinfo",
-    "Long values of mergeinfo",
-    __doc__,
-    run,
-    [*MOST_OF_BEFORE.values(), *MOST_OF_ONE.values(), MOST_OF_PRINTING],
-)
+PART = Part(__name__, __doc__, run, [*MOST_OF_BEFORE.values(), *MOST_OF_ONE.values(), MOST_OF_PRINTING])

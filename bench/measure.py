@@ -6,12 +6,13 @@ import math
 import os
 import shutil
 import subprocess
-from collections.abc import Iterable, Mapping
+from collections.abc import Iterable, Mapping, Sequence
 from dataclasses import dataclass
 from operator import attrgetter
 from pathlib import Path
-from typing import Callable, TypeVar
+from typing import Callable, NamedTuple, TypeVar
 
+from bench.parts import Setup
 from dev.running import Failed, Measured, Words, measure
 
 NOTHING = Path(os.devnull)
@@ -24,20 +25,37 @@ def in_words(words: Words) -> str:
     return " ".join(os.fsdecode(word) for word in words)
 
 
+class SameReport:
+    """What some commands must print: the same report each time, with so many answers."""
+
+    def __init__(self, subject: str, count: int) -> None:
+        self.subject = subject
+        self.count = count
+        self.reports: set[bytes] = set()
+
+    def check(self, report: bytes) -> None:
+        self.reports.add(report)
+        if len(self.reports) > 1 or report.count(b" ok\n") != self.count:
+            raise Failed(f"the reports on {self.subject} differ, or do not answer {self.count} queries")
+
+
 @dataclass(frozen=True)
 class Command:
-    """A command, whose input is that of a feeder or a file, and the exit status that it must have."""
+    """A command, whose input is that of a feeder or a file, and the exit status and the report that it must have."""
 
     words: Words
     feeder: Words | None = None
     file: Path = NOTHING
     status: int = 0
+    report: SameReport | None = None
 
     def run(self, is_kept: bool = True) -> Measured:
         """One run. Output that is not kept goes to /dev/null."""
         taken = measure(self.words, self.feeder, self.file, is_kept)
         if taken.outcome.status != self.status:
             raise Failed(f"{in_words(self.words)} ended with {taken.outcome.shown()}")
+        if self.report is not None:
+            self.report.check(taken.outcome.output)
         return taken
 
 
@@ -66,20 +84,25 @@ def best_in_turns(
     return best
 
 
-class SameReport:
-    """Runs commands, each of which must print the same report, and answer so many queries in it."""
+def best_of_groups(groups: Sequence[Mapping[Key, Command]], times: int) -> list[dict[Key, Measured]]:
+    """The best run of each command of some groups, all in turns."""
+    runs = {(place, name): command.run for place, group in enumerate(groups) for name, command in group.items()}
+    best = best_in_turns(runs, times)
+    return [{name: best[place, name] for name in group} for place, group in enumerate(groups)]
 
-    def __init__(self, subject: str, count: int) -> None:
-        self.subject = subject
-        self.count = count
-        self.reports: set[bytes] = set()
 
-    def run(self, command: Command) -> Measured:
-        taken = command.run()
-        self.reports.add(taken.outcome.output)
-        if len(self.reports) > 1 or taken.outcome.output.count(b" ok\n") != self.count:
-            raise Failed(f"the reports on {self.subject} differ, or do not answer {self.count} queries")
-        return taken
+class Build(NamedTuple):
+    """A build of the program, which may be the older one, and a number of workers."""
+
+    is_before: bool
+    workers: int
+
+    def __str__(self) -> str:
+        return f"{self.workers}{', older build' if self.is_before else ''}"
+
+    def timed(self, setup: Setup, dump: Path, queries: Path = NOTHING) -> Timed:
+        program = (self.is_before and setup.before) or setup.program
+        return Timed(words_of(program, dump, queries, workers=self.workers))
 
 
 class Timed:
@@ -109,6 +132,12 @@ class Timed:
 
     def run_once(self) -> None:
         self.wall = min(self.wall, self.command.run(is_kept=False).wall)
+
+
+def check_same(found: Iterable[Timed], answered: int, subject: str) -> None:
+    """The outputs must be the same, and answer so many queries."""
+    if len({each.checksum for each in found}) > 1 or {each.answered for each in found} != {answered}:
+        raise Failed(f"the reports on {subject} differ, or do not answer {answered} queries")
 
 
 def run_in_turns(commands: Iterable[Timed], times: int) -> None:

@@ -54,15 +54,9 @@ def row(asked: Asked, url: str | None, base: Measured, kind: str, verb: str, pai
     taken = asked.best(many)
     each = (taken.wall - base.wall) / len(many)
     other = ask_bindings(url, lines[:: len(lines) // ASKED_OF_BINDINGS])
-    return [
-        f"`{verb}`",
-        kind,
-        len(many),
-        taken.outcome.output.count(b"\n") - len(many),
-        each * 1e3,
-        other and other.seconds * 1e3,
-        other and LEAST_OF_BINDINGS.of(other.seconds / each),
-    ]
+    answered = taken.outcome.output.count(b"\n") - len(many)
+    cells: Row = [f"`{verb}`", kind, len(many), answered, each * 1e3]
+    return [*cells, other and other.seconds * 1e3, other and LEAST_OF_BINDINGS.of(other.seconds / each)]
 
 
 class Growth:
@@ -84,11 +78,8 @@ class Growth:
     def row(self, before: Growth | None) -> Row:
         cells: list[Cell] = [self.revisions, self.runs]
         for verb in MERGES:
-            cells += [
-                self.seconds[verb] * 1e3,
-                self.lines[verb],
-                self.seconds[verb] / before.seconds[verb] if before else None,
-            ]
+            seconds = self.seconds[verb]
+            cells += [seconds * 1e3, self.lines[verb], seconds / before.seconds[verb] if before else None]
         return cells
 
 
@@ -103,11 +94,8 @@ def run(setup: Setup) -> Measurements:
     yield table("merged-and-eligible", HEADING, rows)
     found = [Growth(setup, *size) for size in SIZES]
     verbs = "".join(f" | ms per `{verb}`:.2f | lines:, | growth:.2f" for verb in MERGES)
-    yield table(
-        "merged-and-eligible-growth",
-        "revisions of the source:, | runs of the target:," + verbs,
-        [each.row(before) for each, before in zip(found, [None, *found])],
-    )
+    rows = [each.row(before) for each, before in zip(found, [None, *found])]
+    yield table("merged-and-eligible-growth", "revisions of the source:, | runs of the target:," + verbs, rows)
 
 
-PART = Part("merged-and-eligible", "Merged and eligible revisions", __doc__, run, [LEAST_OF_BINDINGS])
+PART = Part(__name__, __doc__, run, [LEAST_OF_BINDINGS])

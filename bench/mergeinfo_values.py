@@ -123,14 +123,9 @@ class Formed:
         others = [self.seconds.get(reader) for reader in (PLAIN, OF_BINDINGS, OF_LIBRARY)]
         share = "all" if self.form.share == 1 else f"1/{self.form.share}"
         bindings = self.seconds.get(OF_BINDINGS)
-        return [
-            self.form.titled(self.count),
-            self.value.size,
-            ours * 1e3,
-            *(each and each * 1e3 for each in others),
-            share,
-            bindings and MOST_OF_BINDINGS.of(ours / bindings),
-        ]
+        ratio = bindings and MOST_OF_BINDINGS.of(ours / bindings)
+        seconds = [each and each * 1e3 for each in (ours, *others)]
+        return [self.form.titled(self.count), self.value.size, *seconds, share, ratio]
 
     def growth(self, best: dict[object, Measured]) -> Judged:
         """The time for twice the value relative to that for the value; the size is not exactly twice the other."""
@@ -167,9 +162,8 @@ def run(setup: Setup) -> Measurements:
     yield table("mergeinfo-values-memory", heading, [form.memory_row() for form in forms])
     one, other = small.seconds(best, queries), wide.seconds(best, queries)
     yield f"A query takes {one * 1e6:.2f} microseconds for `{SMALL}` and {other * 1e6:.2f} for `{WIDE}`."
-    yield limits_table(
-        "mergeinfo-values-limits", [*(form.growth(best) for form in forms), MOST_OF_WIDE.of(other / one)]
-    )
+    limits = [*(form.growth(best) for form in forms), MOST_OF_WIDE.of(other / one)]
+    yield limits_table("mergeinfo-values-limits", limits)
 
 
-PART = Part("mergeinfo-values", "Mergeinfo values", __doc__, run, [MOST_OF_BINDINGS, MOST_OF_TWICE, MOST_OF_WIDE])
+PART = Part(__name__, __doc__, run, [MOST_OF_BINDINGS, MOST_OF_TWICE, MOST_OF_WIDE])

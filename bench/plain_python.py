@@ -6,13 +6,12 @@ whole process.
 from __future__ import annotations
 
 import sys
-from functools import partial
 
 from bench.histories import BENCH, MIXES, SIZES, generate, ten_queries
-from bench.measure import Command, SameReport, best_in_turns, words_of
+from bench.measure import Command, SameReport, best_of_groups, words_of
 from bench.parts import Measurements, Part, Row, Setup, least, table
 from bench.questions import TEN
-from dev.running import peak_of
+from dev.running import Words, peak_of
 
 READER = BENCH / "plain_reader.py"
 LEAST_TIMES = least(15, "time of plain Python relative to that of the program")
@@ -25,15 +24,12 @@ HEADING = (
 def row(setup: Setup, mix: str, revisions: int) -> Row:
     dump = generate(setup.folder / "plain.dump", MIXES[mix], revisions)
     queries = ten_queries(setup.folder / "plain.queries", dump)
-    commands = {
-        "program": Command(words_of(setup.program, dump, queries)),
-        "plain": Command([sys.executable, READER, dump, queries]),
-    }
     same = SameReport(mix, len(TEN))
-    best = best_in_turns({name: partial(same.run, command) for name, command in commands.items()}, setup.times)
-    peaks = [peak_of(command.words) / 1e6 for command in commands.values()]
+    both: list[Words] = [words_of(setup.program, dump, queries), [sys.executable, READER, dump, queries]]
+    [best] = best_of_groups([{place: Command(words, report=same) for place, words in enumerate(both)}], setup.times)
+    peaks = [peak_of(words) / 1e6 for words in both]
     dump.unlink()
-    ours, plain = best["program"].wall, best["plain"].wall
+    ours, plain = best[0].wall, best[1].wall
     return [mix, revisions, ours, plain, *peaks, LEAST_TIMES.of(plain / ours)]
 
 
@@ -41,4 +37,4 @@ def run(setup: Setup) -> Measurements:
     yield table("plain-python", HEADING, [row(setup, mix, setup.scaled(SIZES[-1])) for mix in MIXES])
 
 
-PART = Part("plain-python", "Whole runs beside plain Python", __doc__, run, [LEAST_TIMES])
+PART = Part(__name__, __doc__, run, [LEAST_TIMES])

@@ -402,7 +402,8 @@ def answer_of(history: History, line: bytes) -> list[bytes]:
         return [b"malformed-mergeinfo"]
 
 
-def main(dump: str, queries: str) -> None:
+def main(words: list[str]) -> None:
+    _, dump, queries = words
     with open(dump, "rb") as file:
         history = History(file.read())
     with open(queries, "rb") as file:
@@ -412,4 +413,4 @@ def main(dump: str, queries: str) -> None:
 
 
 if __name__ == "__main__":
-    main(*sys.argv[1:])
+    main(sys.argv)

@@ -78,4 +78,4 @@ def run(setup: Setup) -> Measurements:
         yield table("queries-per-second", HEADING, [row(whole, url, *each) for each in asked_lines.items()])
 
 
-PART = Part("queries-per-second", "Queries of each verb", __doc__, run, [LEAST_OF_BINDINGS])
+PART = Part(__name__, __doc__, run, [LEAST_OF_BINDINGS])

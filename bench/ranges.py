@@ -73,10 +73,8 @@ class Query(NamedTuple):
 def queries_of(verb: str, last: int) -> list[Query]:
     """The query of a verb without a range and with each."""
     firsts = {"first": 3, "middle": last // 2, "last": last - RANGE}
-    return [
-        Query(verb, "none", None, last),
-        *(Query(verb, name, Bounds(first, first + RANGE - 1), last) for name, first in firsts.items()),
-    ]
+    ranges = {name: Bounds(first, first + RANGE - 1) for name, first in firsts.items()}
+    return [Query(verb, "none", None, last), *(Query(verb, *each, last) for each in ranges.items())]
 
 
 def revisions_of(last: int) -> Iterator[bytes]:
@@ -105,9 +103,8 @@ def run_of(asked: Asked, query: Query, whole: list[str]) -> Run:
         raise Failed(f"the answer to {query.line().strip()} is {answer.status}, or has other lines")
     count = min(MOST_ASKED, MOST_REPORT // max(1, sum(len(each) + 1 for each in answer.lines)))
     path = asked.setup.folder / f"ranges-{query.verb}-{query.name}.queries"
-    return Run(
-        count, Timed(words_of(asked.setup.program, asked.dump, written(path, [query.line()] * count))), answer.lines
-    )
+    words = words_of(asked.setup.program, asked.dump, written(path, [query.line()] * count))
+    return Run(count, Timed(words), answer.lines)
 
 
 def seconds_of_subversion(words: list[str], times: int, lines: list[str]) -> float:
@@ -128,20 +125,10 @@ def rows_of(asked: Asked, verb: str, last: int, url: str | None) -> Iterator[Row
     seconds = [(each.timed.wall - base.wall) / each.asked for each in runs]
     for query, asking, each in zip(queries, runs, seconds):
         ratio = MOST_OF_WHOLE.of(each / seconds[0]) if query.bounds else None
-        other = None
-        if url:
-            times = asked.setup.times if query.bounds else 1
-            other = seconds_of_subversion(query.to_subversion(url), times, asking.lines)
-        yield [
-            f"`{verb}`",
-            query.name,
-            asking.asked,
-            len(asking.lines),
-            each * 1e3,
-            ratio,
-            other and other * 1e3,
-            other and other / each,
-        ]
+        cells: Row = [f"`{verb}`", query.name, asking.asked, len(asking.lines), each * 1e3, ratio]
+        times = asked.setup.times if query.bounds else 1
+        other = seconds_of_subversion(query.to_subversion(url), times, asking.lines) if url else None
+        yield [*cells, other and other * 1e3, other and other / each]
 
 
 def run(setup: Setup) -> Measurements:
@@ -154,4 +141,4 @@ def run(setup: Setup) -> Measurements:
         yield table("ranges", HEADING, [row for verb in VERBS for row in rows_of(asked, verb, last, url)])
 
 
-PART = Part("ranges", "Ranges", __doc__, run, [MOST_OF_WHOLE])
+PART = Part(__name__, __doc__, run, [MOST_OF_WHOLE])

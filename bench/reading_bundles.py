@@ -10,8 +10,8 @@ import sys
 from pathlib import Path
 from typing import NamedTuple
 
-from bench.histories import generate, load_into_cache
-from bench.measure import REFUSED, Command, best_in_turns
+from bench.histories import generate, load_into_cache, remove
+from bench.measure import REFUSED, Command, best_of_groups
 from bench.parts import Judged, Limit, Measurements, Part, Row, Setup, limits_table, most, table
 from bench.subversion import loading
 from dev.running import Measured, Words
@@ -20,7 +20,7 @@ NOT_A_BUNDLE = 2
 BUNDLE = b"0 1 0\n"
 HOLD = [sys.executable, "-I", "-S", "-c", "import sys; sys.stdin.buffer.read()"]
 PROGRAM, LOADING, HOLDING = "program", "program, loading alone", "holding the bytes"
-GREP, COUNT = "grep -c ^Node-path", "wc -c"
+GREP, COUNT = "`grep -c ^Node-path`", "`wc -c`"
 MOST_OF_GREP = most(4.0, "time relative to grep -c through a pipe")
 MOST_OF_LOADING = {name: most(2.0, f"time relative to {name}") for name in (COUNT, HOLDING, LOADING)}
 MOST_KEPT = most(200.0, "bytes kept for a record, with its names")
@@ -37,12 +37,9 @@ class Kind(NamedTuple):
     limit: Limit
 
 
+LARGE_OPTIONS = ["--records", "1", "--width", "3", "--body", "0:1048576"]
 SMALL = Kind("small records", ["--records", "24", "--body", "0:650"], 20000, GREP, MOST_OF_GREP)
-LARGE = Kind(
-    "large bodies", ["--records", "1", "--width", "3", "--body", "0:1048576"], 2600, COUNT, MOST_OF_LOADING[COUNT]
-)
-
-
+LARGE = Kind("large bodies", LARGE_OPTIONS, 2600, COUNT, MOST_OF_LOADING[COUNT])
 HEADING = "what is read | MB:.0f | seconds:.3f | beside it | seconds:.3f | relative:.2f | at most:g | peak MB:.0f"
 READERS_HEADING = (
     "what is read | reader | seconds:.3f | processor s:.3f | MB/s:.0f | relative to wc -c:.2f | relative to grep:.2f | "
@@ -101,38 +98,19 @@ class Reading:
         """The bytes of memory per record, without those of the bundle itself."""
         return (self.best[PROGRAM].peak - self.best[LOADING].peak) / self.records
 
-    def rows(self) -> list[Row]:
-        return [
-            [
-                self.title,
-                name,
-                taken.wall,
-                taken.processor,
-                self.size / taken.wall / 1e6,
-                taken.wall / self.wall(COUNT),
-                taken.wall / self.wall(GREP),
-                taken.peak / 1e6,
-            ]
-            for name, taken in self.best.items()
-        ]
+    def reader_row(self, name: str) -> Row:
+        wall, taken = self.wall(name), self.best[name]
+        relative = [wall / self.wall(other) for other in (COUNT, GREP)]
+        return [self.title, name, wall, taken.processor, self.size / wall / 1e6, *relative, taken.peak / 1e6]
 
     def row(self, kind: Kind) -> Row:
-        return [
-            kind.title,
-            self.size / 1e6,
-            self.wall(PROGRAM),
-            f"`{kind.beside}`",
-            self.wall(kind.beside),
-            kind.limit.of(self.ratio(kind.beside)),
-            kind.limit.bound,
-            self.best[PROGRAM].peak / 1e6,
-        ]
+        ours, other = self.best[PROGRAM], self.wall(kind.beside)
+        ratio = kind.limit.of(self.ratio(kind.beside))
+        return [kind.title, self.size / 1e6, ours.wall, kind.beside, other, ratio, kind.limit.bound, ours.peak / 1e6]
 
     def __str__(self) -> str:
-        return (
-            f"{self.title}: {self.size / 1e6:.1f} MB, {self.records} records, {self.size / self.records:.0f} bytes for "
-            "a record"
-        )
+        each = self.size / self.records
+        return f"{self.title}: {self.size / 1e6:.1f} MB, {self.records} records, {each:.0f} bytes for a record"
 
 
 class Halves:
@@ -141,27 +119,14 @@ class Halves:
     def __init__(self, setup: Setup, kind: Kind) -> None:
         self.kind = kind
         revisions = setup.scaled(kind.revisions)
-        paths = {
-            size: make(setup.folder / size, kind, count)
-            for size, count in (("half", revisions // 2), ("full", revisions))
-        }
-        for path in paths.values():
-            load_into_cache(path)
-        best = best_in_turns(
-            {
-                (size, name): command.run
-                for size, path in paths.items()
-                for name, command in commands(setup.program, path).items()
-            },
-            setup.times,
-        )
-        self.half, self.full = (
-            Reading(f"{kind.title}, {size} size", path, {name: best[at, name] for at, name in best if at == size})
-            for size, path in paths.items()
-        )
-        self.names = names_in(paths["full"])
-        for path in paths.values():
-            path.unlink()
+        half = make(setup.folder / "half", kind, revisions // 2)
+        full = make(setup.folder / "full", kind, revisions)
+        load_into_cache(half, full)
+        best = best_of_groups([commands(setup.program, path) for path in (half, full)], setup.times)
+        self.half = Reading(f"{kind.title}, half size", half, best[0])
+        self.full = Reading(f"{kind.title}, full size", full, best[1])
+        self.names = names_in(full)
+        remove(half, full)
 
     def growth(self) -> Judged:
         """The time for twice the dump relative to that for the dump; the full size is not exactly twice the half size."""
@@ -180,10 +145,8 @@ def load_once(setup: Setup) -> str:
     beside = Command([setup.program], ["cat", path], status=REFUSED).run()
     size = path.stat().st_size
     path.unlink()
-    return (
-        f"svnadmin load of {size / 1e6:.1f} MB: {taken.wall:.3f} seconds (processor: {taken.processor:.3f}); the "
-        f"program reads the same in {beside.wall:.3f} seconds"
-    )
+    loads = f"svnadmin load of {size / 1e6:.1f} MB: {taken.wall:.3f} seconds (processor: {taken.processor:.3f})"
+    return f"{loads}; the program reads the same in {beside.wall:.3f} seconds."
 
 
 def run(setup: Setup) -> Measurements:
@@ -191,25 +154,14 @@ def run(setup: Setup) -> Measurements:
     yield table("reading-bundles", HEADING, [each.full.row(each.kind) for each in (small, large)])
     readings = (small.half, small.full, large.half, large.full)
     yield from map(str, readings)
-    yield table("reading-bundles-beside", READERS_HEADING, [row for reading in readings for row in reading.rows()])
+    rows = [reading.reader_row(name) for reading in readings for name in reading.best]
+    yield table("reading-bundles-beside", READERS_HEADING, rows)
     yield f"The last dump of small records has {small.names}."
     if setup.is_quick and shutil.which("svnadmin"):
         yield load_once(setup)
-    yield limits_table(
-        "reading-bundles-limits",
-        [
-            MOST_KEPT.of(small.full.kept(), SMALL.title),
-            *(MOST_OF_LOADING[name].of(large.full.ratio(name), LARGE.title) for name in (HOLDING, LOADING)),
-            small.growth(),
-            large.growth(),
-        ],
-    )
+    limits = [MOST_OF_LOADING[name].of(large.full.ratio(name), LARGE.title) for name in (HOLDING, LOADING)]
+    limits += [MOST_KEPT.of(small.full.kept(), SMALL.title), small.growth(), large.growth()]
+    yield limits_table("reading-bundles-limits", limits)
 
 
-PART = Part(
-    "reading-bundles",
-    "Reading bundles",
-    __doc__,
-    run,
-    [MOST_OF_GREP, *MOST_OF_LOADING.values(), MOST_KEPT, MOST_OF_TWICE],
-)
+PART = Part(__name__, __doc__, run, [MOST_OF_GREP, *MOST_OF_LOADING.values(), MOST_KEPT, MOST_OF_TWICE])

@@ -18,8 +18,8 @@ from pathlib import Path
 from typing import NamedTuple
 
 from bench.functions import Shares, shares_of
-from bench.histories import MIXES, READ, SIZES, generate, load_into_cache, ten_queries
-from bench.measure import REFUSED, Command, SameReport, best_in_turns, in_words, words_of
+from bench.histories import MIXES, READ, SIZES, generate, load_into_cache, remove, ten_queries
+from bench.measure import REFUSED, Command, SameReport, best_in_turns, best_of_groups, in_words, words_of
 from bench.parts import QUICK, Limit, Measurements, Part, Row, Setup, Table, limits_table, most, table
 from bench.questions import TEN
 from dev.running import Measured, peak_of
@@ -29,22 +29,17 @@ COUNT = ["wc", "-c"]
 PIPE = Path("/dev/stdin")
 # What a pipe is measured beside, and the limit of the time relative to that.
 PIPES = {
-    name: (words, most(bound, f"{name}, time relative to {in_words(words)}"))
-    for name, words, bound in (("small records", GREP, 1.9), ("mergeinfo", GREP, 3.5), ("large texts", COUNT, 1.3))
+    "small records": (GREP, most(1.9, "small records, time relative to grep")),
+    "mergeinfo": (GREP, most(3.5, "mergeinfo, time relative to grep")),
+    "large texts": (COUNT, most(1.3, "large texts, time relative to wc")),
 }
 MOST_OF_BEFORE = most(1, "time relative to the program before")
 MOST_OF_HASHING = most(0.1, "mergeinfo, share of functions that hash")
 MOST_FOR_TEXTS = most(20, "large texts from a pipe, peak MB")
 MOST_OF_FORMAT_2 = most(1.1, "processor time of a byte in format 3 relative to one in format 2")
 MOST_OF_MEMORY = most(1.03, "memory relative to the program before")
-LIMITS = (
-    *(limit for _, limit in PIPES.values()),
-    MOST_OF_BEFORE,
-    MOST_OF_HASHING,
-    MOST_FOR_TEXTS,
-    MOST_OF_FORMAT_2,
-    MOST_OF_MEMORY,
-)
+LIMITS = [limit for _, limit in PIPES.values()]
+LIMITS += [MOST_OF_BEFORE, MOST_OF_HASHING, MOST_FOR_TEXTS, MOST_OF_FORMAT_2, MOST_OF_MEMORY]
 # Functions that hash, and those into which hashing is compiled. All that such a function does counts as hashing.
 HASHING = re.compile(r"hash_one|Hasher\w*::write|TextTable::(add|find)\b")
 LEAST_SHOWN = 0.05
@@ -68,50 +63,32 @@ class Pair(NamedTuple):
 
     title: str
     size: int
-    ours: Command
-    name: str
-    other: Command
+    commands: dict[str, Command]
     limit: Limit
 
-    def row(self, ours: Measured, other: Measured) -> Row:
-        return [
-            self.title,
-            self.size / 1e6,
-            ours.wall,
-            self.name,
-            other.wall,
-            self.limit.of(ours.wall / other.wall),
-            self.limit.bound,
-        ]
+    def row(self, best: dict[str, Measured]) -> Row:
+        (_, ours), (name, other) = best.items()
+        ratio = self.limit.of(ours.wall / other.wall)
+        return [self.title, self.size / 1e6, ours.wall, name, other.wall, ratio, self.limit.bound]
 
 
 def pairs_of(setup: Setup, paths: dict[str, Path]) -> Iterator[Pair]:
-    name = "small records"
     if setup.before:
-        ours, other = (
-            Command(words_of(program, paths[name]), status=REFUSED) for program in (setup.program, setup.before)
-        )
-        yield Pair(f"{name} from a file", paths[name].stat().st_size, ours, "the program before", other, MOST_OF_BEFORE)
+        name, programs = "small records", {"": setup.program, "the program before": setup.before}
+        both = {title: Command(words_of(each, paths[name]), status=REFUSED) for title, each in programs.items()}
+        yield Pair(f"{name} from a file", paths[name].stat().st_size, both, MOST_OF_BEFORE)
     for name, path in paths.items():
         words, limit = PIPES[name]
         ours = Command(words_of(setup.program, PIPE), ["cat", path], status=READ[name][-1])
-        other = Command(words, ["cat", path])
-        yield Pair(f"{name} from a pipe", path.stat().st_size, ours, f"`{in_words(words)}`", other, limit)
+        both = {"": ours, f"`{in_words(words)}`": Command(words, ["cat", path])}
+        yield Pair(f"{name} from a pipe", path.stat().st_size, both, limit)
 
 
 def pairs_table(setup: Setup, paths: dict[str, Path]) -> Table:
     pairs = list(pairs_of(setup, paths))
-    best = best_in_turns(
-        {
-            (place, is_ours): (pair.ours if is_ours else pair.other).run
-            for place, pair in enumerate(pairs)
-            for is_ours in (True, False)
-        },
-        setup.times,
-    )
+    best = best_of_groups([pair.commands for pair in pairs], setup.times)
     heading = "what is read | MB:.1f | seconds:.3f | beside it | seconds:.3f | relative:.2f | at most:g"
-    rows = [pair.row(best[place, True], best[place, False]) for place, pair in enumerate(pairs)]
-    return table("reading-dumps", heading, rows)
+    return table("reading-dumps", heading, [pair.row(found) for pair, found in zip(pairs, best)])
 
 
 # ---- formats
@@ -121,17 +98,12 @@ def formats_row(setup: Setup, name: str) -> Row:
     """The least processor time of reading a history from a file, in format 2 and in format 3."""
     # Two dumps of large texts in full size would fill many a disk.
     paths = {form: make(setup, name, form, name == "large texts") for form in (2, 3)}
-    best = best_in_turns(
-        {form: Command(words_of(setup.program, path), status=READ[name][-1]).run for form, path in paths.items()},
-        setup.times,
-        attrgetter("processor"),
-    )
-    sizes = {form: path.stat().st_size for form, path in paths.items()}
-    two, three = (best[form].processor / sizes[form] for form in paths)
-    for path in paths.values():
-        path.unlink()
-    cells = [cell for form in paths for cell in (sizes[form] / 1e6, best[form].processor)]
-    return [name, *cells, MOST_OF_FORMAT_2.of(three / two)]
+    commands = {form: Command(words_of(setup.program, path), status=READ[name][-1]) for form, path in paths.items()}
+    best = best_in_turns({form: each.run for form, each in commands.items()}, setup.times, attrgetter("processor"))
+    size, other = (path.stat().st_size / 1e6 for path in paths.values())
+    two, three = best[2].processor, best[3].processor
+    remove(*paths.values())
+    return [name, size, two, other, three, MOST_OF_FORMAT_2.of(three / other / (two / size))]
 
 
 FORMATS = (
@@ -158,9 +130,9 @@ def memory_row(setup: Setup, before: Path, mix: str, revisions: int) -> Row:
     dump = generate(setup.folder / "memory.dump", MIXES[mix], revisions)
     queries = ten_queries(setup.folder / "memory.queries", dump)
     same = SameReport(mix, len(TEN))
-    commands = [Command(words_of(program, dump, queries)) for program in (before, setup.program)]
+    commands = [Command(words_of(program, dump, queries), report=same) for program in (before, setup.program)]
     for command in commands:
-        same.run(command)
+        command.run()
     old, new = (peak_of(command.words) / 1e6 for command in commands)
     size = dump.stat().st_size / 1e6
     dump.unlink()
@@ -175,8 +147,7 @@ def run(setup: Setup) -> Measurements:
     yield pairs_table(setup, paths)
     tool, shares = shares_of(words_of(setup.program, paths["mergeinfo"]), REFUSED, setup.folder)
     peak = peak_of(words_of(setup.program, PIPE), ["cat", paths["large texts"]])
-    for path in paths.values():
-        path.unlink()
+    remove(*paths.values())
     yield table("reading-formats", FORMATS, [formats_row(setup, name) for name in READ])
     if setup.before:
         row = partial(memory_row, setup, setup.before)
@@ -188,4 +159,4 @@ def run(setup: Setup) -> Measurements:
     yield limits_table("reading-limits", limits)
 
 
-PART = Part("reading-dumps", "Reading dumps", __doc__, run, LIMITS)
+PART = Part(__name__, __doc__, run, LIMITS)

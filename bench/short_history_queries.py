@@ -47,4 +47,4 @@ def run(setup: Setup) -> Measurements:
     yield table("short-history-queries", HEADING, [row(asked, url, base, verb, questions) for verb in ASKED])
 
 
-PART = Part("short-history-queries", "Queries on a short history", __doc__, run)
+PART = Part(__name__, __doc__, run)

@@ -16,9 +16,8 @@ from pathlib import Path
 from typing import Callable
 
 from bench.histories import BENCH, generate, load_into_cache
-from bench.measure import NOTHING, Command
-from bench.measure import best_in_turns as best_of_any
-from bench.parts import Measurements, Part, Setup, limits_table, most, table
+from bench.measure import NOTHING, Command, best_in_turns
+from bench.parts import Measurements, Part, Row, Setup, limits_table, most, table
 from bench.questions import Peg, line, written
 from dev.running import Measured, Words, measure, peak_of
 from dev.tree import EXAMPLES, ROOT, SVNASK
@@ -57,17 +56,9 @@ class Asked:
 
     def python(self, *words: str | Path) -> Words:
         """A script in Python with the program and the cache of this benchmark, and compiled once, as when installed."""
-        return [
-            "/usr/bin/env",
-            "-u",
-            "PYTHONDONTWRITEBYTECODE",
-            f"PYTHONPYCACHEPREFIX={self.compiled}",
-            f"PYTHONPATH={ROOT / 'ask'}",
-            f"SVNHIST={self.program}",
-            f"XDG_CACHE_HOME={self.cache}",
-            sys.executable,
-            *words,
-        ]
+        python = [f"PYTHONPYCACHEPREFIX={self.compiled}", f"PYTHONPATH={ROOT / 'ask'}"]
+        own = [f"SVNHIST={self.program}", f"XDG_CACHE_HOME={self.cache}"]
+        return ["/usr/bin/env", "-u", "PYTHONDONTWRITEBYTECODE", *python, *own, sys.executable, *words]
 
     def grep(self) -> Measured:
         return Command([*GREP, self.dump]).run()
@@ -94,10 +85,6 @@ class Asked:
         return Command(self.python(BENCH / "answer_reader.py", self.dump, "trunk", str(count))).run()
 
 
-def best_in_turns(runs: dict[str, Callable[[], Measured]], times: int) -> dict[str, Measured]:
-    return best_of_any(runs, times, attrgetter("processor"))
-
-
 def run(setup: Setup) -> Measurements:
     asked = Asked(setup)
     dump, stripped = (path.stat().st_size / 1e6 for path in (asked.dump, asked.stripped))
@@ -109,23 +96,15 @@ def run(setup: Setup) -> Measurements:
         {"svnhist, the log of the trunk": partial(asked.alone, 1), "svnask, the same as a later question": asked.later},
         {"svnhist, many logs": partial(asked.alone, count), "the module, the same": partial(asked.read, count)},
     ]
-    best = {name: taken for pair in pairs for name, taken in best_in_turns(pair, setup.times).items()}
+    cost = attrgetter("processor")
+    best = {name: taken for pair in pairs for name, taken in best_in_turns(pair, setup.times, cost).items()}
     grep, first, alone, later, many, read = (taken.processor for taken in best.values())
-    yield table(
-        "svnask",
-        "what runs | processor s:.3f | peak MB:.0f",
-        [[name, taken.processor, taken.peak / 1e6] for name, taken in best.items()],
-    )
+    rows: list[Row] = [[name, taken.processor, taken.peak / 1e6] for name, taken in best.items()]
+    yield table("svnask", "what runs | processor s:.3f | peak MB:.0f", rows)
     yield f"Lines of the many logs: {best['the module, the same'].outcome.output.decode().strip()}."
-    yield limits_table(
-        "svnask-limits",
-        [
-            MOST_OF_GREP.of(first / grep),
-            MOST_MEGABYTES.of(peak_of(asked.first_words()) / 1e6),
-            MOST_OF_PROGRAM.of((later - MORE) / alone),
-            MOST_OF_LINES.of(read / many),
-        ],
-    )
+    limits = [MOST_OF_GREP.of(first / grep), MOST_MEGABYTES.of(peak_of(asked.first_words()) / 1e6)]
+    limits += [MOST_OF_PROGRAM.of((later - MORE) / alone), MOST_OF_LINES.of(read / many)]
+    yield limits_table("svnask-limits", limits)
 
 
-PART = Part("svnask", "svnask", __doc__, run, [MOST_OF_GREP, MOST_MEGABYTES, MOST_OF_PROGRAM, MOST_OF_LINES])
+PART = Part(__name__, __doc__, run, [MOST_OF_GREP, MOST_MEGABYTES, MOST_OF_PROGRAM, MOST_OF_LINES])

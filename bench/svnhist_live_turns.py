@@ -22,7 +22,7 @@ from pathlib import Path
 from types import TracebackType
 from typing import NamedTuple
 
-from bench.histories import MIXES, generate, revisions_of
+from bench.histories import MIXES, generate, remove, revisions_of
 from bench.parts import Judged, Measurements, Part, Row, Setup, limits_table, most, table
 from bench.questions import Peg, Question, later_half, pegs_at_ends, records_of
 from bench.subversion import ASKED_OF_COMMAND, LOADING_SECONDS, Loaded, ask_command, folder_in_memory, load_part
@@ -202,10 +202,8 @@ def measured(setup: Setup, history: History, loaded: Loaded | None) -> Measureme
             pieces_row(f"one of all {len(pieces):,} pieces", pieces),
         ]
         for verb, (one, other) in found.items():
-            rows += [
-                [f"`{verb}` after all pieces", one, None],
-                [f"`{verb}` on the same history, read at once", other, None],
-            ]
+            rows.append([f"`{verb}` after all pieces", one, None])
+            rows.append([f"`{verb}` on the same history, read at once", other, None])
         yield table("svnhist-live", "what is replied to | median, ms:.3f | worst, ms:.3f", rows)
         yield limits_table("svnhist-live-limits", list(judged(pieces, found)))
         yield beside_subversion(talks, history, loaded, setup.times)
@@ -216,17 +214,12 @@ def run(setup: Setup) -> Measurements:
         yield f"There is no program {setup.live}, so no talk was measured."
         return
     history = made(setup)
-    yield (
-        f"{history.first:,} revisions, then pieces of {TEN} up to {history.last:,}, and {TIMED} questions of each "
-        "verb."
-    )
+    pieces = f"{history.first:,} revisions, then pieces of {TEN} up to {history.last:,}"
+    yield f"{pieces}, and {TIMED} questions of each verb."
     with folder_in_memory(setup.folder) as above:
         loaded = load_part(history.whole, above / "live", setup.scaled(LOADING_SECONDS))
         yield from measured(setup, history, loaded)
-    for path in (history.whole, history.front):
-        path.unlink()
+    remove(history.whole, history.front)
 
 
-PART = Part(
-    "svnhist-live", "A history that grows", __doc__, run, [*MOST_MILLISECONDS.values(), *MOST_OF_AT_ONCE.values()]
-)
+PART = Part(__name__, __doc__, run, [*MOST_MILLISECONDS.values(), *MOST_OF_AT_ONCE.values()])

@@ -4,7 +4,6 @@ A generated history begins as a shorter one does, so the ten queries are drawn f
 """
 from __future__ import annotations
 
-from functools import partial
 from pathlib import Path
 
 from bench.histories import MIXES, RECORDS, SIZES, generate, ten_queries
@@ -23,7 +22,7 @@ PIPE = Path("/dev/stdin")
 def program_row(setup: Setup, dump: Path, queries: Path, workers: int) -> Row:
     feeder: Words = ["cat", dump]
     words = words_of(setup.program, PIPE, queries, workers=workers)
-    taken = best_of(TIMES, partial(SameReport(dump.name, len(TEN)).run, Command(words, feeder)))
+    taken = best_of(TIMES, Command(words, feeder, report=SameReport(dump.name, len(TEN))).run)
     return [f"svnhist, WORKERS {workers}", taken.wall, peak_of(words, feeder) / 1e6]
 
 
@@ -43,4 +42,4 @@ def run(setup: Setup) -> Measurements:
     dump.unlink()
 
 
-PART = Part("ten-million-records", "Ten million records", __doc__, run)
+PART = Part(__name__, __doc__, run)

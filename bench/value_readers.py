@@ -95,7 +95,8 @@ def plain_reader(text: bytes) -> Reader:
 READERS = {"bindings": bindings_reader, "library": library_reader, "plain": plain_reader}
 
 
-def main(name: str, path: str) -> None:
+def main(words: list[str]) -> None:
+    _, name, path = words
     with open(path, "rb") as file:
         read = READERS[name](file.read())
     began = time.perf_counter()
@@ -105,4 +106,4 @@ def main(name: str, path: str) -> None:
 
 
 if __name__ == "__main__":
-    main(*sys.argv[1:])
+    main(sys.argv)

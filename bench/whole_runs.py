@@ -8,11 +8,10 @@ an addition adds a node for each component of its path and one for the root.
 from __future__ import annotations
 
 from collections.abc import Iterable
-from functools import partial
-from typing import Callable, NamedTuple
+from typing import NamedTuple
 
-from bench.histories import MIXES, RECORDS, SIZES, generate, make_faulty, ten_queries
-from bench.measure import REFUSED, Command, SameReport, best_in_turns, words_of
+from bench.histories import MIXES, RECORDS, SIZES, generate, make_faulty, remove, ten_queries
+from bench.measure import REFUSED, Command, SameReport, best_of_groups, words_of
 from bench.parts import Judged, Measurements, Part, Row, Setup, limits_table, most, table
 from bench.questions import TEN
 from dev.running import Measured, peak_of
@@ -26,12 +25,8 @@ class Kind(NamedTuple):
 
 
 ALONE = Kind(1, 0)
-KINDS = {
-    "one worker": ALONE,
-    "four workers": Kind(4, 0),
-    "four, BLOCK 100": Kind(4, 100),
-    "four, BLOCK 1,000": Kind(4, 1000),
-}
+KINDS = {"one worker": ALONE, "four workers": Kind(4, 0)}
+KINDS.update({f"four, BLOCK {block:,}": Kind(4, block) for block in (100, 1000)})
 GREP, READING = "`grep`", "reading"
 # The time of one worker and of four is relative to `grep` for changes, and to reading for additions.
 COMPARED = {"changes": GREP, "additions": READING}
@@ -59,64 +54,42 @@ class History:
         self.faulty = make_faulty(self.dump, setup.folder / f"{mix}-{revisions}-faulty")
         queries = ten_queries(setup.folder / f"{mix}-{revisions}-queries", self.dump)
         self.size = self.dump.stat().st_size
-        self.program = {
-            kind: Command(words_of(setup.program, self.dump, queries, kind.block, kind.workers))
-            for kind in KINDS.values()
-        }
-        self.others = {
-            GREP: Command(["grep", "-c", "^Node-path"], ["cat", self.dump]),
-            READING: Command(words_of(setup.program, self.faulty, queries), status=REFUSED),
-        }
+        self.commands: dict[Kind | str, Command] = {}
+        same = SameReport(self.dump.name, len(TEN))
+        for kind in KINDS.values():
+            words = words_of(setup.program, self.dump, queries, kind.block, kind.workers)
+            self.commands[kind] = Command(words, report=same)
+        self.commands[GREP] = Command(["grep", "-c", "^Node-path"], ["cat", self.dump])
+        self.commands[READING] = Command(words_of(setup.program, self.faulty, queries), status=REFUSED)
         self.walls: dict[Kind | str, float] = {}
         self.peak = 0
-
-    def runs(self) -> dict[Kind | str, Callable[[], Measured]]:
-        same = SameReport(self.dump.name, len(TEN))
-        return {
-            **{kind: partial(same.run, command) for kind, command in self.program.items()},
-            **{name: command.run for name, command in self.others.items()},
-        }
 
     def finish(self, best: dict[Kind | str, Measured]) -> None:
         """Keeps what was measured, measures the memory, and removes the dumps."""
         self.walls = {key: taken.wall for key, taken in best.items()}
-        self.peak = peak_of(self.program[ALONE].words)
-        self.dump.unlink()
-        self.faulty.unlink()
+        self.peak = peak_of(self.commands[ALONE].words)
+        remove(self.dump, self.faulty)
 
     def best_wall(self, workers: int) -> float:
         return min(self.walls[kind] for kind in KINDS.values() if kind.workers == workers)
 
     def row(self) -> Row:
-        return [
-            self.mix,
-            self.revisions,
-            self.size / 1e6,
-            self.walls[ALONE],
-            self.walls[GREP],
-            self.walls[READING],
-            self.peak / 1e6,
-            self.peak / (self.revisions * RECORDS),
-        ]
+        walls = [self.walls[ALONE], self.walls[GREP], self.walls[READING]]
+        each = self.peak / (self.revisions * RECORDS)
+        return [self.mix, self.revisions, self.size / 1e6, *walls, self.peak / 1e6, each]
 
     def workers_row(self) -> Row:
         return [self.mix, self.revisions, *(self.walls[kind] for kind in KINDS.values())]
 
-    def relative_rows(self) -> list[Row]:
-        return [
-            [self.mix, self.revisions, *kind, *(self.walls[kind] / self.walls[name] for name in (GREP, READING))]
-            for kind in KINDS.values()
-        ]
+    def relative_row(self, kind: Kind) -> Row:
+        return [self.mix, self.revisions, *kind, *(self.walls[kind] / self.walls[other] for other in (GREP, READING))]
 
 
 def measured(setup: Setup, mix: str) -> list[History]:
     """The measured histories of a mix, the shortest first."""
     found = [History(setup, mix, setup.scaled(size)) for size in SIZES]
-    best = best_in_turns(
-        {(place, key): run for place, history in enumerate(found) for key, run in history.runs().items()}, setup.times
-    )
-    for place, history in enumerate(found):
-        history.finish({key: taken for (at, key), taken in best.items() if at == place})
+    for history, best in zip(found, best_of_groups([history.commands for history in found], setup.times)):
+        history.finish(best)
     return found
 
 
@@ -139,8 +112,9 @@ def run(setup: Setup) -> Measurements:
     heading = "history | revisions:," + "".join(f" | {title}:.3f" for title in KINDS)
     yield table("whole-runs-by-workers", heading, [history.workers_row() for history in histories])
     heading = "history | revisions:, | workers | BLOCK:, | relative to `grep`:.2f | relative to reading:.2f"
-    yield table("whole-runs-relative", heading, [row for history in histories for row in history.relative_rows()])
+    rows = [history.relative_row(kind) for history in histories for kind in KINDS.values()]
+    yield table("whole-runs-relative", heading, rows)
     yield limits_table("whole-runs-limits", [each for mix, rows in found.items() for each in judged(mix, rows)])
 
 
-PART = Part("whole-runs", "Whole runs", __doc__, run, LIMITS)
+PART = Part(__name__, __doc__, run, LIMITS)

@@ -11,11 +11,10 @@ through all of them, in the revision without any.
 from __future__ import annotations
 
 from collections.abc import Iterator
-from functools import partial
 from typing import NamedTuple
 
 from bench.histories import revision, write_dump
-from bench.measure import Command, SameReport, best_in_turns, words_of
+from bench.measure import Command, SameReport, best_of_groups, words_of
 from bench.parts import Limit, Measurements, Part, Row, Setup, most, table
 from bench.questions import Asked, Peg, line, written
 from dev.dumps import FILE, Node, added, changed, copied, mergeinfo
@@ -48,14 +47,10 @@ class Kind(NamedTuple):
     limit: Limit
 
 
-KINDS = [
-    Kind(name, changes, most(bound, f"{name}, time relative to ten tags"))
-    for name, changes, bound in (
-        ("additions of files", 10000, 1.8),
-        ("changes of texts", 10000, 1.8),
-        ("changes of mergeinfo", 100000, 3),
-    )
-]
+FILES_ADDED = Kind("additions of files", 10000, most(1.8, "additions of files, time relative to ten tags"))
+TEXTS_CHANGED = Kind("changes of texts", 10000, most(1.8, "changes of texts, time relative to ten tags"))
+VALUES_CHANGED = Kind("changes of mergeinfo", 100000, most(3, "changes of mergeinfo, time relative to ten tags"))
+KINDS = [FILES_ADDED, TEXTS_CHANGED, VALUES_CHANGED]
 
 
 def trunk() -> list[Node]:
@@ -71,9 +66,9 @@ def tag_of(number: int, tags: int) -> bytes:
 
 def change(kind: Kind, number: int, tag: bytes, rev: int) -> Node:
     """A change of one kind below a tag."""
-    if kind is KINDS[0]:
+    if kind is FILES_ADDED:
         return added(b"%s/src/main/new-%d" % (tag, number), FILE)
-    if kind is KINDS[1]:
+    if kind is TEXTS_CHANGED:
         return changed(tag + b"/src/main/file0", text=b"line %d\n" % number)
     return changed(tag + b"/src", mergeinfo(b"/trunk/src:%d" % rev))
 
@@ -94,44 +89,28 @@ def command_of(setup: Setup, kind: Kind, copies: int, tags: int, changes: int) -
     dump = write_dump(setup.folder / f"tags-{tags}.dump", revisions_of(kind, copies, tags, changes))
     last = Peg(tag_of((changes - 1) * STEP, tags).decode(), copies + 1 + changes)
     queries = written(setup.folder / f"tags-{tags}.queries", [line("log", last)])
-    return Command(words_of(setup.program, dump, queries))
+    return Command(words_of(setup.program, dump, queries), report=SameReport(kind.name, 1))
 
 
 def tags_row(setup: Setup, kind: Kind) -> Row:
     """The best run on each of the two dumps, in turns, and the peaks."""
     copies, changes = setup.scaled(TAGS), setup.scaled(kind.changes)
     commands = {tags: command_of(setup, kind, copies, tags, changes) for tags in (copies, FEW_TAGS)}
-    best = best_in_turns(
-        {tags: partial(SameReport(kind.name, 1).run, command) for tags, command in commands.items()}, setup.times
-    )
+    [best] = best_of_groups([commands], setup.times)
     walls = [taken.wall for taken in best.values()]
     peaks = [peak_of(command.words) / 1e6 for command in commands.values()]
-    return [
-        kind.name,
-        copies,
-        changes,
-        *walls,
-        kind.limit.of(walls[0] / walls[1]),
-        kind.limit.bound,
-        *peaks,
-        MOST_MEMORY.of(peaks[0] / peaks[1]),
-    ]
+    time, memory = kind.limit.of(walls[0] / walls[1]), MOST_MEMORY.of(peaks[0] / peaks[1])
+    return [kind.name, copies, changes, *walls, time, kind.limit.bound, *peaks, memory]
 
 
 def copies_row(setup: Setup) -> Row:
     empty = Asked(setup, write_dump(setup.folder / "empty.dump", ()))
-    asked = Asked(
-        setup,
-        write_dump(
-            setup.folder / "copies.dump",
-            (revision(rev, copied(b"n%d" % rev, b"", rev - 1)) for rev in range(1, COPIES + 1)),
-        ),
-    )
+    revisions = (revision(rev, copied(b"n%d" % rev, b"", rev - 1)) for rev in range(1, COPIES + 1))
+    asked = Asked(setup, write_dump(setup.folder / "copies.dump", revisions))
     path = "/".join(f"n{number}" for number in range(COPIES, 0, -1))
     lines = [line("locate", Peg(path, COPIES), 0)]
-    alone, without, one, many = (
-        each.wall * 1e3 for each in (empty.best([]), asked.best([]), asked.best(lines), asked.best(lines * LOCATED))
-    )
+    runs = (empty.best([]), asked.best([]), asked.best(lines), asked.best(lines * LOCATED))
+    alone, without, one, many = (taken.wall * 1e3 for taken in runs)
     peak = peak_of(asked.command(lines * LOCATED).words)
     return [COPIES, one, one - alone, (many - without) / LOCATED, peak / 1e6]
 
@@ -141,10 +120,4 @@ def run(setup: Setup) -> Measurements:
     yield table("copies-in-copies", COPIES_HEADING, [copies_row(setup)])
 
 
-PART = Part(
-    "wide-directories",
-    "Wide directories and copies in copies",
-    __doc__,
-    run,
-    [MOST_MEMORY, *(kind.limit for kind in KINDS)],
-)
+PART = Part(__name__, __doc__, run, [MOST_MEMORY, *(kind.limit for kind in KINDS)])

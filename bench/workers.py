@@ -11,13 +11,11 @@ from __future__ import annotations
 import random
 from collections.abc import Sequence
 from pathlib import Path
-from typing import NamedTuple
 
 from bench.histories import short_history, write_source
-from bench.measure import Timed, run_in_turns, words_of
+from bench.measure import Build, check_same, run_in_turns
 from bench.parts import Limit, Measurements, Part, Row, Setup, most, table
 from bench.questions import Peg, drawn_line, later_half, line, pegs_of, records_of, written
-from dev.running import Failed
 
 # The number of queries of each verb, 200,000 in all; the answers to `log` and `eligible` are long.
 ASKED = {"locate": 60000, "segments": 58500, "log": 10500, "mergeinfo": 40000, "merged": 25000, "eligible": 6000}
@@ -69,77 +67,47 @@ def few_long_queries(setup: Setup) -> list[str]:
 # ---- the runs
 
 
-class Kind(NamedTuple):
-    """A build and a number of workers."""
-
-    is_before: bool
-    workers: int
+ONE, OLD = Build(False, WORKERS[0]), Build(True, WORKERS[0])
 
 
-def kinds_of(setup: Setup) -> list[Kind]:
-    before = [Kind(True, workers) for workers in (WORKERS[0], WORKERS[-1])] if setup.before else []
-    return [Kind(False, workers) for workers in WORKERS] + before
+def builds_of(setup: Setup) -> list[Build]:
+    before = [OLD, Build(True, WORKERS[-1])] if setup.before else []
+    return [Build(False, workers) for workers in WORKERS] + before
 
 
 class Work:
     """A dump and queries about it, and the runs with them and with lines that are no queries."""
 
-    def __init__(self, setup: Setup, name: str, dump: Path, lines: list[str], kinds: Sequence[Kind]) -> None:
-        self.setup = setup
+    def __init__(self, setup: Setup, name: str, dump: Path, lines: list[str], builds: Sequence[Build]) -> None:
         self.name = name
-        self.dump = dump
         self.lines = lines
-        path = setup.folder / "workers.queries"
-        asked = written(path.with_name(f"{name}-asked.queries"), lines)
-        refused = written(path.with_name(f"{name}-refused.queries"), ("-" + each[1:] for each in lines))
-        self.asked = {kind: self.timed(kind, asked) for kind in kinds}
-        self.refused = {kind: self.timed(kind, refused) for kind in kinds}
+        asked = written(setup.folder / f"{name}-asked.queries", lines)
+        refused = written(setup.folder / f"{name}-refused.queries", ("-" + each[1:] for each in lines))
+        self.asked = {build: build.timed(setup, dump, asked) for build in builds}
+        self.refused = {build: build.timed(setup, dump, refused) for build in builds}
+        run_in_turns([runs[build] for build in builds for runs in (self.refused, self.asked)], setup.times)
+        check_same(self.refused.values(), 0, name)
+        check_same(self.asked.values(), len(lines), name)
 
-    def timed(self, kind: Kind, queries: Path) -> Timed:
-        program = self.setup.before if kind.is_before else None
-        return Timed(words_of(program or self.setup.program, self.dump, queries, workers=kind.workers))
+    def seconds(self, build: Build) -> float:
+        return self.asked[build].wall - self.refused[build].wall
 
-    def measure(self) -> Work:
-        run_in_turns([runs[kind] for kind in self.asked for runs in (self.refused, self.asked)], self.setup.times)
-        for wanted, runs in ((0, self.refused), (len(self.lines), self.asked)):
-            if len({each.checksum for each in runs.values()}) > 1 or {each.answered for each in runs.values()} != {
-                wanted
-            }:
-                raise Failed(f"the reports on {self.name} work differ, or do not answer {wanted} queries")
-        return self
+    def limit_of(self, build: Build) -> Limit | None:
+        if build.is_before:
+            return MOST_OF_BEFORE if build == OLD else None
+        return MOST_OF_ONE[self.name] if build.workers == WORKERS[-1] else None
 
-    def seconds(self, kind: Kind) -> float:
-        return self.asked[kind].wall - self.refused[kind].wall
-
-    def limit_of(self, kind: Kind) -> Limit | None:
-        if kind.is_before:
-            return MOST_OF_BEFORE if kind.workers == WORKERS[0] else None
-        return MOST_OF_ONE[self.name] if kind.workers == WORKERS[-1] else None
-
-    def ratio(self, kind: Kind) -> float:
-        """The time relative to one worker of the same build, but of one worker of this build to that of the older one."""
-        one = self.seconds(Kind(kind.is_before, WORKERS[0]))
-        if kind == Kind(True, WORKERS[0]):
-            return self.seconds(Kind(False, WORKERS[0])) / one
-        return self.seconds(kind) / one
-
-    def row(self, kind: Kind) -> Row:
-        limit, ratio = self.limit_of(kind), self.ratio(kind)
-        return [
-            self.name,
-            f"{kind.workers}{', older build' if kind.is_before else ''}",
-            len(self.lines),
-            self.asked[kind].size / 1e6,
-            self.seconds(kind),
-            limit.of(ratio) if limit else ratio,
-            limit.bound if limit else None,
-        ]
+    def row(self, build: Build) -> Row:
+        """The time is relative to one worker of the same build, but of one worker of this build to the older one."""
+        seconds, limit = self.seconds(build), self.limit_of(build)
+        ratio = (self.seconds(ONE) if build == OLD else seconds) / self.seconds(build._replace(workers=WORKERS[0]))
+        found: Row = [limit.of(ratio), limit.bound] if limit else [ratio, None]
+        return [self.name, str(build), len(self.lines), self.asked[build].size / 1e6, seconds, *found]
 
 
 def of_each(setup: Setup, dump: Path, lines: list[str]) -> float:
     """The seconds of each of these queries with one worker."""
-    kind = Kind(False, 1)
-    return Work(setup, "uneven", dump, lines, [kind]).measure().seconds(kind) / len(lines)
+    return Work(setup, "uneven", dump, lines, [ONE]).seconds(ONE) / len(lines)
 
 
 def run(setup: Setup) -> Measurements:
@@ -147,20 +115,14 @@ def run(setup: Setup) -> Measurements:
         yield "In the first row of the older build the ratio is that of the program to it."
     even = short_history(setup, "workers-even.dump")
     uneven = uneven_history(setup)
-    lists = {
-        "even": (even, queries_of(setup, even)),
-        "uneven": (uneven, long_queries(setup) + short_queries(setup)),
-        "few long": (uneven, few_long_queries(setup)),
-    }
-    works = [Work(setup, name, dump, lines, kinds_of(setup)).measure() for name, (dump, lines) in lists.items()]
-    heading = "work | workers | queries:, | report, MB:.1f | seconds:.3f | relative to one:.3f | at most:g"
-    yield table("workers", heading, [work.row(kind) for work in works for kind in work.asked])
     many, few = short_queries(setup), long_queries(setup)
+    lists = [(even, queries_of(setup, even)), (uneven, few + many), (uneven, few_long_queries(setup))]
+    works = [Work(setup, name, *each, builds_of(setup)) for name, each in zip(MOST_OF_ONE, lists)]
+    heading = "work | workers | queries:, | report, MB:.1f | seconds:.3f | relative to one:.3f | at most:g"
+    yield table("workers", heading, [work.row(build) for work in works for build in work.asked])
     long, short = of_each(setup, uneven, few), of_each(setup, uneven, many)
-    yield (
-        f"In the uneven work {len(few):,} queries take {long * 1e3:.4f} ms each, and then {len(many):,} take "
-        f"{short * 1e3:.5f} ms each: {long / short:.0f} times as long."
-    )
+    first = f"In the uneven work {len(few):,} queries take {long * 1e3:.4f} ms each"
+    yield f"{first}, and then {len(many):,} take {short * 1e3:.5f} ms each: {long / short:.0f} times as long."
 
 
-PART = Part("workers", "Answers by the number of workers", __doc__, run, [*MOST_OF_ONE.values(), MOST_OF_BEFORE])
+PART = Part(__name__, __doc__, run, [*MOST_OF_ONE.values(), MOST_OF_BEFORE])
