@@ -11,7 +11,7 @@ from __future__ import annotations
 import sys
 import time
 from importlib import import_module
-from typing import Any
+from typing import Any, Callable
 
 # Few machines have these modules, and they have no types.
 client: Any = import_module("svn.client")
@@ -44,83 +44,70 @@ def printed_run(run: Any) -> str:
 
 
 class Asker:
-    """A connection, and for each verb the call that answers it and the result lines of what the call gave."""
+    """A connection, and for each verb the call that answers it."""
 
     def __init__(self, url: str) -> None:
-        self.url = url
+        self.url = url.encode()
         ra.initialize()
         # The session uses the callbacks without keeping them.
         self.callbacks = ra.Callbacks()
-        self.session = ra.open2(url.encode(), self.callbacks, {})
+        self.session = ra.open2(self.url, self.callbacks, {})
         self.context = client.create_context()
 
     def locate(self, place: str, rev: str) -> Any:
         return ra.get_locations(self.session, *place_of(place), [int(rev)])
 
-    def show_locate(self, places: Any) -> list[str]:
-        return [printed(next(iter(places.values()), None))]
-
     def segments(self, place: str) -> Any:
         path, rev = place_of(place)
-        runs: list[Any] = []
-        ra.get_location_segments(
-            self.session, path, rev, rev, 0, lambda run, _: runs.append((run.range_start, run.range_end, run.path))
-        )
-        return runs
-
-    def show_segments(self, runs: Any) -> list[str]:
-        return [f"{first}-{last} {printed(path)}" for first, last, path in runs]
+        found: list[Any] = []
+        ra.get_location_segments(self.session, path, rev, rev, 0, lambda run, _: found.append(segment_of(run)))
+        return found
 
     def log(self, place: str) -> Any:
         path, rev = place_of(place)
-        revisions: list[int] = []
-        ra.get_log2(
-            self.session, [path], rev, 0, 0, False, False, False, [], lambda entry, _: revisions.append(entry.revision)
-        )
-        return revisions
-
-    def show_log(self, revisions: Any) -> list[str]:
-        return [f"r{rev}" for rev in revisions]
+        found: list[int] = []
+        ra.get_log2(self.session, [path], rev, 0, 0, *[False] * 3, [], lambda entry, _: found.append(entry.revision))
+        return found
 
     def mergeinfo(self, place: str) -> Any:
         path, rev = place_of(place)
         found = ra.get_mergeinfo(self.session, [path], rev, core.svn_mergeinfo_inherited, False)
         return found[path] if found else {}
 
-    def show_mergeinfo(self, value: Any) -> list[str]:
-        return [source.decode() + ":" + ",".join(map(printed_run, value[source])) for source in sorted(value)]
-
     def peg(self, field: str) -> tuple[bytes, Any]:
         path, rev = place_of(field)
-        return b"%s/%s" % (self.url.encode(), path), revision(rev)
+        return b"%s/%s" % (self.url, path), revision(rev)
 
     def of_source(self, is_merged: bool, source: str, target: str) -> Any:
         found: list[tuple[int, bool]] = []
-        client.mergeinfo_log2(
-            is_merged,
-            *self.peg(target),
-            *self.peg(source),
-            revision(None),
-            revision(None),
-            lambda entry, _: found.append((entry.revision, bool(entry.non_inheritable))),
-            False,
-            core.svn_depth_empty,
-            [],
-            self.context,
-        )
+
+        def take(entry: Any, _: Any) -> None:
+            found.append((entry.revision, bool(entry.non_inheritable)))
+
+        places = *self.peg(target), *self.peg(source), revision(None), revision(None)
+        client.mergeinfo_log2(is_merged, *places, take, False, core.svn_depth_empty, [], self.context)
         return found
 
     def merged(self, source: str, target: str) -> Any:
         return self.of_source(True, source, target)
 
-    def show_merged(self, found: Any) -> list[str]:
-        return [f"r{rev}{'*' if is_partial else ''}" for rev, is_partial in found]
-
     def eligible(self, source: str, target: str) -> Any:
         return self.of_source(False, source, target)
 
-    def show_eligible(self, found: Any) -> list[str]:
-        return [f"r{rev}" for rev, is_partial in found if not is_partial]
+
+def segment_of(run: Any) -> tuple[int, int, bytes | None]:
+    return run.range_start, run.range_end, run.path
+
+
+# For each verb, the result lines of what the call gave.
+SHOWN: dict[str, Callable[[Any], list[str]]] = {
+    "locate": lambda places: [printed(next(iter(places.values()), None))],
+    "segments": lambda runs: [f"{first}-{last} {printed(path)}" for first, last, path in runs],
+    "log": lambda revisions: [f"r{rev}" for rev in revisions],
+    "mergeinfo": lambda value: [f"{each.decode()}:{','.join(map(printed_run, value[each]))}" for each in sorted(value)],
+    "merged": lambda found: [f"r{rev}{'*' if is_partial else ''}" for rev, is_partial in found],
+    "eligible": lambda found: [f"r{rev}" for rev, is_partial in found if not is_partial],
+}
 
 
 def main() -> None:
@@ -131,9 +118,8 @@ def main() -> None:
     began = time.perf_counter()
     found = [call(*fields) for _, *fields in queries]
     print(f"{time.perf_counter() - began:.9f}")
-    show = getattr(asker, "show_" + verb)
     for number, each in enumerate(found, 1):
-        print("\n".join([f"#{number} ok", *show(each)]))
+        print("\n".join([f"#{number} ok", *SHOWN[verb](each)]))
 
 
 if __name__ == "__main__":

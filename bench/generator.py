@@ -522,10 +522,8 @@ class Releases(Changes):
         self.step = given.value_size // max(1, min(MOST_MERGES, given.values // MOST_RELEASES))
 
     def is_merge_due(self) -> bool:
-        later = self.given.revisions - FIRST_MERGE
-        return (
-            bool(self.merged < self.given.values) and self.rev > FIRST_MERGE + self.merged * later // self.given.values
-        )
+        later, values = self.given.revisions - FIRST_MERGE, self.given.values
+        return bool(self.merged < values and self.rev > FIRST_MERGE + self.merged * later // values)
 
     def new_release(self) -> Release:
         """A copy of the trunk of some revisions ago."""

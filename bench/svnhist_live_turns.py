@@ -18,15 +18,15 @@ import statistics
 import subprocess
 import time
 from collections.abc import Iterator, Sequence
+from contextlib import contextmanager
 from pathlib import Path
-from types import TracebackType
 from typing import NamedTuple
 
 from bench.histories import MIXES, generate, remove, revisions_of
 from bench.parts import Judged, Measurements, Part, Row, Setup, limits_table, most, table
 from bench.questions import Peg, Question, later_half, pegs_at_ends, records_of
 from bench.subversion import ASKED_OF_COMMAND, LOADING_SECONDS, Loaded, ask_command, folder_in_memory, load_part
-from dev.running import Failed
+from dev.running import Failed, Words
 
 # The revisions before the first piece, the pieces, and the revisions of each.
 REVISIONS = 120000
@@ -38,33 +38,17 @@ VERBS = ("log", "mergeinfo", "segments")
 WORKERS = 1
 READ = 1 << 16
 MOST_MILLISECONDS = {name: most(20, f"a piece, {name} of the first {TIMED}, ms") for name in ("median", "worst")}
-MOST_OF_AT_ONCE = {
-    verb: most(1.5, f"`{verb}` after all pieces, relative to the history read at once") for verb in VERBS
-}
+MOST_OF_AT_ONCE = {verb: most(1.5, f"`{verb}` after all pieces, relative to the same read at once") for verb in VERBS}
 
 
 class Talk:
     """A running talk, of which each turn is timed."""
 
-    def __init__(self, live: Path, dump: Path) -> None:
-        self.child = subprocess.Popen(
-            [live, dump, str(WORKERS)], stdin=subprocess.PIPE, stdout=subprocess.PIPE, bufsize=0
-        )
-        assert self.child.stdin and self.child.stdout
-        self.input, self.output = self.child.stdin.fileno(), self.child.stdout.fileno()
-        self.youngest = self.reply()
-
-    def __enter__(self) -> Talk:
-        return self
-
-    def __exit__(
-        self, kind: type[BaseException] | None, value: BaseException | None, trace: TracebackType | None
-    ) -> None:
-        self.child.kill()
-        self.child.wait()
-        for file in (self.child.stdin, self.child.stdout):
-            if file:
-                file.close()
+    def __init__(self, child: subprocess.Popen[bytes]) -> None:
+        assert child.stdin and child.stdout
+        self.child = child
+        self.input, self.output = child.stdin.fileno(), child.stdout.fileno()
+        self.reply()
 
     def reply(self) -> bytes:
         """All up to the next empty line, which ends a reply."""
@@ -85,6 +69,16 @@ class Talk:
             text = text[os.write(self.input, text) :]
         reply = self.reply()
         return time.perf_counter() - began, reply
+
+
+@contextmanager
+def talk_about(live: Path, dump: Path) -> Iterator[Talk]:
+    words: Words = [live, dump, str(WORKERS)]
+    with subprocess.Popen(words, stdin=subprocess.PIPE, stdout=subprocess.PIPE, bufsize=0) as child:
+        try:
+            yield Talk(child)
+        finally:
+            child.kill()
 
 
 class Talks(NamedTuple):
@@ -192,7 +186,7 @@ def judged(pieces: Sequence[float], questions: dict[str, list[float]]) -> Iterat
 
 def measured(setup: Setup, history: History, loaded: Loaded | None) -> Measurements:
     questions = questions_of(history, history.last, TIMED)
-    with Talk(setup.live, history.front) as after, Talk(setup.live, history.whole) as at_once:
+    with talk_about(setup.live, history.front) as after, talk_about(setup.live, history.whole) as at_once:
         talks = Talks(after, at_once)
         pieces = grown(after, history)
         found = {verb: asked(talks, verb, questions, setup.times) for verb in VERBS}
