@@ -56,9 +56,6 @@ class History:
         return Timed(words_of(self.setup.program, self.dump, queries, self.setup.scaled(kind.block), kind.workers))
 
 
-# ---- the index, the map and its check
-
-
 def made_rows(history: History) -> list[Row]:
     """The time of the index, the map and its check, with one worker and one block and with as many blocks as workers."""
     faulty = make_faulty(history.dump, history.setup.folder / "blocks-faulty.dump")
@@ -72,9 +69,6 @@ def made_rows(history: History) -> list[Row]:
         last = MADE_KINDS[-1]
         ratios[last] = MOST_OF_MADE.of(seconds[last] / seconds[ONE])
     return [[history.name, *kind, seconds[kind], ratios[kind]] for kind in MADE_KINDS]
-
-
-# ---- whole runs
 
 
 def run_rows(history: History) -> dict[int, list[Row]]:
@@ -97,9 +91,6 @@ def run_rows(history: History) -> dict[int, list[Row]]:
 
 
 RUNS = f"history | BLOCK:, | seconds:.3f | relative, {MOST_OF_RUN}:.2f | peak MB:.1f | relative, {MOST_OF_MEMORY}:.2f"
-
-
-# ---- answers
 
 
 class Answers(NamedTuple):

@@ -64,9 +64,6 @@ WORDS = (
 ).split()
 
 
-# ---- trees
-
-
 def node_at(tree: Node, path: Path) -> Node | None:
     for name in path:
         node = None if tree is FILE else tree.get(name)
@@ -88,9 +85,6 @@ def with_node(tree: Directory, path: Path, node: Node | None) -> Directory:
     else:
         changed[path[0]] = node
     return changed
-
-
-# ---- the text of a dump
 
 
 class Source(NamedTuple):
@@ -180,9 +174,6 @@ class Writer:
 
     def faulty_end(self) -> None:
         self.write(FAULTY_BLOCK)
-
-
-# ---- the history
 
 
 def element(first: int, last: int) -> str:

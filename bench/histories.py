@@ -4,6 +4,7 @@ from __future__ import annotations
 import subprocess
 from collections.abc import Iterable, Iterator, Sequence
 from pathlib import Path
+from typing import NamedTuple
 
 from bench.generator import FAULTY_BLOCK
 from bench.measure import REFUSED
@@ -15,8 +16,6 @@ from dev.tree import ROOT
 
 BENCH = ROOT / "bench"
 PIECE = 1 << 20
-
-# ---- generated histories
 
 # Histories of these revisions, which have so many records each. The bodies are chosen for 450 to 600 bytes a record.
 SIZES = (30000, 60000, 120000)
@@ -31,12 +30,26 @@ RELEASES = ["--mix", "releases", "--records", "1", *WIDTH, "--body", "0:100"]
 # A short history, in trees that fit into memory.
 SHORT = ["--records", "2", "--width", "4", "--copy-depth", "6", "--body", "0:100"]
 SHORT_REVISIONS, QUICK_SHORT_REVISIONS = 2000, 500
-# Dumps that are read: the options, the revisions, and the status of reading them. All but the large texts end with a
-# block that every reader refuses, so nothing is built of them.
+
+
+class Read(NamedTuple):
+    """A dump that is read: the options, the revisions, and whether it ends with a block that every reader refuses, so
+    that nothing is built of it."""
+
+    options: list[str]
+    revisions: int
+    is_faulty: bool = True
+
+    @property
+    def status(self) -> int:
+        return REFUSED if self.is_faulty else 0
+
+
+LARGE_TEXTS = ["--records", "1", "--width", "3", "--body", "0:4194304", "--no-checksums"]
 READ = {
-    "small records": (["--records", "24", "--body", "0:650"], 20000, REFUSED),
-    "mergeinfo": (RELEASES, SIZES[-1], REFUSED),
-    "large texts": (["--records", "1", "--width", "3", "--body", "0:4194304", "--no-checksums"], 2600, 0),
+    "small records": Read(["--records", "24", "--body", "0:650"], 20000),
+    "mergeinfo": Read(RELEASES, SIZES[-1]),
+    "large texts": Read(LARGE_TEXTS, 2600, is_faulty=False),
 }
 
 
@@ -92,10 +105,8 @@ def revisions_of(dump: Path) -> Iterator[bytes]:
     yield b"".join(lines)
 
 
-# ---- histories of our own, with few lines for a record
-
 BEGIN = first_lines() + bytes(Revision(0))
-# A history of many revisions is written by the lines of this one: the builder takes five times as long.
+# Written by hand, since histories have up to millions of these, for each of which the builder takes eight times as long.
 REVISION = b"\nRevision-number: %d\n\n"
 
 

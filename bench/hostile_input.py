@@ -47,9 +47,6 @@ DIFFERENCE = 1000000
 OUT_OF_MEMORY = 4
 
 
-# ---- the shapes
-
-
 def nothing(_: int) -> Pieces:
     return iter(())
 
@@ -137,9 +134,6 @@ def colliding_shapes(finder: Finder) -> Iterator[tuple[Shape, Shape]]:
     yield pair("names", dumps.new_names, finder.names, range)
     yield pair("mergeinfo", dumps.new_values, finder.names, range)
     yield pair("nodes of the index", dumps.new_nodes, finder.pairs, dumps.ordinary_pairs)
-
-
-# ---- runs
 
 
 class Input:
@@ -233,8 +227,6 @@ def measured(setup: Setup, shape: Shape, entropy: Path | None = None) -> tuple[I
         remove(each.dump, each.queries)
     return once, twice
 
-
-# ---- tables
 
 SHAPES_HEADING = (
     "shape | bytes:, | report, MB:.1f | seconds:.3f | peak MB:.1f | "

@@ -46,9 +46,6 @@ MOST_OF_ONE = {name: most(0.35, f"{name}, time of four workers relative to one")
 MOST_OF_PRINTING = most(2, "time of mergeinfo relative to printing it")
 
 
-# ---- the queries
-
-
 class Value(NamedTuple):
     """A value of mergeinfo of a path from a revision on, by its size."""
 
@@ -181,9 +178,6 @@ def lists_of(targets: Targets, lot: random.Random, pairs: list[Pair], mixed: int
     }
 
 
-# ---- the runs
-
-
 ONE, FOUR, OLD = Build(False, 1), Build(False, 4), Build(True, 1)
 
 
@@ -226,9 +220,6 @@ HEADING = (
     "relative, at most 0.35:.2f"
 )
 BEFORE = "queries | seconds:.3f | seconds, older build:.3f | relative:.3f | at most:.2f"
-
-
-# ---- printing
 
 
 def printing_rows(setup: Setup, work: Work) -> list[Row]:

@@ -142,9 +142,6 @@ class Part:
         return " ".join((self.about or "").split()).partition(". ")[0].rstrip(".")
 
 
-# ---- JSON
-
-
 def cell_from_json(data: Any) -> Cell:
     if not isinstance(data, dict):
         cell: Cell = data

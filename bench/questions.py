@@ -51,9 +51,6 @@ def written(path: Path, lines: Iterable[str]) -> Path:
     return path
 
 
-# ---- pegs
-
-
 def records_of(dump: Path) -> list[Record]:
     found = []
     rev = 0
@@ -87,9 +84,6 @@ def later_half(pegs: Sequence[Peg]) -> Sequence[Peg]:
     return pegs[len(pegs) // 2 :]
 
 
-# ---- drawn queries
-
-
 class Question(NamedTuple):
     """A peg and an earlier revision."""
 
@@ -121,9 +115,6 @@ def drawn_lines(pegs: Sequence[Peg], verbs: Iterable[str] = TEN) -> list[str]:
     """A query of each of these verbs about pegs of the later half of a history."""
     lot, later = random.Random(4), later_half(pegs)
     return [drawn_line(lot, later, verb) for verb in verbs]
-
-
-# ---- answers
 
 
 @dataclass(frozen=True)

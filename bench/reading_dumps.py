@@ -22,23 +22,31 @@ from bench.histories import MIXES, READ, SIZES, generate, load_into_cache, remov
 from bench.measure import REFUSED, Command, SameReport, best_in_turns, best_of_groups, in_words, words_of
 from bench.parts import QUICK, Limit, Measurements, Part, Row, Setup, Table, limits_table, most, table
 from bench.questions import TEN
-from dev.running import Measured, peak_of
+from dev.running import Measured, Words, peak_of
 
 GREP = ["grep", "-c", "^Node-path"]
 COUNT = ["wc", "-c"]
 PIPE = Path("/dev/stdin")
-# What a pipe is measured beside, and the limit of the time relative to that.
+
+
+class Pipe(NamedTuple):
+    """What a pipe is measured beside, and the limit of the time relative to that."""
+
+    words: Words
+    limit: Limit
+
+
 PIPES = {
-    "small records": (GREP, most(1.9, "small records, time relative to grep")),
-    "mergeinfo": (GREP, most(3.5, "mergeinfo, time relative to grep")),
-    "large texts": (COUNT, most(1.3, "large texts, time relative to wc")),
+    "small records": Pipe(GREP, most(1.9, "small records, time relative to grep")),
+    "mergeinfo": Pipe(GREP, most(3.5, "mergeinfo, time relative to grep")),
+    "large texts": Pipe(COUNT, most(1.3, "large texts, time relative to wc")),
 }
 MOST_OF_BEFORE = most(1, "time relative to the program before")
 MOST_OF_HASHING = most(0.1, "mergeinfo, share of functions that hash")
 MOST_FOR_TEXTS = most(20, "large texts from a pipe, peak MB")
 MOST_OF_FORMAT_2 = most(1.1, "processor time of a byte in format 3 relative to one in format 2")
 MOST_OF_MEMORY = most(1.03, "memory relative to the program before")
-LIMITS = [limit for _, limit in PIPES.values()]
+LIMITS = [pipe.limit for pipe in PIPES.values()]
 LIMITS += [MOST_OF_BEFORE, MOST_OF_HASHING, MOST_FOR_TEXTS, MOST_OF_FORMAT_2, MOST_OF_MEMORY]
 # Functions that hash, and those into which hashing is compiled. All that such a function does counts as hashing.
 HASHING = re.compile(r"hash_one|Hasher\w*::write|TextTable::(add|find)\b")
@@ -47,15 +55,12 @@ LEAST_SHOWN = 0.05
 
 def make(setup: Setup, name: str, form: int = 2, is_short: bool = False) -> Path:
     """A generated dump."""
-    options, revisions, status = READ[name]
-    more = ["--format", str(form)] + ["--faulty-end"] * (status == REFUSED)
+    read = READ[name]
+    more = ["--format", str(form)] + ["--faulty-end"] * read.is_faulty
     path = setup.folder / f"{name.replace(' ', '-')}-{form}"
-    generate(path, [*options, *more], revisions // QUICK if is_short else setup.scaled(revisions))
+    generate(path, [*read.options, *more], read.revisions // QUICK if is_short else setup.scaled(read.revisions))
     load_into_cache(path)
     return path
-
-
-# ---- beside another reader
 
 
 class Pair(NamedTuple):
@@ -79,7 +84,7 @@ def pairs_of(setup: Setup, paths: dict[str, Path]) -> Iterator[Pair]:
         yield Pair(f"{name} from a file", paths[name].stat().st_size, both, MOST_OF_BEFORE)
     for name, path in paths.items():
         words, limit = PIPES[name]
-        ours = Command(words_of(setup.program, PIPE), ["cat", path], status=READ[name][-1])
+        ours = Command(words_of(setup.program, PIPE), ["cat", path], status=READ[name].status)
         both = {"": ours, f"`{in_words(words)}`": Command(words, ["cat", path])}
         yield Pair(f"{name} from a pipe", path.stat().st_size, both, limit)
 
@@ -91,14 +96,11 @@ def pairs_table(setup: Setup, paths: dict[str, Path]) -> Table:
     return table("reading-dumps", heading, [pair.row(found) for pair, found in zip(pairs, best)])
 
 
-# ---- formats
-
-
 def formats_row(setup: Setup, name: str) -> Row:
     """The least processor time of reading a history from a file, in format 2 and in format 3."""
     # Two dumps of large texts in full size would fill many a disk.
     paths = {form: make(setup, name, form, name == "large texts") for form in (2, 3)}
-    commands = {form: Command(words_of(setup.program, path), status=READ[name][-1]) for form, path in paths.items()}
+    commands = {form: Command(words_of(setup.program, path), status=READ[name].status) for form, path in paths.items()}
     best = best_in_turns({form: each.run for form, each in commands.items()}, setup.times, attrgetter("processor"))
     size, other = (path.stat().st_size / 1e6 for path in paths.values())
     two, three = best[2].processor, best[3].processor
@@ -110,9 +112,6 @@ FORMATS = (
     "what is read | format 2, MB:.1f | processor s:.3f | format 3, MB:.1f | processor s:.3f | "
     f"relative, for a byte, {MOST_OF_FORMAT_2}:.3f"
 )
-
-
-# ---- functions that hash, and memory
 
 
 def shares_table(tool: str, shares: Shares) -> Table:

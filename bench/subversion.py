@@ -80,9 +80,6 @@ def load_part(dump: Path, repository: Path, seconds: float) -> Optional[Loaded]:
     return Loaded(f"file://{repository}", last)
 
 
-# ---- answers
-
-
 class OfBindings(NamedTuple):
     """The seconds of a question, and the result lines of each."""
 

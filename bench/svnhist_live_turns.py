@@ -108,9 +108,6 @@ def made(setup: Setup) -> History:
     return History(whole, front, first, last, pegs_at_ends(records_of(whole)))
 
 
-# ---- pieces
-
-
 def pieces_of(history: History) -> Iterator[bytes]:
     """The pieces as turns."""
     revisions = itertools.islice(revisions_of(history.whole), history.first + 2, None)
@@ -131,9 +128,6 @@ def grown(talk: Talk, history: History) -> list[float]:
 
 def pieces_row(title: str, taken: Sequence[float]) -> Row:
     return [title, statistics.median(taken), max(taken)]
-
-
-# ---- questions
 
 
 def questions_of(history: History, last: int, count: int) -> list[Question]:
@@ -170,9 +164,6 @@ def beside_subversion(talks: Talks, history: History, loaded: Loaded | None, tim
         f"{len(same)} questions `log` about the {loaded.last:,} revisions that Subversion has loaded take {ours:.3f} ms "
         f"each. `svn log -q` takes {other * 1e3:.3f} ms, {other * 1e3 / ours:.0f} times as long."
     )
-
-
-# ---- all
 
 
 def judged(pieces: Sequence[float], questions: dict[str, list[float]]) -> Iterator[Judged]:

@@ -35,9 +35,6 @@ MOST_OF_ONE = {
 MOST_OF_BEFORE = most(1.03, "time of one worker relative to the older build")
 
 
-# ---- the work
-
-
 def queries_of(setup: Setup, dump: Path) -> list[str]:
     lot, pegs = random.Random(3), later_half(pegs_of(records_of(dump)))
     lines = [drawn_line(lot, pegs, verb) for verb, count in ASKED.items() for _ in range(setup.scaled(count))]
@@ -62,9 +59,6 @@ def few_long_queries(setup: Setup) -> list[str]:
     lines = short_queries(setup)[: FEW_SHORT + FEW_LONG]
     lines[: WORKERS[-1] * FEW_LONG : WORKERS[-1]] = [line("log", Peg("/", SOURCE_REVISIONS))] * FEW_LONG
     return lines
-
-
-# ---- the runs
 
 
 ONE, OLD = Build(False, WORKERS[0]), Build(True, WORKERS[0])
@@ -116,8 +110,12 @@ def run(setup: Setup) -> Measurements:
     even = short_history(setup, "workers-even.dump")
     uneven = uneven_history(setup)
     many, few = short_queries(setup), long_queries(setup)
-    lists = [(even, queries_of(setup, even)), (uneven, few + many), (uneven, few_long_queries(setup))]
-    works = [Work(setup, name, *each, builds_of(setup)) for name, each in zip(MOST_OF_ONE, lists)]
+    builds = builds_of(setup)
+    works = [
+        Work(setup, "even", even, queries_of(setup, even), builds),
+        Work(setup, "uneven", uneven, few + many, builds),
+        Work(setup, "few long", uneven, few_long_queries(setup), builds),
+    ]
     heading = "work | workers | queries:, | report, MB:.1f | seconds:.3f | relative to one:.3f | at most:g"
     yield table("workers", heading, [work.row(build) for work in works for build in work.asked])
     long, short = of_each(setup, uneven, few), of_each(setup, uneven, many)
