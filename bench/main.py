@@ -78,18 +78,18 @@ def is_every_limit_met(items: Iterable[Item]) -> bool:
     return all(judged.is_met for item in items if isinstance(item, Table) for judged in item.judged())
 
 
-def measure_all(parts: Iterable[Part], setup: Setup, file: Path | None) -> bool:
-    """Runs parts, and writes what was measured to the file after each. Returns whether all limits are met."""
+def measure_all(parts: Iterable[Part], setup: Setup, file: Path | None = None) -> int:
+    """Runs parts, and writes what was measured to the file after each. Returns the exit status, 1 if a limit is missed."""
     given = {"program": str(setup.program), "is_quick": setup.is_quick, "times": setup.times}
     report: dict[str, Any] = {"date": datetime.date.today().isoformat(), "machine": machine(), **given, "parts": []}
-    is_met = True
+    status = 0
     for part in parts:
         items = measured(part, setup)
-        is_met = is_every_limit_met(items) and is_met
+        status = status if is_every_limit_met(items) else 1
         report["parts"].append(part_to_json(part, items))
         if file:
             file.write_text(json.dumps(report, indent=1) + "\n", encoding="utf-8")
-    return is_met
+    return status
 
 
 def found(program: Path) -> Path:
@@ -109,7 +109,7 @@ def main() -> int:
             before = given.before and found(given.before)
             live = given.live.resolve()
             setup = Setup(found(given.program), live, before, Path(folder), given.times, given.quick)
-            return 0 if measure_all(parts, setup, given.json) else 1
+            return measure_all(parts, setup, given.json)
         except (Failed, subprocess.CalledProcessError) as failed:
             sys.exit(f"run: {failed}")
 
