@@ -1,6 +1,7 @@
 """The dumps of the benchmarks: those that `bench/generate` writes, and small ones of our own."""
 from __future__ import annotations
 
+import itertools
 import subprocess
 from collections.abc import Iterable, Iterator, Sequence
 from pathlib import Path
@@ -126,4 +127,4 @@ def write_source(path: Path, revisions: int, value: bytes) -> Path:
     """A history in which each revision changes `source`, and `target` has this mergeinfo."""
     first = revision(1, added(b"source"), added(b"target", DIR, mergeinfo(value)))
     change = bytes(changed(b"source"))
-    return write_dump(path, (first, *(REVISION % number + change for number in range(2, revisions + 1))))
+    return write_dump(path, itertools.chain([first], (REVISION % rev + change for rev in range(2, revisions + 1))))

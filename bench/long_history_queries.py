@@ -7,6 +7,7 @@ includes its start.
 """
 from __future__ import annotations
 
+from collections.abc import Iterator
 from pathlib import Path
 
 from bench.histories import revision, write_dump
@@ -48,10 +49,11 @@ def nodes_of(rev: int) -> list[Node]:
     return copies + changes
 
 
-def make(path: Path, revisions: int) -> Path:
-    begin = revision(1, added(b"trunk"), *(added(name, FILE) for name in (*CHANGED, NAME % 0)))
+def revisions_of(last: int) -> Iterator[bytes]:
+    yield revision(1, added(b"trunk"), *(added(name, FILE) for name in (*CHANGED, NAME % 0)))
     changes = b"".join(bytes(Node(name, b"change", FILE)) for name in CHANGED)
-    return write_dump(path, (begin, *(revision(rev, *nodes_of(rev)) + changes for rev in range(2, revisions + 1))))
+    for rev in range(2, last + 1):
+        yield revision(rev, *nodes_of(rev)) + changes
 
 
 def query(verb: str, last: int) -> str:
@@ -60,7 +62,7 @@ def query(verb: str, last: int) -> str:
 
 def of_subversion(folder: Path) -> dict[str, float]:
     """The seconds of a query of each verb, on a shorter history; nothing without the bindings."""
-    url = load(make(folder / "short.dump", LOADED), folder / "short")
+    url = load(write_dump(folder / "short.dump", revisions_of(LOADED)), folder / "short")
     found = {}
     for verb in ("locate", "segments"):
         answered = ask_bindings(url, [query(verb, LOADED)] * ASKED_OF_BINDINGS)
@@ -77,7 +79,7 @@ class Sized:
 
     def __init__(self, setup: Setup, revisions: int) -> None:
         self.revisions = revisions
-        asked = Asked(setup, make(setup.folder / "searches.dump", revisions))
+        asked = Asked(setup, write_dump(setup.folder / "searches.dump", revisions_of(revisions)))
         self.base = asked.best([])
         self.count = setup.scaled(ASKED)
         self.seconds = {verb: self.of_each(asked, [query(verb, revisions)] * self.count) for verb in VERBS}

@@ -154,16 +154,15 @@ def table_from_json(data: dict[str, Any]) -> Table:
     return Table(data["name"], columns, [list(map(cell_from_json, row)) for row in data["rows"]])
 
 
-def part_to_json(part: Part, items: Iterable[Item]) -> dict[str, Any]:
-    """What was measured: tables, sentences, and each figure that has a limit, beside the words of its row."""
-    found: dict[str, Any] = {"name": part.name, "tables": [], "sentences": [], "limits": []}
-    for item in items:
-        found["sentences" if isinstance(item, str) else "tables"].append(
-            item if isinstance(item, str) else asdict(item)
-        )
-        for row in () if isinstance(item, str) else item.rows:
-            words = [cell for cell in row if isinstance(cell, str)]
-            found["limits"] += [
-                {"row": words, **asdict(cell), "is_met": cell.is_met} for cell in row if isinstance(cell, Judged)
-            ]
-    return found
+def limit_to_json(row: Row, judged: Judged) -> dict[str, Any]:
+    """A figure that has a limit, beside the words of its row."""
+    return {"row": [cell for cell in row if isinstance(cell, str)], **asdict(judged), "is_met": judged.is_met}
+
+
+def part_to_json(part: Part, items: Sequence[Item]) -> dict[str, Any]:
+    """What was measured: tables, sentences, and each figure that has a limit."""
+    tables = [item for item in items if isinstance(item, Table)]
+    rows = [row for each in tables for row in each.rows]
+    limits = [limit_to_json(row, cell) for row in rows for cell in row if isinstance(cell, Judged)]
+    sentences = [item for item in items if isinstance(item, str)]
+    return {"name": part.name, "tables": list(map(asdict, tables)), "sentences": sentences, "limits": limits}
