@@ -114,17 +114,20 @@ def best_of(times: int, runs: Callable[[], Measured]) -> Measured:
     return min((runs() for _ in range(times)), key=lambda taken: taken.wall)
 
 
-def started(words: Words, *, feeder: Words = ("true",), report: Path = Path(os.devnull), limits: Limits = Limits(120)) -> Measured:
+def started(words: Words, *, feeder: Words | None = None, report: Path = Path(os.devnull), limits: Limits = Limits(120)) -> Measured:
     """Runs a command by a small process, since the system counts what the process that starts a command had before as
     memory of the command. What it prints goes to a file."""
-    starting = [sys.executable, "-I", "-S", STARTER, str(int(limits.seconds)), str(limits.memory or -1), report]
-    with subprocess.Popen(feeder, stdout=subprocess.PIPE) as feeding:
-        done = subprocess.run([*starting, *words], stdin=feeding.stdout, stdout=subprocess.PIPE, stderr=subprocess.PIPE,
+    starting: Words = [sys.executable, "-I", "-S", STARTER, str(int(limits.seconds)), str(limits.memory or -1), report]
+    with ExitStack() as processes:
+        given: int | IO[bytes] | None = subprocess.DEVNULL
+        if feeder is not None:
+            given = processes.enter_context(subprocess.Popen(feeder, stdout=subprocess.PIPE)).stdout
+        done = subprocess.run([*starting, *words], stdin=given, stdout=subprocess.PIPE, stderr=subprocess.PIPE,
                               check=True)
     wall, processor, peak, status = done.stdout.split()
     return Measured(float(wall), float(processor), int(peak) * 1024, Outcome(int(status), b"", done.stderr))
 
 
-def peak_of(words: Words, feeder: Words = ("true",)) -> int:
+def peak_of(words: Words, feeder: Words | None = None) -> int:
     """The bytes of memory that a command takes at most."""
     return started(words, feeder=feeder, limits=Limits(3600)).expect().peak

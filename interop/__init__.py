@@ -1,1 +1,1 @@
-"""Answers of Subversion about the repositories of `histories.py`: how they are recorded, and compared with the program."""
+"""Answers of Subversion about small repositories: how they are recorded, and compared with the program."""

@@ -54,6 +54,9 @@ class Bounds(NamedTuple):
     low: int
     high: int
 
+    def __str__(self) -> str:
+        return f"{self.low}:{self.high}"
+
 
 @contextlib.contextmanager
 def denials() -> Iterator[None]:

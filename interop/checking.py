@@ -51,8 +51,8 @@ def shown(lines: list[bytes] | None) -> str:
 
 
 class Compared(NamedTuple):
-    """What came of a dump: the queries that agree and that differ, the ways that gave another report, and what is wrong,
-    in words."""
+    """What came of a dump: how many queries agree and differ, how many ways gave another report, and what is wrong, in
+    words."""
 
     agreeing: int
     differing: int

@@ -21,10 +21,10 @@ MERGE_VERBS = {"merged": True, "eligible": False}
 
 
 class Kept(NamedTuple):
-    """The queries that are kept, and words for the summary."""
+    """The queries of a verb that are kept, and words for the summary."""
 
     queries: list[Asked]
-    told: list[str]
+    told: str
 
 
 class HistoryVerb(NamedTuple):
@@ -89,7 +89,7 @@ def locate_queries(repository: Repository, name: str, wanted: Wanted) -> Kept:
     kept = chosen(asked, lot, wanted.most, OF_LOCATE)
     if not wanted.above:
         kept += [located(repository, *wrong) for wrong in wrong_pegs(repository.trees, lot, 8)]
-    return Kept(kept, [f"locate {len(kept)} of {len(asked)}"])
+    return Kept(kept, f"locate {len(kept)} of {len(asked)}")
 
 
 def asked_of_history(verb: HistoryVerb, place: Place, history: History) -> Asked:
@@ -97,25 +97,19 @@ def asked_of_history(verb: HistoryVerb, place: Place, history: History) -> Asked
     return Asked(f"{verb.name}\t{place}", answer, kind_of_history(answer))
 
 
-def history_queries(repository: Repository, name: str, wanted: Wanted) -> Kept:
-    """`segments` and `log` of each path of each revision."""
-    histories = [(place, repository.history(place)) for place in repository.places]
-    queries: list[Asked] = []
-    told = []
-    for verb in HISTORY_VERBS:
-        lot = Lot.named(name + verb.name)
-        asked = [
-            asked_of_history(verb, place, history)
-            for place, history in histories
-            if verb.differs(repository, history) == wanted.differing
-        ]
-        kept = chosen(asked, lot, wanted.most // 6, OF_OTHERS)
-        if not wanted.differing:
-            wrong = [place for place, _ in wrong_pegs(repository.trees, lot, 3)]
-            kept += [asked_of_history(verb, place, repository.history(place)) for place in wrong]
-        queries += kept
-        told.append(f"{verb.name} {len(kept)} of {len(asked)}")
-    return Kept(queries, told)
+def history_queries(repository: Repository, verb: HistoryVerb, name: str, wanted: Wanted) -> Kept:
+    """`segments` or `log` of each path of each revision."""
+    lot = Lot.named(name + verb.name)
+    asked = [
+        asked_of_history(verb, place, history)
+        for place, history in repository.histories
+        if verb.differs(repository, history) == wanted.differing
+    ]
+    kept = chosen(asked, lot, wanted.most // 6, OF_OTHERS)
+    if not wanted.differing:
+        wrong = [place for place, _ in wrong_pegs(repository.trees, lot, 3)]
+        kept += [asked_of_history(verb, place, repository.history(place)) for place in wrong]
+    return Kept(kept, f"{verb.name} {len(kept)} of {len(asked)}")
 
 
 def asked_of_mergeinfo(made: Repository, loaded: Repository, place: Place) -> Asked:
@@ -135,7 +129,7 @@ def mergeinfo_queries(made: Repository, loaded: Repository, name: str, wanted: W
     kept = chosen(asked, lot, wanted.most // 6, OF_OTHERS)
     if not wanted.differing:
         kept += [asked_of_mergeinfo(made, loaded, place) for place, _ in wrong_pegs(loaded.trees, lot, 3)]
-    return Kept(kept, [f"mergeinfo {len(kept)} of {len(asked)}"])
+    return Kept(kept, f"mergeinfo {len(kept)} of {len(asked)}")
 
 
 def drawn_pairs(repository: Repository, lot: Lot, count: int) -> list[Pair]:
@@ -165,42 +159,32 @@ def with_another(repository: Repository, lot: Lot, wrong: list[Place]) -> list[P
 
 def asked_of_pairs(repository: Repository, verb: str, pairs: Iterable[Pair], differing: bool) -> Iterator[Asked]:
     """The answers for these pairs, but only those in which svnhist differs or only the others."""
-    merged = MERGE_VERBS[verb]
     for pair in pairs:
-        merges = repository.merges(merged, pair)
-        if merges_differ(repository, merged, pair, merges) == differing:
+        merges = repository.merges(MERGE_VERBS[verb], pair)
+        if merges_differ(repository, MERGE_VERBS[verb], pair, merges) == differing:
             yield Asked(f"{verb}\t{pair.source}\t{pair.target}", merges.answer(), kind_by_lines(merges.answer()))
 
 
-def merge_queries(repository: Repository, name: str, wanted: Wanted) -> Kept:
-    """`merged` and `eligible` of pairs that are chosen at random."""
-    queries: list[Asked] = []
-    told = []
-    for verb in MERGE_VERBS:
-        lot = Lot.named(name + verb)
-        pairs = drawn_pairs(repository, lot, wanted.pairs * PAIRS_FOR_ONE)
-        asked = list(asked_of_pairs(repository, verb, pairs, wanted.differing))
-        kept = chosen(asked, lot, wanted.pairs, OF_OTHERS)
-        if not wanted.differing:
-            for count, wrong in zip((3, 1), wrong_pairs(repository, lot)):
-                kept += lot.some_of(list(asked_of_pairs(repository, verb, wrong, False)), count)
-        queries += kept
-        told.append(f"{verb} {len(kept)} of {len(asked)}")
-    return Kept(queries, told)
+def merge_queries(repository: Repository, verb: str, name: str, wanted: Wanted) -> Kept:
+    """`merged` or `eligible` of pairs that are chosen at random."""
+    lot = Lot.named(name + verb)
+    pairs = drawn_pairs(repository, lot, wanted.pairs * PAIRS_FOR_ONE)
+    asked = list(asked_of_pairs(repository, verb, pairs, wanted.differing))
+    kept = chosen(asked, lot, wanted.pairs, OF_OTHERS)
+    if not wanted.differing:
+        for count, wrong in zip((3, 1), wrong_pairs(repository, lot)):
+            kept += lot.some_of(list(asked_of_pairs(repository, verb, wrong, False)), count)
+    return Kept(kept, f"{verb} {len(kept)} of {len(asked)}")
 
 
 def log_in_range(repository: Repository, place: Place, bounds: Bounds, differing: bool) -> Asked | None:
     """The answer to `log` with a range, if svnhist differs in it as wanted and Subversion does not fail."""
     history = repository.history(place)
     revisions = repository.log_in(place, bounds)
-    if revisions is None:
+    if revisions is None or log_differs(repository, history._replace(revisions=revisions)) != differing:
         return None
-    found = history._replace(revisions=revisions)
-    if log_differs(repository, found) != differing:
-        return None
-    answer = found.as_log()
-    kind = kind_of_range(answer, len(history.revisions))
-    return Asked(f"log\t{place}\t{bounds.low}:{bounds.high}", answer, kind)
+    answer = history._replace(revisions=revisions).as_log()
+    return Asked(f"log\t{place}\t{bounds}", answer, kind_of_range(answer, len(history.revisions)))
 
 
 def log_range_queries(repository: Repository, name: str, wanted: Wanted) -> Kept:
@@ -211,45 +195,33 @@ def log_range_queries(repository: Repository, name: str, wanted: Wanted) -> Kept
     found = [log_in_range(repository, place, bounds, wanted.differing) for place, bounds in questions]
     asked = [each for each in found if each is not None]
     kept = chosen(asked, lot, wanted.ranges, OF_RANGES)
-    return Kept(kept, [f"log in a range {len(kept)} of {len(asked)} of {len(questions)}"])
+    return Kept(kept, f"log in a range {len(kept)} of {len(asked)} of {len(questions)}")
 
 
-class InRange(NamedTuple):
-    """A pair with a range, and what Subversion answers."""
-
-    pair: Pair
-    bounds: Bounds
-    asked: Asked
-
-
-def merges_in_range(repository: Repository, verb: str, pair: Pair, bounds: Bounds, differing: bool) -> InRange | None:
+def merges_in_range(repository: Repository, verb: str, pair: Pair, bounds: Bounds, differing: bool) -> Asked | None:
     """The answer for a pair with a range, if svnhist differs in it as wanted and Subversion does not fail."""
-    merged = MERGE_VERBS[verb]
-    merges = repository.merges(merged, pair, bounds)
-    if merges.status != "ok" or merges_differ(repository, merged, pair, merges) != differing:
+    merges = repository.merges(MERGE_VERBS[verb], pair, bounds)
+    if merges.status != "ok" or merges_differ(repository, MERGE_VERBS[verb], pair, merges) != differing:
         return None
-    whole = repository.merges(merged, pair)
-    line = f"{verb}\t{pair.source}\t{pair.target}\t{bounds.low}:{bounds.high}"
-    return InRange(pair, bounds, Asked(line, merges.answer(), kind_of_range(merges.answer(), len(whole.found))))
+    whole = repository.merges(MERGE_VERBS[verb], pair).found
+    answer = merges.answer()
+    return Asked(f"{verb}\t{pair.source}\t{pair.target}\t{bounds}", answer, kind_of_range(answer, len(whole)))
 
 
-def merge_range_queries(repository: Repository, name: str, wanted: Wanted) -> Kept:
-    """`merged` and `eligible` with a range, of pairs that are chosen at random. The summary also says how many of the
+def merge_range_queries(repository: Repository, verb: str, name: str, wanted: Wanted) -> Kept:
+    """`merged` or `eligible` with a range, of pairs that are chosen at random. The summary also says how many of the
     kept answers are those of `svn mergeinfo`."""
-    queries: list[Asked] = []
-    told = []
-    for verb in MERGE_VERBS:
-        lot = Lot.named(name + verb + " in a range")
-        pairs = drawn_pairs(repository, lot, wanted.ranges * PAIRS_FOR_ONE)
-        questions = [(pair, bounds_up_to(lot, pair.source.peg)) for pair in pairs]
-        found = [merges_in_range(repository, verb, pair, bounds, wanted.differing) for pair, bounds in questions]
-        asked = {each.asked.line: each for each in found if each is not None}
-        kept = chosen([each.asked for each in asked.values()], lot, wanted.ranges, OF_RANGES)
-        same = sum(is_same_by_command(repository, verb, asked[each.line]) for each in kept)
-        queries += kept
-        told.append(f"{verb} in a range {len(kept)} of {len(asked)} of {len(questions)}, {same} by the command")
-    return Kept(queries, told)
-
-
-def is_same_by_command(repository: Repository, verb: str, found: InRange) -> bool:
-    return repository.merges_by_command(verb, found.pair, found.bounds) == found.asked.answer.lines
+    lot = Lot.named(name + verb + " in a range")
+    pairs = drawn_pairs(repository, lot, wanted.ranges * PAIRS_FOR_ONE)
+    asked: list[Asked] = []
+    asked_of: dict[str, tuple[Pair, Bounds]] = {}
+    for pair in pairs:
+        bounds = bounds_up_to(lot, pair.source.peg)
+        found = merges_in_range(repository, verb, pair, bounds, wanted.differing)
+        if found is not None:
+            asked.append(found)
+            asked_of[found.line] = pair, bounds
+    kept = chosen(asked, lot, wanted.ranges, OF_RANGES)
+    same = sum(repository.merges_by_command(verb, *asked_of[each.line]) == each.answer.lines for each in kept)
+    told = f"{verb} in a range {len(kept)} of {len(asked)} of {len(pairs)}, {same} by the command"
+    return Kept(kept, told)

@@ -20,17 +20,8 @@ from pathlib import Path
 
 from dev.running import Failed
 from dev.tree import INTEROP
-from interop import bindings, histories, outputs, values
+from interop import bindings, histories, outputs, questions, values
 from interop.choosing import Wanted
-from interop.questions import (
-    Kept,
-    history_queries,
-    locate_queries,
-    log_range_queries,
-    merge_queries,
-    merge_range_queries,
-    mergeinfo_queries,
-)
 from interop.repository import Answer, Repository, parsed
 from interop.tools import COMMANDS, Tools, url_of
 from interop.workshop import Workshop
@@ -76,16 +67,19 @@ def record_values(into: Path, differing: bool) -> str:
     return ", ".join(told)
 
 
-def kept_of(made: Repository, loaded: Repository, name: str, wanted: Wanted) -> Iterator[Kept]:
+def kept_of(made: Repository, loaded: Repository, name: str, wanted: Wanted) -> Iterator[questions.Kept]:
     """The queries of all verbs that are kept."""
     if not wanted.differing:
-        yield locate_queries(loaded, name, wanted)
+        yield questions.locate_queries(loaded, name, wanted)
     if not wanted.above:
-        yield history_queries(loaded, name, wanted)
-        yield mergeinfo_queries(made, loaded, name, wanted)
-        yield merge_queries(loaded, name, wanted)
-        yield log_range_queries(loaded, name, wanted)
-        yield merge_range_queries(loaded, name, wanted)
+        for verb in questions.HISTORY_VERBS:
+            yield questions.history_queries(loaded, verb, name, wanted)
+        yield questions.mergeinfo_queries(made, loaded, name, wanted)
+        for verb_of_pairs in questions.MERGE_VERBS:
+            yield questions.merge_queries(loaded, verb_of_pairs, name, wanted)
+        yield questions.log_range_queries(loaded, name, wanted)
+        for verb_of_pairs in questions.MERGE_VERBS:
+            yield questions.merge_range_queries(loaded, verb_of_pairs, name, wanted)
 
 
 def write_in_format_3(tools: Tools, repository: Path, into: Path, name: str) -> None:
@@ -109,7 +103,7 @@ def record(tools: Tools, make: histories.Make, given: argparse.Namespace) -> str
     lines: list[Line] = []
     for kept in kept_of(made, loaded, name, wanted_of(given)):
         lines += [(each.line, each.answer) for each in kept.queries]
-        told += kept.told
+        told.append(kept.told)
     write_files(given.into, name, dump, lines)
     if name in IN_FORMAT_3:
         write_in_format_3(tools, loaded.folder, given.into, name)

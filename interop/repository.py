@@ -170,6 +170,11 @@ class Repository:
         is_later = rev > place.peg and status == "no-such-path"
         return Answer("ok", ["-"]) if is_later else Answer(status, [])
 
+    @functools.cached_property
+    def histories(self) -> list[tuple[Place, History]]:
+        """That of each path of each revision."""
+        return [(place, self.history(place)) for place in self.places]
+
     def history(self, place: Place) -> History:
         status, segments = self._segments(place)
         log_status, revisions = self._log(place)
@@ -220,7 +225,7 @@ class Repository:
 
     def merges_by_command(self, verb: str, pair: Pair, bounds: Bounds) -> list[str]:
         """The result lines that `svn mergeinfo` prints for a range."""
-        words = ["--show-revs", verb, "-r", f"{bounds.low}:{bounds.high}"]
+        words = ["--show-revs", verb, "-r", str(bounds)]
         return self.tools.svn("mergeinfo", *words, self.target(pair.source), self.target(pair.target)).decode().split()
 
     def is_malformed(self, place: Place) -> bool:

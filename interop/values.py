@@ -10,8 +10,8 @@ from interop.lots import Lot
 
 
 class Pieces(NamedTuple):
-    """The pieces of a text that are drawn mostly, and those that are drawn once in so many times. None among them stands
-    for what is usual."""
+    """The pieces of a text that are drawn mostly, and those that are drawn once in so many times. None among them
+    stands for what is usual."""
 
     usual: Sequence[Optional[bytes]]
     times: int

@@ -7,7 +7,6 @@ import os
 import sys
 from collections.abc import Iterator
 from pathlib import Path
-from typing import NamedTuple
 
 from dev.running import Failed, Limits, run
 from interop.recorded import Recorded, recorded_in
@@ -23,14 +22,6 @@ DESCRIPTION = (
 )
 
 
-class Compared(NamedTuple):
-    """How many reports about a dump were compared, and how many differ."""
-
-    name: str
-    reports: int
-    differing: int
-
-
 def report(program: Path, recorded: Recorded, workers: int) -> bytes:
     """The report on the queries of a repository, which are repeated until there are enough."""
     queries = list(itertools.islice(itertools.cycle(recorded.lines()), QUERIES))
@@ -40,18 +31,17 @@ def report(program: Path, recorded: Recorded, workers: int) -> bytes:
     return found.output
 
 
-def compare(program: Path, recorded: Recorded, times: int) -> Compared:
-    """Compares so many reports about one dump."""
+def compare(program: Path, recorded: Recorded, times: int) -> int:
+    """How many of so many reports about one dump differ."""
     wanted = report(program, recorded, 1)
-    differing = sum(report(program, recorded, WORKERS) != wanted for _ in range(times))
-    return Compared(recorded.name, times, differing)
+    return sum(report(program, recorded, WORKERS) != wanted for _ in range(times))
 
 
-def compare_all(program: Path, times: int = TIMES) -> Iterator[Compared]:
-    """Compares so many reports, in turn on each of the dumps."""
+def compare_all(program: Path, times: int = TIMES) -> Iterator[tuple[str, int]]:
+    """Compares so many reports, in turn on each of the dumps: its name, and how many of its reports differ."""
     dumps = recorded_in()
     for turn, recorded in enumerate(dumps):
-        yield compare(program, recorded, len(range(turn, times, len(dumps))))
+        yield recorded.name, compare(program, recorded, len(range(turn, times, len(dumps))))
 
 
 def main() -> int:
@@ -61,10 +51,10 @@ def main() -> int:
     parser.add_argument("--times", type=int, default=TIMES, help=words)
     given = parser.parse_args()
     differing = 0
-    for found in compare_all(Path(os.path.abspath(given.program)), given.times):
-        differing += found.differing
-        if found.differing:
-            print(f"{found.name}: {found.differing} reports of {WORKERS} workers differ from that of one")
+    for name, count in compare_all(Path(os.path.abspath(given.program)), given.times):
+        differing += count
+        if count:
+            print(f"{name}: {count} reports of {WORKERS} workers differ from that of one")
     print(f"workers: {given.times} reports compared, {differing} differ")
     return 1 if differing else 0
 

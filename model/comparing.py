@@ -3,6 +3,7 @@ from __future__ import annotations
 
 import argparse
 import collections
+import functools
 import multiprocessing
 import os
 import tempfile
@@ -56,15 +57,6 @@ class Comparison(NamedTuple):
     ending: str
 
 
-class Work(NamedTuple):
-    """A portion of the seeds."""
-
-    judge: Judge
-    program: Path
-    folder: Path
-    seeds: Sequence[int]
-
-
 class Found(NamedTuple):
     """The seeds that differ, and how often each thing came up."""
 
@@ -100,23 +92,21 @@ def difference(
     return Difference(way, *first_difference(texts["model"], texts["program"]))
 
 
-def compare_portion(work: Work) -> Found:
+def compare_portion(judge: Judge, program: Path, folder: Path, seeds: Sequence[int]) -> Found:
     found = Found({}, collections.Counter())
-    for seed in work.seeds:
-        judged = work.judge(work.program, work.folder, seed)
+    for seed in seeds:
+        judged = judge(program, folder, seed)
         found.counts.update(judged.counted)
         if judged.difference:
             found.differing[seed] = judged.difference
     return found
 
 
-def compare(
-    judge: Judge, program: Path, folder: Path, seeds: Sequence[int], jobs: int | None = None
-) -> Iterator[Found]:
+def compare(judge: Judge, program: Path, folder: Path, seeds: range, jobs: int | None = None) -> Iterator[Found]:
     """What is found of all seeds, portion by portion."""
-    works = (Work(judge, program, folder, seeds[at : at + PORTION]) for at in range(0, len(seeds), PORTION))
+    portion = functools.partial(compare_portion, judge, program, folder)
     with multiprocessing.Pool(jobs) as pool:
-        yield from pool.imap_unordered(compare_portion, works)
+        yield from pool.imap_unordered(portion, (seeds[at : at + PORTION] for at in range(0, len(seeds), PORTION)))
 
 
 def print_counts(counts: Counter[Counted]) -> None:

@@ -10,8 +10,9 @@ from collections.abc import Callable, Iterable
 from dataclasses import dataclass
 from typing import NamedTuple
 
+from dev.dumps import MERGEINFO
 from model import odd_parts as odd
-from model.odd_parts import MERGEINFO, PROP_DELTA, TEXT_DELTA
+from model.odd_parts import PROP_DELTA, TEXT_DELTA
 
 # The components of a path, and the kind of each path of a revision.
 Path = tuple[bytes, ...]
@@ -61,9 +62,8 @@ def has_line(lines: Iterable[bytes], name: bytes) -> bool:
 def changed(lot: random.Random, text: bytes) -> bytes:
     """A text in which one byte is replaced, removed or inserted."""
     at = lot.randrange(len(text) + 1)
-    return (
-        text[:at] + lot.choice((lot.choice(odd.BYTES), lot.choice(odd.BYTES), b"")) + text[at + lot.choice((0, 1, 1)) :]
-    )
+    byte = lot.choice((lot.choice(odd.BYTES), lot.choice(odd.BYTES), b""))
+    return text[:at] + byte + text[at + lot.choice((0, 1, 1)) :]
 
 
 class Draft:

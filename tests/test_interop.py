@@ -19,11 +19,8 @@ class RecordedAnswers(ProgramTest):
 
 class Workers(ProgramTest):
     def test_reports_of_many_workers_are_those_of_one(self) -> None:
-        reports = 0
-        for found in worker_reports.compare_all(self.programs.svnhist):
-            reports += found.reports
-            self.compare(found.name, 0, found.differing)
-        self.assertEqual(worker_reports.TIMES, reports)
+        for name, differing in worker_reports.compare_all(self.programs.svnhist):
+            self.compare(name, 0, differing)
 
 
 if __name__ == "__main__":

@@ -57,16 +57,17 @@ def inherited(lines: Lines, rest: bytes) -> Lines:
 class Catalog:
     """The mergeinfo of a target, its own or inherited, and, if asked, that of each path below it that has its own."""
 
-    def __init__(self, history: History, explicit: Explicit, answers: Answers, target: Target) -> None:
+    def __init__(
+        self, history: History, explicit: Explicit, answers: Answers, target: Target, is_recursive: bool
+    ) -> None:
         self.target = target
         self._explicit = explicit
         self._head = history.head
         self.entries: dict[bytes, Lines] = {}
-        for query in answers:
-            if isinstance(query, Mergeinfo) and is_at_or_below(query.path, target.path):
-                lines = self._lines(query, answers[query])
-                if lines is not None:
-                    self.entries[query.path] = lines
+        for query in [Mergeinfo(*target), *(below(explicit, target) if is_recursive else ())]:
+            lines = self._lines(query, answers[query])
+            if lines is not None:
+                self.entries[query.path] = lines
 
     def _lines(self, query: Mergeinfo, answer: Inherited) -> Lines | None:
         if answer.status == "malformed-mergeinfo":
@@ -191,13 +192,18 @@ def bounds_of(source: Target, question: Question) -> tuple[int, int]:
     return min(question.range), max(question.range)
 
 
+def below(explicit: Explicit, target: Target) -> Iterator[Mergeinfo]:
+    """The queries for the mergeinfo of each path at or below a target that has its own."""
+    return (Mergeinfo(path, target.rev) for path, _ in explicit.below(*target))
+
+
 def queries_of(explicit: Explicit, source: Target, target: Target, question: Question) -> list[Query[Answer]]:
     """All that is asked of svnhist for a question. The root is no target of `-R`."""
     if question.is_recursive and target.path == b"/":
         raise Denied("E195002", "-R is not taken for the root, where 'svn' fails itself")
     asked: list[Query[Answer]] = [Where(*target), Mergeinfo(*target), Where(*source), Log(*source)]
     if question.is_recursive:
-        return asked + [Mergeinfo(path, target.rev) for path, _ in explicit.below(*target)]
+        return [*asked, *below(explicit, target)]
     return asked + [Pair(*source, verb, *target) for verb in ("merged", "eligible")]
 
 
@@ -229,7 +235,7 @@ def show_revs(
     """The revisions of a source, with whether a star follows, given the answers to the queries of the question."""
     is_merged = question.verb == "merged"
     own = located(history, answers, target, (1, target.rev))
-    catalog = Catalog(history, explicit, answers, target)
+    catalog = Catalog(history, explicit, answers, target, question.is_recursive)
     if not catalog.entries:
         if is_merged:
             return []
