@@ -27,8 +27,9 @@ class Dialogue:
     def __init__(self, words: Words, seconds: float, is_narrow: bool = True) -> None:
         """A narrow input takes a write of up to a page only when those before it were read."""
         self.seconds = seconds
-        self.child = subprocess.Popen(words, stdin=subprocess.PIPE, stdout=subprocess.PIPE, stderr=subprocess.PIPE,
-                                      bufsize=0)
+        self.child = subprocess.Popen(
+            words, stdin=subprocess.PIPE, stdout=subprocess.PIPE, stderr=subprocess.PIPE, bufsize=0
+        )
         assert self.child.stdin and self.child.stdout and self.child.stderr
         self.input = self.child.stdin.fileno()
         self.read = {self.child.stdout.fileno(): bytearray(), self.child.stderr.fileno(): bytearray()}
@@ -42,8 +43,9 @@ class Dialogue:
     def __enter__(self) -> Dialogue:
         return self
 
-    def __exit__(self, kind: type[BaseException] | None, value: BaseException | None,
-                 trace: TracebackType | None) -> None:
+    def __exit__(
+        self, kind: type[BaseException] | None, value: BaseException | None, trace: TracebackType | None
+    ) -> None:
         self.child.kill()
         self.child.wait()
         for file in (self.child.stdin, self.child.stdout, self.child.stderr):
@@ -52,8 +54,9 @@ class Dialogue:
 
     def step(self, until: float, writes: bool, what: str) -> bool:
         """Waits until something can be read, which is done, or written, and returns whether something can be."""
-        readable, writable, _ = select.select(self.open, [self.input] if writes else [], [],
-                                              max(0.0, until - time.monotonic()))
+        readable, writable, _ = select.select(
+            self.open, [self.input] if writes else [], [], max(0.0, until - time.monotonic())
+        )
         if not readable and not writable:
             raise Late(what)
         for each in readable:
@@ -68,7 +71,7 @@ class Dialogue:
         until = time.monotonic() + self.seconds
         while text and self.is_input_open:
             if self.step(until, True, "input was not read"):
-                text = text[self.written(text):]
+                text = text[self.written(text) :]
 
     def written(self, text: bytes) -> int:
         """How many bytes could be written at once."""

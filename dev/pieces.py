@@ -59,7 +59,7 @@ def cut(lot: random.Random, text: bytes) -> list[bytes]:
     at = 0
     while at < len(text):
         size = lot.randint(1, most)
-        pieces.append(text[at:at + size])
+        pieces.append(text[at : at + size])
         at += size
     return pieces
 

@@ -46,8 +46,15 @@ class Limits:
             resource.setrlimit(resource.RLIMIT_AS, (self.memory, self.memory))
 
 
-def run(words: Words, given: bytes | Path = b"", *, taker: Path | None = None, limits: Limits = Limits(),
-        environment: Mapping[str, str | None] | None = None, folder: Path | None = None) -> Outcome:
+def run(
+    words: Words,
+    given: bytes | Path = b"",
+    *,
+    taker: Path | None = None,
+    limits: Limits = Limits(),
+    environment: Mapping[str, str | None] | None = None,
+    folder: Path | None = None,
+) -> Outcome:
     """Runs a command whose standard input is this text or file. What it prints may go to a file, and is not kept then.
     The variables stand beside those of this process; one that is None is taken away."""
     variables: dict[str, str | None] = {**os.environ, **(environment or {})}
@@ -61,10 +68,18 @@ def run(words: Words, given: bytes | Path = b"", *, taker: Path | None = None, l
             source = os.open(given, os.O_RDONLY)
             files.callback(os.close, source)
         try:
-            done = subprocess.run(words, stdin=source, input=None if isinstance(given, Path) else given, stdout=output,
-                                  stderr=subprocess.PIPE, timeout=limits.seconds, cwd=folder, check=False,
-                                  preexec_fn=None if limits.memory is None else limits.set,
-                                  env={name: value for name, value in variables.items() if value is not None})
+            done = subprocess.run(
+                words,
+                stdin=source,
+                input=None if isinstance(given, Path) else given,
+                stdout=output,
+                stderr=subprocess.PIPE,
+                timeout=limits.seconds,
+                cwd=folder,
+                check=False,
+                preexec_fn=None if limits.memory is None else limits.set,
+                env={name: value for name, value in variables.items() if value is not None},
+            )
         except subprocess.TimeoutExpired:
             return Outcome(None, b"", b"no end after %d seconds\n" % limits.seconds)
     return Outcome(done.returncode, done.stdout or b"", done.stderr)
@@ -97,7 +112,9 @@ def measure(words: Words, feeder: Words | None = None, file: Path = Path(os.devn
         feeding = None if feeder is None else subprocess.Popen(feeder, stdout=subprocess.PIPE)
         source = feeding.stdout if feeding is not None and feeding.stdout is not None else open(file, "rb")
         with source:
-            child = subprocess.Popen(words, stdin=source, stdout=output, stderr=errors, env={**os.environ, "LC_ALL": "C"})
+            child = subprocess.Popen(
+                words, stdin=source, stdout=output, stderr=errors, env={**os.environ, "LC_ALL": "C"}
+            )
         _, status, usage = os.wait4(child.pid, 0)
         wall = time.perf_counter() - began
         child.returncode = os.waitstatus_to_exitcode(status)
@@ -114,7 +131,9 @@ def best_of(times: int, runs: Callable[[], Measured]) -> Measured:
     return min((runs() for _ in range(times)), key=lambda taken: taken.wall)
 
 
-def started(words: Words, *, feeder: Words | None = None, report: Path = Path(os.devnull), limits: Limits = Limits(120)) -> Measured:
+def started(
+    words: Words, *, feeder: Words | None = None, report: Path = Path(os.devnull), limits: Limits = Limits(120)
+) -> Measured:
     """Runs a command by a small process, since the system counts what the process that starts a command had before as
     memory of the command. What it prints goes to a file."""
     starting: Words = [sys.executable, "-I", "-S", STARTER, str(int(limits.seconds)), str(limits.memory or -1), report]
@@ -122,8 +141,9 @@ def started(words: Words, *, feeder: Words | None = None, report: Path = Path(os
         given: int | IO[bytes] | None = subprocess.DEVNULL
         if feeder is not None:
             given = processes.enter_context(subprocess.Popen(feeder, stdout=subprocess.PIPE)).stdout
-        done = subprocess.run([*starting, *words], stdin=given, stdout=subprocess.PIPE, stderr=subprocess.PIPE,
-                              check=True)
+        done = subprocess.run(
+            [*starting, *words], stdin=given, stdout=subprocess.PIPE, stderr=subprocess.PIPE, check=True
+        )
     wall, processor, peak, status = done.stdout.split()
     return Measured(float(wall), float(processor), int(peak) * 1024, Outcome(int(status), b"", done.stderr))
 

@@ -1,4 +1,4 @@
-"""Runs a command, and prints its seconds, its processor seconds, the kilobytes that it took at most and its exit status.
+"""Runs a command, and prints its seconds, processor seconds, the kilobytes that it took at most and its exit status.
 
 usage: python3 -I -S starter.py SECONDS BYTES FILE COMMAND ARGUMENT..
 
