@@ -1,148 +1,149 @@
-"""What blocks save and cost: the index, the map and its check with four blocks and four workers, the whole run and its
-memory by BLOCK, and the answers from four blocks.
+"""What blocks save and cost: the index, the map and its check, whole runs and their memory, and the answers.
 
-The histories are those of `maps.py` and the one with much mergeinfo of `pieces.py`, of 120,000 revisions each. The
-index, the map and its check are what a run without queries takes longer than one on the dump with a faulty block at its
-end, which the program reads and refuses. All runs that are compared are measured in turns.
+The histories are those of changes and of additions, and one with much mergeinfo, of 120,000 revisions each. The index,
+the map and its check, with four blocks and four workers, are what a run without queries takes longer than one on the
+dump with a faulty block at its end, which the program reads and refuses. Whole runs are measured by BLOCK, and the
+answers from four blocks beside those from one. All runs that are compared are measured in turns.
 """
-import os
-import random
+from __future__ import annotations
 
-from maps import MIXES, RECORDS, REFUSED, SIZES, VERBS, drawn_lines, pegs_at_ends, write_faulty
-from measure import Failed, Timed, generate, peak_of, run_in_turns
-from pieces import DUMPS
-from questions import records_of
-from verbs import VERBS as ASKED_VERBS, questions_of
+import random
+from typing import NamedTuple
+
+from bench.histories import MIXES, RELEASES, SIZES, generate, make_faulty, remove
+from bench.measure import REFUSED, Timed, check_same, run_in_turns, words_of
+from bench.parts import Cell, Measurements, Part, Row, Setup, most, table
+from bench.questions import TEN, VERBS, drawn_line, drawn_lines, later_half, pegs_at_ends, records_of, written
+from dev.running import peak_of
 
 REVISIONS = SIZES[-1]
-QUICK = 10
-HISTORIES = {mix: ["--mix", mix, "--records", str(RECORDS)] + MIXES[mix] for mix in ("additions", "changes")}
-HISTORIES["releases"] = DUMPS["mergeinfo"][0]
+HISTORIES = {"additions": MIXES["additions"], "changes": MIXES["changes"], "releases": RELEASES}
 BLOCKS = (1000, 10000, 30000, 60000, 120000)
-WORKERS = (4, 1)
 # The block with which as many blocks are made as there are workers.
 QUARTER = 30000
-# Workers and BLOCK of the runs without queries, which are judged relative to the first one.
-MADE_KINDS = ((1, 0), (4, 0), (4, QUARTER))
+ASKED = 3000
 # The questions are repeated until they are so many, or their report has about so many bytes.
 LEAST_ASKED = 900000
 MOST_REPORT = 1 << 26
-# The limits: the index, the map and its check of the additions relative to those of one block and one worker, a whole run
-# and its memory relative to those of one block, and the answers from four blocks relative to those from one.
-MOST_OF_MADE = {("additions", 4, QUARTER): 0.6}
-MOST_OF_RUN = 1.15
-MOST_OF_MEMORY = 1.15
-MOST_OF_ANSWERS = 2.0
 
 
-def verdict(value, most):
-    return "%.2f %s" % (value, "met" if value <= most else "**not met**")
+class Kind(NamedTuple):
+    workers: int
+    block: int
+
+
+ONE = Kind(1, 0)
+# The runs without queries, which are judged relative to the first one.
+MADE_KINDS = (ONE, Kind(4, 0), Kind(4, QUARTER))
+MOST_OF_MADE = most(0.6, "additions, index, map and check in four blocks relative to one block and one worker")
+MOST_OF_RUN = most(1.15, "whole run relative to BLOCK 0")
+MOST_OF_MEMORY = most(1.15, "memory of a whole run relative to BLOCK 0")
+MOST_OF_ANSWERS = most(2.0, "time of the answers from four blocks relative to one")
 
 
 class History:
     """A generated history of one kind, and the runs of the program on it."""
 
-    def __init__(self, program, folder, name, given):
-        self.program = program
-        self.folder = folder
+    def __init__(self, setup: Setup, name: str) -> None:
+        self.setup = setup
         self.name = name
-        self.times = given.times
-        self.scale = QUICK if given.quick else 1
-        self.dump = os.path.join(folder, "blocks-%s.dump" % name)
-        with open(self.dump, "wb") as file:
-            generate(HISTORIES[name] + ["--revisions", str(REVISIONS // self.scale)], file)
+        self.dump = generate(setup.folder / f"blocks-{name}.dump", HISTORIES[name], setup.scaled(REVISIONS))
         self.pegs = pegs_at_ends(records_of(self.dump))
 
-    def timed(self, name, lines, workers, block):
+    def timed(self, name: str, lines: list[str], kind: Kind) -> Timed:
         """A run of the program with queries."""
-        queries = os.path.join(self.folder, "blocks-%s-%s.queries" % (self.name, name))
-        with open(queries, "w") as file:
-            file.writelines(lines)
-        return Timed([self.program, self.dump, queries, str(block // self.scale), str(workers)])
-
-    def remove(self):
-        os.remove(self.dump)
+        queries = written(self.setup.folder / f"blocks-{self.name}-{name}.queries", lines)
+        return Timed(words_of(self.setup.program, self.dump, queries, self.setup.scaled(kind.block), kind.workers))
 
 
-# ---- the index, the map and its check
-
-def print_made(history):
+def made_rows(history: History) -> list[Row]:
     """The time of the index, the map and its check, with one worker and one block and with as many blocks as workers."""
-    faulty = history.dump + "-faulty"
-    write_faulty(history.dump, faulty)
-    reading = Timed([history.program, faulty, os.devnull, "0", "1"], REFUSED)
-    found = {kind: history.timed("none", [], *kind) for kind in MADE_KINDS}
-    run_in_turns([reading] + list(found.values()), history.times)
-    os.remove(faulty)
-    one = found[MADE_KINDS[0]].wall - reading.wall
-    for (workers, block), each in found.items():
-        seconds = each.wall - reading.wall
-        most = MOST_OF_MADE.get((history.name, workers, block))
-        shown = "%.2f" % (seconds / one) if most is None else verdict(seconds / one, most)
-        print("| %s | %d | %s | %.3f | %s |" % (history.name, workers, format(block, ","), seconds, shown), flush=True)
+    faulty = make_faulty(history.dump, history.setup.folder / "blocks-faulty.dump")
+    reading = Timed(words_of(history.setup.program, faulty), REFUSED)
+    found = {kind: history.timed("none", [], kind) for kind in MADE_KINDS}
+    run_in_turns([reading, *found.values()], history.setup.times)
+    faulty.unlink()
+    seconds = {kind: each.wall - reading.wall for kind, each in found.items()}
+    ratios: dict[Kind, Cell] = {kind: each / seconds[ONE] for kind, each in seconds.items()}
+    if history.name == "additions":
+        last = MADE_KINDS[-1]
+        ratios[last] = MOST_OF_MADE.of(seconds[last] / seconds[ONE])
+    return [[history.name, *kind, seconds[kind], ratios[kind]] for kind in MADE_KINDS]
 
 
-# ---- whole runs
-
-def print_runs(history):
-    """The times and the peaks of whole runs with ten queries, by workers and BLOCK."""
-    lines = drawn_lines(history.pegs, VERBS)
-    found = {(workers, block): history.timed("ten", lines, workers, block)
-             for workers in WORKERS for block in (0,) + BLOCKS}
-    run_in_turns(found.values(), history.times)
-    if len({each.output for each in found.values()}) > 1 or found[WORKERS[0], 0].answered != len(VERBS):
-        raise Failed("the reports on %s differ, or do not answer all queries" % history.name)
+def run_rows(history: History) -> dict[int, list[Row]]:
+    """The times and the peaks of whole runs with ten queries, by workers, for each BLOCK."""
+    lines = drawn_lines(history.pegs)
+    kinds = [Kind(workers, block) for workers in (4, 1) for block in (0, *BLOCKS)]
+    found = {kind: history.timed("ten", lines, kind) for kind in kinds}
+    run_in_turns(found.values(), history.setup.times)
+    check_same(found.values(), len(TEN), history.name)
     peaks = {kind: peak_of(each.words) for kind, each in found.items()}
-    for workers, block in found:
-        wall, peak = found[workers, block].wall, peaks[workers, block]
-        ratios = ("", "") if block == 0 else (verdict(wall / found[workers, 0].wall, MOST_OF_RUN),
-                                              verdict(peak / peaks[workers, 0], MOST_OF_MEMORY))
-        print("| %s | %d | %s | %.3f | %s | %.1f | %s |" % (
-            history.name, workers, format(block, ","), wall, ratios[0], peak / 1e6, ratios[1]), flush=True)
+
+    def row(kind: Kind) -> Row:
+        wall, peak, base = found[kind].wall, peaks[kind], Kind(kind.workers, 0)
+        if kind == base:
+            return [history.name, kind.block, wall, None, peak / 1e6, None]
+        time, memory = MOST_OF_RUN.of(wall / found[base].wall), MOST_OF_MEMORY.of(peak / peaks[base])
+        return [history.name, kind.block, wall, time, peak / 1e6, memory]
+
+    return {workers: [row(kind) for kind in kinds if kind.workers == workers] for workers in (4, 1)}
 
 
-# ---- answers
+RUNS = f"history | BLOCK:, | seconds:.3f | relative, {MOST_OF_RUN}:.2f | peak MB:.1f | relative, {MOST_OF_MEMORY}:.2f"
 
-def repeated(history, verb, lines):
-    """The questions as often as they are asked to measure the time of their answers."""
-    once = history.timed(verb, lines, 4, 0)
+
+class Answers(NamedTuple):
+    """How often questions of a verb are asked, and the seconds of one with one block and with four."""
+
+    asked: int
+    one: float
+    four: float
+
+
+def answers_of(history: History, lot: random.Random, verb: str) -> Answers:
+    one, four = Kind(4, 0), Kind(4, QUARTER)
+    later = later_half(history.pegs)
+    lines = [drawn_line(lot, later, verb) for _ in range(ASKED)]
+    once = history.timed(verb, lines, one)
     once.keep_output()
-    if once.answered != len(lines):
-        raise Failed("the program answered %d of %d queries" % (once.answered, len(lines)))
-    return lines * max(1, min(LEAST_ASKED // len(lines), MOST_REPORT // once.size))
+    check_same([once], len(lines), verb)
+    many = lines * max(1, min(LEAST_ASKED // len(lines), MOST_REPORT // once.size))
+    bases = [history.timed("none", [], kind) for kind in (one, four)]
+    asked = [history.timed(verb, many, kind) for kind in (one, four)]
+    run_in_turns(bases + asked, history.setup.times)
+    check_same(asked, len(many), verb)
+    return Answers(len(many), *((each.wall - base.wall) / len(many) for each, base in zip(asked, bases)))
 
 
-def print_answers(history):
-    """The times of the answers to 3,000 questions of each verb, with one block and with four."""
+def answers_by_verb(history: History) -> dict[str, Answers]:
     lot = random.Random(6)
-    bases = [history.timed("none", [], 4, block) for block in (0, QUARTER)]
-    for verb in ASKED_VERBS:
-        lines = repeated(history, verb, questions_of(verb, history.pegs, lot))
-        asked = [history.timed(verb, lines, 4, block) for block in (0, QUARTER)]
-        run_in_turns(bases + asked, history.times)
-        if asked[0].output != asked[1].output:
-            raise Failed("the answers to %s differ with four blocks" % verb)
-        one, four = [(each.wall - base.wall) / len(lines) for each, base in zip(asked, bases)]
-        print("| %s | `%s` | %s | %.5f | %.5f | %s |" % (
-            history.name, verb, format(len(lines), ","), one * 1e3, four * 1e3, verdict(four / one, MOST_OF_ANSWERS)),
-            flush=True)
+    return {verb: answers_of(history, lot, verb) for verb in VERBS}
 
 
-def run_blocks(program, folder, given):
-    histories = [History(program, folder, name, given) for name in HISTORIES]
-    print("## Blocks\n\nThe best of %d measurements.\n" % given.times)
-    print("| history | workers | BLOCK | index, map and check, s | relative to one block and worker |\n|---|---|---|---|---|")
-    for history in histories:
-        print_made(history)
-    print("\n| history | workers | BLOCK | seconds | relative to BLOCK 0, at most %g | peak MB |"
-          " relative to BLOCK 0, at most %g |\n|---|---|---|---|---|---|---|" % (MOST_OF_RUN, MOST_OF_MEMORY))
-    for history in histories:
-        print_runs(history)
-    print("\n| history | verb | questions | ms per question, one block | ms, four blocks | relative, at most %g |\n"
-          "|---|---|---|---|---|---|" % MOST_OF_ANSWERS)
-    for history in histories:
-        print_answers(history)
-    for history in histories:
-        history.remove()
-    print(flush=True)
-    return 0
+def ratios_row(name: str, found: dict[str, Answers]) -> Row:
+    return [name, *(MOST_OF_ANSWERS.of(each.four / each.one) for each in found.values())]
+
+
+def times_rows(name: str, found: dict[str, Answers]) -> list[Row]:
+    return [[name, f"`{verb}`", each.asked, each.one * 1e3, each.four * 1e3] for verb, each in found.items()]
+
+
+def run(setup: Setup) -> Measurements:
+    histories = [History(setup, name) for name in HISTORIES]
+    heading = "history | workers | BLOCK:, | index, map and check, s:.3f | relative to one block and one worker:.2f"
+    yield table("blocks-made", heading, [row for history in histories for row in made_rows(history)])
+    runs = [run_rows(history) for history in histories]
+    yield "Whole runs with four workers, and with one:"
+    yield table("blocks-runs", RUNS, [row for each in runs for row in each[4]])
+    yield table("blocks-runs-of-one-worker", RUNS, [row for each in runs for row in each[1]])
+    answers = {history.name: answers_by_verb(history) for history in histories}
+    yield f"The answers from four blocks relative to those from one, {MOST_OF_ANSWERS}:"
+    verbs = "".join(f" | `{verb}`:.2f" for verb in VERBS)
+    yield table("blocks-answers", "history" + verbs, [ratios_row(*each) for each in answers.items()])
+    heading = "history | verb | questions:, | ms per question, one block:.5f | ms, four blocks:.5f"
+    yield table("blocks-answers-times", heading, [row for each in answers.items() for row in times_rows(*each)])
+    remove(*(history.dump for history in histories))
+
+
+PART = Part(__name__, __doc__, run, [MOST_OF_MADE, MOST_OF_RUN, MOST_OF_MEMORY, MOST_OF_ANSWERS])

@@ -3,14 +3,13 @@
 A run begins its hashes with random bytes of the system, so such keys are like any others for it. Where the object is
 loaded by LD_PRELOAD the system gives none, and the run takes the fixed seed: then they collide.
 """
+from __future__ import annotations
+
 import ctypes
 import math
-import os
 import shutil
 import subprocess
-from typing import Iterator, List, Tuple
-
-from measure import HERE
+from pathlib import Path
 
 # The low bits in which the places of keys agree. A table of 200,000 has 14 bits of them.
 BITS = 12
@@ -19,47 +18,61 @@ MASK = (1 << BITS) - 1
 SPARE = 1.05
 
 
-def compiler() -> List[str]:
+def compiler() -> list[str | Path]:
     """The system's compiler, or else the kit's, with what it needs beside it."""
     if shutil.which("cc"):
         return ["cc"]
-    command = shutil.which("rt") or "/opt/rattle/bin/rt"
-    kit = os.path.join(os.path.dirname(os.path.dirname(os.path.realpath(command))), "toolchain")
-    return [os.path.join(kit, "bin", "clang"), "--sysroot=" + kit, "--no-default-config", "-nostdlib", "-fuse-ld=lld",
-            os.path.join(kit, "lib", "libc.so.6")]
+    command = Path(shutil.which("rt") or "/opt/rattle/bin/rt")
+    kit = command.resolve().parent.parent / "toolchain"
+    return [
+        kit / "bin" / "clang",
+        f"--sysroot={kit}",
+        "--no-default-config",
+        "-nostdlib",
+        "-fuse-ld=lld",
+        kit / "lib" / "libc.so.6",
+    ]
 
 
-def make_object(folder: str) -> str:
-    """The path of the object that is made of `colliding.c`."""
-    path = os.path.join(folder, "colliding.so")
-    subprocess.run([*compiler(), "-O2", "-std=c11", "-Wall", "-Wextra", "-fPIC", "-shared",
-                    os.path.join(HERE, "colliding.c"), "-o", path], check=True)
+def make_object(folder: Path) -> Path:
+    """The object that is made of `colliding.c`."""
+    path = folder / "colliding.so"
+    source = Path(__file__).with_suffix(".c")
+    options = ["-O2", "-std=c11", "-Wall", "-Wextra", "-fPIC", "-shared"]
+    subprocess.run([*compiler(), *options, source, "-o", path], check=True)
     return path
 
 
 class Finder:
     """What finds keys: numbers whose names collide, and pairs of a node and a name."""
 
-    def __init__(self, folder: str) -> None:
+    def __init__(self, folder: Path) -> None:
         self.path = make_object(folder)
-        self.library = ctypes.CDLL(self.path)
+        self.library = ctypes.CDLL(str(self.path))
         self.library.find_nodes.restype = ctypes.c_size_t
 
-    def names(self, count: int) -> List[int]:
+    def names(self, count: int) -> list[int]:
         numbers = (ctypes.c_uint32 * count)()
         self.library.find_names(ctypes.c_size_t(count), ctypes.c_uint32(MASK), numbers)
         return list(numbers)
 
-    def pairs(self, count: int) -> Iterator[Tuple[int, int]]:
+    def pairs(self, count: int) -> list[tuple[int, int]]:
         """Pairs of a directory and a file, each by its number among `side(count)` of them."""
         directories, files = (ctypes.c_uint32 * count)(), (ctypes.c_uint32 * count)()
         many = side(count)
-        found = self.library.find_nodes(ctypes.c_size_t(count), ctypes.c_uint32(MASK), ctypes.c_uint32(1),
-                                        ctypes.c_uint32(many), ctypes.c_uint32(many), ctypes.c_uint32(many),
-                                        directories, files)
+        found = self.library.find_nodes(
+            ctypes.c_size_t(count),
+            ctypes.c_uint32(MASK),
+            ctypes.c_uint32(1),
+            ctypes.c_uint32(many),
+            ctypes.c_uint32(many),
+            ctypes.c_uint32(many),
+            directories,
+            files,
+        )
         if found < count:
-            raise ValueError("%d of %d pairs were found" % (found, count))
-        return zip(directories, files)
+            raise ValueError(f"{found} of {count} pairs were found")
+        return list(zip(directories, files))
 
 
 def side(count: int) -> int:

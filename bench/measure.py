@@ -1,66 +1,108 @@
-"""Runs a command and measures it, and generates the dumps."""
+"""Commands that are measured in turns, so that a slow moment of the machine affects all."""
+from __future__ import annotations
+
 import hashlib
 import math
 import os
+import shutil
 import subprocess
-import sys
-import tempfile
-import time
-from typing import IO, Any, List, Optional, Sequence
+from collections.abc import Iterable, Mapping, Sequence
+from dataclasses import dataclass
+from operator import attrgetter
+from pathlib import Path
+from typing import Callable, NamedTuple, TypeVar
 
-HERE = os.path.dirname(os.path.abspath(__file__))
+from bench.parts import Setup
+from dev.running import Failed, Measured, Words, measure
 
-# Runs the command that its arguments are, and prints the kilobytes that this took at most.
-PEAK = """
-import os, sys
-child = os.fork()
-if child == 0:
-    os.dup2(os.open(os.devnull, os.O_WRONLY), 1)
-    os.execv(sys.argv[1], sys.argv[1:])
-_, status, usage = os.wait4(child, 0)
-print(usage.ru_maxrss)
-sys.exit(os.waitstatus_to_exitcode(status) != 0)
-"""
+NOTHING = Path(os.devnull)
+# The exit status of the program for a dump that it refuses.
+REFUSED = 1
+Key = TypeVar("Key")
 
 
-class Failed(Exception):
-    pass
+def in_words(words: Words) -> str:
+    return " ".join(os.fsdecode(word) for word in words)
 
 
-class Run:
-    """One run: seconds from start to end, processor seconds, peak memory, exit status and output."""
+class SameReport:
+    """What some commands must print: the same report each time, with so many answers."""
 
-    def __init__(self, wall: float, usage: Any, status: int, output: bytes, errors: bytes) -> None:
-        self.wall = wall
-        self.processor: float = usage.ru_utime + usage.ru_stime
-        self.peak: int = usage.ru_maxrss * 1024
-        self.status = status
-        self.output = output
-        self.errors = errors
+    def __init__(self, subject: str, count: int) -> None:
+        self.subject = subject
+        self.count = count
+        self.reports: set[bytes] = set()
+
+    def check(self, report: bytes) -> None:
+        self.reports.add(report)
+        if len(self.reports) > 1 or report.count(b" ok\n") != self.count:
+            raise Failed(f"the reports on {self.subject} differ, or do not answer {self.count} queries")
 
 
-def run(words: Sequence[str], feeder: Optional[Sequence[str]] = None, file: str = os.devnull,
-        is_kept: bool = True) -> Run:
-    """Runs a command whose input is a file or the output of another command. Output that is not kept goes to /dev/null."""
-    environment = dict(os.environ, LC_ALL="C")
-    sink = tempfile.TemporaryFile() if is_kept else open(os.devnull, "w+b")
-    with sink as output, tempfile.TemporaryFile() as errors:
-        began = time.perf_counter()
-        if feeder is not None:
-            feeding = subprocess.Popen(feeder, stdout=subprocess.PIPE)
-            source: Any = feeding.stdout
-        else:
-            source = open(file, "rb")
-        child = subprocess.Popen(words, stdin=source, stdout=output, stderr=errors, env=environment)
-        source.close()
-        _, status, usage = os.wait4(child.pid, 0)
-        wall = time.perf_counter() - began
-        child.returncode = os.waitstatus_to_exitcode(status)
-        if feeder is not None:
-            feeding.wait()
-        output.seek(0)
-        errors.seek(0)
-        return Run(wall, usage, child.returncode, output.read(), errors.read())
+@dataclass(frozen=True)
+class Command:
+    """A command, whose input is that of a feeder or a file, and the exit status and the report that it must have."""
+
+    words: Words
+    feeder: Words | None = None
+    file: Path = NOTHING
+    status: int = 0
+    report: SameReport | None = None
+
+    def run(self, is_kept: bool = True) -> Measured:
+        """One run. Output that is not kept goes to /dev/null."""
+        taken = measure(self.words, self.feeder, self.file, is_kept)
+        if taken.outcome.status != self.status:
+            raise Failed(f"{in_words(self.words)} ended with {taken.outcome.shown()}")
+        if self.report is not None:
+            self.report.check(taken.outcome.output)
+        return taken
+
+
+def words_of(program: Path, dump: Path, queries: Path = NOTHING, block: int = 0, workers: int = 1) -> Words:
+    """The program about a dump."""
+    return [program, dump, queries, str(block), str(workers)]
+
+
+def compiled(name: str, folder: Path) -> Path | None:
+    """The program of a C source that stands here, or None without a compiler."""
+    program = folder / name
+    words: Words = ["cc", "-O2", "-o", program, Path(__file__).with_name(name + ".c")]
+    return program if shutil.which("cc") and subprocess.run(words, check=False).returncode == 0 else None
+
+
+def best_in_turns(
+    runs: Mapping[Key, Callable[[], Measured]], times: int, cost: Callable[[Measured], float] = attrgetter("wall")
+) -> dict[Key, Measured]:
+    """The run of each kind that cost least, of so many in turns."""
+    best: dict[Key, Measured] = {}
+    for _ in range(times):
+        for key, run in runs.items():
+            taken = run()
+            if key not in best or cost(taken) < cost(best[key]):
+                best[key] = taken
+    return best
+
+
+def best_of_groups(groups: Sequence[Mapping[Key, Command]], times: int) -> list[dict[Key, Measured]]:
+    """The best run of each command of some groups, all in turns."""
+    runs = {(place, name): command.run for place, group in enumerate(groups) for name, command in group.items()}
+    best = best_in_turns(runs, times)
+    return [{name: best[place, name] for name in group} for place, group in enumerate(groups)]
+
+
+class Build(NamedTuple):
+    """A build of the program, which may be the older one, and a number of workers."""
+
+    is_before: bool
+    workers: int
+
+    def __str__(self) -> str:
+        return f"{self.workers}{', older build' if self.is_before else ''}"
+
+    def timed(self, setup: Setup, dump: Path, queries: Path = NOTHING) -> Timed:
+        program = (self.is_before and setup.before) or setup.program
+        return Timed(words_of(program, dump, queries, workers=self.workers))
 
 
 class Timed:
@@ -68,35 +110,39 @@ class Timed:
     of the system. The output is kept once before and compared with that of a further run after: a checksum, and how many
     bytes, lines and answers it has."""
 
-    def __init__(self, words: Sequence[str], status: int = 0) -> None:
-        self.words = words
-        self.status = status
+    def __init__(self, words: Words, status: int = 0) -> None:
+        self.command = Command(words, status=status)
         self.wall = math.inf
-        self.output: Optional[bytes] = None
+        self.checksum: bytes | None = None
+        self.size = self.lines = self.answered = 0
 
-    def run(self, is_kept: bool) -> Run:
-        taken = run(self.words, file=os.devnull, is_kept=is_kept)
-        if taken.status != self.status:
-            raise Failed("%s ended with %d: %s" % (
-                " ".join(self.words), taken.status, taken.errors.decode("utf-8", "replace").strip()))
-        return taken
+    @property
+    def words(self) -> Words:
+        return self.command.words
 
     def keep_output(self) -> None:
-        output = self.run(True).output
+        output = self.command.run().outcome.output
         checksum = hashlib.sha256(output).digest()
-        if checksum != (self.output or checksum):
-            raise Failed("the output of %s differs from run to run" % " ".join(self.words))
-        self.output = checksum
+        if checksum != (self.checksum or checksum):
+            raise Failed(f"the output of {in_words(self.words)} differs from run to run")
+        self.checksum = checksum
         self.size = len(output)
         self.lines = output.count(b"\n")
         self.answered = output.count(b" ok\n")
 
     def run_once(self) -> None:
-        self.wall = min(self.wall, self.run(False).wall)
+        self.wall = min(self.wall, self.command.run(is_kept=False).wall)
 
 
-def run_in_turns(commands: Sequence[Timed], times: int) -> None:
-    """Runs each command so often, in turns, so that a slow moment of the machine affects all."""
+def check_same(found: Iterable[Timed], answered: int, subject: str) -> None:
+    """The outputs must be the same, and answer so many queries."""
+    if len({each.checksum for each in found}) > 1 or {each.answered for each in found} != {answered}:
+        raise Failed(f"the reports on {subject} differ, or do not answer {answered} queries")
+
+
+def run_in_turns(commands: Iterable[Timed], times: int) -> None:
+    """Runs each command so often, in turns."""
+    commands = list(commands)
     for command in commands:
         command.keep_output()
     for _ in range(times):
@@ -104,17 +150,3 @@ def run_in_turns(commands: Sequence[Timed], times: int) -> None:
             command.run_once()
     for command in commands:
         command.keep_output()
-
-
-def peak_of(words: List[str], feeder: Sequence[str] = ("true",)) -> int:
-    """The peak memory of a command whose input is the output of another one. The system counts what the process that
-    starts a command had before as well, so a small one of about 5 MB starts this."""
-    with subprocess.Popen(feeder, stdout=subprocess.PIPE) as feeding:
-        done = subprocess.run([sys.executable, "-I", "-S", "-c", PEAK] + words, stdin=feeding.stdout,
-                              stdout=subprocess.PIPE, check=True)
-    return int(done.stdout) * 1024
-
-
-def generate(words: List[str], file: IO[bytes]) -> None:
-    """Writes a generated dump to an open file."""
-    subprocess.run([sys.executable, os.path.join(HERE, "generate")] + words, stdout=file, check=True)

@@ -1,4 +1,4 @@
-"""How long `log`, `merged` and `eligible` take with a range of 100 revisions, relative to the same query without one.
+"""`log`, `merged` and `eligible` with a range of 100 revisions, relative to the same query without one.
 
 100,000 revisions are operative on the trunk of the history, and a branch has merged every other one of them, by a value
 of `svn:mergeinfo` with one element for each. The ranges are the first 100 of these revisions, 100 in the middle, and
@@ -6,163 +6,139 @@ the last 100. A time is that of a run with one query many times over less that o
 and in turns.
 
 Subversion answers the same from a repository loaded from the same dump, by `svn log -q` and `svn mergeinfo --show-revs`
-with `-r`, whose time includes their start. Without a range each is run once, as it may take a minute. The repository is
-made in memory where that is a folder.
+with `-r`, whose time includes their start. Without a range each is run once, as it may take a minute.
 """
-import argparse
-import os
-import re
-import shutil
-import tempfile
-from typing import Dict, List, Optional, Tuple
+from __future__ import annotations
 
-from measure import Failed, Timed, run, run_in_turns
-from merges import answers
-from questions import load
-from verbs import MEMORY, MOST_REPORT
-from wide import BEGIN, added, revision
+import re
+from collections.abc import Iterator
+from typing import NamedTuple, Optional
+
+from bench.histories import revision, write_dump
+from bench.measure import Command, Timed, in_words, run_in_turns, words_of
+from bench.parts import Measurements, Part, Row, Setup, most, table
+from bench.questions import Asked, Peg, line, written
+from bench.subversion import folder_in_memory, load
+from dev.dumps import FILE, added, changed, copied, mergeinfo
+from dev.running import Failed, best_of
 
 REVISIONS = 100000
-QUICK = 10
 RANGE = 100
 VERBS = ("log", "merged", "eligible")
-# A query is asked so often, or less often if its report would have more than about MOST_REPORT bytes.
+# A query is asked so often, or less often if its report would have more than about so many bytes.
 MOST_ASKED = 200000
-# The limit: the time with a range relative to that without one.
-MOST_OF_WHOLE = 0.1
-
-# The first and the last revision of a range, or None for all.
-Bounds = Optional[Tuple[int, int]]
-
-
-# ---- the history and the queries
-
-def write_history(path: str, operative: int) -> int:
-    """A history with so many operative revisions of the trunk: the first, and from the third on all but the last one,
-    in which the branch gets its mergeinfo. Returns that one."""
-    last = operative + 2
-    value = b"/trunk:" + b",".join(b"%d" % rev for rev in range(3, last, 2))
-    section = b"K 13\nsvn:mergeinfo\nV %d\n%s\nPROPS-END\n" % (len(value), value)
-    with open(path, "wb") as file:
-        file.write(BEGIN + revision(1) + added("trunk", b"dir") + added("trunk/file", b"file") + revision(2))
-        file.write(b"Node-path: branch\nNode-action: add\nNode-copyfrom-rev: 1\nNode-copyfrom-path: trunk\n\n")
-        for rev in range(3, last):
-            text = b"%d\n" % rev
-            file.write(revision(rev) + b"Node-path: trunk/file\nNode-action: change\nText-content-length: %d\n\n%s"
-                       % (len(text), text))
-        file.write(revision(last) + b"Node-path: branch\nNode-action: change\nProp-content-length: %d\n\n%s"
-                   % (len(section), section))
-    return last
+MOST_REPORT = 1 << 28
+MOST_OF_WHOLE = most(0.1, "time with a range relative to that without one")
+HEADING = (
+    f"query | range | queries:, | answer lines:, | ms per query:.5f | relative to no range, {MOST_OF_WHOLE}:.3f | "
+    "ms, Subversion:,.1f | ratio:,.0f"
+)
 
 
-def ranges_of(last: int) -> Dict[str, Bounds]:
-    """The ranges by their names."""
+class Bounds(NamedTuple):
+    first: int
+    last: int
+
+    def __str__(self) -> str:
+        return f"{self.first}:{self.last}"
+
+
+class Query(NamedTuple):
+    """A query by its verb, the name of its range, its bounds, if any, and the youngest revision."""
+
+    verb: str
+    name: str
+    bounds: Optional[Bounds]
+    last: int
+
+    def pegs(self) -> list[Peg]:
+        """The trunk, and the branch where there is a target."""
+        return [Peg(path, self.last) for path in ("trunk", "branch")[: 1 if self.verb == "log" else 2]]
+
+    def line(self) -> str:
+        return line(self.verb, *self.pegs(), *([self.bounds] if self.bounds else []))
+
+    def lines_of(self, whole: list[str]) -> list[str]:
+        """The lines of an answer without a range that are in the range."""
+        low, high = self.bounds or (0, self.last)
+        return [each for each in whole if low <= int(each.split(" ")[0].strip("r*")) <= high]
+
+    def to_subversion(self, url: str) -> list[str]:
+        command = ["svn", "log", "-q"] if self.verb == "log" else ["svn", "mergeinfo", "--show-revs", self.verb]
+        if self.bounds:
+            command += ["-r", str(Bounds(*reversed(self.bounds)) if self.verb == "log" else self.bounds)]
+        return command + [f"{url}/{peg}" for peg in self.pegs()]
+
+
+def queries_of(verb: str, last: int) -> list[Query]:
+    """The query of a verb without a range and with each."""
     firsts = {"first": 3, "middle": last // 2, "last": last - RANGE}
-    found: Dict[str, Bounds] = {name: (first, first + RANGE - 1) for name, first in firsts.items()}
-    return {"none": None, **found}
+    ranges = {name: Bounds(first, first + RANGE - 1) for name, first in firsts.items()}
+    return [Query(verb, "none", None, last), *(Query(verb, *each, last) for each in ranges.items())]
 
 
-def pegs_of(verb: str, last: int) -> List[str]:
-    """The pegs of a query: the trunk, and the branch where there is a target."""
-    return ["%s@%d" % (path, last) for path in ("trunk", "branch")[:1 if verb == "log" else 2]]
+def revisions_of(last: int) -> Iterator[bytes]:
+    """The trunk is operative in the first revision, and from the third on in all but the last one, in which the branch
+    gets its mergeinfo."""
+    yield revision(1, added(b"trunk"), added(b"trunk/file", FILE))
+    yield revision(2, copied(b"branch", b"trunk", 1))
+    for rev in range(3, last):
+        yield revision(rev, changed(b"trunk/file", text=b"%d\n" % rev))
+    value = b"/trunk:" + b",".join(b"%d" % rev for rev in range(3, last, 2))
+    yield revision(last, changed(b"branch", mergeinfo(value)))
 
 
-def line_of(verb: str, last: int, bounds: Bounds) -> str:
-    more = [] if bounds is None else ["%d:%d" % bounds]
-    return "\t".join([verb] + pegs_of(verb, last) + more) + "\n"
+class Run(NamedTuple):
+    """A run in which a query is asked many times, and its answer."""
+
+    asked: int
+    timed: Timed
+    lines: list[str]
 
 
-# ---- the runs
-
-class Query:
-    """A query, its answer, and the run in which it is asked many times."""
-
-    def __init__(self, program: str, dump: str, folder: str, name: str, line: str) -> None:
-        [(self.status, self.lines)] = answers(program, dump, folder, [line])
-        size = sum(len(each) + 1 for each in self.lines)
-        self.asked = min(MOST_ASKED, MOST_REPORT // max(1, size))
-        queries = os.path.join(folder, "ranges-%s.queries" % name)
-        with open(queries, "w") as file:
-            file.writelines([line] * self.asked)
-        self.run = Timed([program, dump, queries, "0", "1"])
-
-    def revisions(self) -> List[str]:
-        return [line.split(" ")[0] for line in self.lines]
+def run_of(asked: Asked, query: Query, whole: list[str]) -> Run:
+    """The answer must have those of the lines of the whole answer that are in the range."""
+    answer = asked.answers([query.line()])[0]
+    if answer.status != "ok" or query.bounds and answer.lines != query.lines_of(whole):
+        raise Failed(f"the answer to {query.line().strip()} is {answer.status}, or has other lines")
+    count = min(MOST_ASKED, MOST_REPORT // max(1, sum(len(each) + 1 for each in answer.lines)))
+    path = asked.setup.folder / f"ranges-{query.verb}-{query.name}.queries"
+    words = words_of(asked.setup.program, asked.dump, written(path, [query.line()] * count))
+    return Run(count, Timed(words), answer.lines)
 
 
-def queries_of(program: str, dump: str, folder: str, verb: str, last: int) -> Dict[str, Query]:
-    """The query of a verb with each range."""
-    found = {name: Query(program, dump, folder, "%s-%s" % (verb, name), line_of(verb, last, bounds))
-             for name, bounds in ranges_of(last).items()}
-    for name, bounds in ranges_of(last).items():
-        if found[name].status != "ok":
-            raise Failed("the answer to %s is %s" % (line_of(verb, last, bounds).strip(), found[name].status))
-        low, high = bounds or (0, last)
-        if found[name].lines != [line for line in found["none"].lines if low <= revision_in(line) <= high]:
-            raise Failed("the answer to %s is wrong" % line_of(verb, last, bounds).strip())
-    return found
-
-
-def revision_in(line: str) -> int:
-    return int(line.split(" ")[0].strip("r*"))
-
-
-# ---- Subversion
-
-def of_subversion(url: str, verb: str, last: int, bounds: Bounds) -> List[str]:
-    """The same query as a command of Subversion."""
-    low, high = bounds or (0, 0)
-    more = [] if bounds is None else ["-r", "%d:%d" % ((high, low) if verb == "log" else (low, high))]
-    command = ["svn", "log", "-q"] if verb == "log" else ["svn", "mergeinfo", "--show-revs", verb]
-    return command + more + ["%s/%s" % (url, peg) for peg in pegs_of(verb, last)]
-
-
-def seconds_of_subversion(words: List[str], times: int, wanted: List[str]) -> float:
-    """The best time of a command of Subversion, whose revisions must be these."""
-    best = min((run(words, file=os.devnull) for _ in range(times)), key=lambda taken: taken.wall)
-    found = re.findall(r"^r[0-9]+\*?", best.output.decode(), re.MULTILINE)
-    if best.status != 0 or found != wanted:
-        raise Failed("%s ended with %d and has another answer than the program" % (" ".join(words), best.status))
+def seconds_of_subversion(words: list[str], times: int, lines: list[str]) -> float:
+    """The best time of a command of Subversion, whose revisions must be those of these lines."""
+    best = best_of(times, Command(words).run)
+    found = re.findall(r"^r[0-9]+\*?", best.outcome.output.decode(), re.MULTILINE)
+    if found != [each.split(" ")[0] for each in lines]:
+        raise Failed(f"{in_words(words)} has another answer than the program")
     return best.wall
 
 
-# ---- the table
-
-def print_row(verb: str, name: str, query: Query, seconds: float, whole: float, other: Optional[float]) -> None:
-    cells = [verb, name, format(query.asked, ","), format(len(query.lines), ","), "%.5f" % (seconds * 1e3)]
-    cells += ["", ""] if name == "none" else [
-        "%.3f" % (seconds / whole), "met" if seconds <= MOST_OF_WHOLE * whole else "**not met**"]
-    cells += ["", ""] if other is None else ["%.1f" % (other * 1e3), "%.0f" % (other / seconds)]
-    print("| %s |" % " | ".join(cells), flush=True)
-
-
-def print_verb(program: str, dump: str, folder: str, times: int, verb: str, last: int, url: Optional[str]) -> None:
-    queries = queries_of(program, dump, folder, verb, last)
-    base = Timed([program, dump, os.devnull, "0", "1"])
-    run_in_turns([base] + [query.run for query in queries.values()], times)
-    seconds = {name: (query.run.wall - base.wall) / query.asked for name, query in queries.items()}
-    for name, bounds in ranges_of(last).items():
-        other = None
-        if url:
-            words = of_subversion(url, verb, last, bounds)
-            other = seconds_of_subversion(words, times if bounds else 1, queries[name].revisions())
-        print_row(verb, name, queries[name], seconds[name], seconds["none"], other)
+def rows_of(asked: Asked, verb: str, last: int, url: str | None) -> Iterator[Row]:
+    queries = queries_of(verb, last)
+    whole = asked.answers([queries[0].line()])[0].lines
+    runs = [run_of(asked, query, whole) for query in queries]
+    base = Timed(words_of(asked.setup.program, asked.dump))
+    run_in_turns([base, *(each.timed for each in runs)], asked.setup.times)
+    seconds = [(each.timed.wall - base.wall) / each.asked for each in runs]
+    for query, asking, each in zip(queries, runs, seconds):
+        ratio = MOST_OF_WHOLE.of(each / seconds[0]) if query.bounds else None
+        cells: Row = [f"`{verb}`", query.name, asking.asked, len(asking.lines), each * 1e3, ratio]
+        times = asked.setup.times if query.bounds else 1
+        other = seconds_of_subversion(query.to_subversion(url), times, asking.lines) if url else None
+        yield [*cells, other and other * 1e3, other and other / each]
 
 
-def run_ranges(program: str, folder: str, given: argparse.Namespace) -> int:
-    dump = os.path.join(folder, "ranges.dump")
-    operative = REVISIONS // QUICK if given.quick else REVISIONS
-    last = write_history(dump, operative)
-    with tempfile.TemporaryDirectory(dir=MEMORY if os.path.isdir(MEMORY) else folder) as above:
-        url = None
-        if shutil.which("svn") and shutil.which("svnadmin"):
-            load(dump, os.path.join(above, "ranges"))
-            url = "file://" + os.path.join(above, "ranges")
-        print("## Ranges\n\n%s operative revisions, and ranges of %d. The best of %d measurements.\n\n"
-              "| query | range | queries | answer lines | ms per query | relative to no range, at most %.1f | |"
-              " ms, Subversion | ratio |\n|---|---|---|---|---|---|---|---|---|"
-              % (format(operative, ","), RANGE, given.times, MOST_OF_WHOLE))
-        for verb in VERBS:
-            print_verb(program, dump, folder, given.times, verb, last, url)
-    print(flush=True)
-    return 0
+def run(setup: Setup) -> Measurements:
+    operative = setup.scaled(REVISIONS)
+    last = operative + 2
+    asked = Asked(setup, write_dump(setup.folder / "ranges.dump", revisions_of(last)))
+    yield f"{operative:,} operative revisions, and ranges of {RANGE}."
+    with folder_in_memory(setup.folder) as above:
+        url = load(asked.dump, above / "ranges")
+        yield table("ranges", HEADING, [row for verb in VERBS for row in rows_of(asked, verb, last, url)])
+
+
+PART = Part(__name__, __doc__, run, [MOST_OF_WHOLE])

@@ -3,263 +3,271 @@
 Each function gets a `Workshop`: a working copy of an empty repository, and the commands for it. The comments have the
 number of the revision that a step makes.
 """
-from typing import Sequence, TypeVar
+from __future__ import annotations
+
+from collections.abc import Callable
+
+from interop.drawn_history import drawn_revisions
+from interop.workshop import Workshop
+
+Make = Callable[[Workshop], None]
 
 
-def branches(shop):
+def branches(shop: Workshop) -> None:
     """Branches and tags, a branch that is deleted, and tags of older revisions."""
     shop.make("trunk/lib", "branches", "tags")
     shop.write("trunk/main.c", "int main;\n")
     shop.write("trunk/lib/util.c", "int util;\n")
-    shop.commit("Begin")                                                     # 1
+    shop.commit("Begin")  # 1
     shop.write("trunk/main.c", "int main = 1;\n")
-    shop.commit("Change the program")                                        # 2
-    shop.server("copy", "HEAD", "trunk", "branches/one")                     # 3
-    shop.server("copy", "1", "trunk", "tags/begun")                          # 4, of an older revision
+    shop.commit("Change the program")  # 2
+    shop.server("copy", "HEAD", "trunk", "branches/one")  # 3
+    shop.server("copy", "1", "trunk", "tags/begun")  # 4, of an older revision
     shop.write("branches/one/new.c", "int new;\n")
     shop.write("trunk/lib/late.c", "int late;\n")
-    shop.commit("Add a file to each line")                                   # 5
-    shop.server("copy", "HEAD", "branches/one", "tags/one-1.0")              # 6
-    shop.server("copy", "HEAD", "trunk/lib", "branches/lib")                 # 7, of a part alone
+    shop.commit("Add a file to each line")  # 5
+    shop.server("copy", "HEAD", "branches/one", "tags/one-1.0")  # 6
+    shop.server("copy", "HEAD", "trunk/lib", "branches/lib")  # 7, of a part alone
     shop.delete("branches/one")
-    shop.commit("The branch is done")                                        # 8
+    shop.commit("The branch is done")  # 8
     shop.copy("trunk", "branches/two")
     shop.write("branches/two/main.c", "int main = 2;\n")
     shop.write("branches/two/lib/two.c", "int two;\n")
     shop.delete("branches/two/lib/util.c")
-    shop.commit("Branch and change in one revision")                         # 9
-    shop.server("copy", "5", "branches/one", "branches/one-again")           # 10
-    shop.server("copy", "4", "branches/one/lib", "branches/two/lib/old")     # 11
-    shop.server("delete", "tags/begun")                                      # 12
-    shop.server("copy", "11", "tags/begun/lib", "tags/lib")                  # 13
+    shop.commit("Branch and change in one revision")  # 9
+    shop.server("copy", "5", "branches/one", "branches/one-again")  # 10
+    shop.server("copy", "4", "branches/one/lib", "branches/two/lib/old")  # 11
+    shop.server("delete", "tags/begun")  # 12
+    shop.server("copy", "11", "tags/begun/lib", "tags/lib")  # 13
 
 
-def renames(shop):
+def renames(shop: Workshop) -> None:
     """Renames of files and directories, inside a renamed directory, back to the first name, and a swap of two names."""
     shop.make("a/b/c")
     shop.write("a/x", "x\n")
     shop.write("a/b/y", "y\n")
     shop.write("a/b/c/z", "z\n")
     shop.write("top", "top\n")
-    shop.commit("Begin")                                                     # 1
+    shop.commit("Begin")  # 1
     shop.move("a/x", "a/x2")
-    shop.commit("Rename a file")                                             # 2
+    shop.commit("Rename a file")  # 2
     shop.move("a", "m")
-    shop.commit("Rename a directory")                                        # 3
+    shop.commit("Rename a directory")  # 3
     shop.move("m", "n")
     shop.move("n/b", "n/bb")
     shop.write("n/bb/y", "y\nmore\n")
-    shop.commit("Rename a directory and one inside it, and change a file")   # 4
+    shop.commit("Rename a directory and one inside it, and change a file")  # 4
     shop.move("n/bb/c/z", "z")
     shop.move("n/bb/c", "n/x2.dir")
-    shop.commit("Move up")                                                   # 5
+    shop.commit("Move up")  # 5
     shop.move("n", "a")
-    shop.commit("Back to the first name")                                    # 6
+    shop.commit("Back to the first name")  # 6
     shop.move("top", "hold")
     shop.move("z", "top")
     shop.move("hold", "z")
-    shop.commit("Swap two names")                                            # 7
+    shop.commit("Swap two names")  # 7
     shop.move("a/x2", "A")
-    shop.commit("A name in other letters")                                   # 8
+    shop.commit("A name in other letters")  # 8
     shop.make("deep/er/still")
     shop.move("a/bb", "deep/er/still/bb")
-    shop.commit("Move into directories that are new too")                    # 9
+    shop.commit("Move into directories that are new too")  # 9
     shop.move("deep/er", "er")
     shop.delete("deep")
-    shop.commit("Move out and delete what is left")                          # 10
+    shop.commit("Move out and delete what is left")  # 10
 
 
-def copies(shop):
+def copies(shop: Workshop) -> None:
     """Copies of copies, into themselves, of older revisions, of the root, with changes, and of mixed revisions."""
     shop.make("s/in")
     shop.write("s/f", "f\n")
     shop.write("s/in/g", "g\n")
-    shop.commit("Begin")                                                     # 1
-    shop.server("copy", "HEAD", "s", "t")                                    # 2
-    shop.server("copy", "HEAD", "t", "u")                                    # 3
-    shop.server("copy", "HEAD", "u/in", "u/in/in")                           # 4, a directory into itself
-    shop.server("copy", "HEAD", "u", "s/u")                                  # 5
-    shop.server("copy", "HEAD", "s", "v")                                    # 6, copies inside a copy
-    shop.server("copy", "2", "t", "w")                                       # 7, of an older revision
-    shop.server("copy", "HEAD", "", "root")                                  # 8, the root itself
+    shop.commit("Begin")  # 1
+    shop.server("copy", "HEAD", "s", "t")  # 2
+    shop.server("copy", "HEAD", "t", "u")  # 3
+    shop.server("copy", "HEAD", "u/in", "u/in/in")  # 4, a directory into itself
+    shop.server("copy", "HEAD", "u", "s/u")  # 5
+    shop.server("copy", "HEAD", "s", "v")  # 6, copies inside a copy
+    shop.server("copy", "2", "t", "w")  # 7, of an older revision
+    shop.server("copy", "HEAD", "", "root")  # 8, the root itself
     shop.copy("s", "p")
     shop.copy("v/u/in", "p/u/again")
     shop.delete("p/u/in")
     shop.copy("s/f", "p/in/f")
     shop.write("p/in/f", "f\nin p\n")
-    shop.commit("A copy with copies, a deletion and a change in it")         # 9
+    shop.commit("A copy with copies, a deletion and a change in it")  # 9
     shop.write("s/f", "f\n10\n")
-    shop.commit("One file", update=False)                                    # 10
+    shop.commit("One file", update=False)  # 10
     shop.write("s/in/g", "g\n11\n")
-    shop.commit("Another file", update=False)                                # 11, the working copy has mixed revisions
+    shop.commit("Another file", update=False)  # 11, the working copy has mixed revisions
     shop.copy("s", "mixed")
-    shop.commit("A copy of mixed revisions")                                 # 12
+    shop.commit("A copy of mixed revisions")  # 12
     shop.svn("update", "-q", "-r", "7", "s/in")
     shop.svn("update", "-q", "-r", "4", "s/u")
     shop.copy("s", "mixed2")
-    shop.commit("A copy that leaves out what was not there")                 # 13
-    shop.server("copy", "HEAD", "mixed", "chain1")                           # 14
-    shop.server("copy", "HEAD", "chain1", "chain2")                          # 15
-    shop.server("copy", "HEAD", "chain2", "chain3")                          # 16
-    shop.server("copy", "14", "chain1/in", "chain3/in/in")                   # 17
+    shop.commit("A copy that leaves out what was not there")  # 13
+    shop.server("copy", "HEAD", "mixed", "chain1")  # 14
+    shop.server("copy", "HEAD", "chain1", "chain2")  # 15
+    shop.server("copy", "HEAD", "chain2", "chain3")  # 16
+    shop.server("copy", "14", "chain1/in", "chain3/in/in")  # 17
 
 
-def replaced(shop):
+def replaced(shop: Workshop) -> None:
     """Replaced files and directories: by new ones, by copies, by the other kind, inside a copy, and by oneself."""
     shop.make("d/in", "e")
     shop.write("f", "f\n")
     shop.write("d/g", "g\n")
     shop.write("d/in/h", "h\n")
     shop.write("e/g", "other g\n")
-    shop.commit("Begin")                                                     # 1
+    shop.commit("Begin")  # 1
     shop.delete("f")
     shop.write("f", "another f\n")
-    shop.commit("A file by a new one")                                       # 2
+    shop.commit("A file by a new one")  # 2
     shop.delete("d")
     shop.make("d")
     shop.write("d/g", "another g\n")
-    shop.commit("A directory by a new one")                                  # 3
+    shop.commit("A directory by a new one")  # 3
     shop.delete("f")
     shop.copy("e/g", "f")
-    shop.commit("A file by a copy")                                          # 4
-    shop.server("delete", "d", "copy", "2", "d", "d")                        # 5, a directory by its own past
-    shop.server("delete", "f", "copy", "1", "f", "f")                        # 6, a file by its own past
-    shop.server("delete", "f", "copy", "HEAD", "f", "f")                     # 7, by what it was a moment ago
+    shop.commit("A file by a copy")  # 4
+    shop.server("delete", "d", "copy", "2", "d", "d")  # 5, a directory by its own past
+    shop.server("delete", "f", "copy", "1", "f", "f")  # 6, a file by its own past
+    shop.server("delete", "f", "copy", "HEAD", "f", "f")  # 7, by what it was a moment ago
     shop.copy("d", "k")
     shop.delete("k/in")
     shop.copy("e", "k/in")
     shop.delete("k/g")
     shop.write("k/g", "new in a copy\n")
-    shop.commit("Replacements inside a copy")                                # 8
-    shop.server("delete", "e", "put", "e")                                   # 9, a directory by a file
-    shop.server("delete", "f", "mkdir", "f")                                 # 10, a file by a directory
+    shop.commit("Replacements inside a copy")  # 8
+    shop.server("delete", "e", "put", "e")  # 9, a directory by a file
+    shop.server("delete", "f", "mkdir", "f")  # 10, a file by a directory
     shop.delete("k")
     shop.copy("d", "k")
     shop.write("k/in/more", "more\n")
-    shop.commit("A directory by a copy with an addition")                    # 11
-    shop.server("copy", "8", "k/in", "in8")                                  # 12
-    shop.server("delete", "d", "mkdir", "d", "copy", "8", "k/in", "d/in")    # 13
+    shop.commit("A directory by a copy with an addition")  # 11
+    shop.server("copy", "8", "k/in", "in8")  # 12
+    shop.server("delete", "d", "mkdir", "d", "copy", "8", "k/in", "d/in")  # 13
 
 
-def again(shop):
+def again(shop: Workshop) -> None:
     """Paths deleted and added again: new, as copies of the same or of other sources, or from an older revision."""
     shop.make("trunk/a", "b")
     shop.write("trunk/a/f", "f\n")
-    shop.commit("Begin")                                                     # 1
-    shop.server("copy", "HEAD", "trunk", "b/one")                            # 2
-    shop.server("delete", "b/one")                                           # 3
-    shop.server("copy", "HEAD", "trunk", "b/one")                            # 4, the same source again
-    shop.server("delete", "b/one/a/f")                                       # 5
+    shop.commit("Begin")  # 1
+    shop.server("copy", "HEAD", "trunk", "b/one")  # 2
+    shop.server("delete", "b/one")  # 3
+    shop.server("copy", "HEAD", "trunk", "b/one")  # 4, the same source again
+    shop.server("delete", "b/one/a/f")  # 5
     shop.write("b/one/a/f", "new\n")
-    shop.commit("New at a path that was copied before")                      # 6
-    shop.server("delete", "b/one")                                           # 7
-    shop.server("copy", "6", "b/one", "b/one")                               # 8, out of the past
-    shop.server("delete", "trunk/a")                                         # 9
+    shop.commit("New at a path that was copied before")  # 6
+    shop.server("delete", "b/one")  # 7
+    shop.server("copy", "6", "b/one", "b/one")  # 8, out of the past
+    shop.server("delete", "trunk/a")  # 9
     shop.make("trunk/a")
     shop.write("trunk/a/f", "fresh\n")
-    shop.commit("New at a deleted path")                                     # 10
-    shop.server("copy", "HEAD", "trunk", "b/two")                            # 11
-    shop.server("delete", "trunk/a/f", "delete", "b/two/a")                  # 12
-    shop.server("copy", "1", "trunk/a/f", "trunk/a/f")                       # 13, the first, not the second
-    shop.server("copy", "13", "trunk/a", "b/two/a")                          # 14
-    shop.server("delete", "b")                                               # 15
-    shop.server("mkdir", "b", "copy", "14", "b/two", "b/one")                # 16, another one at the old path
-    shop.server("copy", "2", "b/one", "b/two")                               # 17
+    shop.commit("New at a deleted path")  # 10
+    shop.server("copy", "HEAD", "trunk", "b/two")  # 11
+    shop.server("delete", "trunk/a/f", "delete", "b/two/a")  # 12
+    shop.server("copy", "1", "trunk/a/f", "trunk/a/f")  # 13, the first, not the second
+    shop.server("copy", "13", "trunk/a", "b/two/a")  # 14
+    shop.server("delete", "b")  # 15
+    shop.server("mkdir", "b", "copy", "14", "b/two", "b/one")  # 16, another one at the old path
+    shop.server("copy", "2", "b/one", "b/two")  # 17
 
 
-def merges(shop):
+def merges(shop: Workshop) -> None:
     """Merges: of all eligible revisions, of one, reversed, recorded only, into a subdirectory, and back."""
     shop.make("trunk/lib", "branches")
     shop.write("trunk/a", "a\n")
     shop.write("trunk/lib/b", "b\n")
-    shop.commit("Begin")                                                     # 1
-    shop.server("copy", "HEAD", "trunk", "branches/one")                     # 2
-    shop.server("copy", "HEAD", "trunk", "branches/two")                     # 3
+    shop.commit("Begin")  # 1
+    shop.server("copy", "HEAD", "trunk", "branches/one")  # 2
+    shop.server("copy", "HEAD", "trunk", "branches/two")  # 3
     shop.write("trunk/new", "new\n")
     shop.make("trunk/dir")
     shop.write("trunk/dir/in", "in\n")
-    shop.commit("Additions that a merge will copy")                          # 4
+    shop.commit("Additions that a merge will copy")  # 4
     shop.write("trunk/a", "a\nmore\n")
-    shop.commit("Change a file")                                             # 5
+    shop.commit("Change a file")  # 5
     shop.delete("trunk/lib/b")
-    shop.commit("Delete a file")                                             # 6
+    shop.commit("Delete a file")  # 6
     shop.svn("merge", "-q", "^/trunk", "branches/one")
-    shop.commit("Merge all that is due")                                     # 7
+    shop.commit("Merge all that is due")  # 7
     shop.svn("merge", "-q", "-c", "5", "^/trunk", "branches/two")
-    shop.commit("Pick one change")                                           # 8
+    shop.commit("Pick one change")  # 8
     shop.svn("merge", "-q", "--record-only", "-c", "6", "^/trunk", "branches/two")
-    shop.commit("Record one change alone")                                   # 9
+    shop.commit("Record one change alone")  # 9
     shop.write("branches/one/new", "new\nin one\n")
     shop.write("branches/one/only", "only\n")
-    shop.commit("Work on the branch")                                        # 10
+    shop.commit("Work on the branch")  # 10
     shop.svn("merge", "-q", "^/branches/one", "trunk")
-    shop.commit("Merge the branch back")                                     # 11
+    shop.commit("Merge the branch back")  # 11
     shop.svn("merge", "-q", "-c", "-11", "^/trunk", "trunk")
-    shop.commit("Reverse that")                                              # 12
+    shop.commit("Reverse that")  # 12
     shop.svn("merge", "-q", "-c", "4", "^/trunk", "branches/two")
-    shop.commit("Pick the additions")                                        # 13
+    shop.commit("Pick the additions")  # 13
     shop.write("trunk/dir/in", "in\n14\n")
-    shop.commit("Change inside a directory")                                 # 14
+    shop.commit("Change inside a directory")  # 14
     shop.svn("merge", "-q", "-c", "14", "^/trunk/dir", "branches/two/dir")
-    shop.commit("Merge into a part of a branch")                             # 15
+    shop.commit("Merge into a part of a branch")  # 15
     shop.svn("merge", "-q", "--accept", "working", "-c", "-8", "^/branches/two", "branches/two")
-    shop.commit("Reverse on the branch")                                     # 16
-    shop.server("copy", "11", "trunk", "branches/three")                     # 17, takes its mergeinfo along
+    shop.commit("Reverse on the branch")  # 16
+    shop.server("copy", "11", "trunk", "branches/three")  # 17, takes its mergeinfo along
     shop.svn("propdel", "-q", "svn:mergeinfo", "branches/one")
-    shop.commit("Forget what was merged")                                    # 18
+    shop.commit("Forget what was merged")  # 18
     shop.svn("merge", "-q", "--depth", "files", "-c", "14", "^/trunk", "branches/three")
-    shop.commit("Merge what is for the directory alone")                     # 19
+    shop.commit("Merge what is for the directory alone")  # 19
 
 
-def properties(shop):
+def properties(shop: Workshop) -> None:
     """Properties that look like parts of a dump, with newlines and all bytes; set, changed and deleted."""
     shop.make("d", "dup")
     shop.write("f", "")
     shop.write("no-newline", "no newline at the end")
-    shop.write("looks-like-a-dump",
-               "SVN-fs-dump-format-version: 2\n\nRevision-number: 1\n\nNode-path: evil\nNode-action: delete\n\n"
-               "PROPS-END\n")
-    shop.commit("Begin")                                                     # 1
+    shop.write(
+        "looks-like-a-dump",
+        "SVN-fs-dump-format-version: 2\n\nRevision-number: 1\n\nNode-path: evil\nNode-action: delete\n\nPROPS-END\n",
+    )
+    shop.commit("Begin")  # 1
     shop.property("f", "lines", b"one\ntwo\n\nthree\n")
     shop.property("f", "headers", b"PROPS-END\n\nNode-path: d\nNode-action: delete\n\nK 3\nkey\nV 5\nvalue\n")
-    shop.commit("Properties with newlines")                                  # 2
+    shop.commit("Properties with newlines")  # 2
     shop.property("d", "bytes", bytes(range(256)))
     shop.property("d", "zeros", b"\0\0\0")
     shop.property("d", "empty", b"")
-    shop.commit("Properties with all bytes, with zeros and with nothing")    # 3
+    shop.commit("Properties with all bytes, with zeros and with nothing")  # 3
     shop.property("d", "svn:ignore", b"*.o\n*.a\n")
     shop.property("f", "svn:eol-style", b"native")
     shop.property("f", "svn:keywords", b"Id Revision")
     shop.property("no-newline", "svn:executable", b"*")
     shop.property(".", "of-the-root", b"\xff\xfe\x00root\n")
-    shop.commit("Properties that Subversion knows, and one of the root")     # 4
+    shop.commit("Properties that Subversion knows, and one of the root")  # 4
     shop.svn("propdel", "-q", "lines", "f")
     shop.svn("propdel", "-q", "zeros", "d")
     shop.property("f", "headers", b"V 1\nD 3\nkey\n")
-    shop.commit("Delete and change")                                         # 5
+    shop.commit("Delete and change")  # 5
     shop.copy("d", "e")
     shop.property("e", "bytes", bytes(reversed(range(256))))
     shop.svn("propdel", "-q", "svn:ignore", "e")
     shop.copy("f", "dup/f")
-    shop.commit("Copies, with and without changed properties")               # 6
+    shop.commit("Copies, with and without changed properties")  # 6
     shop.link("link", "looks-like-a-dump")
     shop.write("binary", bytes(range(256)) * 2)
-    shop.commit("A link and a text of all bytes")                            # 7
+    shop.commit("A link and a text of all bytes")  # 7
     shop.property(".", "of-the-root", b"")
     shop.property("f", "long", b"".join(b"%d\n" % n for n in range(300)))
     shop.delete("d")
-    shop.commit("An empty value, a long one, and a deletion")                # 8
+    shop.commit("An empty value, a long one, and a deletion")  # 8
     shop.move("e", "d")
     shop.property("d", "odd:name_-.9", b"name")
-    shop.commit("A rename with a property that has an odd name")             # 9
+    shop.commit("A rename with a property that has an odd name")  # 9
     shop.svn("propdel", "-q", "headers", "f")
     shop.svn("propdel", "-q", "long", "f")
     shop.svn("propdel", "-q", "svn:eol-style", "f")
     shop.svn("propdel", "-q", "svn:keywords", "f")
-    shop.commit("The last property goes")                                    # 10
+    shop.commit("The last property goes")  # 10
 
 
-def names(shop):
+def names(shop: Workshop) -> None:
     """Names that are hard to write in a header or in a query."""
     shop.make("at@here", "two  spaces", " leading", "trailing ", "@", "@2", "d@")
     shop.write("at@here/a@1", "a\n")
@@ -268,239 +276,168 @@ def names(shop):
     shop.write(" leading/ x ", "d\n")
     shop.write("trailing /...", "e\n")
     shop.write("Node-path: x", "f\n")
-    shop.commit("Begin")                                                     # 1
+    shop.commit("Begin")  # 1
     shop.make("\u00fcml\u00e4ut", "u\u0308mla\u0308ut", "\u540d\u524d", ".hidden", "-", "~")
     shop.write("\u540d\u524d/\U0001f600", "g\n")
     shop.write("\u00fcml\u00e4ut/\u00df.txt", "h\n")
     shop.write("u\u0308mla\u0308ut/\u00df.txt", "i\n")
-    shop.commit("Names beyond ASCII")                                        # 2
+    shop.commit("Names beyond ASCII")  # 2
     shop.move("at@here", "at@there")
     shop.move("two  spaces", "two spaces")
-    shop.commit("Rename two")                                                # 3
+    shop.commit("Rename two")  # 3
     shop.move("\u00fcml\u00e4ut", "trailing /\u00fcml\u00e4ut")
     shop.move("\u540d\u524d", "\u540d")
     shop.copy("@", "@@")
     shop.write("@@/@1", "j\n")
-    shop.commit("Rename others")                                             # 4
-    shop.make("%41", "a:b", "#", "?", "&amp;", "\"quoted\"", "back\\slash", "*", "$HOME", "[x]", "{y}")
+    shop.commit("Rename others")  # 4
+    shop.make("%41", "a:b", "#", "?", "&amp;", '"quoted"', "back\\slash", "*", "$HOME", "[x]", "{y}")
     shop.write("%41/%2F", "k\n")
     shop.write("a:b/Content-length: 7", "l\n")
     shop.write("#/-r", "m\n")
     shop.write("back\\slash/n\\", "n\n")
-    shop.commit("Names with signs")                                          # 5
+    shop.commit("Names with signs")  # 5
     shop.move("%41", "A")
     shop.move("a:b", "a: b")
     shop.move("back\\slash", "?/back\\slash")
     shop.copy("#", "# #")
     shop.move("d@", "d")
     shop.move("@2", "d@")
-    shop.commit("Rename those")                                              # 6
+    shop.commit("Rename those")  # 6
     shop.move(" leading", "leading")
     shop.move("trailing ", "trailing")
     shop.delete("@@")
     shop.copy("@", "@@")
-    shop.commit("Without the spaces")                                        # 7
+    shop.commit("Without the spaces")  # 7
 
 
-def roots(shop):
+def roots(shop: Workshop) -> None:
     """Changes of the root, revisions that change nothing, and files beside the usual directories."""
-    shop.empty_revision()                                                    # 1
+    shop.empty_revision()  # 1
     shop.property(".", "of-the-root", b"one")
-    shop.commit("A property of the root in an empty tree")                   # 2
+    shop.commit("A property of the root in an empty tree")  # 2
     shop.write("f", "f\n")
     shop.make("d")
-    shop.commit("Begin")                                                     # 3
-    shop.empty_revision()                                                    # 4
-    shop.empty_revision()                                                    # 5
-    shop.server("copy", "HEAD", "", "all")                                   # 6
+    shop.commit("Begin")  # 3
+    shop.empty_revision()  # 4
+    shop.empty_revision()  # 5
+    shop.server("copy", "HEAD", "", "all")  # 6
     shop.property(".", "of-the-root", b"two")
     shop.write("d/g", "g\n")
     shop.move("f", "d/f")
-    shop.commit("The root and what is below it")                             # 7
-    shop.server("propset", "of-the-root", "two", "")                         # 8, to what it is
-    shop.server("copy", "4", "", "all/old")                                  # 9
-    shop.server("delete", "all/f")                                           # 10
-    shop.empty_revision()                                                    # 11
+    shop.commit("The root and what is below it")  # 7
+    shop.server("propset", "of-the-root", "two", "")  # 8, to what it is
+    shop.server("copy", "4", "", "all/old")  # 9
+    shop.server("delete", "all/f")  # 10
+    shop.empty_revision()  # 11
     shop.svn("propdel", "-q", "of-the-root", ".")
-    shop.commit("No properties of the root")                                 # 12
-    shop.server("copy", "1", "", "nothing")                                  # 13, an empty root
-    shop.server("delete", "d", "delete", "all", "delete", "nothing")         # 14, an empty tree
-    shop.empty_revision()                                                    # 15
-    shop.server("copy", "13", "all", "all")                                  # 16
-    shop.empty_revision()                                                    # 17
+    shop.commit("No properties of the root")  # 12
+    shop.server("copy", "1", "", "nothing")  # 13, an empty root
+    shop.server("delete", "d", "delete", "all", "delete", "nothing")  # 14, an empty tree
+    shop.empty_revision()  # 15
+    shop.server("copy", "13", "all", "all")  # 16
+    shop.empty_revision()  # 17
 
 
-def deep(shop):
+def deep(shop: Workshop) -> None:
     """Deeply nested directories, and a file that moves at each step."""
-    names = ["l%d" % depth for depth in range(12)]
-    shop.make("/".join(names))
+    folders = ["l%d" % depth for depth in range(12)]
+    shop.make("/".join(folders))
     shop.write("f", "f\n")
-    shop.commit("Begin")                                                     # 1
+    shop.commit("Begin")  # 1
     here = "f"
-    for depth in range(1, len(names) + 1):                                   # 2 to 13
-        there = "/".join(names[:depth] + ["f%d" % depth])
+    for depth in range(1, len(folders) + 1):  # 2 to 13
+        there = "/".join(folders[:depth] + ["f%d" % depth])
         shop.server("move", here, there)
         here = there
-    shop.server("move", "l0/l1", "l0/m1")                                    # 14
-    shop.server("copy", "5", "l0/l1/l2/l3", "l0/m1/l2/l3/l3")                # 15
-    shop.server("move", "l0/m1/l2/l3", "l3")                                 # 16
-    shop.server("copy", "HEAD", "l3", "l3/l4/l3")                            # 17
-    shop.server("delete", "l3/l4/l3/l4/l5")                                  # 18
-    shop.server("copy", "13", "l0/l1/l2/l3/l4/l5", "l3/l4/l3/l4/l5")         # 19
+    shop.server("move", "l0/l1", "l0/m1")  # 14
+    shop.server("copy", "5", "l0/l1/l2/l3", "l0/m1/l2/l3/l3")  # 15
+    shop.server("move", "l0/m1/l2/l3", "l3")  # 16
+    shop.server("copy", "HEAD", "l3", "l3/l4/l3")  # 17
+    shop.server("delete", "l3/l4/l3/l4/l5")  # 18
+    shop.server("copy", "13", "l0/l1/l2/l3/l4/l5", "l3/l4/l3/l4/l5")  # 19
 
 
-def drawn(shop):
+def drawn(shop: Workshop) -> None:
     """Thirty revisions with additions, changes, deletions, copies and replacements, at random with a fixed seed."""
-    lot = Lot(20)
-    trees = [{"": "dir"}]
-    for rev in range(1, 31):
-        tree = dict(trees[-1])
-        steps = []
-        touched = []
-        for _ in range(1 + lot.below(3)):
-            step = draw(lot, trees, tree, touched)
-            steps.extend(step)
-        if not steps:
-            steps = ["propset", "turn", str(rev), ""]
+    for steps in drawn_revisions(30):
         shop.server(*steps)
-        trees.append(tree)
 
 
-def inherited(shop):
+def inherited(shop: Workshop) -> None:
     """Values that are inherited, over levels, in part, and from the root; emptied, copied, replaced and removed."""
     shop.make("trunk/a/b/c", "trunk/lib", "branches")
     shop.write("trunk/f", "f\n")
     shop.write("trunk/a/g", "g\n")
     shop.write("trunk/a/b/h", "h\n")
-    shop.commit("Begin")                                                     # 1
-    shop.mergeinfo({"trunk": b"/a:1\n/a-b:1\n/a.b/c:1\n/a0:1"})              # 2, in another order below it
-    shop.mergeinfo({"trunk/a": b"/other:1*,2\n/others:2*"})                  # 3, of which a part is inherited
-    shop.mergeinfo({"": b"/:1,2*,3\n/vendor:2*"})                            # 4, the root as a source path
-    shop.mergeinfo({"trunk/a": b""})                                         # 5, an empty value below another
+    shop.commit("Begin")  # 1
+    shop.mergeinfo({"trunk": b"/a:1\n/a-b:1\n/a.b/c:1\n/a0:1"})  # 2, in another order below it
+    shop.mergeinfo({"trunk/a": b"/other:1*,2\n/others:2*"})  # 3, of which a part is inherited
+    shop.mergeinfo({"": b"/:1,2*,3\n/vendor:2*"})  # 4, the root as a source path
+    shop.mergeinfo({"trunk/a": b""})  # 5, an empty value below another
     shop.mergeinfo({"trunk/a/b": b"/deep:2-4,5*", "trunk/f": b"/old/f:3*"})  # 6, a value below an empty one
-    shop.server("copy", "HEAD", "trunk", "branches/one")                     # 7, with its values
-    shop.server("copy", "HEAD", "trunk/lib", "branches/lib")                 # 8, without what it inherited
-    shop.mergeinfo({"branches/one": b"/trunk:7-8*"})                         # 9, of which nothing is inherited
-    shop.server("delete", "branches/one", "copy", "3", "trunk", "branches/one")                    # 10, older values
-    shop.server("delete", "trunk/a", "mkdir", "trunk/a", "delete", "trunk/f", "put", "trunk/f")    # 11, no values
-    shop.mergeinfo({"trunk": None})                                          # 12
-    shop.server("move", "branches/one", "branches/two", "copy", "9", "trunk/a/b", "trunk/a/b")     # 13
-    shop.server("copy", "12", "", "all")                                     # 14, the value of the root
-    shop.mergeinfo({"": b""})                                                # 15
-    shop.mergeinfo({"branches": b"/trunk:1-14\n/:15"})                       # 16
-    shop.mergeinfo({"": None, "branches/lib": b"/branches/two/lib:16"})      # 17
+    shop.server("copy", "HEAD", "trunk", "branches/one")  # 7, with its values
+    shop.server("copy", "HEAD", "trunk/lib", "branches/lib")  # 8, without what it inherited
+    shop.mergeinfo({"branches/one": b"/trunk:7-8*"})  # 9, of which nothing is inherited
+    shop.server("delete", "branches/one", "copy", "3", "trunk", "branches/one")  # 10, older values
+    shop.server("delete", "trunk/a", "mkdir", "trunk/a", "delete", "trunk/f", "put", "trunk/f")  # 11, no values
+    shop.mergeinfo({"trunk": None})  # 12
+    shop.server("move", "branches/one", "branches/two", "copy", "9", "trunk/a/b", "trunk/a/b")  # 13
+    shop.server("copy", "12", "", "all")  # 14, the value of the root
+    shop.mergeinfo({"": b""})  # 15
+    shop.mergeinfo({"branches": b"/trunk:1-14\n/:15"})  # 16
+    shop.mergeinfo({"": None, "branches/lib": b"/branches/two/lib:16"})  # 17
 
 
-def written(shop):
+def written(shop: Workshop) -> None:
     """Values in forms that no client writes: blanks, overlapping ranges, several lines of one path, unusual paths."""
     shop.make("d/in/side", "e/in")
     shop.write("d/in/f", "f\n")
-    shop.commit("Begin")                                                     # 1
-    shop.mergeinfo({"d": b"/trunk: \t 3-5,7", "e": b"/trunk:9,3-5*,1,7-8,6*\n"})              # 2
-    shop.mergeinfo({"d": b"/trunk:3-6,5-9,4,12,10-11", "e": b"/trunk:4-6*,5-9*,1-3"})         # 3
-    shop.mergeinfo({"d": b"/trunk:3*\n/b:1\n/trunk:1-2*\n/trunk:3,5\n/b:2-3*"})               # 4
+    shop.commit("Begin")  # 1
+    shop.mergeinfo({"d": b"/trunk: \t 3-5,7", "e": b"/trunk:9,3-5*,1,7-8,6*\n"})  # 2
+    shop.mergeinfo({"d": b"/trunk:3-6,5-9,4,12,10-11", "e": b"/trunk:4-6*,5-9*,1-3"})  # 3
+    shop.mergeinfo({"d": b"/trunk:3*\n/b:1\n/trunk:1-2*\n/trunk:3,5\n/b:2-3*"})  # 4
     shop.mergeinfo({"d": b"trunk:3\n/trunk/:4*\n//trunk//:5", "d/in": b"b//one/:4-5\n/b:6"})  # 5
-    shop.mergeinfo({"": b"/:3*\n:5\n//: 7-9", "e": b":1"})                   # 6, the root as a source path
-    shop.mergeinfo({"d": b"/trunk:0007,008-10*\n", "": b"/trunk:1-2147483647"})              # 7
-    shop.mergeinfo({"d": b"/a:b:3\n/ c :4\nx:5:6\n/7-8,9*:7\n", "e": b"/-:1\n/,:2\n/*:3"})   # 8
-    shop.mergeinfo({"d": "/\u00e4\u00f6:3\n/a\u0308:4\n/\U0001f600 x:5\n/\uff21:6\n/z:7".encode()})    # 9
-    shop.mergeinfo({"d": b"/trunk:2147483647,2147483645*,1-2\n/b:2147483646-2147483647*"})   # 10
-    shop.mergeinfo({"e": b"/b:1\n/a-b:2\n/a:3\n/a+:4\n/a/c:5\n/A:6\n/a/-:7", "d": b""})       # 11
-    shop.server("copy", "10", "d", "e/in/d")                                 # 12
+    shop.mergeinfo({"": b"/:3*\n:5\n//: 7-9", "e": b":1"})  # 6, the root as a source path
+    shop.mergeinfo({"d": b"/trunk:0007,008-10*\n", "": b"/trunk:1-2147483647"})  # 7
+    shop.mergeinfo({"d": b"/a:b:3\n/ c :4\nx:5:6\n/7-8,9*:7\n", "e": b"/-:1\n/,:2\n/*:3"})  # 8
+    shop.mergeinfo({"d": "/\u00e4\u00f6:3\n/a\u0308:4\n/\U0001f600 x:5\n/\uff21:6\n/z:7".encode()})  # 9
+    shop.mergeinfo({"d": b"/trunk:2147483647,2147483645*,1-2\n/b:2147483646-2147483647*"})  # 10
+    shop.mergeinfo({"e": b"/b:1\n/a-b:2\n/a:3\n/a+:4\n/a/c:5\n/A:6\n/a/-:7", "d": b""})  # 11
+    shop.server("copy", "10", "d", "e/in/d")  # 12
 
 
-def malformed(shop):
+def malformed(shop: Workshop) -> None:
     """Malformed values: above and below good ones, of the root, copied, put right, replaced and removed."""
     shop.make("trunk/a/b", "branches")
     shop.write("trunk/a/f", "f\n")
-    shop.commit("Begin")                                                     # 1
-    shop.mergeinfo({"": b"/vendor:1", "trunk": b"no colon"})                 # 2
-    shop.mergeinfo({"trunk/a": b"/b:2"})                                     # 3, a good value below it
-    shop.server("copy", "HEAD", "trunk", "branches/one")                     # 4
-    shop.mergeinfo({"trunk": b"/b:1-3", "trunk/a/b": b"/b/b:5-3"})           # 5, below a good value
-    shop.mergeinfo({"": b"/vendor:0"})                                       # 6, of the root
-    shop.mergeinfo({"trunk/a/b": None, "branches": b""})                     # 7
-    shop.server("delete", "branches/one", "mkdir", "branches/one")           # 8
-    shop.mergeinfo({"branches": b"/trunk:3-5,4*", "branches/one": b"/trunk:1\n\n"})           # 9
-    shop.server("copy", "4", "branches/one/a", "branches/one/a")             # 10
-    shop.mergeinfo({"": None, "branches": b"/trunk:3,4*"})                   # 11
-    shop.mergeinfo({"branches/one": b"/trunk: 4 "})                          # 12
-    shop.mergeinfo({"branches/one": b"/trunk: 4"})                           # 13
+    shop.commit("Begin")  # 1
+    shop.mergeinfo({"": b"/vendor:1", "trunk": b"no colon"})  # 2
+    shop.mergeinfo({"trunk/a": b"/b:2"})  # 3, a good value below it
+    shop.server("copy", "HEAD", "trunk", "branches/one")  # 4
+    shop.mergeinfo({"trunk": b"/b:1-3", "trunk/a/b": b"/b/b:5-3"})  # 5, below a good value
+    shop.mergeinfo({"": b"/vendor:0"})  # 6, of the root
+    shop.mergeinfo({"trunk/a/b": None, "branches": b""})  # 7
+    shop.server("delete", "branches/one", "mkdir", "branches/one")  # 8
+    shop.mergeinfo({"branches": b"/trunk:3-5,4*", "branches/one": b"/trunk:1\n\n"})  # 9
+    shop.server("copy", "4", "branches/one/a", "branches/one/a")  # 10
+    shop.mergeinfo({"": None, "branches": b"/trunk:3,4*"})  # 11
+    shop.mergeinfo({"branches/one": b"/trunk: 4 "})  # 12
+    shop.mergeinfo({"branches/one": b"/trunk: 4"})  # 13
 
 
-Item = TypeVar("Item")
-
-
-class Lot:
-    """Pseudorandom numbers that are the same in each run, by a linear congruence."""
-
-    def __init__(self, seed: int) -> None:
-        self.state = seed
-
-    def below(self, bound: int) -> int:
-        self.state = (self.state * 6364136223846793005 + 1442695040888963407) % 2 ** 64
-        return (self.state >> 33) * bound >> 31
-
-    def one_of(self, items: Sequence[Item]) -> Item:
-        return items[self.below(len(items))]
-
-
-def is_below(path: str, above: str) -> bool:
-    return path == above or above == "" or path.startswith(above + "/")
-
-
-def draw(lot, trees, tree, touched):
-    """One step of a revision, as arguments of `svnmucc`. It updates the tree, and avoids the paths already changed."""
-    def is_free(path):
-        return not any(is_below(path, other) or is_below(other, path) for other in touched)
-
-    def put_at(path, kinds):
-        for other in [other for other in tree if is_below(other, path)]:
-            del tree[other]
-        for rest, kind in kinds.items():
-            tree[path + rest] = kind
-        touched.append(path)
-
-    def copied(path, rev):
-        return {other[len(path):] if path else "/" + other if other else "": kind
-                for other, kind in trees[rev].items() if is_below(other, path)}
-
-    folders = sorted(path for path, kind in tree.items() if kind == "dir" and path.count("/") < 4)
-    place = lot.one_of(folders)
-    fresh = (place + "/" if place else "") + lot.one_of("abcdef")
-    there = sorted(path for path in tree if path and is_free(path))
-    sort = lot.below(10)
-    if sort < 3 and fresh not in tree and is_free(fresh):
-        kind = lot.one_of(["dir", "dir", "file"])
-        put_at(fresh, {"": kind})
-        return ["mkdir", fresh] if kind == "dir" else ["put", fresh]
-    if sort < 7 and len(trees) > 2 and is_free(fresh):
-        rev = len(trees) - 1 - lot.below(min(len(trees) - 1, 8))
-        sources = sorted(path for path in trees[rev] if path)
-        if not sources:
-            return []
-        source = lot.one_of(sources)
-        kinds = copied(source, rev)
-        if len(tree) + len(kinds) > 40:
-            return []
-        steps = ["delete", fresh] if fresh in tree else []
-        put_at(fresh, kinds)
-        return steps + ["copy", str(rev), source, fresh]
-    if sort == 7 and there:
-        path = lot.one_of(there)
-        put_at(path, {})
-        return ["delete", path]
-    if sort == 8 and there:
-        path = lot.one_of(there)
-        kind = lot.one_of(["dir", "file"])
-        put_at(path, {"": kind})
-        return ["delete", path] + (["mkdir", path] if kind == "dir" else ["put", path])
-    if there:
-        path = lot.one_of(there)
-        touched.append(path)
-        return ["propset", "mark", str(len(trees)), path]
-    return []
-
-
-ALL = [branches, renames, copies, replaced, again, merges, properties, names, roots, deep, drawn, inherited, written,
-       malformed]
+ALL: list[Make] = [
+    branches,
+    renames,
+    copies,
+    replaced,
+    again,
+    merges,
+    properties,
+    names,
+    roots,
+    deep,
+    drawn,
+    inherited,
+    written,
+    malformed,
+]

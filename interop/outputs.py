@@ -4,12 +4,17 @@ A file NAME.svn has for each command a line `$ ARGUMENTS`, a line with the exit 
 was printed on standard output. In the arguments a target is a path with its peg revision. Of a command that failed the
 output is the code of the error, such as E160013.
 """
-import os
+from __future__ import annotations
+
 import random
 import re
-import subprocess
 import urllib.parse
-from typing import Iterator, List, NamedTuple, Sequence, Tuple
+from collections.abc import Iterator, Sequence
+from pathlib import Path
+from typing import NamedTuple
+
+from dev import running
+from interop.tools import ENVIRONMENT
 
 BRANCH = re.compile(r"/(?:trunk|(?:b|branches|tags)/[^/]+)\Z")
 LOGS = 40
@@ -20,12 +25,12 @@ ERROR = re.compile(r"^svn: (E\d+):", re.MULTILINE)
 class Output(NamedTuple):
     """The arguments of a command, its exit status, and its output or the code of its error."""
 
-    arguments: List[str]
+    arguments: list[str]
     status: int
     text: bytes
 
 
-def read(path: str) -> Iterator[Output]:
+def read(path: str | Path) -> Iterator[Output]:
     """The outputs of a file."""
     with open(path, "rb") as file:
         for line in file:
@@ -35,36 +40,37 @@ def read(path: str) -> Iterator[Output]:
             yield Output(line[2:-1].decode().split("\t"), int(status), text)
 
 
-def write(path: str, outputs: Sequence[Output]) -> None:
+def write(path: Path, outputs: Sequence[Output]) -> None:
     with open(path, "wb") as file:
         for output in outputs:
-            file.write(b"$ %s\n%d %d\n%s\n" % ("\t".join(output.arguments).encode(), output.status, len(output.text),
-                                               output.text))
+            file.write(
+                b"$ %s\n%d %d\n%s\n"
+                % ("\t".join(output.arguments).encode(), output.status, len(output.text), output.text)
+            )
 
 
 def target(path: str, peg: int) -> str:
-    return "%s@%d" % (path, peg)
+    return f"{path}@{peg}"
 
 
-def run(url: str, arguments: List[str]) -> Output:
+def run(url: str, arguments: list[str]) -> Output:
     """What `svn` prints, with a URL in place of each target."""
-    words = [as_url(url, word) for word in arguments]
-    done = subprocess.run(["svn"] + words, stdin=subprocess.DEVNULL, stdout=subprocess.PIPE, stderr=subprocess.PIPE,
-                          env=dict(os.environ, LC_ALL="C.UTF-8", TZ="UTC"))
-    if done.returncode:
-        found = ERROR.search(done.stderr.decode("utf-8", "replace"))
+    words = ["svn", *(as_url(url, word) for word in arguments)]
+    done = running.run(words, environment=ENVIRONMENT)
+    if done.status != 0:
+        found = ERROR.search(done.errors.decode("utf-8", "replace"))
         return Output(arguments, 1, found[1].encode() if found else b"")
-    return Output(arguments, 0, done.stdout)
+    return Output(arguments, 0, done.output)
 
 
 def as_url(url: str, word: str) -> str:
     if not word.startswith("/"):
         return word
     path, _, peg = word.rpartition("@")
-    return "%s%s@%s" % (url, urllib.parse.quote(path), peg)
+    return f"{url}{urllib.parse.quote(path)}@{peg}"
 
 
-def log_of(lot: random.Random, trees: Sequence[Sequence[str]]) -> List[str]:
+def log_of(lot: random.Random, trees: Sequence[Sequence[str]]) -> list[str]:
     """The arguments of a `svn log` that is drawn at random."""
     head = len(trees) - 1
     paths = sorted({path for tree in trees for path in tree})
@@ -81,14 +87,14 @@ def log_of(lot: random.Random, trees: Sequence[Sequence[str]]) -> List[str]:
     return words
 
 
-def pairs_of(lot: random.Random, trees: Sequence[Sequence[str]]) -> List[Tuple[str, str]]:
+def pairs_of(lot: random.Random, trees: Sequence[Sequence[str]]) -> list[tuple[str, str]]:
     """Pairs of branches of the youngest revision, or of a path below each."""
     branches = [path for path in trees[-1] if BRANCH.match(path)]
     pairs = [(one, other) for one in branches for other in branches if one != other]
     return lot.sample(pairs, min(len(pairs), PAIRS))
 
 
-def arguments_of(name: str, trees: Sequence[Sequence[str]]) -> Iterator[List[str]]:
+def arguments_of(name: str, trees: Sequence[Sequence[str]]) -> Iterator[list[str]]:
     """All commands for a repository, given the paths of each revision."""
     lot = random.Random(name)
     head = len(trees) - 1
@@ -101,7 +107,7 @@ def arguments_of(name: str, trees: Sequence[Sequence[str]]) -> Iterator[List[str
             yield words + ["-R"]
 
 
-def record(name: str, url: str, trees: Sequence[Sequence[str]], path: str) -> int:
+def record(name: str, url: str, trees: Sequence[Sequence[str]], path: Path) -> int:
     """Writes what `svn` prints about a repository, and returns the number of commands."""
     outputs = [run(url, words) for words in arguments_of(name, trees)]
     write(path, outputs)

@@ -1,19 +1,24 @@
 """Compares a program with the model on what is drawn for each seed, in several processes, and prints what differs."""
+from __future__ import annotations
+
 import argparse
 import collections
-import itertools
+import functools
 import multiprocessing
 import os
 import tempfile
-from typing import Callable, Counter, Dict, Iterable, List, NamedTuple, Optional, Tuple
+from collections import Counter
+from collections.abc import Callable, Iterator, Mapping, Sequence
+from pathlib import Path
+from typing import NamedTuple
+
+from dev.checks import first_difference
+from dev.running import Outcome
 
 # Seeds that one process takes at a time.
 PORTION = 50
-
-# The exit status, what was printed on standard output, and the line of an error.
-Outcome = Tuple[Optional[int], bytes, bytes]
-# Of each verb or other kind of what is counted, and of each shape that it has, how often it came up.
-Counts = Counter[Tuple[str, str]]
+# The group of what is counted that has how the runs ended, one for each seed.
+RUNS = ""
 
 
 class Difference(NamedTuple):
@@ -25,109 +30,136 @@ class Difference(NamedTuple):
     found: str
 
 
-# Of a program, a folder for what is kept and a seed: a difference, if there is one, and what is counted.
-Judge = Callable[[str, str, int], Tuple[Optional[Difference], Iterable[Tuple[str, str]]]]
-Work = Tuple[Judge, str, str, Iterable[int]]
+class Counted(NamedTuple):
+    """Something that came up: its group, such as a verb, and its shape."""
+
+    group: str
+    shape: str
+
+
+class Judged(NamedTuple):
+    """The difference that a seed shows, if there is one, and what is counted of it."""
+
+    difference: Difference | None
+    counted: list[Counted]
+
+
+# Judges a program by a seed, with a folder for what is kept.
+Judge = Callable[[Path, Path, int], Judged]
+
+
+class Comparison(NamedTuple):
+    """What a command does: its name, what it compares and how, and how most runs end, in words."""
+
+    name: str
+    description: str
+    judge: Judge
+    ending: str
+
+
+class Found(NamedTuple):
+    """The seeds that differ, and how often each thing came up."""
+
+    differing: dict[int, Difference]
+    counts: Counter[Counted]
+
+    @property
+    def runs(self) -> int:
+        """How many seeds were judged."""
+        return sum(count for each, count in self.counts.items() if each.group == RUNS)
 
 
 def text_of(outcome: Outcome) -> bytes:
-    status, report, line = outcome
-    return b"status %s\n" % str(status).encode() + line + report
+    return b"status %s\n" % str(outcome.status).encode() + outcome.errors + outcome.output
 
 
-def first_difference(wanted: bytes, found: bytes) -> List[str]:
-    """The first lines of two texts that differ, as words to print."""
-    pairs = itertools.zip_longest(wanted.split(b"\n"), found.split(b"\n"), fillvalue=b"(nothing)")
-    differing = (pair for pair in pairs if pair[0] != pair[1])
-    return [line.decode("utf-8", "replace") for line in next(differing, (b"(the same, on another stream)",) * 2)]
-
-
-def keep(folder: str, seed: int, files: Dict[str, bytes]) -> Dict[str, str]:
+def keep(folder: Path, seed: int, files: Mapping[str, bytes]) -> dict[str, Path]:
     """Writes the files of a seed, and returns their paths by their names."""
-    paths = {name: os.path.join(folder, "%d.%s" % (seed, name)) for name in files}
+    paths = {name: folder / f"{seed}.{name}" for name in files}
     for name, text in files.items():
-        with open(paths[name], "wb") as file:
-            file.write(text)
+        paths[name].write_bytes(text)
     return paths
 
 
-def difference(folder: str, seed: int, files: Dict[str, bytes], way: str, wanted: Outcome,
-               found: Outcome) -> Optional[Difference]:
+def difference(
+    folder: Path, seed: int, files: Mapping[str, bytes], way: str, wanted: Outcome, found: Outcome
+) -> Difference | None:
     """The difference of two outcomes, if there is one; the files and both outcomes are kept then."""
     if wanted == found:
         return None
     texts = {"model": text_of(wanted), "program": text_of(found)}
     keep(folder, seed, {**files, **texts})
-    line, other = first_difference(texts["model"], texts["program"])
-    return Difference(way, line, other)
+    return Difference(way, *first_difference(texts["model"], texts["program"]))
 
 
-def compare(work: Work) -> Tuple[List[Tuple[int, Difference]], Counts]:
-    """The seeds of a portion that differ, and what was counted."""
-    judge, program, folder, seeds = work
-    differing = []
-    counts: Counts = collections.Counter()
+def compare_portion(judge: Judge, program: Path, folder: Path, seeds: Sequence[int]) -> Found:
+    found = Found({}, collections.Counter())
     for seed in seeds:
-        found, counted = judge(program, folder, seed)
-        counts.update(counted)
-        if found:
-            differing.append((seed, found))
-    return differing, counts
+        judged = judge(program, folder, seed)
+        found.counts.update(judged.counted)
+        if judged.difference:
+            found.differing[seed] = judged.difference
+    return found
 
 
-def print_counts(counts: Counts) -> None:
+def compare(judge: Judge, program: Path, folder: Path, seeds: range, jobs: int | None = None) -> Iterator[Found]:
+    """What is found of all seeds, portion by portion."""
+    portion = functools.partial(compare_portion, judge, program, folder)
+    with multiprocessing.Pool(jobs) as pool:
+        yield from pool.imap_unordered(portion, (seeds[at : at + PORTION] for at in range(0, len(seeds), PORTION)))
+
+
+def print_counts(counts: Counter[Counted]) -> None:
     """How the runs ended, and the answers to each verb."""
-    for verb in sorted({verb for verb, _ in counts}):
-        shapes = {shape: count for (each, shape), count in counts.items() if each == verb}
+    for group in sorted({each.group for each in counts}):
+        shapes = {each.shape: count for each, count in counts.items() if each.group == group}
         total = sum(shapes.values())
-        print("%s:" % (verb or "runs"))
+        print(f"{group or 'runs'}:")
         for shape, count in sorted(shapes.items(), key=lambda pair: -pair[1]):
-            print("  %8d %5.1f %%  %s" % (count, 100 * count / total, shape))
+            print(f"  {count:8} {100 * count / total:5.1f} %  {shape}")
 
 
-def run(judge: Judge, given: argparse.Namespace, folder: str) -> Tuple[int, Counts]:
-    """Compares all seeds; returns how many differ and the counts."""
-    seeds = range(given.first, given.last + 1)
-    works = ((judge, given.program, folder, seeds[at:at + PORTION]) for at in range(0, len(seeds), PORTION))
-    counts: Counts = collections.Counter()
-    count = 0
-    with multiprocessing.Pool(given.jobs) as pool:
-        for differing, more in pool.imap_unordered(compare, works):
-            for seed, each in differing:
-                print("seed %d, %s\n    the model:   %s\n    the program: %s" % (seed, *each), flush=True)
-            count += len(differing)
-            counts.update(more)
-    return count, counts
+def compare_and_print(judge: Judge, given: argparse.Namespace, folder: Path) -> Found:
+    """Compares all seeds, and prints those that differ when they come."""
+    whole = Found({}, collections.Counter())
+    for part in compare(judge, given.program, folder, range(given.first, given.last + 1), given.jobs):
+        for seed, each in part.differing.items():
+            print(f"seed {seed}, {each.way}\n    the model:   {each.wanted}\n    the program: {each.found}", flush=True)
+        whole.differing.update(part.differing)
+        whole.counts.update(part.counts)
+    return whole
 
 
-def arguments(description: str, program: str) -> argparse.Namespace:
-    words = argparse.ArgumentParser(description=description + " The exit status is 1 if any differs.")
-    words.add_argument("first", type=int, help="the first seed")
-    words.add_argument("last", type=int, help="the last seed")
-    words.add_argument("program", nargs="?", default=program, help="the built program")
-    words.add_argument("--keep", metavar="FOLDER", help="the folder for what differs, a new temporary one by default")
-    words.add_argument("--jobs", type=int, default=os.cpu_count(), help="the number of processes")
-    words.add_argument("--counts", action="store_true", help="print how runs end and what the answers are")
-    given = words.parse_args()
-    given.program = os.path.abspath(given.program)
+def arguments(comparison: Comparison, program: Path) -> argparse.Namespace:
+    description = comparison.description + " The exit status is 1 if any differs."
+    parser = argparse.ArgumentParser(prog=comparison.name, description=description)
+    parser.add_argument("first", type=int, help="the first seed")
+    parser.add_argument("last", type=int, help="the last seed")
+    parser.add_argument("program", nargs="?", default=program, help="the built program")
+    parser.add_argument("--keep", metavar="FOLDER", help="the folder for what differs, a new temporary one by default")
+    parser.add_argument("--jobs", type=int, default=os.cpu_count(), help="the number of processes")
+    parser.add_argument("--counts", action="store_true", help="print how runs end and what the answers are")
+    given = parser.parse_args()
+    given.program = Path(os.path.abspath(given.program))
     if not os.access(given.program, os.X_OK):
-        words.error("there is no program %s" % given.program)
+        parser.error(f"there is no program {given.program}")
     return given
 
 
-def main(judge: Judge, description: str, program: str, ending: str) -> int:
-    """Compares as the arguments say, and returns the exit status. The last line counts the runs with an ending, too."""
-    given = arguments(description, program)
-    folder = given.keep or tempfile.mkdtemp(prefix="svnhist-fuzz-")
-    os.makedirs(folder, exist_ok=True)
-    differing, counts = run(judge, given, folder)
+def main(comparison: Comparison, program: Path) -> int:
+    """Compares as the arguments say, and returns the exit status."""
+    given = arguments(comparison, program)
+    folder = Path(given.keep or tempfile.mkdtemp(prefix="svnhist-fuzz-"))
+    folder.mkdir(parents=True, exist_ok=True)
+    found = compare_and_print(comparison.judge, given, folder)
     if given.counts:
-        print_counts(counts)
+        print_counts(found.counts)
+    differing = len(found.differing)
     if differing:
-        print("kept in %s" % folder)
+        print(f"kept in {folder}")
     elif not given.keep:
-        os.rmdir(folder)
-    runs = sum(count for (verb, _), count in counts.items() if not verb)
-    print("%d seeds, %d with a %s: %d agree, %d differ" % (
-        runs, counts["", ending], ending, runs - differing, differing))
-    return 1 if differing or runs == 0 else 0
+        folder.rmdir()
+    ended = found.counts[Counted(RUNS, comparison.ending)]
+    agreeing = found.runs - differing
+    print(f"{found.runs} seeds, {ended} with a {comparison.ending}: {agreeing} agree, {differing} differ")
+    return 1 if differing or found.runs == 0 else 0

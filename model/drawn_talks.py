@@ -6,13 +6,17 @@ queries before, between and after them. Most talks go on to the end of their inp
 block, a piece has another byte, is left out or comes twice, the line before it has another number, or the input ends
 early.
 """
+from __future__ import annotations
+
 import random
 import re
-from typing import Callable, Dict, Iterator, List, NamedTuple, Optional, Tuple
+from collections.abc import Callable, Iterator
+from typing import NamedTuple
 
-import bundles
-import pieces
-from loading import model
+from dev import pieces
+from model import bundles, definitions, drafts
+from model import odd_parts as odd
+from model.definitions import Block
 
 # The share of the dumps whose blocks are moved, so that they are longer than one read of the program.
 MOVED = 0.08
@@ -22,6 +26,7 @@ NEARLY = 0.05
 AGAIN = 0.3
 FITTING = 0.9
 PEG = re.compile(rb"@([0-9]{1,9})(?![^\t])")
+# fmt: off
 # Lines that are queries, although they are nearly lines before pieces.
 NEAR_PIECES = [b"piece", b"piece ", b"piece x", b"piece  3", b" piece 3", b"piece 3 ", b"piece 3\r", b"piece\t3",
                b"piece 3\t", b"piece\t", b"Piece 3", b"PIECE 3", b"pieces 3", b"apiece 3", b"piece3", b"piece-3",
@@ -41,6 +46,7 @@ FRONTS = [b"x", b"x\n", b":", b":\n", b"UUID: 1\nUUID: 2", b"UUID: 1\nUUID: 2\n"
           b"Node-path: a\nNode-action: change\nProp-content-length: 3\nContent-length: 5\n\nx\n\nxx",
           b"Revision-number: 99\n", b"Revision-number: 99\n\n", b"Revision-number: 99\nContent-length: 1\n\n",
           b"Revision-number: 99\nContent-length: 1\n\n\n", b"Node-path: none/none\nNode-action: delete\n\n", b"\n"]
+# fmt: on
 GREATEST = 9223372036854775807
 CUTS = (0, 1, 1, 2, 2, 3, 4, 6, 12)
 # How many lines stand before a piece, after the last one, and rarely.
@@ -67,38 +73,36 @@ class Place(NamedTuple):
 
 
 class Part(NamedTuple):
-    """A part of a dump, the youngest revision after it, the number in the line before it where that is wrong, and whether
-    the input ends within it."""
+    """A part of a dump, the youngest revision after it, the number in the line before it where that is wrong, and
+    whether the input ends within it."""
 
     text: bytes
     youngest: int
-    wrong_size: Optional[int] = None
+    wrong_size: int | None = None
     is_cut: bool = False
 
 
 # Parts of a dump
 
-def blocks_of(dump: bytes) -> Iterator[Tuple[int, Dict[bytes, bytes]]]:
-    """The place and the headers of each block, up to the first one that does not have its form."""
+
+def blocks_of(dump: bytes) -> Iterator[Block]:
+    """The blocks up to the first one that does not have its form."""
     try:
-        model.format_of(dump)
-        for at, headers, _ in model.blocks_of(dump):
-            yield at, headers
-    except model.NoReport:
+        definitions.format_of(dump)
+        yield from definitions.blocks_of(dump)
+    except definitions.NoReport:
         return
 
 
-def places_of(dump: bytes) -> List[Place]:
+def places_of(dump: bytes) -> list[Place]:
     """The ends of blocks at which a dump may be cut, from the first revision on."""
-    found: List[Place] = []
+    found: list[Place] = []
     revisions = 0
-    for at, headers in blocks_of(dump):
+    for block in blocks_of(dump):
         if found:
-            found[-1] = found[-1]._replace(following=at)
-        revisions += b"Revision-number" in headers
-        _, body = model.lengths_of(headers)
-        end = dump.index(b"\n\n", at) + len(b"\n\n") + body
-        found.append(Place(end, end, revisions))
+            found[-1] = found[-1]._replace(following=block.at)
+        revisions += b"Revision-number" in block.headers
+        found.append(Place(block.end, block.end, revisions))
     return [place for place in found if place.revisions > 0]
 
 
@@ -106,7 +110,7 @@ def cut_at(lot: random.Random, place: Place) -> int:
     return lot.choice((place.end, place.following, lot.randint(place.end, place.following)))
 
 
-def parts_of(lot: random.Random, dump: bytes) -> List[Part]:
+def parts_of(lot: random.Random, dump: bytes) -> list[Part]:
     """The dump before the first cut, and the pieces after it. Some are empty."""
     places = places_of(dump)
     if not places:
@@ -119,42 +123,43 @@ def parts_of(lot: random.Random, dump: bytes) -> List[Part]:
 
 # What is wrong
 
-def cut_within(lot: random.Random, parts: List[Part]) -> List[Part]:
+
+def cut_within(lot: random.Random, parts: list[Part]) -> list[Part]:
     """One of the cuts, or a further one, is at any byte."""
     at = lot.randrange(len(parts))
     text, youngest = parts[at].text, parts[at].youngest
     if len(parts) > at + 1:
         text += parts.pop(at + 1).text
     cut = lot.randint(0, len(text))
-    parts[at:at + 1] = [Part(text[:cut], youngest), Part(text[cut:], youngest)]
+    parts[at : at + 1] = [Part(text[:cut], youngest), Part(text[cut:], youngest)]
     return parts
 
 
-def with_another_byte(lot: random.Random, parts: List[Part]) -> List[Part]:
+def with_another_byte(lot: random.Random, parts: list[Part]) -> list[Part]:
     at = lot.randrange(len(parts))
-    parts[at] = parts[at]._replace(text=bundles.changed(lot, parts[at].text))
+    parts[at] = parts[at]._replace(text=drafts.changed(lot, parts[at].text))
     return parts
 
 
-def with_one_left_out(lot: random.Random, parts: List[Part]) -> List[Part]:
+def with_one_left_out(lot: random.Random, parts: list[Part]) -> list[Part]:
     del parts[lot.randrange(len(parts))]
     return parts or [Part(b"", 0)]
 
 
-def with_one_twice(lot: random.Random, parts: List[Part]) -> List[Part]:
+def with_one_twice(lot: random.Random, parts: list[Part]) -> list[Part]:
     at = lot.randrange(len(parts))
     parts.insert(lot.randint(at, len(parts)), parts[at])
     return parts
 
 
-def with_more_at_its_end(lot: random.Random, parts: List[Part]) -> List[Part]:
+def with_more_at_its_end(lot: random.Random, parts: list[Part]) -> list[Part]:
     """The last piece has a block or the front of one, which is refused or not whole."""
-    more = lot.choice(bundles.BODIES + bundles.ODD_ENTRIES + [b"Node-path: a\n", b"Revision-number: 1000\n\n"])
+    more = lot.choice(odd.BODIES + odd.ENTRIES + [b"Node-path: a\n", b"Revision-number: 1000\n\n"])
     parts[-1] = parts[-1]._replace(text=parts[-1].text + more)
     return parts
 
 
-def with_wrong_size(lot: random.Random, parts: List[Part]) -> List[Part]:
+def with_wrong_size(lot: random.Random, parts: list[Part]) -> list[Part]:
     at = lot.randrange(len(parts))
     size = len(parts[at].text)
     wrong = lot.choice((0, size - 1, size + 1, size + 2, lot.randint(0, size), size + lot.randint(1, 100), GREATEST))
@@ -162,7 +167,7 @@ def with_wrong_size(lot: random.Random, parts: List[Part]) -> List[Part]:
     return parts
 
 
-def with_one_cut(lot: random.Random, parts: List[Part]) -> List[Part]:
+def with_one_cut(lot: random.Random, parts: list[Part]) -> list[Part]:
     """The input ends within a block of a piece."""
     if len(parts) == 1:
         parts.append(Part(b"", parts[0].youngest))
@@ -172,25 +177,34 @@ def with_one_cut(lot: random.Random, parts: List[Part]) -> List[Part]:
     return parts
 
 
-def with_empty_one(lot: random.Random, parts: List[Part]) -> List[Part]:
+def with_empty_one(lot: random.Random, parts: list[Part]) -> list[Part]:
     """This is not wrong."""
     at = lot.randint(1, len(parts))
     parts.insert(at, Part(b"", parts[at - 1].youngest))
     return parts
 
 
-def unchanged(lot: random.Random, parts: List[Part]) -> List[Part]:
+def unchanged(_: random.Random, parts: list[Part]) -> list[Part]:
     return parts
 
 
 # What is done with the parts of a dump, and how often of a hundred.
-CHANGES: Dict[Callable[[random.Random, List[Part]], List[Part]], int] = {
-    unchanged: 65, with_empty_one: 10, cut_within: 5, with_another_byte: 3, with_one_left_out: 2, with_one_twice: 2,
-    with_more_at_its_end: 3, with_wrong_size: 5, with_one_cut: 5}
+CHANGES: dict[Callable[[random.Random, list[Part]], list[Part]], int] = {
+    unchanged: 65,
+    with_empty_one: 10,
+    cut_within: 5,
+    with_another_byte: 3,
+    with_one_left_out: 2,
+    with_one_twice: 2,
+    with_more_at_its_end: 3,
+    with_wrong_size: 5,
+    with_one_cut: 5,
+}
 ENDING_EARLY = 0.08
 
 
 # Turns
+
 
 def fits(line: bytes, youngest: int) -> bool:
     """Whether a line has pegs, and all are revisions that exist."""
@@ -198,7 +212,7 @@ def fits(line: bytes, youngest: int) -> bool:
     return bool(pegs) and all(int(peg) <= youngest for peg in pegs)
 
 
-def drawn_line(lot: random.Random, queries: List[bytes], youngest: int) -> bytes:
+def drawn_line(lot: random.Random, queries: list[bytes], youngest: int) -> bytes:
     """A query, mostly one about revisions that exist, or a line that is nearly one before a piece."""
     if lot.random() < NEARLY:
         return lot.choice(NEAR_PIECES)
@@ -211,10 +225,9 @@ def drawn_count(lot: random.Random, is_last: bool) -> int:
     return lot.randint(1, MANY_LINES) if lot.random() < 0.02 else lot.choice(LAST_LINES if is_last else LINES)
 
 
-def drawn_lines(lot: random.Random, queries: List[bytes], asked: List[bytes], youngest: int,
-                count: int) -> List[bytes]:
+def drawn_lines(lot: random.Random, queries: list[bytes], asked: list[bytes], youngest: int, count: int) -> list[bytes]:
     """Lines after a part of the dump, some of which were asked before."""
-    found: List[bytes] = []
+    found: list[bytes] = []
     for _ in range(count):
         if asked + found and lot.random() < AGAIN:
             found.append(lot.choice(asked + found))
@@ -230,10 +243,10 @@ def piece_turn(lot: random.Random, part: Part) -> bytes:
     return b"piece %s%d\n" % (b"0" * zeros, size) + part.text
 
 
-def input_of(lot: random.Random, queries: List[bytes], parts: List[Part]) -> bytes:
+def input_of(lot: random.Random, queries: list[bytes], parts: list[Part]) -> bytes:
     """The pieces after the first part, with queries before, between and after them."""
     given = b""
-    asked: List[bytes] = []
+    asked: list[bytes] = []
     for number, part in enumerate(parts):
         if number > 0:
             given += piece_turn(lot, part)
@@ -254,5 +267,5 @@ def talk_of(seed: int) -> DrawnTalk:
     parts = change(lot, parts_of(lot, dump))
     given = input_of(lot, queries, parts)
     if given and lot.random() < ENDING_EARLY:
-        given = given[:lot.randrange(len(given))]
+        given = given[: lot.randrange(len(given))]
     return DrawnTalk(parts[0].text, lot.choice(WORKERS), given)

@@ -1,6 +1,7 @@
 """Draws queries with a range of revisions, most of them good ones, from other queries of a bundle."""
+from __future__ import annotations
+
 import random
-from typing import List, Tuple
 
 # The verbs whose queries may have a range, and the number of fields between.
 RANGED = {b"log": 1, b"merged": 2, b"eligible": 2}
@@ -8,6 +9,7 @@ GREATEST_REVISION = 2147483647
 # How many queries of a bundle have a range, at least and at most.
 COUNTS = (3, 8)
 # Fields that are no ranges. Some would be if their numbers were kept in 32 or 64 bits.
+# fmt: off
 ODD_RANGES = [b"", b":", b"::", b"1:", b":2", b":1:2", b"1:2:", b"1:2:3", b"1::2", b"1", b"12", b"1-2", b"1,2", b"1..2",
               b"1;2", b"1/2", b"+1:2", b"1:+2", b"-1:2", b"1:-2", b" 1:2", b"1 :2", b"1: 2", b"1:2 ", b"1:2\r",
               b"1\r:2", b"\r1:2", b"HEAD:1", b"1:HEAD", b"r1:2", b"1:r2", b"1:2*", b"0x1:2", b"1.0:2", b"1e0:2",
@@ -15,6 +17,7 @@ ODD_RANGES = [b"", b":", b"::", b"1:", b":2", b":1:2", b"1:2:", b"1:2:3", b"1::2
               b"@1:@2", b"{1}:{2}", b"1:2147483648", b"2147483648:2147483648", b"2147483648:1", b"0:4294967295",
               b"0:4294967297", b"4294967296:4294967297", b"4294967297:4", b"0:18446744073709551617",
               b"18446744073709551617:9", b"0:" + b"9" * 5000, b"0" * 5000 + b":", b"0" * 5000 + b"9"]
+# fmt: on
 # What a byte of a range may become.
 PIECES = [b"", b"", b"0", b"1", b"9", b":", b":", b"-", b"+", b" ", b"\t", b"\r", b"*", b"@", b"a", b"\x00"]
 
@@ -25,7 +28,7 @@ def digits(lot: random.Random, rev: int) -> bytes:
     return b"0" * zeros + b"%d" % rev
 
 
-def bounds(lot: random.Random, youngest: int) -> Tuple[int, int]:
+def bounds(lot: random.Random, youngest: int) -> tuple[int, int]:
     """The first and the last revision of a range, mostly ones that exist."""
     low, high = sorted(lot.randint(0, youngest + 1) for _ in range(2))
     above = (youngest, youngest + 1, youngest + 2, 100, GREATEST_REVISION - 1, GREATEST_REVISION)
@@ -51,7 +54,7 @@ def backward_range(lot: random.Random, youngest: int) -> bytes:
     return digits(lot, lot.choice((low, high)) + 1) + b":" + digits(lot, low)
 
 
-def odd_range(lot: random.Random, youngest: int) -> bytes:
+def odd_range(lot: random.Random, _: int) -> bytes:
     return lot.choice(ODD_RANGES)
 
 
@@ -59,22 +62,29 @@ def changed_range(lot: random.Random, youngest: int) -> bytes:
     """A good range with a byte replaced, removed or inserted, which may be a good one again."""
     text = good_range(lot, youngest)
     at = lot.randrange(len(text) + 1)
-    return text[:at] + lot.choice(PIECES) + text[at + lot.choice((0, 1)):]
+    return text[:at] + lot.choice(PIECES) + text[at + lot.choice((0, 1)) :]
 
 
 # How ranges are drawn, and how often of a hundred.
 FORMS = {good_range: 72, backward_range: 7, odd_range: 14, changed_range: 7}
 
 
-def misplaced(lot: random.Random, fields: List[bytes], field: bytes) -> List[bytes]:
+def misplaced(lot: random.Random, fields: list[bytes], field: bytes) -> list[bytes]:
     """The fields of a query with a range before a peg, in place of one, twice, or before an empty field."""
     at = lot.randrange(1, len(fields))
-    before, after = fields[:at], fields[at + 1:]
-    return lot.choice((before + [field] + fields[at:], before + [field] + after, before + [field] + after + [field],
-                       fields + [field, field], fields + [field, b""]))
+    before, after = fields[:at], fields[at + 1 :]
+    return lot.choice(
+        (
+            before + [field] + fields[at:],
+            before + [field] + after,
+            before + [field] + after + [field],
+            fields + [field, field],
+            fields + [field, b""],
+        )
+    )
 
 
-def ranged(lot: random.Random, youngest: int, lines: List[bytes]) -> bytes:
+def ranged(lot: random.Random, youngest: int, lines: list[bytes]) -> bytes:
     """One of the lines with a range, mostly at the end of a query that may have one."""
     queries = [line.split(b"\t") for line in lines]
     fitting = [fields for fields in queries if len(fields) - 1 == RANGED.get(fields[0])]
@@ -88,7 +98,7 @@ def ranged(lot: random.Random, youngest: int, lines: List[bytes]) -> bytes:
     return b"\t".join(lot.choice(chosen or queries) + [field])
 
 
-def with_ranges(lot: random.Random, youngest: int, lines: List[bytes]) -> List[bytes]:
+def with_ranges(lot: random.Random, youngest: int, lines: list[bytes]) -> list[bytes]:
     """The lines, and among them some more with a range."""
     found = list(lines)
     for _ in range(lot.randint(*COUNTS)):

@@ -3,10 +3,14 @@
 A turn is a query on a line of its own, or a line `piece BYTES` and so many further bytes of the dump. As the rest of
 the model this was written from the documentation alone.
 """
-import re
-from typing import Any, Iterator, List, NamedTuple, Optional
+from __future__ import annotations
 
-from loading import model
+import re
+from collections.abc import Iterator
+from typing import NamedTuple
+
+from model import definitions
+from model.definitions import History, NoReport
 
 # A reason against a dump, with its number and the byte of its block.
 AT_BYTE = re.compile(r"dump refused: ([0-9]+) [A-Za-z]+ at byte ([0-9]+)")
@@ -23,33 +27,31 @@ class Said(NamedTuple):
 class Talk(NamedTuple):
     """What is said in a talk, and its exit status and its line on standard error, without the name of the program."""
 
-    said: List[Said]
+    said: list[Said]
     status: int
     line: str
 
 
-def piece_size(line: bytes) -> Optional[int]:
+def piece_size(line: bytes) -> int | None:
     """How many bytes of a piece follow a line, or None if it is a query."""
     word, space, digits = line.partition(b" ")
-    size: Optional[int] = model.number_of(digits, model.GREATEST_LENGTH)
-    return size if word + space == b"piece " else None
+    return definitions.number_of(digits, definitions.GREATEST_LENGTH) if word + space == b"piece " else None
 
 
-def ready(history: Any) -> bytes:
+def ready(history: History) -> bytes:
     """The youngest revision of a history."""
-    trees, _ = history
-    return b"ready %d\n\n" % (len(trees) - 1)
+    return b"ready %d\n\n" % (len(history.trees) - 1)
 
 
-def answer(history: Any, number: int, line: bytes) -> bytes:
-    status, *lines = model.answer_of(history, line)
+def answer(history: History, number: int, line: bytes) -> bytes:
+    status, *lines = definitions.answer_of(history, line)
     return b"#%d %s\n" % (number, status) + b"".join(each + b"\n" for each in lines) + b"\n"
 
 
 def may_change(front: bytes, number: int, at: int) -> bool:
     """Whether a reason against these bytes may be none, or another one, if more of the dump follows them."""
     if number == 1:
-        return bool(model.FIRST_NAME.startswith(front))
+        return definitions.FIRST_NAME.startswith(front)
     if number == 4:
         return b"\n\n" not in front[at:]
     return number == 5 or (number == 8 and at == len(front))
@@ -58,10 +60,9 @@ def may_change(front: bytes, number: int, at: int) -> bool:
 def raise_decided(front: bytes) -> None:
     """Raises the refusal of each dump that begins with these bytes, if they decide one."""
     try:
-        model.records_of(front)
-    except model.NoReport as reason:
-        _, line = reason.args
-        place = AT_BYTE.fullmatch(line)
+        definitions.records_of(front)
+    except NoReport as reason:
+        place = AT_BYTE.fullmatch(reason.line)
         assert place
         if not may_change(front, int(place[1]), int(place[2])):
             raise
@@ -70,41 +71,41 @@ def raise_decided(front: bytes) -> None:
 def read_cut(dump: bytes) -> None:
     """Raises why a talk ends whose input ends within a piece; the bytes are those of the dump up to there."""
     raise_decided(dump)
-    raise model.NoReport(1, CUT)
+    raise NoReport(1, CUT)
 
 
 def replies(dump: bytes, given: bytes) -> Iterator[Said]:
     """What is said, one after another, until there is a reason to end."""
-    history = model.history_of(dump)
+    history = definitions.history_of(dump)
     yield Said(0, ready(history))
     at = count = 0
     while at < len(given):
         line, newline, _ = given[at:].partition(b"\n")
         if not newline:
-            raise model.NoReport(1, CUT)
+            raise NoReport(1, CUT)
         at += len(line) + 1
         size = piece_size(line)
         if size is None:
             count += 1
             yield Said(at, answer(history, count, line))
         else:
-            piece = given[at:at + size]
+            piece = given[at : at + size]
             dump += piece
             at += len(piece)
             if len(piece) < size:
                 read_cut(dump)
-            history = model.history_of(dump)
+            history = definitions.history_of(dump)
             yield Said(at, ready(history))
 
 
 def talk_of(dump: bytes, given: bytes) -> Talk:
     """The talk about a dump with these bytes as its input."""
-    said: List[Said] = []
+    said: list[Said] = []
     try:
         for each in replies(dump, given):
             said.append(each)
-    except model.NoReport as reason:
-        return Talk(said, *reason.args)
+    except NoReport as reason:
+        return Talk(said, reason.status, reason.line)
     return Talk(said, 0, "")
 
 

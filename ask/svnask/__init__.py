@@ -10,13 +10,55 @@
 
 Paths, names and messages are bytes, as in the dump. A dump that svnhist does not accept raises `Refused`.
 """
-from .answers import (Answer, Inherited, Line, Locate, Located, Log, Logged, Merge, Mergeinfo, Merges, Pair, Query,
-                      Segment, Segments, Where)
+import os
+
+from .answers import (
+    Answer,
+    Inherited,
+    Line,
+    Locate,
+    Located,
+    Log,
+    Logged,
+    Merge,
+    Mergeinfo,
+    Merges,
+    Pair,
+    Query,
+    Segment,
+    Segments,
+    Where,
+)
 from .changes import Change
 from .errors import Denied, Error, Failed, Refused
 from .history import History
 from .store import Record, Revision
 
-__all__ = ["Answer", "Change", "Denied", "Error", "Failed", "History", "Inherited", "Line", "Locate", "Located", "Log",
-           "Logged", "Merge", "Mergeinfo", "Merges", "Pair", "Query", "Record", "Refused", "Revision", "Segment",
-           "Segments", "Where"]
+__all__ = [
+    "Answer",
+    "Change",
+    "Denied",
+    "Error",
+    "Failed",
+    "History",
+    "Inherited",
+    "Line",
+    "Locate",
+    "Located",
+    "Log",
+    "Logged",
+    "Merge",
+    "Mergeinfo",
+    "Merges",
+    "Pair",
+    "Query",
+    "Record",
+    "Refused",
+    "Revision",
+    "Segment",
+    "Segments",
+    "Where",
+]
+# Without pathlib, which takes longer to import than the whole file to read.
+with open(os.path.join(os.path.dirname(__file__), "VERSION"), encoding="ascii") as _file:
+    __version__ = _file.read().strip()

@@ -5,14 +5,20 @@ b'log\\ttrunk@8'
 >>> Log(b"trunk", 8).answer("ok", b"r5 /trunk\\nr1 /trunk").revisions
 [5, 1]
 """
+from __future__ import annotations
+
 import json
 import re
+from abc import ABC, abstractmethod
 from dataclasses import dataclass
-from typing import Dict, List, NamedTuple, Optional, Tuple
+from typing import Generic, NamedTuple, TypeVar
 
 from .errors import Denied
 
-Range = Tuple[int, int]
+Range = tuple[int, int]
+# The kind of answer that a query has.
+A = TypeVar("A", bound="Answer")
+A_co = TypeVar("A_co", bound="Answer", covariant=True)
 # A line of an answer to `log`.
 LOGGED = re.compile(rb"r([0-9]+) [^\n]*\n?")
 # What makes JSON of the numbers of a log, and the bytes that are left out then.
@@ -25,7 +31,7 @@ class Segment(NamedTuple):
 
     lo: int
     hi: int
-    path: Optional[bytes]
+    path: bytes | None
 
 
 class Merge(NamedTuple):
@@ -39,7 +45,7 @@ class Merge(NamedTuple):
 class Answer:
     """The status of a query and its result lines, each without its newline. Only `ok` has any."""
 
-    query: "Query"
+    query: Query[Answer]
     status: str
     text: bytes
 
@@ -48,23 +54,27 @@ class Answer:
         return self.status == "ok"
 
     @property
-    def lines(self) -> List[bytes]:
+    def lines(self) -> list[bytes]:
         return self.text.split(b"\n") if self.text else []
 
 
 class Located(Answer):
     """Where a path was in a revision."""
 
+    query: Locate
+
     @property
-    def path(self) -> Optional[bytes]:
+    def path(self) -> bytes | None:
         return self.text if self.text.startswith(b"/") else None
 
 
 class Segments(Answer):
     """Where a path was in all revisions up to its peg, the newest first."""
 
+    query: Where
+
     @property
-    def segments(self) -> List[Segment]:
+    def segments(self) -> list[Segment]:
         found = []
         for line in self.lines:
             bounds, _, path = line.partition(b" ")
@@ -76,21 +86,25 @@ class Segments(Answer):
 class Logged(Answer):
     """The operative revisions of a path, the newest first."""
 
+    query: Log
+
     @property
-    def revisions(self) -> List[int]:
+    def revisions(self) -> list[int]:
         return revisions_in(self.text)
 
     @property
-    def paths(self) -> List[bytes]:
+    def paths(self) -> list[bytes]:
         """Where the path was in each of them."""
-        return [line[line.index(b" ") + 1:] for line in self.lines]
+        return [line[line.index(b" ") + 1 :] for line in self.lines]
 
 
 class Inherited(Answer):
     """The mergeinfo that a path has or inherits: the rangelist of each source path, as it is printed."""
 
+    query: Mergeinfo
+
     @property
-    def value(self) -> Dict[bytes, str]:
+    def value(self) -> dict[bytes, str]:
         pairs = [line.rpartition(b":") for line in self.lines]
         return {path: ranges.decode("ascii") for path, _, ranges in pairs}
 
@@ -98,25 +112,27 @@ class Inherited(Answer):
 class Merges(Answer):
     """The revisions of a source that were merged into a target, or are still to be merged, rising."""
 
+    query: Pair
+
     @property
-    def revisions(self) -> List[Merge]:
+    def revisions(self) -> list[Merge]:
         return [Merge(int(line[1:].rstrip(b"*")), not line.endswith(b"*")) for line in self.lines]
 
 
-def revisions_in(text: bytes) -> List[int]:
+def revisions_in(text: bytes) -> list[int]:
     """The revisions of the lines of a log. Reading all at once takes a third of the time of line after line."""
     found = numbers_in(text)
     if found is None:
         # Most lines have the path of the first one.
-        path = text[text.index(b" "):(text + b"\n").index(b"\n")]
+        path = text[text.index(b" ") : (text + b"\n").index(b"\n")]
         found = numbers_in(text.replace(path, b" "))
     return list(map(int, LOGGED.findall(text))) if found is None else found
 
 
-def numbers_in(log: bytes) -> Optional[List[int]]:
+def numbers_in(log: bytes) -> list[int] | None:
     """The numbers of the lines of a log, as long as no path has digits: these stand after a space."""
     try:
-        numbers: List[int] = json.loads(b"[%s]" % log.translate(COMMAS, NO_NUMBERS))
+        numbers: list[int] = json.loads(b"[%s]" % log.translate(COMMAS, NO_NUMBERS))
         return numbers
     except ValueError:
         return None
@@ -126,28 +142,36 @@ def peg_text(path: bytes, rev: int) -> bytes:
     """A path and its peg in a line of fields between tabs."""
     for letter in b"\t\n":
         if letter in path:
-            raise Denied("E160005", "svnhist can't be asked about a path with the character 0x%02x: '%s'"
-                         % (letter, path.decode("utf-8", "surrogateescape")))
+            raise Denied(
+                "E160005",
+                "svnhist can't be asked about a path with the character 0x%02x: '%s'"
+                % (letter, path.decode("utf-8", "surrogateescape")),
+            )
     return b"%s@%d" % (path, rev)
 
 
+class Query(ABC, Generic[A_co]):
+    """A question to svnhist. It has its own kind of answer."""
+
+    @abstractmethod
+    def line(self) -> bytes:
+        """The line by which svnhist is asked."""
+
+    @abstractmethod
+    def answer(self, status: str, text: bytes) -> A_co:
+        """The answer with this status and these result lines."""
+
+
 @dataclass(frozen=True)
-class Query:
+class PathQuery(Query[A_co]):
     """What is asked of a path in a revision."""
 
     path: bytes
     rev: int
 
-    def line(self) -> bytes:
-        """The line by which svnhist is asked."""
-        raise NotImplementedError
-
-    def answer(self, status: str, text: bytes) -> Answer:
-        raise NotImplementedError
-
 
 @dataclass(frozen=True)
-class Locate(Query):
+class Locate(PathQuery[Located]):
     """Where a path was in the revision `at`."""
 
     at: int
@@ -160,7 +184,7 @@ class Locate(Query):
 
 
 @dataclass(frozen=True)
-class Where(Query):
+class Where(PathQuery[Segments]):
     """Where a path was in all revisions."""
 
     def line(self) -> bytes:
@@ -171,10 +195,10 @@ class Where(Query):
 
 
 @dataclass(frozen=True)
-class Log(Query):
+class Log(PathQuery[Logged]):
     """The operative revisions of a path, in a range if one is given."""
 
-    range: Optional[Range] = None
+    range: Range | None = None
 
     def line(self) -> bytes:
         return b"log\t" + peg_text(self.path, self.rev) + range_text(self.range)
@@ -184,7 +208,7 @@ class Log(Query):
 
 
 @dataclass(frozen=True)
-class Mergeinfo(Query):
+class Mergeinfo(PathQuery[Inherited]):
     """The mergeinfo that a path has or inherits."""
 
     def line(self) -> bytes:
@@ -195,13 +219,13 @@ class Mergeinfo(Query):
 
 
 @dataclass(frozen=True)
-class Pair(Query):
+class Pair(PathQuery[Merges]):
     """What of a source was merged into a target (`merged`), or is still to be merged (`eligible`)."""
 
     verb: str
     target: bytes
     target_rev: int
-    range: Optional[Range] = None
+    range: Range | None = None
 
     def line(self) -> bytes:
         pegs = peg_text(self.path, self.rev), peg_text(self.target, self.target_rev)
@@ -212,10 +236,10 @@ class Pair(Query):
 
 
 @dataclass(frozen=True)
-class Line(Query):
+class Line(Query[Answer]):
     """A line that a user wrote. It is asked as it is."""
 
-    text: bytes = b""
+    text: bytes
 
     def line(self) -> bytes:
         return self.text
@@ -224,5 +248,13 @@ class Line(Query):
         return Answer(self, status, text)
 
 
-def range_text(bounds: Optional[Range]) -> bytes:
+class Answers(dict[Query[Answer], Answer]):
+    """The answers to some queries, by these. Each has the kind of its query."""
+
+    def __getitem__(self, query: Query[A]) -> A:
+        found = super().__getitem__(query)
+        return query.answer(found.status, found.text)
+
+
+def range_text(bounds: Range | None) -> bytes:
     return b"" if bounds is None else b"\t%d:%d" % bounds

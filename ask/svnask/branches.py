@@ -1,11 +1,14 @@
 """Questions about all branches and tags at once."""
-from typing import Dict, Iterable, Iterator, List, NamedTuple, Optional, Sequence, Tuple
+from __future__ import annotations
+
+from collections.abc import Iterable, Iterator, Sequence
+from typing import NamedTuple
 
 from . import log, mergeinfo
-from .answers import Answer, Inherited, Log, Logged, Mergeinfo, Query, Segments, Where
+from .answers import Answer, Log, Logged, Mergeinfo, Query, Where
 from .changes import is_at_or_below
 from .history import History
-from .lives import PATTERNS, Life, all_lives
+from .lives import PATTERNS, Life, all_lives, moved_lives
 from .targets import Target
 from .values import Explicit, runs_of
 
@@ -14,7 +17,7 @@ from .values import Explicit, runs_of
 FIRST_WINDOW, WINDOW_GROWS = 64, 16
 
 
-def lives_of(history: History, patterns: Sequence[bytes]) -> List[Life]:
+def lives_of(history: History, patterns: Sequence[bytes]) -> list[Life]:
     """The lives of all paths that match a pattern, or of the trunk, the branches and the tags."""
     lives = all_lives(history.records(), patterns or PATTERNS, history.head)
     if not lives:
@@ -23,17 +26,16 @@ def lives_of(history: History, patterns: Sequence[bytes]) -> List[Life]:
     return lives
 
 
-def answered(answer: Answer) -> List[int]:
+def answered(answer: Answer) -> list[int]:
     """The revisions of an answer to `log` about a life, the newest first. That svnhist has no such path can't be."""
-    assert isinstance(answer, Logged)
-    if not answer.ok:
-        raise RuntimeError("svnhist says %s of %r" % (answer.status, answer.query))
+    if not isinstance(answer, Logged) or not answer.ok:
+        raise RuntimeError(f"svnhist says {answer.status} of {answer.query!r}")
     return answer.revisions
 
 
-def last_changes(history: History, lives: Iterable[Life]) -> Dict[Life, int]:
+def last_changes(history: History, lives: Iterable[Life]) -> dict[Life, int]:
     """The newest operative revision of each life. That of a long one would be long, so its end is asked first."""
-    found: Dict[Life, int] = {}
+    found: dict[Life, int] = {}
     left = list(lives)
     window = FIRST_WINDOW
     while left:
@@ -49,15 +51,33 @@ def last_changes(history: History, lives: Iterable[Life]) -> Dict[Life, int]:
     return found
 
 
-def logs_of(lives: Iterable[Life]) -> List[Query]:
+class Listed(NamedTuple):
+    """A life, the newest operative revision of it, and whether it goes on with another one of those listed under a new
+    name."""
+
+    life: Life
+    last_change: int
+    is_moved: bool
+
+
+def listed(history: History, patterns: Sequence[bytes]) -> Iterator[Listed]:
+    """The lives of all paths that match a pattern, or of the trunk, the branches and the tags."""
+    lives = lives_of(history, patterns)
+    changes = last_changes(history, lives)
+    moved = moved_lives(lives)
+    for life in lives:
+        yield Listed(life, changes[life], life in moved)
+
+
+def logs_of(lives: Iterable[Life]) -> list[Query[Answer]]:
     """The queries for the operative revisions of each life. What it was before, under another path, is no part of
     it."""
     return [Log(life.path, life.last, (life.first, life.last)) for life in lives]
 
 
-def operative(lives: Iterable[Life], answers: Iterator[Answer]) -> Dict[Life, List[int]]:
+def operative(lives: Iterable[Life], answers: Iterator[Answer]) -> dict[Life, list[int]]:
     """The operative revisions of each life, rising, by the answers to its queries, which are the next ones."""
-    found: Dict[Life, List[int]] = {}
+    found: dict[Life, list[int]] = {}
     for life, answer in zip(lives, answers):
         revisions = answered(answer)[::-1]
         # `svn log` lists a copy of a directory above to itself, and for svnhist nothing happens to the path there.
@@ -73,18 +93,28 @@ class Holder(NamedTuple):
     how: str
 
 
+class Asked(NamedTuple):
+    """What is asked of a branch or a tag that may have a revision."""
+
+    where: Where
+    log: Log
+    value: Mergeinfo
+
+
 def holders(history: History, patterns: Sequence[bytes], rev: int) -> Iterator[Holder]:
     """The branches and tags of today that have a revision of one of them."""
     changed = [change.path for change in history.changes(rev)]
     alive = [life for life in lives_of(history, patterns) if life.is_alive]
-    asked: List[Query] = []
-    for life in alive:
-        asked += [Where(life.path, history.head), Log(life.path, history.head, (rev, rev)),
-                  Mergeinfo(life.path, history.head)]
-    answers = list(history.ask(asked))
-    for life, where, logged, value in zip(alive, answers[::3], answers[1::3], answers[2::3]):
-        assert isinstance(where, Segments) and isinstance(value, Inherited)
-        if rev in log.listed(history, log.Trace(where.segments, answered(logged))):
+    asked = [
+        Asked(
+            Where(life.path, history.head), Log(life.path, history.head, (rev, rev)), Mergeinfo(life.path, history.head)
+        )
+        for life in alive
+    ]
+    answers = history.answers(query for each in asked for query in each)
+    for life, each in zip(alive, asked):
+        segments, value = answers[each.where].segments, answers[each.value]
+        if rev in log.listed(history, log.Trace(segments, answered(answers[each.log]))):
             yield Holder(life.path, "history")
         elif value.ok:
             how = merged_how(value.value, changed, rev)
@@ -92,11 +122,15 @@ def holders(history: History, patterns: Sequence[bytes], rev: int) -> Iterator[H
                 yield Holder(life.path, how)
 
 
-def merged_how(value: Dict[bytes, str], changed: Sequence[bytes], rev: int) -> Optional[str]:
+def merged_how(value: dict[bytes, str], changed: Sequence[bytes], rev: int) -> str | None:
     """Whether mergeinfo has a revision of a source that the revision changed, and if so whether as a whole."""
-    found = [run.inheritable for source, ranges in value.items() for run in runs_of(ranges.encode("ascii"))
-             if run.lo <= rev <= run.hi
-             and any(is_at_or_below(path, source) or is_at_or_below(source, path) for path in changed)]
+    found = [
+        run.inheritable
+        for source, ranges in value.items()
+        for run in runs_of(ranges.encode("ascii"))
+        if run.lo <= rev <= run.hi
+        and any(is_at_or_below(path, source) or is_at_or_below(source, path) for path in changed)
+    ]
     return None if not found else "merged" if any(found) else "merged in part"
 
 
@@ -104,17 +138,21 @@ class Left(NamedTuple):
     """The revisions of a branch that are still to be merged."""
 
     path: bytes
-    revisions: List[Tuple[int, bool]]
+    revisions: list[tuple[int, bool]]
 
 
 def unmerged(history: History, patterns: Sequence[bytes], into: Target) -> Iterator[Left]:
     """What of each branch of today is still to be merged into a target: `svn mergeinfo --show-revs eligible`."""
     explicit = Explicit(history.records())
-    sources = [Target(life.path, history.head) for life in lives_of(history, patterns or (b"/branches/*",))
-               if life.is_alive and life.path != into.path]
+    sources = [
+        Target(life.path, history.head)
+        for life in lives_of(history, patterns or (b"/branches/*",))
+        if life.is_alive and life.path != into.path
+    ]
     question = mergeinfo.Question("eligible")
-    answers = history.answers(query for source in sources
-                              for query in mergeinfo.queries_of(explicit, source, into, question))
+    answers = history.answers(
+        query for source in sources for query in mergeinfo.queries_of(explicit, source, into, question)
+    )
     for source in sources:
         yield Left(source.path, mergeinfo.show_revs(history, explicit, answers, source, into, question))
 
@@ -124,7 +162,7 @@ class Touched(NamedTuple):
 
     life: Life
     is_changed_when_made: bool
-    revisions: List[int]
+    revisions: list[int]
 
 
 def touched(history: History, patterns: Sequence[bytes]) -> Iterator[Touched]:
@@ -132,11 +170,13 @@ def touched(history: History, patterns: Sequence[bytes]) -> Iterator[Touched]:
     lives = lives_of(history, patterns or (b"/tags/*",))
     later = [life for life in lives if life.last > life.first]
     answers = list(history.ask([Log(life.path, life.last, (life.first + 1, life.last)) for life in later]))
-    changed: Dict[Life, List[int]] = {}
+    changed: dict[Life, list[int]] = {}
     for life, answer in zip(later, answers):
         changed[life] = answered(answer)[::-1]
     for life in lives:
-        below = any(change.path != life.path and is_at_or_below(change.path, life.path)
-                    for change in history.changes(life.first))
+        below = any(
+            change.path != life.path and is_at_or_below(change.path, life.path)
+            for change in history.changes(life.first)
+        )
         if below or changed.get(life):
             yield Touched(life, below, changed.get(life, []))

@@ -1,4 +1,6 @@
 """The folders of the cache: one for each dump, by a name that tells its content."""
+from __future__ import annotations
+
 import contextlib
 import hashlib
 import os
@@ -6,7 +8,7 @@ import shutil
 import stat
 import tempfile
 import time
-from typing import BinaryIO, Optional
+from typing import BinaryIO
 
 END = 1 << 16
 # How the folders in the making begin. They are given up after a day, and others are where they were not used for 30.
@@ -16,7 +18,7 @@ UNFINISHED, UNUSED = 86400, 30 * 86400
 ROOT = 0
 
 
-def folder() -> Optional[str]:
+def folder() -> str | None:
     """Where all folders are, or None where neither the environment nor the system names a place."""
     named = os.environ.get("XDG_CACHE_HOME", "")
     base = named if os.path.isabs(named) else os.path.join(os.path.expanduser("~"), ".cache")

@@ -1,9 +1,12 @@
 """The changed paths of a revision, as `svn log -v` lists them."""
-from typing import Dict, Iterable, Iterator, List, NamedTuple, Optional, Tuple
+from __future__ import annotations
+
+from collections.abc import Iterable, Iterator
+from typing import NamedTuple
 
 from .store import Record
 
-Source = Tuple[bytes, int]
+Source = tuple[bytes, int]
 
 
 class Change(NamedTuple):
@@ -11,14 +14,14 @@ class Change(NamedTuple):
 
     path: bytes
     letter: str
-    source: Optional[Source]
+    source: Source | None
 
     def line(self) -> bytes:
         origin = b" (from %s:%d)" % self.source if self.source else b""
         return b"   %s %s%s" % (self.letter.encode("ascii"), self.path, origin)
 
 
-def components(path: bytes) -> List[bytes]:
+def components(path: bytes) -> list[bytes]:
     return [part for part in path.split(b"/") if part]
 
 
@@ -26,22 +29,23 @@ def is_at_or_below(path: bytes, top: bytes) -> bool:
     return path == top or path.startswith(top if top.endswith(b"/") else top + b"/")
 
 
-def parents_of(path: bytes) -> Iterator[bytes]:
-    """The paths above one, the nearest first."""
+def tops_of(path: bytes) -> Iterator[bytes]:
+    """A path and those above it, the nearest first."""
+    yield path
     while path != b"/":
         path = path.rpartition(b"/")[0] or b"/"
         yield path
 
 
-def changes_of(records: Iterable[Record]) -> List[Change]:
+def changes_of(records: Iterable[Record]) -> list[Change]:
     """What the records of one revision come to, in the order of their paths."""
-    found: Dict[bytes, Change] = {}
+    found: dict[bytes, Change] = {}
     for record in records:
         fold(found, record)
     return sorted(found.values(), key=lambda change: components(change.path))
 
 
-def fold(found: Dict[bytes, Change], record: Record) -> None:
+def fold(found: dict[bytes, Change], record: Record) -> None:
     before = found.get(record.path)
     if record.action == "change":
         if before is None:

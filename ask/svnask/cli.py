@@ -1,4 +1,6 @@
 """The command `svnask`."""
+from __future__ import annotations
+
 import argparse
 import contextlib
 import json
@@ -8,8 +10,10 @@ import signal
 import sys
 import time
 import traceback
-from typing import Any, BinaryIO, Iterable, Iterator, List, NoReturn, Optional
+from collections.abc import Iterable, Iterator
+from typing import Any, BinaryIO, NoReturn
 
+from . import __version__
 from .errors import Damaged, Denied, Error, Failed, Refused, Usage
 from .history import History
 from .refusals import about_record, explained
@@ -29,74 +33,72 @@ FAULT = 5
 class Parser(argparse.ArgumentParser):
     """A parser that tells of wrong arguments in one line, and takes no part of the name of an option for it."""
 
-    def __init__(self, **words: Any) -> None:
-        super().__init__(allow_abbrev=False, **words)
+    def __init__(self, **settings: Any) -> None:
+        super().__init__(allow_abbrev=False, **settings)
 
     def error(self, message: str) -> NoReturn:
         raise Usage(message)
 
 
-def version() -> str:
-    with open(os.path.join(os.path.dirname(__file__), "VERSION"), encoding="ascii") as file:
-        return file.read().strip()
-
-
 def parser() -> Parser:
-    words = Parser(prog="svnask", description="Answers a question about the history of a Subversion repository from "
-                   "its dump, as 'svn' would print it.")
-    words.add_argument("dump", metavar="DUMP", help="a dump, or - for the standard input")
-    words.add_argument("--json", action="store_true", help="print one object a line, for scripts")
-    words.add_argument("--no-cache", action="store_true", help="read the dump anew, and keep nothing of it")
-    words.add_argument("-V", "--version", action="version", version="svnask " + version())
-    verbs = words.add_subparsers(dest="verb", metavar="VERB", required=True, parser_class=Parser)
+    made = Parser(
+        prog="svnask",
+        description="Answers a question about the history of a Subversion repository from "
+        "its dump, as 'svn' would print it.",
+    )
+    made.add_argument("dump", metavar="DUMP", help="a dump, or - for the standard input")
+    made.add_argument("--json", action="store_true", help="print one object a line, for scripts")
+    made.add_argument("--no-cache", action="store_true", help="read the dump anew, and keep nothing of it")
+    made.add_argument("-V", "--version", action="version", version="svnask " + __version__)
+    verbs = made.add_subparsers(dest="verb", metavar="VERB", required=True, parser_class=Parser)
     for verb in VERBS:
         below = verbs.add_parser(verb.name, help=verb.help, description=verb.help)
         for option in ("--json", "--no-cache"):
             below.add_argument(option, action="store_true", default=argparse.SUPPRESS, help=argparse.SUPPRESS)
         verb.arguments(below)
-    return words
+    return made
 
 
-def with_dump(arguments: List[str]) -> List[str]:
+def with_dump(arguments: list[str]) -> list[str]:
     """The arguments with a dump, which `svnask VERB --help` needs none of."""
     is_help = arguments[1:] in (["-h"], ["--help"])
     return ["-"] + arguments if is_help and arguments[0] in [verb.name for verb in VERBS] else arguments
 
 
-def joined(arguments: List[str]) -> List[str]:
+def joined(arguments: list[str]) -> list[str]:
     """The arguments with each option that takes a value as `--name=value`. A value may be empty, or begin with a minus
     or an equals sign: `-c -3,5` is what `svn` takes, and `-r=5` is not."""
-    found: List[str] = []
+    found: list[str] = []
     left = iter(arguments)
     for word in left:
         if word == "--":
             return [*found, word, *left]
         name = LONG.get(word[:2], word)
-        value: Optional[str] = None
+        value: str | None = None
         if name != word and len(word) > 2:
             value = word[2:]
         elif name in VALUED:
             value = next(left, None)
-        found.append(word if value is None else "%s=%s" % (name, value))
+        found.append(word if value is None else f"{name}={value}")
     return found
 
 
 class Progress:
     """One line on a terminal where reading takes more than a second: how much was read, and how fast."""
 
-    def __init__(self, size: Optional[int]) -> None:
+    def __init__(self, size: int | None) -> None:
         self._size = size
         self._begun = self._shown = time.monotonic()
         self._is_open = False
 
-    def __call__(self, read: int) -> None:
+    def __call__(self, count: int) -> None:
         now = time.monotonic()
         if now - self._begun < 1 or now - self._shown < 0.1 or sys.stderr is None or not sys.stderr.isatty():
             return
         self._shown, self._is_open = now, True
-        share = "%3d %%, " % (100 * read // self._size) if self._size else ""
-        rate = read / (now - self._begun) / (1 << 20)
-        sys.stderr.write("\rreading the dump: %s%d MB, %d MB/s " % (share, read >> 20, rate))
+        share = "%3d %%, " % (100 * count // self._size) if self._size else ""
+        rate = count / (now - self._begun) / (1 << 20)
+        sys.stderr.write("\rreading the dump: %s%d MB, %d MB/s " % (share, count >> 20, rate))
         sys.stderr.flush()
 
     def close(self) -> None:
@@ -111,20 +113,20 @@ def opened(name: str) -> BinaryIO:
     try:
         return sys.stdin.buffer if name == "-" else open(name, "rb")
     except IsADirectoryError as error:
-        advice = ": svnadmin dump -q %s | svnask - .." % name if os.path.isdir(os.path.join(name, "db")) else ""
-        raise Failed("%s is a directory%s" % (name, advice)) from error
+        hint = f": svnadmin dump -q {name} | svnask - .." if os.path.isdir(os.path.join(name, "db")) else ""
+        raise Failed(f"{name} is a directory{hint}") from error
     except (OSError, ValueError) as error:
         raise Failed("cannot read %s: %s" % (name, getattr(error, "strerror", error))) from error
 
 
-def lines_of(history: History, words: argparse.Namespace) -> Iterator[bytes]:
-    verb = next(verb for verb in VERBS if verb.name == words.verb)
+def lines_of(history: History, given: argparse.Namespace) -> Iterator[bytes]:
+    verb = next(verb for verb in VERBS if verb.name == given.verb)
     if verb.judges and not history.is_whole:
         history.check()
-    if not words.json:
-        yield from verb.text(history, words)
+    if not given.json:
+        yield from verb.text(history, given)
         return
-    for each in verb.objects(history, words):
+    for each in verb.objects(history, given):
         yield object_line(each)
 
 
@@ -134,26 +136,26 @@ def object_line(found: Object) -> bytes:
     return HIGH_CONTROL.sub(lambda each: "\\u%04x" % ord(each[0]), line).encode("utf-8", "backslashreplace") + b"\n"
 
 
-def answer(words: argparse.Namespace, file: BinaryIO) -> None:
+def answer(given: argparse.Namespace, file: BinaryIO) -> None:
     """Answers the question about a dump. What the cache has of it is made anew where it is refused: the disk may have
     changed it."""
     for _ in range(2):
-        with read(words, file) as history:
+        with read(given, file) as history:
             try:
-                write(lines_of(history, words), history)
+                write(lines_of(history, given), history)
                 return
             except Stale:
                 history.forget()
                 file.seek(0)
             except Refused as refused:
-                raise Failed(str(refused), refused.status, advice(refused, history, words.dump)) from refused
+                raise Failed(str(refused), refused.status, advice(refused, history, given.dump)) from refused
     raise Failed("the cache is damaged again and again: --no-cache reads the dump anew")
 
 
-def read(words: argparse.Namespace, file: BinaryIO) -> History:
+def read(given: argparse.Namespace, file: BinaryIO) -> History:
     progress = Progress(os.fstat(file.fileno()).st_size)
     try:
-        return History.open(file, not words.no_cache, progress)
+        return History.open(file, not given.no_cache, progress)
     finally:
         progress.close()
 
@@ -179,7 +181,7 @@ def write(lines: Iterable[bytes], history: History) -> None:
         raise
 
 
-def advice(refused: Refused, history: History, dump: str) -> List[str]:
+def advice(refused: Refused, history: History, dump: str) -> list[str]:
     if refused.unit == "record":
         return [about_record(each) for each in history.records() if each.number == refused.place]
     return explained(refused, dump, history.front())
@@ -200,15 +202,15 @@ def end_by(number: int) -> NoReturn:
     raise SystemExit(128 + number)
 
 
-def main(arguments: Optional[List[str]] = None) -> int:
+def main(arguments: list[str] | None = None) -> int:
     for number in (signal.SIGINT, signal.SIGTERM, signal.SIGHUP):
         # What the caller has the command ignore, as nohup does, stays ignored.
         if signal.getsignal(number) != signal.SIG_IGN:
             signal.signal(number, stop)
     try:
-        run(sys.argv[1:] if arguments is None else arguments)
+        call(sys.argv[1:] if arguments is None else arguments)
     except Error as error:
-        say("svnask: %s" % error, *error.advice)
+        say(f"svnask: {error}", *error.advice)
         return error.status
     except Stopped as stopped:
         end_by(stopped.args[0])
@@ -216,32 +218,42 @@ def main(arguments: Optional[List[str]] = None) -> int:
         # Like other filters it says nothing where nobody reads what it writes.
         end_by(signal.SIGPIPE)
     except OSError as error:
-        say("svnask: cannot write: %s" % error.strerror)
+        say(f"svnask: cannot write: {error.strerror}")
         drop_output()
         return 3
     except MemoryError:
         say("svnask: out of memory")
         return 4
-    except Exception as error:
+    except Exception as error:  # pylint: disable=broad-exception-caught
         if os.environ.get("SVNASK_DEBUG") == "1":
             say(*traceback.format_exc().splitlines())
-        say("svnask: a fault of svnask: %s: %s. Please report it, with what it prints where SVNASK_DEBUG=1 is set"
-            % (type(error).__name__, error))
+        say(
+            "svnask: a fault of svnask: %s: %s. Please report it, with what it prints where SVNASK_DEBUG=1 is set"
+            % (type(error).__name__, error)
+        )
         return FAULT
     return 0
 
 
-def run(arguments: List[str]) -> None:
+def call(arguments: list[str]) -> None:
     if sys.stdout is None:
         raise Failed("cannot write: the standard output is closed")
     try:
-        words = parser().parse_args(joined(with_dump(arguments)))
+        given = parser().parse_args(joined(with_dump(arguments)))
     except SystemExit:
         # The help was printed, or the version.
         sys.stdout.flush()
         return
-    with opened(words.dump) as file:
-        answer(words, file)
+    with opened(given.dump) as file:
+        answer(given, file)
+
+
+def run() -> NoReturn:
+    """The command, where the module is installed. Before `main` has its own handlers an interrupt ends it silently, as
+    it does the script `svnask`."""
+    if signal.getsignal(signal.SIGINT) is signal.default_int_handler:
+        signal.signal(signal.SIGINT, signal.SIG_DFL)
+    sys.exit(main())
 
 
 def drop_output() -> None:

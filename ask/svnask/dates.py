@@ -5,16 +5,18 @@
 >>> shown(b"2026-01-02T03:04:05.678901Z", "UTC")
 '2026-01-02 03:04:05 +0000 (Fri, 02 Jan 2026)'
 """
+from __future__ import annotations
+
 import calendar
 import re
 import time
-from typing import Callable, Optional, Tuple
+from collections.abc import Callable
 
 from .digits import number
 from .errors import Denied
 
 # Seconds since 1970, and microseconds.
-Moment = Tuple[int, int]
+Moment = tuple[int, int]
 
 WEEKDAYS = ("Mon", "Tue", "Wed", "Thu", "Fri", "Sat", "Sun")
 MONTHS = ("Jan", "Feb", "Mar", "Apr", "May", "Jun", "Jul", "Aug", "Sep", "Oct", "Nov", "Dec")
@@ -27,7 +29,7 @@ MOST_OF_PART, MOST_SECONDS = (1 << 31) - 1, (1 << 63) // MICROS
 CYCLE, SECONDS_OF_CYCLE = 400, 146097 * 86400
 
 
-def moment(year: int, month: int, day: int, hour: int, minute: int, second: int, micros: int) -> Optional[Moment]:
+def moment(year: int, month: int, day: int, hour: int, minute: int, second: int, micros: int) -> Moment | None:
     """A moment by UTC. A day or a second too many is one of the next month or minute."""
     if year < 1970 or not 1 <= month <= 12 or max(year, day, hour, minute, second, micros) > MOST_OF_PART:
         return None
@@ -36,7 +38,7 @@ def moment(year: int, month: int, day: int, hour: int, minute: int, second: int,
     return None if not 0 <= seconds < MOST_SECONDS else (seconds + micros // MICROS, micros % MICROS)
 
 
-def read(date: bytes) -> Optional[Moment]:
+def read(date: bytes) -> Moment | None:
     """The moment of a value of `svn:date`."""
     found = STORED.match(date)
     if found:
@@ -51,7 +53,7 @@ def read(date: bytes) -> Optional[Moment]:
     return None
 
 
-def shown(date: Optional[bytes], zone: Optional[str] = None) -> str:
+def shown(date: bytes | None, zone: str | None = None) -> str:
     """A value of `svn:date` as `svn log` prints it, in the local time zone or in UTC."""
     if not date:
         return "(no date)"
@@ -62,18 +64,31 @@ def shown(date: Optional[bytes], zone: Optional[str] = None) -> str:
     minutes = local.tm_gmtoff // 60
     sign = "-" if minutes < 0 else "+"
     return "%04d-%02d-%02d %02d:%02d:%02d %s%02d%02d (%s, %02d %s %04d)" % (
-        local[:6] + (sign, abs(minutes) // 60, abs(minutes) % 60, WEEKDAYS[local.tm_wday], local.tm_mday,
-                     MONTHS[local.tm_mon - 1], local.tm_year))
+        local[:6]
+        + (
+            sign,
+            abs(minutes) // 60,
+            abs(minutes) % 60,
+            WEEKDAYS[local.tm_wday],
+            local.tm_mday,
+            MONTHS[local.tm_mon - 1],
+            local.tm_year,
+        )
+    )
 
 
 TIME = r"(\d{1,2}):(\d\d)(?::(\d\d)(?:[.,](\d{1,6}))?)?"
 BASIC_TIME = r"(\d\d)(\d\d)(?:(\d\d)(?:[.,](\d{1,6}))?)?"
 ZONE = r"(?:(Z)|([+-])(\d\d)(?::?(\d\d))?)?"
 BASIC_ZONE = r"(?:(Z)|([+-])(\d\d)(\d\d)?)?"
-FORMS = [re.compile(form + r"\Z", re.ASCII) for form in (
-    r"(\d{4})-(\d{1,2})-(\d{1,2})(?:T" + TIME + ZONE + r")?",
-    r"(\d{4})-(\d{1,2})-(\d{1,2}) " + TIME + r"()(?: ([+-])(\d\d)(\d\d)?)?",
-    r"(\d{4})(\d\d)(\d\d)(?:T" + BASIC_TIME + BASIC_ZONE + r")?")]
+FORMS = [
+    re.compile(form + r"\Z", re.ASCII)
+    for form in (
+        r"(\d{4})-(\d{1,2})-(\d{1,2})(?:T" + TIME + ZONE + r")?",
+        r"(\d{4})-(\d{1,2})-(\d{1,2}) " + TIME + r"()(?: ([+-])(\d\d)(\d\d)?)?",
+        r"(\d{4})(\d\d)(\d\d)(?:T" + BASIC_TIME + BASIC_ZONE + r")?",
+    )
+]
 TODAY = re.compile(TIME + r"\Z", re.ASCII)
 
 
@@ -100,7 +115,7 @@ def given(text: str, now: Callable[[], float] = time.time) -> Moment:
     return when_of((year, month, day, hour, minute, second), zone, now()), micros
 
 
-def when_of(fields: Tuple[int, int, int, int, int, int], zone: Tuple[Optional[str], ...], now: float) -> int:
+def when_of(fields: tuple[int, int, int, int, int, int], zone: tuple[str | None, ...], now: float) -> int:
     """The seconds of a date in a zone. Of two moments with one local time it is the one with the offset of today."""
     utc, sign, hours, minutes = zone
     seconds = calendar.timegm(fields)
@@ -121,17 +136,17 @@ def unreadable(text: str) -> Denied:
     return Denied("E205000", "Syntax error in revision argument '{%s}'" % text)
 
 
-def moment_of(rev: int, date_of: Callable[[int], Optional[bytes]]) -> Moment:
+def moment_of(rev: int, date_of: Callable[[int], bytes | None]) -> Moment:
     date = date_of(rev)
     if date is None:
-        raise Denied("E160000", "Failed to find time on revision %d" % rev)
+        raise Denied("E160000", f"Failed to find time on revision {rev}")
     found = read(date)
     if found is None:
         raise Denied("E125003", "Bogus date")
     return found
 
 
-def revision_at(when: Moment, head: int, date_of: Callable[[int], Optional[bytes]]) -> int:
+def revision_at(when: Moment, head: int, date_of: Callable[[int], bytes | None]) -> int:
     """The last revision with a date at or before a moment, found by halving as Subversion does it. Where dates do not
     rise, only the same halving finds the same revision."""
     bottom, top = 0, head

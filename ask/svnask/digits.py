@@ -3,14 +3,14 @@
 >>> number(b"0012"), number("9" * 5000) == LARGEST
 (12, True)
 """
-from typing import Union
+from __future__ import annotations
 
 # What all larger numbers are read as: no dump has so many bytes or revisions.
 LARGEST = (1 << 63) - 1
 MOST = 18
 
 
-def number(digits: Union[str, bytes]) -> int:
+def number(digits: str | bytes) -> int:
     """The number of some decimal digits, or `LARGEST` for one with more than 18 of them."""
     text = digits if isinstance(digits, str) else digits.decode("ascii")
     short = text if len(text) <= MOST else text.lstrip("0") or "0"

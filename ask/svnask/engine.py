@@ -1,4 +1,6 @@
 """Runs svnhist, which answers all questions about history, and reads its answers while they come."""
+from __future__ import annotations
+
 import os
 import re
 import shutil
@@ -6,9 +8,10 @@ import signal
 import subprocess
 import tempfile
 import threading
-from typing import IO, Iterator, List, Optional
+from collections.abc import Iterator, Sequence
+from typing import IO
 
-from .answers import Answer, Query
+from .answers import A, Query
 from .errors import Failed, Refused
 from .texts import say
 
@@ -40,31 +43,32 @@ def workers() -> int:
     return min(len(os.sched_getaffinity(0)), MOST_WORKERS)
 
 
-def run(dump: str, queries: List[Query]) -> Iterator[Answer]:
+def run(dump: str, queries: Sequence[Query[A]]) -> Iterator[A]:
     """The answers to queries about the dump in a file, in their order."""
     for first in range(0, max(len(queries), 1), MOST_QUERIES):
-        yield from _run(dump, queries[first:first + MOST_QUERIES])
+        yield from _run(dump, queries[first : first + MOST_QUERIES])
 
 
-def _run(dump: str, queries: List[Query]) -> Iterator[Answer]:
+def _run(dump: str, queries: Sequence[Query[A]]) -> Iterator[A]:
     with tempfile.NamedTemporaryFile(prefix="svnask-") as lines:
         lines.writelines(query.line() + b"\n" for query in queries)
         lines.flush()
         command = [find_engine(), dump, lines.name, "0", str(workers())]
         try:
-            process = subprocess.Popen(command, stdin=subprocess.DEVNULL, stdout=subprocess.PIPE,
-                                       stderr=subprocess.PIPE)
+            process = subprocess.Popen(
+                command, stdin=subprocess.DEVNULL, stdout=subprocess.PIPE, stderr=subprocess.PIPE
+            )
         except (OSError, ValueError) as error:
             raise Failed("cannot run %s: %s" % (command[0], getattr(error, "strerror", None) or error)) from error
         yield from checked(process, queries)
 
 
-def checked(process: "subprocess.Popen[bytes]", queries: List[Query]) -> Iterator[Answer]:
+def checked(process: subprocess.Popen[bytes], queries: Sequence[Query[A]]) -> Iterator[A]:
     """The answers of a run of the program, one for each query. Each is held back until the next one has begun, and the
     last one until the program has ended well."""
     assert process.stdout is not None and process.stderr is not None
     messages = Messages(process.stderr)
-    held: Optional[bytes] = None
+    held: bytes | None = None
     place = 0
     is_read = False
     try:
@@ -128,7 +132,7 @@ def texts_of(report: IO[bytes]) -> Iterator[bytes]:
         yield left
 
 
-def answer_of(text: bytes, queries: List[Query], place: int) -> Answer:
+def answer_of(text: bytes, queries: Sequence[Query[A]], place: int) -> A:
     """The answer in a text to the query at a place."""
     head, _, body = text.partition(b"\n")
     found = HEAD.match(head)
@@ -154,4 +158,4 @@ def name_of(number: int) -> str:
     try:
         return signal.Signals(number).name
     except ValueError:
-        return "signal %d" % number
+        return f"signal {number}"

@@ -1,5 +1,7 @@
 """Why there is no answer."""
-from typing import Sequence
+from __future__ import annotations
+
+from collections.abc import Sequence
 
 
 class Error(Exception):
@@ -36,7 +38,7 @@ class Denied(Error):
     """The question has no answer, as `svn` says it: an error code and a text."""
 
     def __init__(self, code: str, text: str) -> None:
-        super().__init__("%s: %s" % (code, text), 1)
+        super().__init__(f"{code}: {text}", 1)
         self.code = code
 
 
@@ -44,7 +46,7 @@ class Refused(Error):
     """The dump is refused: the number and the name of the reason, and the byte or the record at which it is found."""
 
     def __init__(self, number: int, name: str, unit: str, place: int) -> None:
-        super().__init__("dump refused: %d %s at %s %d" % (number, name, unit, place), 1)
+        super().__init__(f"dump refused: {number} {name} at {unit} {place}", 1)
         self.number = number
         self.name = name
         self.unit = unit

@@ -5,11 +5,14 @@ in takes none. Each revision that begins or ends a life, is copied from, merges 
 is the newest of a life, has a column of its own; of all others each `MOST_OTHERS`-th part shares a column, and those of
 one lane in it a dot.
 """
+from __future__ import annotations
+
 import bisect
-from typing import Dict, Iterable, Iterator, List, NamedTuple, Optional, Sequence, Set, Tuple
+from collections.abc import Iterable, Iterator, Sequence
+from typing import NamedTuple
 
 from . import branches, merges
-from .changes import components, parents_of
+from .changes import components, tops_of
 from .history import History
 from .lives import Life
 from .merges import Gain
@@ -21,9 +24,9 @@ TRUNK, BRANCH, TAG = "trunk", "branch", "tag"
 class Lane(NamedTuple):
     """A life, or several that continue each other, with their operative revisions, rising."""
 
-    lives: List[Life]
+    lives: list[Life]
     kind: str
-    revisions: List[int]
+    revisions: list[int]
 
 
 class Copy(NamedTuple):
@@ -31,7 +34,7 @@ class Copy(NamedTuple):
 
     life: Life
     lane: int
-    source: Optional[int]
+    source: int | None
 
 
 class Merge(NamedTuple):
@@ -40,8 +43,8 @@ class Merge(NamedTuple):
     source: int
     target: int
     rev: int
-    revisions: List[int]
-    lost: Optional[int]
+    revisions: list[int]
+    lost: int | None
     is_carried: bool
 
 
@@ -50,17 +53,17 @@ class Dot(NamedTuple):
 
     lane: int
     column: int
-    revisions: List[int]
+    revisions: list[int]
 
 
 class Graph(NamedTuple):
     """Lanes from the top, and what is between them. A column ends with its revision."""
 
-    lanes: List[Lane]
-    copies: List[Copy]
-    merges: List[Merge]
-    dots: List[Dot]
-    columns: List[int]
+    lanes: list[Lane]
+    copies: list[Copy]
+    merges: list[Merge]
+    dots: list[Dot]
+    columns: list[int]
 
     def column_of(self, rev: int) -> int:
         """The column that has a revision."""
@@ -77,12 +80,16 @@ def graph_of(history: History, patterns: Sequence[bytes]) -> Graph:
     asked = merges.asked_of(history, lives)
     answers = history.ask(branches.logs_of(lives) + [query for _, query in asked])
     operative = branches.operative(lives, answers)
-    lanes = ordered([Lane(chain, kind_of(chain[0]), [rev for life in chain for rev in operative[life]])
-                     for chain in chains(lives)])
+    lanes = ordered(
+        [Lane(chain, kind_of(chain[0]), [rev for life in chain for rev in operative[life]]) for chain in chains(lives)]
+    )
     numbers = {life: number for number, lane in enumerate(lanes) for life in lane.lives}
     finder = Finder(lives)
-    copies = [Copy(lane.lives[0], number, finder.lane(lane.lives[0], numbers)) for number, lane in enumerate(lanes)
-              if lane.lives[0].source is not None]
+    copies = [
+        Copy(lane.lives[0], number, finder.lane(lane.lives[0], numbers))
+        for number, lane in enumerate(lanes)
+        if lane.lives[0].source is not None
+    ]
     merged = list(merges_of(merges.gains_of(operative, asked, answers), numbers))
     columns = columns_of(lanes, set(keys_of(lanes, copies, merged)))
     return Graph(lanes, copies, merged, list(dots_of(lanes, columns)), columns)
@@ -94,10 +101,10 @@ def kind_of(life: Life) -> str:
     return TAG if b"tags" in parts[:-1] else TRUNK if parts[-1:] == [b"trunk"] else BRANCH
 
 
-def chains(lives: Iterable[Life]) -> List[List[Life]]:
+def chains(lives: Iterable[Life]) -> list[list[Life]]:
     """Lives that go on in one lane: each is the one before it, moved to another place of the same kind."""
-    found: List[List[Life]] = []
-    ends: Dict[Tuple[bytes, int], List[Life]] = {}
+    found: list[list[Life]] = []
+    ends: dict[tuple[bytes, int], list[Life]] = {}
     for life in sorted(lives, key=lambda life: life.first):
         chain = ends.get(life.source) if life.source is not None else None
         if chain is not None and life.continues(chain[-1]) and kind_of(life) == kind_of(chain[-1]):
@@ -114,29 +121,31 @@ class Finder:
     """Finds the life that a copy took, or took a part of."""
 
     def __init__(self, lives: Iterable[Life]) -> None:
-        self._by_path: Dict[bytes, List[Life]] = {}
+        self._by_path: dict[bytes, list[Life]] = {}
         for life in lives:
             self._by_path.setdefault(life.path, []).append(life)
 
-    def source(self, copy: Life) -> Optional[Life]:
+    def source(self, copy: Life) -> Life | None:
         if copy.source is None:
             return None
         path, rev = copy.source
-        return next((life for top in [path, *parents_of(path)] for life in self._by_path.get(top, ())
-                     if life.first <= rev <= life.last), None)
+        return next(
+            (life for top in tops_of(path) for life in self._by_path.get(top, ()) if life.first <= rev <= life.last),
+            None,
+        )
 
-    def lane(self, copy: Life, numbers: Dict[Life, int]) -> Optional[int]:
+    def lane(self, copy: Life, numbers: dict[Life, int]) -> int | None:
         source = self.source(copy)
         return None if source is None else numbers[source]
 
 
-def ordered(lanes: List[Lane]) -> List[Lane]:
+def ordered(lanes: list[Lane]) -> list[Lane]:
     """Lanes from the top. The trunk is first. Below each lane are its copies, the newest source first, each with its
     own ones: in this order no curve of a copy crosses a lane."""
     places = {life: place for place, lane in enumerate(lanes) for life in lane.lives}
     finder = Finder(places)
-    tops: List[Lane] = []
-    below: Dict[int, List[Lane]] = {}
+    tops: list[Lane] = []
+    below: dict[int, list[Lane]] = {}
     for place, lane in enumerate(lanes):
         source = finder.lane(lane.lives[0], places)
         (tops if source is None or source == place else below.setdefault(source, [])).append(lane)
@@ -149,14 +158,14 @@ def ordered(lanes: List[Lane]) -> List[Lane]:
     return found
 
 
-def by_source(lane: Lane) -> Tuple[int, int, bytes]:
+def by_source(lane: Lane) -> tuple[int, int, bytes]:
     life = lane.lives[0]
     return (life.source[1] if life.source is not None else 0), life.first, life.path
 
 
-def merges_of(gains: Iterable[Gain], numbers: Dict[Life, int]) -> Iterator[Merge]:
+def merges_of(gains: Iterable[Gain], numbers: dict[Life, int]) -> Iterator[Merge]:
     """The gains, joined where lives are in one lane."""
-    found: Dict[Tuple[int, int, int, Optional[int], bool], List[int]] = {}
+    found: dict[tuple[int, int, int, int | None, bool], list[int]] = {}
     for gain in gains:
         key = numbers[gain.source], numbers[gain.target], gain.rev, gain.lost, gain.is_carried
         found.setdefault(key, []).extend(gain.revisions)
@@ -167,10 +176,10 @@ def merges_of(gains: Iterable[Gain], numbers: Dict[Life, int]) -> Iterator[Merge
 def newest(revisions: Sequence[int], rev: int) -> Sequence[int]:
     """The newest of rising revisions up to one, if there is any."""
     at = bisect.bisect_right(revisions, rev)
-    return revisions[max(at - 1, 0):at]
+    return revisions[max(at - 1, 0) : at]
 
 
-def keys_of(lanes: List[Lane], copies: List[Copy], merged: List[Merge]) -> Iterator[int]:
+def keys_of(lanes: list[Lane], copies: list[Copy], merged: list[Merge]) -> Iterator[int]:
     """The revisions that have a column of their own."""
     for lane in lanes:
         yield from (life.first for life in lane.lives)
@@ -184,15 +193,15 @@ def keys_of(lanes: List[Lane], copies: List[Copy], merged: List[Merge]) -> Itera
         yield from (merge.rev, merge.revisions[-1])
 
 
-def columns_of(lanes: List[Lane], keys: Set[int]) -> List[int]:
+def columns_of(lanes: list[Lane], keys: set[int]) -> list[int]:
     others = sorted({rev for lane in lanes for rev in lane.revisions} - keys)
     step = -(-len(others) // MOST_OTHERS) or 1
-    return sorted(keys.union(others[step - 1::step]))
+    return sorted(keys.union(others[step - 1 :: step]))
 
 
-def dots_of(lanes: List[Lane], columns: List[int]) -> Iterator[Dot]:
+def dots_of(lanes: list[Lane], columns: list[int]) -> Iterator[Dot]:
     for number, lane in enumerate(lanes):
-        found: Dict[int, List[int]] = {}
+        found: dict[int, list[int]] = {}
         for rev in lane.revisions:
             found.setdefault(bisect.bisect_left(columns, rev), []).append(rev)
         yield from (Dot(number, column, revisions) for column, revisions in found.items())

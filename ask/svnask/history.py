@@ -1,17 +1,19 @@
 """The history that a dump has: what svnhist answers about it, and who committed what."""
+from __future__ import annotations
+
 import os
 import stat
 import sys
+from collections.abc import Callable, Iterable, Iterator
 from types import TracebackType
-from typing import BinaryIO, Callable, Dict, Iterable, Iterator, List, Optional, Tuple, Type, TypeVar, Union
+from typing import BinaryIO
 
 from . import dates, engine
-from .answers import Answer, Line, Locate, Located, Log, Logged, Query, Segment, Segments, Where
+from .answers import A, Answer, Answers, Locate, Located, Log, Logged, Query, Segments, Where
 from .changes import Change, changes_of
-from .errors import Denied, Failed, Refused
+from .errors import Failed, Refused
 from .store import Index, Record, Revision, Store, opened
 
-Asked = TypeVar("Asked", bound=Answer)
 # The longest header that is looked for in a dump.
 HEADER = 1 << 16
 
@@ -26,18 +28,19 @@ class History:
     In the examples of the methods `history` is this one. It is closed at the end of `with`, or by `close`.
     """
 
-    def __init__(self, store: Store, file: Optional[int] = None) -> None:
+    def __init__(self, store: Store, file: int | None = None) -> None:
         self._store = store
         # The descriptor of the dump, where it is a file.
         self._file = file
         # Whether svnhist has answered, so that it does not refuse the dump.
         self._is_accepted = False
-        self._revisions: Dict[int, Revision] = {}
-        self._changes: Dict[int, List[Change]] = {}
+        self._revisions: dict[int, Revision] = {}
+        self._changes: dict[int, list[Change]] = {}
 
     @classmethod
-    def open(cls, dump: Union[str, BinaryIO], is_cached: bool = True,
-             seen: Callable[[int], object] = lambda read: None) -> "History":
+    def open(
+        cls, dump: str | BinaryIO, is_cached: bool = True, seen: Callable[[int], object] = lambda read: None
+    ) -> History:
         """The history of a file, by its name or opened. `-` is the standard input. What is read of a file is kept in
         the cache, unless `is_cached` is false. `seen` is told now and then how many bytes were read.
 
@@ -52,7 +55,7 @@ class History:
                 return cls(opened(file, is_cached, seen), of_file(file))
         except OSError as error:
             name = dump if isinstance(dump, str) else dump.name
-            raise Failed("cannot read %s, or copy what is needed of it: %s" % (name, error.strerror)) from error
+            raise Failed(f"cannot read {name}, or copy what is needed of it: {error.strerror}") from error
 
     @property
     def is_from_cache(self) -> bool:
@@ -77,11 +80,12 @@ class History:
         """
         return self.index.is_whole and self.head >= 0
 
-    def __enter__(self) -> "History":
+    def __enter__(self) -> History:
         return self
 
-    def __exit__(self, kind: Optional[Type[BaseException]], value: Optional[BaseException],
-                 trace: Optional[TracebackType]) -> None:
+    def __exit__(
+        self, kind: type[BaseException] | None, value: BaseException | None, trace: TracebackType | None
+    ) -> None:
         self.close()
 
     def close(self) -> None:
@@ -109,7 +113,7 @@ class History:
         """
         return self._store.head
 
-    def ask(self, queries: Iterable[Query]) -> Iterator[Answer]:
+    def ask(self, queries: Iterable[Query[A]]) -> Iterator[A]:
         """The answers to queries, in their order, while svnhist gives them. `Refused` where it refuses the dump.
 
         >>> for answer in history.ask([Log(b"trunk", 13, (3, 13)), Locate(b"none", 13, 1)]):
@@ -127,14 +131,14 @@ class History:
             raise self._placed(refused) from refused
         self._is_accepted = True
 
-    def answers(self, queries: Iterable[Query]) -> Dict[Query, Answer]:
+    def answers(self, queries: Iterable[Query[Answer]]) -> Answers:
         """The answer to each of some queries, all in one run of svnhist.
 
         >>> query = Log(b"trunk", 13)
         >>> history.answers([query, query])[query].lines
         [b'r5 /trunk', b'r2 /trunk', b'r1 /trunk']
         """
-        return {answer.query: answer for answer in self.ask(dict.fromkeys(queries))}
+        return Answers((answer.query, answer) for answer in self.ask(dict.fromkeys(queries)))
 
     def front(self) -> bytes:
         """The first bytes of the dump, without texts.
@@ -142,7 +146,7 @@ class History:
         >>> history.front()[:31]
         b'SVN-fs-dump-format-version: 2\\n\\n'
         """
-        return self._store.data[:1 << 12]
+        return self._store.data[: 1 << 12]
 
     def check(self) -> None:
         """Raises `Refused` where svnhist refuses the dump.
@@ -155,7 +159,7 @@ class History:
         """
         if not self._is_accepted:
             # A program that prints no answer to this one is not svnhist.
-            one(self.ask([Locate(b"/", 0, 0)]), Located)
+            one(self.ask([Locate(b"/", 0, 0)]))
 
     def _placed(self, refused: Refused) -> Refused:
         """The refusal with the offset of the given dump, which is longer than the copy that svnhist read."""
@@ -169,7 +173,7 @@ class History:
         >>> history.locate(b"tags/one-1.0", 13, 2).path
         b'/trunk'
         """
-        return one(self.ask([Locate(path, rev, at)]), Located)
+        return one(self.ask([Locate(path, rev, at)]))
 
     def segments(self, path: bytes, rev: int) -> Segments:
         """The location segments of a path, the newest first.
@@ -177,7 +181,7 @@ class History:
         >>> history.segments(b"branches/one", 5).segments
         [Segment(lo=3, hi=5, path=b'/branches/one'), Segment(lo=1, hi=2, path=b'/trunk')]
         """
-        return one(self.ask([Where(path, rev)]), Segments)
+        return one(self.ask([Where(path, rev)]))
 
     def log(self, path: bytes, rev: int) -> Logged:
         """The operative revisions of a path, the newest first.
@@ -185,9 +189,9 @@ class History:
         >>> history.log(b"branches/two", 13).revisions
         [11, 9, 5, 2, 1]
         """
-        return one(self.ask([Log(path, rev)]), Logged)
+        return one(self.ask([Log(path, rev)]))
 
-    def kind(self, path: bytes, rev: int) -> Optional[str]:
+    def kind(self, path: bytes, rev: int) -> str | None:
         """Whether a path of a revision is a `file` or a `dir`, as the record says that added it first.
 
         >>> history.kind(b"/trunk/main.c", 13), history.kind(b"/trunk", 13), history.kind(b"/none", 13)
@@ -199,8 +203,11 @@ class History:
         if not located:
             return None
         first = located[-1]
-        kinds = [each.kind for each in self.records(first.lo, first.lo)
-                 if each.path == first.path and each.action in ("add", "replace")]
+        kinds = [
+            each.kind
+            for each in self.records(first.lo, first.lo)
+            if each.path == first.path and each.action in ("add", "replace")
+        ]
         return kinds[-1] if kinds else None
 
     def revision(self, rev: int) -> Revision:
@@ -213,7 +220,7 @@ class History:
             self._revisions[rev] = self._store.revision(rev)
         return self._revisions[rev]
 
-    def records(self, first: int = 0, last: Optional[int] = None) -> Iterator[Record]:
+    def records(self, first: int = 0, last: int | None = None) -> Iterator[Record]:
         """The records of these revisions, in the order of the dump.
 
         >>> [(record.action, record.path, record.source) for record in history.records(10, 11)][0]
@@ -221,7 +228,7 @@ class History:
         """
         return self._store.records(first, last)
 
-    def blocks(self) -> Iterator[Tuple[int, Optional[Record]]]:
+    def blocks(self) -> Iterator[tuple[int, Record | None]]:
         """The offset of each block of the dump, and its record, if it has one.
 
         >>> [(at, record.path) for at, record in history.blocks() if record is not None][0]
@@ -229,7 +236,7 @@ class History:
         """
         return self._store.blocks()
 
-    def header(self, at: int) -> List[bytes]:
+    def header(self, at: int) -> list[bytes]:
         """The header lines of the block at an offset of the dump, where that is a file.
 
         >>> history.header(3874)
@@ -246,10 +253,9 @@ class History:
         >>> history.is_read_from("interop/branches.dump"), history.is_read_from("interop/none.dump")
         (True, False)
         """
-        return self._file is not None and os.path.exists(name) and os.path.samestat(os.stat(name),
-                                                                                    os.fstat(self._file))
+        return self._file is not None and os.path.exists(name) and os.path.samestat(os.stat(name), os.fstat(self._file))
 
-    def changes(self, rev: int) -> List[Change]:
+    def changes(self, rev: int) -> list[Change]:
         """The changed paths of a revision, as `svn log -v` lists them.
 
         >>> history.changes(10)
@@ -268,12 +274,11 @@ class History:
         return dates.revision_at(dates.given(date), self.head, lambda rev: self.revision(rev).date)
 
 
-def of_file(file: BinaryIO) -> Optional[int]:
+def of_file(file: BinaryIO) -> int | None:
     """A descriptor of a file, of which any part can be read again."""
     return os.dup(file.fileno()) if stat.S_ISREG(os.fstat(file.fileno()).st_mode) else None
 
 
-def one(answers: Iterator[Answer], kind: Type[Asked]) -> Asked:
-    found, = answers
-    assert isinstance(found, kind)
+def one(answers: Iterator[A]) -> A:
+    (found,) = answers
     return found

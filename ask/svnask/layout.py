@@ -4,8 +4,11 @@ A row has one lane, or several one after the other: branches that ended leave ro
 branch stand side by side below it. Where there are many lanes, a branch that is still there leaves room, too, after its
 last change, copy or merge. A row of one lane has its name at the left, if its line begins on a usual screen.
 """
+from __future__ import annotations
+
 import unicodedata
-from typing import Dict, Iterator, List, NamedTuple, Optional, Tuple
+from collections.abc import Iterator
+from typing import NamedTuple
 
 from .graph import BRANCH, TAG, TRUNK, Copy, Graph, Lane
 from .lives import Life
@@ -39,11 +42,11 @@ class Row:
     """The lanes of a row, the last one first. Below it are the rows of tags of its lanes, and of the tags of these. Its
     place is its number among the rows that are no such ones, and its number below that row."""
 
-    def __init__(self, kind: str, place: Tuple[int, int], below: List["Row"]) -> None:
+    def __init__(self, kind: str, place: tuple[int, int], below: list[Row]) -> None:
         self.kind = kind
         self.place = place
         self.below = below
-        self.lanes: List[int] = []
+        self.lanes: list[int] = []
         self._start = float("inf")
 
     def has_room(self, extent: Extent) -> bool:
@@ -69,7 +72,7 @@ class Layout:
         alone = [row.lanes[0] for row in self.rows if len(row.lanes) == 1]
         self.names = names_of(graph.lanes, [lane for lane in alone if self._start_of(lane) <= USUAL])
         self.left = max(map(width_of, self.names.values()), default=0) + 2 * GAP + 8
-        self._middles: Dict[int, float] = {}
+        self._middles: dict[int, float] = {}
         self.bottom = float(TOP)
         for row in self.rows:
             self._middles.update((lane, self.bottom + HEIGHTS[row.kind] / 2) for lane in row.lanes)
@@ -96,7 +99,7 @@ class Layout:
         """Where the line of a lane ends."""
         return self.left + self._ends[lane]
 
-    def source(self, copy: Copy) -> Optional[Place]:
+    def source(self, copy: Copy) -> Place | None:
         """Where the curve of a copy begins, if its source has a lane: at the source's revision."""
         return None if copy.source is None else Place(self._x_of_source(copy), self.y(copy.source))
 
@@ -105,7 +108,7 @@ class Layout:
         to = self.x(self._graph.column_of(copy.life.first))
         return to - 0.6 * self.step if copy.source is None else min(self._x_of_source(copy) + self.step, to)
 
-    def names_on_line(self, lane: int) -> Iterator[Tuple[Place, str]]:
+    def names_on_line(self, lane: int) -> Iterator[tuple[Place, str]]:
         """The names on the line of a lane: where it gets another one, and far from where its name stands already."""
         lives = self._graph.lanes[lane].lives
         before = self.left if lane in self.names else float("-inf")
@@ -157,8 +160,8 @@ class Layout:
 
     def _rows(self) -> Iterator[Row]:
         """Puts each lane into the first row with room for it that is below that of its source."""
-        rows: List[Row] = []
-        row_of: Dict[int, Row] = {}
+        rows: list[Row] = []
+        row_of: dict[int, Row] = {}
         for number, lane in enumerate(self._graph.lanes):
             source = self._copies[number].source if number in self._copies else None
             above = row_of[source] if source is not None else None
@@ -169,12 +172,18 @@ class Layout:
             yield from row.below
 
 
-def row_for(rows: List[Row], above: Optional[Row], kind: str, extent: Extent) -> Row:
+def row_for(rows: list[Row], above: Row | None, kind: str, extent: Extent) -> Row:
     """The first row with room, or a new one."""
     is_below = above is not None and kind == TAG
     choice = above.below if above is not None and is_below else rows
-    found = next((row for row in choice if row.kind == kind and (above is None or row.place > above.place)
-                  and row.has_room(extent)), None)
+    found = next(
+        (
+            row
+            for row in choice
+            if row.kind == kind and (above is None or row.place > above.place) and row.has_room(extent)
+        ),
+        None,
+    )
     if found is not None:
         return found
     if above is not None and is_below:
@@ -184,9 +193,9 @@ def row_for(rows: List[Row], above: Optional[Row], kind: str, extent: Extent) ->
     return choice[-1]
 
 
-def uses_of(graph: Graph) -> Dict[int, List[int]]:
+def uses_of(graph: Graph) -> dict[int, list[int]]:
     """The revisions in which each lane is copied, and merged into."""
-    found: Dict[int, List[int]] = {}
+    found: dict[int, list[int]] = {}
     for copy in graph.copies:
         if copy.source is not None and copy.life.source is not None:
             found.setdefault(copy.source, []).append(graph.columns[max(graph.column_before(copy.life.source[1]), 0)])
@@ -218,15 +227,15 @@ def name_on_line(life: Life, lane: Lane) -> str:
     return shortened(readable(path), LONGEST_ON_LINE)
 
 
-def names_of(lanes: List[Lane], named: List[int]) -> Dict[int, str]:
+def names_of(lanes: list[Lane], named: list[int]) -> dict[int, str]:
     """The name of some of the lanes at the left: that of the last life, and where several lanes have that, its
     revisions."""
-    counts: Dict[bytes, int] = {}
+    counts: dict[bytes, int] = {}
     for lane in lanes:
         counts[lane.lives[-1].path] = counts.get(lane.lives[-1].path, 0) + 1
     names = {}
     for number in named:
         life = lanes[number].lives[-1]
         name = shortened(readable(life.path), LONGEST_NAME)
-        names[number] = "%s %s" % (name, span_of(life)) if counts[life.path] > 1 else name
+        names[number] = f"{name} {span_of(life)}" if counts[life.path] > 1 else name
     return names

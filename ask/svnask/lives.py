@@ -3,15 +3,18 @@
 A path that was deleted and made anew has several lives. One also begins or ends where a directory above it is copied,
 moved or deleted, of which no record names the path.
 """
-import fnmatch
-from typing import Dict, Iterable, Iterator, List, NamedTuple, Optional, Sequence, Set, Tuple
+from __future__ import annotations
 
-from .changes import components
+import fnmatch
+from collections.abc import Iterable, Iterator, Sequence
+from typing import NamedTuple
+
+from .changes import components, tops_of
 from .store import Record
 from .values import joined, rest_below
 
 PATTERNS = (b"/trunk", b"/branches/*", b"/tags/*")
-Place = Tuple[bytes, int]
+Place = tuple[bytes, int]
 
 
 class Life(NamedTuple):
@@ -21,11 +24,11 @@ class Life(NamedTuple):
     first: int
     last: int
     # Where it was copied from, if it was.
-    source: Optional[Place]
+    source: Place | None
     # Whether it is there in the youngest revision.
     is_alive: bool
 
-    def continues(self, other: "Life") -> bool:
+    def continues(self, other: Life) -> bool:
         """Whether this is the other one under another name: it was moved."""
         return self.source == (other.path, other.last) and self.first == other.last + 1 and not other.is_alive
 
@@ -36,33 +39,34 @@ class Event(NamedTuple):
     rev: int
     number: int
     action: str
-    source: Optional[Place]
+    source: Place | None
 
 
 class Tree:
     """What was at each path of each revision, by the records that made or unmade it."""
 
     def __init__(self, records: Iterable[Record]) -> None:
-        self._events: Dict[bytes, List[Event]] = {}
-        self._names: Dict[bytes, Set[bytes]] = {}
-        self._known: Dict[Place, bool] = {}
+        self._events: dict[bytes, list[Event]] = {}
+        self._names: dict[bytes, set[bytes]] = {}
+        self._known: dict[Place, bool] = {}
         for record in records:
             if record.action != "change":
                 self._events.setdefault(record.path, []).append(
-                    Event(record.rev, record.number, record.action, record.source))
+                    Event(record.rev, record.number, record.action, record.source)
+                )
                 top, _, name = record.path.rpartition(b"/")
                 if name:
                     self._names.setdefault(top or b"/", set()).add(name)
 
-    def events(self, path: bytes) -> List[Tuple[bytes, Event]]:
+    def events(self, path: bytes) -> list[tuple[bytes, Event]]:
         """The events of a path and of those above it, in the order of the dump, with the path of each."""
         found = [(top, event) for top in tops_of(path) for event in self._events.get(top, ())]
         return sorted(found, key=lambda each: each[1].number)
 
     def exists(self, path: bytes, rev: int) -> bool:
         """Whether a path is in the tree of a revision: in its own, or in that which it was copied from, and so on."""
-        place: Optional[Place] = (path, rev)
-        passed: List[Place] = []
+        place: Place | None = (path, rev)
+        passed: list[Place] = []
         is_there = False
         while place is not None and place not in self._known:
             passed.append(place)
@@ -72,23 +76,23 @@ class Tree:
         self._known.update((each, is_there) for each in passed)
         return is_there
 
-    def _step(self, path: bytes, rev: int) -> Tuple[bool, Optional[Place]]:
+    def _step(self, path: bytes, rev: int) -> tuple[bool, Place | None]:
         """Whether a path is in the tree of a revision, or else the place on which that depends."""
         if path == b"/":
             return True, None
-        newest: Optional[Tuple[bytes, Event]] = None
+        newest: Event | None = None
+        place = path
         for top in tops_of(path):
             events = self._events.get(top, [])
             at = count_up_to(events, rev)
-            if at and (newest is None or newest[1].number < events[at - 1].number):
-                newest = (top, events[at - 1])
-        if newest is None or newest[1].action == "delete":
+            if at and (newest is None or newest.number < events[at - 1].number):
+                newest, place = events[at - 1], top
+        if newest is None or newest.action == "delete":
             return False, None
-        top, event = newest
-        if event.source is None:
-            return path == top, None
+        if newest.source is None:
+            return path == place, None
         # Where a copy is not from an older revision, svnhist refuses the dump.
-        return False, moved(path, top, event.source) if event.source[1] < event.rev else None
+        return False, moved(path, place, newest.source) if newest.source[1] < newest.rev else None
 
     def after(self, path: bytes, top: bytes, event: Event) -> bool:
         """Whether a path is there after an event of it or of a path above it."""
@@ -98,12 +102,12 @@ class Tree:
             return path == top
         return self.exists(*moved(path, top, event.source))
 
-    def names(self, path: bytes) -> Set[bytes]:
+    def names(self, path: bytes) -> set[bytes]:
         """The names of all that was ever directly below a path, by its own records or those of what it was copied
         from."""
-        found: Set[bytes] = set()
-        seen: Set[Place] = set()
-        left: List[Tuple[bytes, Optional[int]]] = [(path, None)]
+        found: set[bytes] = set()
+        seen: set[Place] = set()
+        left: list[tuple[bytes, int | None]] = [(path, None)]
         while left:
             place, rev = left.pop()
             found.update(self._names.get(place, ()))
@@ -113,38 +117,42 @@ class Tree:
                     left.append(source)
         return found
 
-    def _sources(self, path: bytes, rev: Optional[int]) -> Iterator[Place]:
+    def _sources(self, path: bytes, rev: int | None) -> Iterator[Place]:
         """Where a path was copied from, up to a revision if one is given."""
         for top in tops_of(path):
             for event in self._events.get(top, ()):
                 if event.source is not None and (rev is None or event.rev <= rev):
                     yield moved(path, top, event.source)
 
-    def matching(self, pattern: bytes) -> List[bytes]:
+    def matching(self, pattern: bytes) -> list[bytes]:
         """The paths that ever were and match a pattern, component by component."""
         found = [b"/"]
         for part in components(pattern):
             if is_plain(part):
                 found = [joined(top, part) for top in found]
             else:
-                found = [joined(top, name) for top in found for name in sorted(self.names(top))
-                         if fnmatch.fnmatchcase(letters(name), letters(part))]
+                found = [
+                    joined(top, name)
+                    for top in found
+                    for name in sorted(self.names(top))
+                    if fnmatch.fnmatchcase(letters(name), letters(part))
+                ]
         return found
 
     def lives(self, path: bytes, head: int) -> Iterator[Life]:
         """The lives of a path, the first one first."""
-        begun: Optional[Tuple[int, Optional[Place]]] = None
+        life: Life | None = None
         for top, event in self.events(path):
             is_there = self.after(path, top, event)
-            if begun is not None and begun[0] < event.rev:
-                yield Life(path, begun[0], event.rev - 1, begun[1], False)
+            if life is not None and life.first < event.rev:
+                yield life._replace(last=event.rev - 1, is_alive=False)
             source = moved(path, top, event.source) if event.source is not None else None
-            begun = (event.rev, source) if is_there else None
-        if begun is not None:
-            yield Life(path, begun[0], head, begun[1], True)
+            life = Life(path, event.rev, head, source, True) if is_there else None
+        if life is not None:
+            yield life
 
 
-def moved_lives(lives: Sequence[Life]) -> Set[Life]:
+def moved_lives(lives: Sequence[Life]) -> set[Life]:
     """Those of some lives that go on with another one of them under a new name."""
     ends = {(life.path, life.last): life for life in lives}
     return {life for life in lives if life.source in ends and life.continues(ends[life.source])}
@@ -162,14 +170,6 @@ def count_up_to(events: Sequence[Event], rev: int) -> int:
     return low
 
 
-def tops_of(path: bytes) -> Iterator[bytes]:
-    """A path and those above it."""
-    yield path
-    while path != b"/":
-        path = path.rpartition(b"/")[0] or b"/"
-        yield path
-
-
 def moved(path: bytes, top: bytes, source: Place) -> Place:
     """Where a path came from with a copy of a path at or above it."""
     return joined(source[0], rest_below(path, top)), source[1]
@@ -184,7 +184,7 @@ def is_plain(part: bytes) -> bool:
     return not any(letter in part for letter in b"*?[")
 
 
-def all_lives(records: Iterable[Record], patterns: Sequence[bytes], head: int) -> List[Life]:
+def all_lives(records: Iterable[Record], patterns: Sequence[bytes], head: int) -> list[Life]:
     """The lives of all paths that match a pattern, in the order of paths and revisions."""
     tree = Tree(records)
     paths = {path for pattern in patterns for path in tree.matching(pattern)}

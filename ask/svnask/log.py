@@ -1,12 +1,15 @@
 """`log`: what `svn log` prints of a path."""
+from __future__ import annotations
+
 import bisect
 import re
+from collections.abc import Iterator
 from dataclasses import dataclass
-from typing import Iterator, List, NamedTuple, Optional, Tuple
+from typing import NamedTuple
 
 from . import dates
-from .answers import Log, Logged, Segment, Segments, Where
-from .changes import is_at_or_below, parents_of
+from .answers import Log, Segment, Where
+from .changes import is_at_or_below, tops_of
 from .errors import Denied
 from .history import History
 from .store import Revision
@@ -20,8 +23,8 @@ LINE_END = re.compile(rb"\r\n|\n\r|\n|\r")
 class Options:
     """The options of `svn log`."""
 
-    ranges: Optional[List[Tuple[int, int]]] = None
-    limit: Optional[int] = None
+    ranges: list[tuple[int, int]] | None = None
+    limit: int | None = None
     is_quiet: bool = False
     is_verbose: bool = False
     stops_on_copy: bool = False
@@ -30,10 +33,10 @@ class Options:
 class Trace(NamedTuple):
     """Where a path was, the newest segment first, and the revisions that svnhist calls operative."""
 
-    segments: List[Segment]
-    revisions: List[int]
+    segments: list[Segment]
+    revisions: list[int]
 
-    def at(self, rev: int) -> Optional[Segment]:
+    def at(self, rev: int) -> Segment | None:
         """The segment that has a revision, if the path was anywhere in it."""
         return next((each for each in self.segments if each.lo <= rev <= each.hi and each.path is not None), None)
 
@@ -43,38 +46,44 @@ class Trace(NamedTuple):
 
 
 def not_found(target: Target, rev: int) -> Denied:
-    return Denied("E160013", "File not found: revision %d, path '%s'" % (rev, decoded(target.path)))
+    return Denied("E160013", f"File not found: revision {rev}, path '{decoded(target.path)}'")
 
 
 def not_reached(history: History, target: Target) -> Denied:
     """The error where a path is not there: another one where a file is in its middle."""
-    for above in parents_of(target.path):
-        kind = history.kind(above, target.rev)
+    _, *above = tops_of(target.path)
+    for path in above:
+        kind = history.kind(path, target.rev)
         if kind == "file":
-            return Denied("E160016", "'%s' is not a directory in revision %d" % (decoded(above), target.rev))
+            return Denied("E160016", f"'{decoded(path)}' is not a directory in revision {target.rev}")
         if kind is not None:
             break
     return not_found(target, target.rev)
 
 
 def not_located(target: Target, rev: int) -> Denied:
-    return Denied("E195012", "Unable to find repository location for '%s' in revision %d" % (decoded(target.path), rev))
+    return Denied("E195012", f"Unable to find repository location for '{decoded(target.path)}' in revision {rev}")
 
 
-def trace(history: History, target: Target) -> Optional[Trace]:
+def trace(history: History, target: Target) -> Trace | None:
     """Where a path was and when it changed, if it is there."""
-    where, logged = history.ask([Where(*target), Log(*target)])
-    assert isinstance(where, Segments) and isinstance(logged, Logged)
-    return Trace(where.segments, logged.revisions) if where.ok else None
+    asked, logged = Where(*target), Log(*target)
+    answers = history.answers([asked, logged])
+    where = answers[asked]
+    return Trace(where.segments, answers[logged].revisions) if where.ok else None
 
 
-def renewed(history: History, segments: List[Segment]) -> Iterator[int]:
+def renewed(history: History, segments: list[Segment]) -> Iterator[int]:
     """The revisions in which a path came with a copy of a path above it from the revision before to itself. `svn log`
     lists them, and for svnhist nothing happens to the path there."""
     for rev, top in history.index.renewals:
         for segment in segments:
-            if segment.path is not None and segment.lo < rev <= segment.hi and segment.path != top \
-                    and is_at_or_below(segment.path, top):
+            if (
+                segment.path is not None
+                and segment.lo < rev <= segment.hi
+                and segment.path != top
+                and is_at_or_below(segment.path, top)
+            ):
                 yield rev
 
 
@@ -82,17 +91,19 @@ def copied_in(history: History, segment: Segment, rev: int) -> int:
     """The revision that made a path by a copy, or that made it first: where `--stop-on-copy` stops, from a revision of
     its segment on. A copy of a path to itself begins no segment, and all that is below was copied, too."""
     path = segment.path or b"/"
-    return max([segment.lo] + [each for each, top in history.index.renewals
-                               if segment.lo < each <= rev and is_at_or_below(path, top)])
+    return max(
+        [segment.lo]
+        + [each for each, top in history.index.renewals if segment.lo < each <= rev and is_at_or_below(path, top)]
+    )
 
 
-def of_root(segments: List[Segment]) -> Iterator[int]:
+def of_root(segments: list[Segment]) -> Iterator[int]:
     for segment in segments:
         if segment.path == b"/":
             yield from range(segment.lo, segment.hi + 1)
 
 
-def listed(history: History, found: Trace) -> List[int]:
+def listed(history: History, found: Trace) -> list[int]:
     """All revisions that `svn log` lists, rising. Revision 0 is listed for the root alone."""
     return sorted({*found.revisions, *renewed(history, found.segments), *of_root(found.segments)})
 
@@ -117,17 +128,17 @@ class Walk(NamedTuple):
     """A trace, and all revisions that `svn log` lists of it."""
 
     found: Trace
-    revisions: List[int]
+    revisions: list[int]
 
-    def between(self, history: History, low: int, high: int, stops_on_copy: bool) -> List[int]:
+    def between(self, history: History, low: int, high: int, stops_on_copy: bool) -> list[int]:
         """The revisions of a range, rising, from where the path was in the last one."""
         segment = self.found.at(high)
         assert segment is not None
         low = max(low, 0 if segment.path == b"/" else 1, copied_in(history, segment, high) if stops_on_copy else 0)
-        return self.revisions[bisect.bisect_left(self.revisions, low):bisect.bisect_right(self.revisions, high)]
+        return self.revisions[bisect.bisect_left(self.revisions, low) : bisect.bisect_right(self.revisions, high)]
 
 
-def entries(history: History, target: Target, options: Options) -> List[int]:
+def entries(history: History, target: Target, options: Options) -> list[int]:
     """The revisions of a log, range after range. The target is looked up in the youngest revision of all ranges, and
     each one begins where it was in its own."""
     ranges = options.ranges or [(target.rev, 0)]
@@ -136,7 +147,7 @@ def entries(history: History, target: Target, options: Options) -> List[int]:
     found = reached(history, target, max(max(bounds) for bounds in ranges))
     walk = Walk(found, listed(history, found))
     path = target.path
-    revisions: List[int] = []
+    revisions: list[int] = []
     for first, last in ranges:
         if options.limit is not None and len(revisions) >= options.limit:
             break
@@ -150,7 +161,7 @@ def entries(history: History, target: Target, options: Options) -> List[int]:
         here = walk if segment is not None else walk_of(history, Target(path, high))
         chosen = here.between(history, min(first, last), high, options.stops_on_copy)
         revisions += chosen if first < last else chosen[::-1]
-    return revisions[:options.limit]
+    return revisions[: options.limit]
 
 
 def walk_of(history: History, target: Target) -> Walk:
@@ -192,7 +203,7 @@ def is_shown(history: History, rev: int, options: Options) -> bool:
     return rev > 0 or (history.revision(0).message is not None and not options.is_quiet)
 
 
-def shown(history: History, target: Target, options: Options) -> List[int]:
+def shown(history: History, target: Target, options: Options) -> list[int]:
     """The revisions of a log that are printed."""
     return [rev for rev in entries(history, target, options) if is_shown(history, rev, options)]
 

@@ -4,26 +4,28 @@ What svnhist answers is taken from it: where both were, the log of the source, t
 below it, and, but for `-R`, what was merged and what is eligible. `svn` also looks at the changed paths of a revision,
 lists some revisions that svnhist does not, and reads some texts that are malformed for svnhist; that is added here.
 """
-from typing import Dict, Iterable, Iterator, List, NamedTuple, Optional, Set, Tuple
+from __future__ import annotations
+
+from collections.abc import Iterable, Iterator
+from typing import NamedTuple
 
 from . import log
-from .answers import Answer, Inherited, Log, Logged, Mergeinfo, Merges, Pair, Query, Segments, Where
-from .changes import Change, is_at_or_below, parents_of
+from .answers import Answer, Answers, Inherited, Log, Mergeinfo, Pair, Query, Where
+from .changes import Change, is_at_or_below, tops_of
 from .errors import Denied
 from .history import History
 from .targets import Target
 from .values import Explicit, Run, Value, joined, rest_below, runs_of, value_of
 
 # For each path the revisions of a history.
-Located = Dict[bytes, Set[int]]
-Answers = Dict[Query, Answer]
+Located = dict[bytes, set[int]]
 
 
 class Lines(NamedTuple):
     """For each source path its revisions that are inheritable, and those that are not."""
 
-    inheritable: Dict[bytes, Set[int]]
-    other: Dict[bytes, Set[int]]
+    inheritable: dict[bytes, set[int]]
+    other: dict[bytes, set[int]]
 
 
 class Question(NamedTuple):
@@ -31,11 +33,11 @@ class Question(NamedTuple):
 
     verb: str
     is_recursive: bool = False
-    range: Optional[Tuple[int, int]] = None
+    range: tuple[int, int] | None = None
 
 
-def revisions_in(runs: Iterable[Run], most: int, inheritable: bool) -> Set[int]:
-    found: Set[int] = set()
+def revisions_in(runs: Iterable[Run], most: int, inheritable: bool) -> set[int]:
+    found: set[int] = set()
     for run in runs:
         if run.inheritable == inheritable:
             found.update(range(run.lo, min(run.hi, most) + 1))
@@ -55,24 +57,24 @@ def inherited(lines: Lines, rest: bytes) -> Lines:
 class Catalog:
     """The mergeinfo of a target, its own or inherited, and, if asked, that of each path below it that has its own."""
 
-    def __init__(self, history: History, explicit: Explicit, answers: Answers, target: Target) -> None:
+    def __init__(
+        self, history: History, explicit: Explicit, answers: Answers, target: Target, is_recursive: bool
+    ) -> None:
         self.target = target
         self._explicit = explicit
         self._head = history.head
-        self.entries: Dict[bytes, Lines] = {}
-        for query, answer in answers.items():
-            if isinstance(query, Mergeinfo) and is_at_or_below(query.path, target.path):
-                assert isinstance(answer, Inherited)
-                lines = self._lines(query, answer)
-                if lines is not None:
-                    self.entries[query.path] = lines
+        self.entries: dict[bytes, Lines] = {}
+        for query in [Mergeinfo(*target), *(below(explicit, target) if is_recursive else ())]:
+            lines = self._lines(query, answers[query])
+            if lines is not None:
+                self.entries[query.path] = lines
 
-    def _lines(self, query: Mergeinfo, answer: Inherited) -> Optional[Lines]:
+    def _lines(self, query: Mergeinfo, answer: Inherited) -> Lines | None:
         if answer.status == "malformed-mergeinfo":
             return self._read(query)
         if not answer.ok:
             # The target is there, and so is each path below it that has a value.
-            raise RuntimeError("svnhist says %s of %r" % (answer.status, query))
+            raise RuntimeError(f"svnhist says {answer.status} of {query!r}")
         if not answer.text and not self._has_value(query):
             return None
         value = {path: runs_of(ranges.encode("ascii")) for path, ranges in answer.value.items()}
@@ -80,11 +82,11 @@ class Catalog:
 
     def _has_value(self, query: Mergeinfo) -> bool:
         """Whether a path or one above it has a value. Its effective mergeinfo may be empty even so."""
-        return any(self._explicit.text(path, query.rev) is not None for path in [query.path, *parents_of(query.path)])
+        return any(self._explicit.text(path, query.rev) is not None for path in tops_of(query.path))
 
-    def _read(self, query: Mergeinfo) -> Optional[Lines]:
+    def _read(self, query: Mergeinfo) -> Lines | None:
         """What a text that is malformed for svnhist says to Subversion, which is less strict."""
-        for above in [query.path, *parents_of(query.path)]:
+        for above in tops_of(query.path):
             text = self._explicit.text(above, query.rev)
             if text is not None:
                 value = value_of(text)
@@ -94,16 +96,15 @@ class Catalog:
                 return lines if above == query.path else inherited(lines, rest_below(query.path, above))
         return None
 
-    def nearest(self, path: bytes) -> Optional[bytes]:
+    def nearest(self, path: bytes) -> bytes | None:
         """The nearest entry at or above a path."""
-        return next((each for each in [path, *parents_of(path)] if each in self.entries), None)
+        return next((each for each in tops_of(path) if each in self.entries), None)
 
 
-def located(history: History, answers: Answers, target: Target, bounds: Tuple[int, int]) -> Located:
+def located(history: History, answers: Answers, target: Target, bounds: tuple[int, int]) -> Located:
     """Where a path was, from revision 1 on and between the bounds."""
     found: Located = {}
     answer = answers[Where(*target)]
-    assert isinstance(answer, Segments)
     if not answer.ok:
         raise log.not_reached(history, target)
     for segment in answer.segments:
@@ -118,7 +119,7 @@ def shifted(history: Located, rest: bytes) -> Located:
     return {joined(path, rest): revs for path, revs in history.items()}
 
 
-def common(lines: Dict[bytes, Set[int]], source: Located) -> Set[int]:
+def common(lines: dict[bytes, set[int]], source: Located) -> set[int]:
     """The revisions that some line has at the place where the source was then."""
     return set().union(*(revs & source[path] for path, revs in lines.items() if path in source)) if lines else set()
 
@@ -126,13 +127,13 @@ def common(lines: Dict[bytes, Set[int]], source: Located) -> Set[int]:
 class Sorted(NamedTuple):
     """The revisions of a source that all entries have, and those that only some have, or not for what is below."""
 
-    whole: Set[int]
-    partial: Set[int]
+    whole: set[int]
+    partial: set[int]
 
 
 def sort_out(catalog: Catalog, source: Located) -> Sorted:
-    wholes: List[Set[int]] = []
-    partial: Set[int] = set()
+    wholes: list[set[int]] = []
+    partial: set[int] = set()
     for path, lines in catalog.entries.items():
         there = shifted(source, rest_below(path, catalog.target.path))
         wholes.append(common(lines.inheritable, there))
@@ -182,34 +183,39 @@ class Coverage:
         return any(rev in revs for part in parts for path, revs in part.items() if is_at_or_below(path, top))
 
 
-def bounds_of(history: History, source: Target, question: Question) -> Tuple[int, int]:
+def bounds_of(source: Target, question: Question) -> tuple[int, int]:
     if question.range is None:
         return 1, source.rev
     for rev in question.range:
         if rev > source.rev:
-            raise Denied("E160006", "No such revision %d" % rev)
+            raise Denied("E160006", f"No such revision {rev}")
     return min(question.range), max(question.range)
 
 
-def queries_of(explicit: Explicit, source: Target, target: Target, question: Question) -> List[Query]:
+def below(explicit: Explicit, target: Target) -> Iterator[Mergeinfo]:
+    """The queries for the mergeinfo of each path at or below a target that has its own."""
+    return (Mergeinfo(path, target.rev) for path, _ in explicit.below(*target))
+
+
+def queries_of(explicit: Explicit, source: Target, target: Target, question: Question) -> list[Query[Answer]]:
     """All that is asked of svnhist for a question. The root is no target of `-R`."""
     if question.is_recursive and target.path == b"/":
         raise Denied("E195002", "-R is not taken for the root, where 'svn' fails itself")
-    asked: List[Query] = [Where(*target), Mergeinfo(*target), Where(*source), Log(*source)]
+    asked: list[Query[Answer]] = [Where(*target), Mergeinfo(*target), Where(*source), Log(*source)]
     if question.is_recursive:
-        return asked + [Mergeinfo(path, target.rev) for path, _ in explicit.below(*target)]
+        return [*asked, *below(explicit, target)]
     return asked + [Pair(*source, verb, *target) for verb in ("merged", "eligible")]
 
 
-def as_answered(answers: Answers, source: Target, target: Target, question: Question, found: Sorted,
-                same: Set[int]) -> Sorted:
+def as_answered(
+    answers: Answers, source: Target, target: Target, question: Question, found: Sorted, same: set[int]
+) -> Sorted:
     """What svnhist says of the operative revisions, and of other ones what was found here. `same` are those in which
     source and target were one path."""
     if question.is_recursive:
         return found
     merged, eligible = answers[Pair(*source, "merged", *target)], answers[Pair(*source, "eligible", *target)]
     logged = answers[Log(*source)]
-    assert isinstance(merged, Merges) and isinstance(eligible, Merges) and isinstance(logged, Logged)
     if not merged.ok or not eligible.ok:
         return found
     operative = set(logged.revisions)
@@ -223,17 +229,18 @@ def as_answered(answers: Answers, source: Target, target: Target, question: Ques
     return Sorted(found.whole - operative | whole, found.partial - operative | partial)
 
 
-def show_revs(history: History, explicit: Explicit, answers: Answers, source: Target, target: Target,
-              question: Question) -> List[Tuple[int, bool]]:
+def show_revs(
+    history: History, explicit: Explicit, answers: Answers, source: Target, target: Target, question: Question
+) -> list[tuple[int, bool]]:
     """The revisions of a source, with whether a star follows, given the answers to the queries of the question."""
     is_merged = question.verb == "merged"
     own = located(history, answers, target, (1, target.rev))
-    catalog = Catalog(history, explicit, answers, target)
+    catalog = Catalog(history, explicit, answers, target, question.is_recursive)
     if not catalog.entries:
         if is_merged:
             return []
         catalog.entries[target.path] = Lines({}, {})
-    bounds = bounds_of(history, source, question)
+    bounds = bounds_of(source, question)
     there = located(history, answers, source, bounds)
     if not is_merged:
         add_own_history(catalog, own, there)
@@ -250,13 +257,12 @@ def show_revs(history: History, explicit: Explicit, answers: Answers, source: Ta
     return shown[::-1] if question.range and question.range[0] > question.range[1] else shown
 
 
-def listed_of(history: History, answers: Answers, source: Target) -> List[int]:
+def listed_of(history: History, answers: Answers, source: Target) -> list[int]:
     """The revisions that `svn log` lists of a source."""
     where, logged = answers[Where(*source)], answers[Log(*source)]
-    assert isinstance(where, Segments) and isinstance(logged, Logged)
     return log.listed(history, log.Trace(where.segments, logged.revisions))
 
 
-def show_revs_text(shown: List[Tuple[int, bool]]) -> Iterator[bytes]:
+def show_revs_text(shown: list[tuple[int, bool]]) -> Iterator[bytes]:
     for rev, starred in shown:
         yield b"r%d%s\n" % (rev, b"*" if starred else b"")

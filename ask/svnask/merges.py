@@ -3,20 +3,23 @@
 This is what mergeinfo says, that of the branch itself or what it inherits. It can't tell a merge from a revision that
 was only recorded as merged. What the source of a copy had is not gained by the copy.
 """
+from __future__ import annotations
+
 import bisect
-from typing import Dict, Iterable, Iterator, List, NamedTuple, Optional, Sequence, Tuple
+from collections.abc import Iterable, Iterator, Sequence
+from typing import NamedTuple
 
 from .answers import Answer, Inherited, Mergeinfo, Query, Segments, Where
-from .changes import parents_of
+from .changes import tops_of
 from .history import History
 from .lives import Life
 from .values import Explicit
 
-Interval = Tuple[int, int]
+Interval = tuple[int, int]
 # For each path some revisions, as rising intervals.
-Intervals = Dict[bytes, List[Interval]]
+Intervals = dict[bytes, list[Interval]]
 # For each source path a rangelist of mergeinfo, as svnhist prints it.
-Rangelists = Dict[bytes, str]
+Rangelists = dict[bytes, str]
 
 
 class Gain(NamedTuple):
@@ -27,8 +30,8 @@ class Gain(NamedTuple):
     source: Life
     target: Life
     rev: int
-    revisions: List[int]
-    lost: Optional[int]
+    revisions: list[int]
+    lost: int | None
     is_carried: bool
 
 
@@ -38,25 +41,25 @@ class Held(NamedTuple):
     source: Life
     rev: int
     gained: int
-    lost: Optional[int]
+    lost: int | None
 
 
 class Sources:
     """The lives that are merged from, by their paths."""
 
-    def __init__(self, operative: Dict[Life, List[int]]) -> None:
+    def __init__(self, operative: dict[Life, list[int]]) -> None:
         self._operative = operative
-        self._by_path: Dict[bytes, List[Life]] = {}
+        self._by_path: dict[bytes, list[Life]] = {}
         for life in operative:
             self._by_path.setdefault(life.path, []).append(life)
 
-    def revisions(self, path: bytes, intervals: Iterable[Interval]) -> Iterator[Tuple[Life, int]]:
+    def revisions(self, path: bytes, intervals: Iterable[Interval]) -> Iterator[tuple[Life, int]]:
         """The operative revisions of a path that are in some intervals, and the life of each."""
         lives = self._by_path.get(path, [])
         for lo, hi in intervals if lives else ():
             for life in lives:
                 revs = self._operative[life]
-                for rev in revs[bisect.bisect_left(revs, lo):bisect.bisect_right(revs, hi)]:
+                for rev in revs[bisect.bisect_left(revs, lo) : bisect.bisect_right(revs, hi)]:
                     yield life, rev
 
 
@@ -67,8 +70,8 @@ class Tally:
         self._sources = sources
         self._own = own
         self._value: Rangelists = {}
-        self._held: Dict[Tuple[Life, int], int] = {}
-        self._lost: List[Held] = []
+        self._held: dict[tuple[Life, int], int] = {}
+        self._lost: list[Held] = []
 
     def begin(self, value: Rangelists) -> None:
         """Takes what the source of the copy had."""
@@ -87,11 +90,11 @@ class Tally:
                 self._held[source] = rev
         self._value = value
 
-    def all(self) -> List[Held]:
+    def all(self) -> list[Held]:
         return self._lost + [Held(*source, rev, None) for source, rev in self._held.items()]
 
 
-def minus(these: Sequence[Interval], those: Sequence[Interval]) -> List[Interval]:
+def minus(these: Sequence[Interval], those: Sequence[Interval]) -> list[Interval]:
     """What is in some intervals and not in others. Both rise."""
     left = []
     at = 0
@@ -109,7 +112,7 @@ def minus(these: Sequence[Interval], those: Sequence[Interval]) -> List[Interval
     return left
 
 
-def intervals_of(ranges: str) -> List[Interval]:
+def intervals_of(ranges: str) -> list[Interval]:
     """The intervals of a rangelist, with those that are not inheritable."""
     found = []
     for each in ranges.split(",") if ranges else ():
@@ -127,17 +130,16 @@ def own_history(segments: Segments) -> Intervals:
     return found
 
 
-def candidates(explicit: Explicit, life: Life) -> List[int]:
+def candidates(explicit: Explicit, life: Life) -> list[int]:
     """The revisions in which the mergeinfo of a life may change: its first one, and those with an event of its path or
     of one above it."""
-    above = [life.path, *parents_of(life.path)]
-    later = {rev for path in above for rev in explicit.events(path) if life.first < rev <= life.last}
+    later = {rev for path in tops_of(life.path) for rev in explicit.events(path) if life.first < rev <= life.last}
     return [life.first, *sorted(later)]
 
 
-def queries_of(explicit: Explicit, life: Life) -> List[Query]:
+def queries_of(explicit: Explicit, life: Life) -> list[Query[Answer]]:
     """Where a life was, its mergeinfo in each candidate, and before that what its source had."""
-    asked: List[Query] = [Where(life.path, life.last)]
+    asked: list[Query[Answer]] = [Where(life.path, life.last)]
     if life.source is not None:
         asked.append(Mergeinfo(*life.source))
     return asked + [Mergeinfo(life.path, rev) for rev in candidates(explicit, life)]
@@ -147,49 +149,52 @@ class Asked(NamedTuple):
     """A query about a life."""
 
     life: Life
-    query: Query
+    query: Query[Answer]
 
 
-def asked_of(history: History, lives: Iterable[Life]) -> List[Asked]:
+def asked_of(history: History, lives: Iterable[Life]) -> list[Asked]:
     """All queries about what some lives gained."""
     explicit = Explicit(history.records())
     return [Asked(life, query) for life in lives for query in queries_of(explicit, life)]
 
 
-def gains_of(operative: Dict[Life, List[int]], asked: Iterable[Asked], answers: Iterator[Answer]) -> List[Gain]:
+def gains_of(operative: dict[Life, list[int]], asked: Iterable[Asked], answers: Iterator[Answer]) -> list[Gain]:
     """What each of these lives gained from the others, given their operative revisions and the answers, which are the
     next ones, to the queries about them."""
     sources = Sources(operative)
-    tallies: Dict[Life, Tally] = {}
-    for (life, query), answer in zip(asked, answers):
+    tallies: dict[Life, Tally] = {}
+    for (life, _), answer in zip(asked, answers):
         if isinstance(answer, Segments):
             tallies[life] = Tally(sources, own_history(answer))
         elif isinstance(answer, Inherited) and answer.ok:
-            if life.source == (query.path, query.rev):
+            if life.source == (answer.query.path, answer.query.rev):
                 tallies[life].begin(answer.value)
             else:
-                tallies[life].turn(query.rev, answer.value)
+                tallies[life].turn(answer.query.rev, answer.value)
     return joined({life: tally.all() for life, tally in tallies.items()})
 
 
-def joined(held: Dict[Life, List[Held]]) -> List[Gain]:
+def joined(held: dict[Life, list[Held]]) -> list[Gain]:
     """The revisions that one revision of a target gained of one source, as one gain."""
-    found: Dict[Tuple[Life, int, Life, Optional[int], bool], List[int]] = {}
+    found: dict[tuple[Life, int, Life, int | None, bool], list[int]] = {}
     for target, each, is_carried in told_apart(held):
         found.setdefault((target, each.gained, each.source, each.lost, is_carried), []).append(each.rev)
-    gains = [Gain(source, target, rev, sorted(revs), lost, is_carried)
-             for (target, rev, source, lost, is_carried), revs in found.items()]
+    gains = [
+        Gain(source, target, rev, sorted(revs), lost, is_carried)
+        for (target, rev, source, lost, is_carried), revs in found.items()
+    ]
     return sorted(gains, key=lambda gain: (gain.rev, gain.target, gain.revisions[-1], gain.source))
 
 
-def told_apart(held: Dict[Life, List[Held]]) -> Iterator[Tuple[Life, Held, bool]]:
+def told_apart(held: dict[Life, list[Held]]) -> Iterator[tuple[Life, Held, bool]]:
     """Each revision that a target gained, and whether another source carried it along."""
-    gained: Dict[Tuple[Life, int], List[Held]] = {}
+    gained: dict[tuple[Life, int], list[Held]] = {}
     for target, all_of in held.items():
         for each in all_of:
             gained.setdefault((target, each.gained), []).append(each)
     for (target, _), together in gained.items():
-        carried = {(each.source, each.rev) for carrier in together
-                   for each in gained.get((carrier.source, carrier.rev), ())}
+        carried = {
+            (each.source, each.rev) for carrier in together for each in gained.get((carrier.source, carrier.rev), ())
+        }
         for each in together:
             yield target, each, (each.source, each.rev) in carried

@@ -1,6 +1,9 @@
 """Draws a graph as SVG that any browser shows: no scripts, and nothing from elsewhere."""
+from __future__ import annotations
+
+from collections.abc import Iterator
 from html import escape
-from typing import Iterator, List, NamedTuple, Set
+from typing import NamedTuple
 
 from .graph import BRANCH, TAG, TRUNK, Copy, Dot, Graph, Merge
 from .history import History
@@ -48,7 +51,12 @@ def element(title: str, *inner: str) -> str:
 
 def text(x: float, y: float, content: str, kind: str, anchor: str = "start") -> str:
     return '<text x="%s" y="%s" class="%s" text-anchor="%s">%s</text>\n' % (
-        decimal(x), decimal(y), kind, anchor, escape(content, quote=False))
+        decimal(x),
+        decimal(y),
+        kind,
+        anchor,
+        escape(content, quote=False),
+    )
 
 
 class Picture:
@@ -83,17 +91,21 @@ class Picture:
 
     def _front(self) -> str:
         size = max(self._layout.width, self._legend.width), self._layout.height
-        return ('<svg xmlns="http://www.w3.org/2000/svg" width="%d" height="%d" viewBox="0 0 %d %d" role="img">\n'
-                '<desc>%s</desc>\n<style>%s</style>\n<rect width="100%%" height="100%%" fill="#ffffff"/>\n'
-                % (*size, *size, escape(self._about(), quote=False), STYLE))
+        return (
+            '<svg xmlns="http://www.w3.org/2000/svg" width="%d" height="%d" viewBox="0 0 %d %d" role="img">\n'
+            '<desc>%s</desc>\n<style>%s</style>\n<rect width="100%%" height="100%%" fill="#ffffff"/>\n'
+            % (*size, *size, escape(self._about(), quote=False), STYLE)
+        )
 
     def _about(self) -> str:
         lanes = self._graph.lanes
         tags = sum(lane.kind == TAG for lane in lanes)
         merged = sum(not merge.is_carried for merge in self._graph.merges)
         counts = len(lanes) - tags, tags, self._history.head, len(self._graph.copies), merged
-        return "%d branches and %d tags from r0 to r%d, with %d copies and %d merges. " % counts + \
-            "Each line is a branch or a tag, from left to right its revisions; curves are copies, arrows are merges."
+        return (
+            "%d branches and %d tags from r0 to r%d, with %d copies and %d merges. " % counts
+            + "Each line is a branch or a tag, from left to right its revisions; curves are copies, arrows are merges."
+        )
 
     def _revisions(self) -> Iterator[str]:
         """The revisions and dates that have room, those of the first and the last column among them."""
@@ -103,7 +115,7 @@ class Picture:
         for column in chosen(places, REVISION_ROOM, REVISION_ROOM):
             x = places[column]
             yield '<path class="grid" d="M%s %d V%s"/>\n' % (decimal(x), TOP, decimal(bottom))
-            for y in [TOP - 12, bottom + 20][:1 + (len(self._layout.rows) > MOST_ROWS)]:
+            for y in [TOP - 12, bottom + 20][: 1 + (len(self._layout.rows) > MOST_ROWS)]:
                 yield text(x, y, "r%d" % columns[column], "small", "middle")
         for column in chosen(places, DATE_ROOM, DATES_APART):
             yield text(places[column], TOP - 30, dated(self._history, columns[column]), "small", "middle")
@@ -122,19 +134,31 @@ class Picture:
         start, turn = self._layout.source(copy), self._layout.turn(copy)
         colour = self._colour(copy.lane)
         if start is None:
-            return element(about_copy(copy), '<path class="stub" stroke="%s" d="M%s H%s"/>' % (
-                colour, points(turn, to.y), decimal(to.x)))
+            return element(
+                about_copy(copy),
+                '<path class="stub" stroke="%s" d="M%s H%s"/>' % (colour, points(turn, to.y), decimal(to.x)),
+            )
         path = "M%s C%s H%s" % (points(*start), points(turn, start.y, start.x, to.y, turn, to.y), decimal(to.x))
-        return element(about_copy(copy), '<path class="hit" d="%s"/>' % path,
-                       '<path class="line" stroke="%s" stroke-width="1.5" d="%s"/>' % (colour, path))
+        return element(
+            about_copy(copy),
+            '<path class="hit" d="%s"/>' % path,
+            '<path class="line" stroke="%s" stroke-width="1.5" d="%s"/>' % (colour, path),
+        )
 
     def _lane(self, number: int) -> str:
         lane = self._graph.lanes[number]
         start = self._layout.at(number, lane.lives[0].first)
         line = '<path class="line" stroke="%s" stroke-width="%s" d="M%s H%s"/>' % (
-            self._colour(number), decimal(WIDTHS[lane.kind]), points(*start), decimal(self._layout.end(number)))
+            self._colour(number),
+            decimal(WIDTHS[lane.kind]),
+            points(*start),
+            decimal(self._layout.end(number)),
+        )
         tail = '<path class="tail" stroke="%s" d="M%s h%d"/>' % (
-            self._colour(number), points(self._layout.end(number), start.y), TAIL)
+            self._colour(number),
+            points(self._layout.end(number), start.y),
+            TAIL,
+        )
         return element(about_lane(lane), line, tail if self._layout.is_cut(number) else "")
 
     def _merge(self, merge: Merge) -> str:
@@ -148,9 +172,12 @@ class Picture:
         path = "M%s C%s" % (points(*start), points(start.x, leave, to.x, tip - way * reach, to.x, tip - way * 6))
         head = "M%s l-3.5 %d h7 z" % (points(to.x, tip), -way * 7)
         colour = self._colour(merge.source)
-        return element(self._titles.merge(merge), '<path class="hit" d="%s"/>' % path,
-                       '<path class="arrow %s" stroke="%s" d="%s"/>' % (kind_of(merge), colour, path),
-                       '<path class="head" fill="%s" d="%s"/>' % (colour, head))
+        return element(
+            self._titles.merge(merge),
+            '<path class="hit" d="%s"/>' % path,
+            '<path class="arrow %s" stroke="%s" d="%s"/>' % (kind_of(merge), colour, path),
+            '<path class="head" fill="%s" d="%s"/>' % (colour, head),
+        )
 
     def _dot(self, dot: Dot) -> str:
         lane = self._graph.lanes[dot.lane]
@@ -158,7 +185,12 @@ class Picture:
         is_first = any(life.first in dot.revisions and life.source is not None for life in lane.lives)
         colour = self._colour(dot.lane)
         circle = '<circle class="dot" cx="%s" cy="%s" r="%s" fill="%s" stroke="%s"/>' % (
-            decimal(place.x), decimal(place.y), decimal(RADIUSES[lane.kind]), "#ffffff" if is_first else colour, colour)
+            decimal(place.x),
+            decimal(place.y),
+            decimal(RADIUSES[lane.kind]),
+            "#ffffff" if is_first else colour,
+            colour,
+        )
         return element(self._titles.dot(dot), circle)
 
     def _ends(self) -> Iterator[str]:
@@ -166,7 +198,9 @@ class Picture:
             if not lane.lives[-1].is_alive:
                 start = points(self._layout.end(number) - 4, self._layout.y(number) - 4)
                 mark = '<path class="end" fill="none" stroke="%s" d="M%s l8 8 m0 -8 l-8 8"/>' % (
-                    self._colour(number), start)
+                    self._colour(number),
+                    start,
+                )
                 yield element(about_end(self._history, lane.lives[-1]), mark)
 
     def _names(self) -> Iterator[str]:
@@ -178,7 +212,7 @@ class Picture:
             for place, words in self._layout.names_on_line(number):
                 yield element(about_lane(lane), text(place.x + 2, place.y - 7, words, "name"))
 
-    def _kinds(self) -> Set[str]:
+    def _kinds(self) -> set[str]:
         """The kinds of marks that the picture has."""
         found = {kind_of(merge) for merge in self._graph.merges}
         found.update("cut" for number in range(len(self._graph.lanes)) if self._layout.is_cut(number))
@@ -199,8 +233,11 @@ MARKS = (
     ("dot", '<circle cx="18" cy="0" r="4"/>', "revision"),
     ("copy", '<circle cx="18" cy="0" r="4" fill="#ffffff" stroke-width="1.5"/>', "made by a copy or a move"),
     ("ended", '<path fill="none" stroke-width="1.5" d="M14 -4 l8 8 m0 -8 l-8 8"/>', "deleted or replaced"),
-    ("cut", '<path class="line" stroke-width="2.5" d="M4 0 H16"/><path class="tail" d="M16 0 H30"/>',
-     "still there, no longer changed"),
+    (
+        "cut",
+        '<path class="line" stroke-width="2.5" d="M4 0 H16"/><path class="tail" d="M16 0 H30"/>',
+        "still there, no longer changed",
+    ),
     ("merged", arrow_mark("merged"), "merged, from the newest revision of those"),
     ("lost", arrow_mark("lost"), "merged, and taken back later"),
     ("carried", arrow_mark("carried"), "came with another merge"),
@@ -214,9 +251,9 @@ class Legend(NamedTuple):
     width: float
 
 
-def legend_of(kinds: Set[str], y: float) -> Legend:
+def legend_of(kinds: set[str], y: float) -> Legend:
     x = float(GAP)
-    parts: List[str] = []
+    parts: list[str] = []
     for _, mark, says in (each for each in MARKS if each[0] in kinds):
         parts.append('<g class="mark" transform="translate(%s)">%s</g>' % (points(x, y), mark))
         parts.append(text(x + 34, y + 4, says, "small"))
@@ -224,7 +261,7 @@ def legend_of(kinds: Set[str], y: float) -> Legend:
     return Legend("".join(parts), x)
 
 
-def chosen(places: List[float], room: float, apart: float) -> List[int]:
+def chosen(places: list[float], room: float, apart: float) -> list[int]:
     """The columns at some places of which something is shown that takes this room: the first, the last, and those
     between that are so far from each other."""
     found = [0] if places else []

@@ -1,6 +1,8 @@
 """What a refusal means in practice: what the input is in place of a dump, or what stands at the place of a fault."""
+from __future__ import annotations
+
 import re
-from typing import List, NamedTuple, Optional
+from typing import NamedTuple
 
 from .digits import number
 from .errors import Refused
@@ -8,8 +10,14 @@ from .store import Record
 
 PEG = re.compile(rb"(.*)@([0-9]+)\Z", re.DOTALL)
 # The verbs of queries, with the fewest and the most fields of a line.
-VERBS = {b"locate": (3, 3), b"segments": (2, 2), b"log": (2, 3), b"mergeinfo": (2, 2), b"merged": (3, 4),
-         b"eligible": (3, 4)}
+VERBS = {
+    b"locate": (3, 3),
+    b"segments": (2, 2),
+    b"log": (2, 3),
+    b"mergeinfo": (2, 2),
+    b"merged": (3, 4),
+    b"eligible": (3, 4),
+}
 
 
 class Shape(NamedTuple):
@@ -41,7 +49,7 @@ SHAPES = [
 ]
 
 
-def explained(refused: Refused, dump: str, front: bytes) -> List[str]:
+def explained(refused: Refused, dump: str, front: bytes) -> list[str]:
     """Lines of advice about a refusal, given the first bytes of the dump."""
     if refused.number == 1:
         return about_front(dump, front)
@@ -54,7 +62,7 @@ def explained(refused: Refused, dump: str, front: bytes) -> List[str]:
     return []
 
 
-def about_front(dump: str, front: bytes) -> List[str]:
+def about_front(dump: str, front: bytes) -> list[str]:
     if not front:
         return ["the dump is empty: the command that should have written it failed"]
     for shape in SHAPES:
@@ -65,25 +73,33 @@ def about_front(dump: str, front: bytes) -> List[str]:
     return ["this is no dump: a dump is what 'svnadmin dump -q REPO' or 'svnrdump dump -q URL' writes"]
 
 
-def about_version(front: bytes) -> List[str]:
+def about_version(front: bytes) -> list[str]:
     line = front.split(b"\n", 1)[0]
     if line.endswith(b"\r"):
         return ["the lines end with CR LF: the dump was changed on its way, dump the repository again"]
     return ["svnask reads the formats 2 and 3: load the dump into a new repository, and dump that"]
 
 
-def about_revisions(front: bytes) -> List[str]:
+def about_revisions(front: bytes) -> list[str]:
     found = re.search(rb"^Revision-number: ([0-9]+)$", front, re.MULTILINE)
     if found and number(found[1]) > 0:
-        return ["this is a part of a dump, from revision %d on: it needs those before it, see 'svnadmin dump -r 0:HEAD'"
-                % number(found[1])]
+        return [
+            "this is a part of a dump, from revision %d on: it needs those before it, see 'svnadmin dump -r 0:HEAD'"
+            % number(found[1])
+        ]
     return ["the revisions of a dump are all from 0 on, each once"]
 
 
 def about_record(record: Record) -> str:
     source = " from %s@%d" % (record.source[0].decode("utf-8", "replace"), record.source[1]) if record.source else ""
     return "record %d: r%d %s %s%s, at byte %d" % (
-        record.number, record.rev, record.action, record.path.decode("utf-8", "replace"), source, record.at)
+        record.number,
+        record.rev,
+        record.action,
+        record.path.decode("utf-8", "replace"),
+        source,
+        record.at,
+    )
 
 
 def bad_query(line: bytes) -> str:
@@ -95,27 +111,30 @@ def bad_query(line: bytes) -> str:
         return "there is no verb '%s'" % fields[0].decode("utf-8", "replace")
     least, most = VERBS[fields[0]]
     if not least <= len(fields) <= most:
-        return "%s takes %s fields after it" % (fields[0].decode("ascii"),
-                                                 " or ".join(str(count - 1) for count in sorted({least, most})))
-    for field in fields[1:3 if fields[0] in (b"merged", b"eligible") else 2]:
+        return "%s takes %s fields after it" % (
+            fields[0].decode("ascii"),
+            " or ".join(str(count - 1) for count in sorted({least, most})),
+        )
+    for field in fields[1 : 3 if fields[0] in (b"merged", b"eligible") else 2]:
         reason = bad_peg(field)
         if reason:
             return reason
     if fields[0] == b"locate":
         return "'%s' is not a number up to 2147483647" % fields[2].decode("utf-8", "replace")
     return "'%s' is not a range: LO:HI, two numbers up to 2147483647, of which the first is not above the second" % (
-        fields[-1].decode("utf-8", "replace"))
+        fields[-1].decode("utf-8", "replace")
+    )
 
 
-def bad_peg(field: bytes) -> Optional[str]:
+def bad_peg(field: bytes) -> str | None:
     shown = field.decode("utf-8", "replace")
     found = PEG.match(field)
     if found is None:
         if shown.partition("@")[2].strip("@"):
-            return "the peg revision of '%s' is not a number" % shown
+            return f"the peg revision of '{shown}' is not a number"
         return "'%s' has no peg revision: '%s@REV'" % (shown, shown.rstrip("@"))
     if number(found[2]) > 2147483647:
-        return "the revision of '%s' is above 2147483647" % shown
+        return f"the revision of '{shown}' is above 2147483647"
     if {b".", b".."} & set(found[1].split(b"/")):
-        return "'%s' has a component '.' or '..'" % shown
+        return f"'{shown}' has a component '.' or '..'"
     return None

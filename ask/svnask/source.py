@@ -1,4 +1,6 @@
 """The bytes of a dump, from a file or from a pipe."""
+from __future__ import annotations
+
 import os
 import stat
 from typing import BinaryIO

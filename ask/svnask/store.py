@@ -1,11 +1,14 @@
 """A dump without its texts, with what is asked of its revisions, in a folder of a cache or of a run."""
+from __future__ import annotations
+
 import mmap
 import os
 import re
 import shutil
 import stat
 import tempfile
-from typing import BinaryIO, Callable, Dict, Iterator, List, NamedTuple, Optional, Tuple, Union
+from collections.abc import Callable, Iterator
+from typing import BinaryIO, NamedTuple
 
 from . import cache, digits
 from .errors import Damaged, Failed
@@ -20,7 +23,8 @@ BLOCK = re.compile(
     rb"(?:Node-action: (?P<action>[^\n]*)\n)?(?:Node-copyfrom-rev: (?P<from_rev>[0-9]+)\n)?"
     rb"(?:Node-copyfrom-path: (?P<from_path>[^\n]*)\n)?(?P<delta>Prop-delta: true\n)?(?:Prop-delta: [^\n]*\n)?"
     rb"(?:Text-delta: [^\n]*\n)?|UUID: [^\n]*\n)At: (?P<at>[0-9]+)\n"
-    rb"(?:Prop-content-length: (?P<length>[0-9]+)\nContent-length: [0-9]+\n)?\n")
+    rb"(?:Prop-content-length: (?P<length>[0-9]+)\nContent-length: [0-9]+\n)?\n"
+)
 # The offset of a block, which follows its other headers, but for a block that is not well formed.
 MARK = re.compile(rb"\n*(?:[^\n]+\n)*?At: ([0-9]+)\n")
 # A property of a revision, up to its value.
@@ -30,7 +34,7 @@ ENTRY = re.compile(rb"K [0-9]+\n([^\n]*)\nV ([0-9]+)\n")
 class Setting(NamedTuple):
     """What a record does to the mergeinfo of its path: it puts a text, or takes it away."""
 
-    text: Optional[bytes]
+    text: bytes | None
 
 
 class Record(NamedTuple):
@@ -40,9 +44,9 @@ class Record(NamedTuple):
     rev: int
     path: bytes
     action: str
-    kind: Optional[str]
-    source: Optional[Tuple[bytes, int]]
-    mergeinfo: Optional[Setting]
+    kind: str | None
+    source: tuple[bytes, int] | None
+    mergeinfo: Setting | None
     at: int
 
 
@@ -50,9 +54,9 @@ class Revision(NamedTuple):
     """Who committed a revision, when, and with which message; `at` is the offset of its block in the given dump."""
 
     number: int
-    author: Optional[bytes]
-    date: Optional[bytes]
-    message: Optional[bytes]
+    author: bytes | None
+    date: bytes | None
+    message: bytes | None
     at: int
 
 
@@ -67,9 +71,9 @@ class Index(NamedTuple):
     length: int
     is_whole: bool
     # The offset in the copy of each revision.
-    revisions: List[int]
+    revisions: list[int]
     # The revision and the path of each copy of a path of the revision before to itself.
-    renewals: List[Tuple[int, bytes]]
+    renewals: list[tuple[int, bytes]]
 
     def text(self) -> bytes:
         counts = self.format, self.records, self.size, self.length, len(self.revisions)
@@ -88,9 +92,17 @@ def index_of(text: bytes) -> Index:
         raise ValueError("another version, or not the whole of an index")
     lines = rest.split(b"\n")
     version, records, size, length, count = map(int, lines[0].split())
-    pairs = [line.split(b" ", 1) for line in lines[2 + count:]]
-    return Index(version, lines[1], records, size, length, True, list(map(int, lines[2:2 + count])),
-                 [(int(rev), path) for rev, path in pairs])
+    pairs = [line.split(b" ", 1) for line in lines[2 + count :]]
+    return Index(
+        version,
+        lines[1],
+        records,
+        size,
+        length,
+        True,
+        list(map(int, lines[2 : 2 + count])),
+        [(int(rev), path) for rev, path in pairs],
+    )
 
 
 class Store:
@@ -103,7 +115,7 @@ class Store:
         self.is_loaded = is_loaded
         self._folder = folder
         self._is_kept = is_kept
-        self._map: Optional[mmap.mmap] = None
+        self._map: mmap.mmap | None = None
 
     def close(self) -> None:
         if self._map is not None:
@@ -123,7 +135,7 @@ class Store:
         return len(self.index.revisions) - 1
 
     @property
-    def data(self) -> Union[mmap.mmap, bytes]:
+    def data(self) -> mmap.mmap | bytes:
         """The copy, which is no one else's, so that it can be mapped."""
         if self._map is None:
             with open(self.dump, "rb") as file:
@@ -138,11 +150,11 @@ class Store:
         if found is None or found["rev"] is None or digits.number(found["rev"]) != rev:
             raise Damaged
         length = digits.number(found["length"] or b"0")
-        values = properties_of(self.data[found.end():found.end() + length]) if length else {}
+        values = properties_of(self.data[found.end() : found.end() + length]) if length else {}
         author, date, message = (values.get(name) for name in (b"svn:author", b"svn:date", b"svn:log"))
         return Revision(rev, author, date, message, digits.number(found["at"]))
 
-    def records(self, first: int = 0, last: Optional[int] = None) -> Iterator[Record]:
+    def records(self, first: int = 0, last: int | None = None) -> Iterator[Record]:
         """The records of revisions, in the order of the dump. They are numbered from 1 in the first one."""
         data = self.data
         at = self.index.revisions[first]
@@ -157,7 +169,7 @@ class Store:
                 number += 1
                 yield record_of(found, number, rev, self.index.format)
 
-    def blocks(self) -> Iterator[Tuple[int, Optional[Record]]]:
+    def blocks(self) -> Iterator[tuple[int, Record | None]]:
         """The offset in the given dump of each block, and its record, if it has one."""
         data, rev, number = self.data, -1, 0
         at = len(FIRST_LINE)
@@ -182,28 +194,35 @@ class Store:
         return digits.number(found[1]) if found else self.index.size
 
 
-def properties_of(section: bytes) -> Dict[bytes, bytes]:
+def properties_of(section: bytes) -> dict[bytes, bytes]:
     """The properties of a revision, as far as they have their form, which svnhist does not judge."""
     values = {}
     at = 0
     while found := ENTRY.match(section, at):
         at = found.end() + digits.number(found[2])
-        values[found[1]] = section[found.end():at]
+        values[found[1]] = section[found.end() : at]
         at += 1
     return values
 
 
-def record_of(found: "re.Match[bytes]", number: int, rev: int, version: int) -> Record:
-    section = found.string[found.end():found.end() + digits.number(found["length"] or b"0")]
+def record_of(found: re.Match[bytes], number: int, rev: int, version: int) -> Record:
+    section = found.string[found.end() : found.end() + digits.number(found["length"] or b"0")]
     source = None
     if found["from_path"] is not None and found["from_rev"]:
         source = clean(found["from_path"]), digits.number(found["from_rev"])
-    return Record(number, rev, clean(found["path"]), (found["action"] or b"").decode("latin-1"),
-                  None if found["kind"] is None else found["kind"].decode("latin-1"), source,
-                  setting_of(section, version == 3 and found["delta"] is not None), digits.number(found["at"]))
+    return Record(
+        number,
+        rev,
+        clean(found["path"]),
+        (found["action"] or b"").decode("latin-1"),
+        None if found["kind"] is None else found["kind"].decode("latin-1"),
+        source,
+        setting_of(section, version == 3 and found["delta"] is not None),
+        digits.number(found["at"]),
+    )
 
 
-def setting_of(section: bytes, is_delta: bool) -> Optional[Setting]:
+def setting_of(section: bytes, is_delta: bool) -> Setting | None:
     """What a property section does to mergeinfo."""
     if not section:
         return None
@@ -227,8 +246,16 @@ def make(file: BinaryIO, folder: str, seen: Callable[[int], object]) -> Index:
     if after != before:
         raise Failed("the dump was changed while it was read")
     size = found.read if after is None else max(after.size, found.read)
-    index = Index(found.format, found.uuid or b"", found.records, size, found.length,
-                  found.fault is None and found.is_from_0, found.revisions, found.renewals)
+    index = Index(
+        found.format,
+        found.uuid or b"",
+        found.records,
+        size,
+        found.length,
+        found.fault is None and found.is_from_0,
+        found.revisions,
+        found.renewals,
+    )
     with open(os.path.join(folder, "index"), "wb") as file_of_index:
         file_of_index.write(index.text())
     return index
@@ -241,7 +268,7 @@ class State(NamedTuple):
     time: int
 
 
-def state_of(file: BinaryIO) -> Optional[State]:
+def state_of(file: BinaryIO) -> State | None:
     """The state of a regular file."""
     status = os.fstat(file.fileno())
     return State(status.st_size, status.st_mtime_ns) if stat.S_ISREG(status.st_mode) else None
@@ -270,7 +297,7 @@ def opened(file: BinaryIO, is_cached: bool, seen: Callable[[int], object]) -> St
     return keep(store, made, os.path.join(top, name))
 
 
-def load(folder: str) -> Optional[Store]:
+def load(folder: str) -> Store | None:
     """The store of a folder of the cache, if it is there and as it was made."""
     try:
         if not cache.is_own(folder):

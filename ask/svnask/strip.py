@@ -4,15 +4,17 @@ properties of revisions. Texts are skipped by their length.
 The copy is a dump of the same format, about which svnhist answers the same. Where the dump is not well formed, the copy
 ends with the block that is at fault, so that svnhist refuses it there, for its reason.
 """
+from __future__ import annotations
+
 import re
+from collections.abc import Callable
 from dataclasses import dataclass, field
-from typing import Callable, Dict, List, Optional, Tuple
 
 from .digits import number
 from .source import Source
 
 Write = Callable[[bytes], object]
-Headers = Dict[bytes, bytes]
+Headers = dict[bytes, bytes]
 
 MAGIC = b"SVN-fs-dump-format-version: "
 FORMATS = {MAGIC + b"2\n": 2, MAGIC + b"3\n": 3}
@@ -22,8 +24,15 @@ MERGEINFO = b"svn:mergeinfo"
 ONE_MERGEINFO = b"K 13\nsvn:mergeinfo\nV "
 # The headers by which a block is a revision, a record or the identity of the repository; the first one decides.
 KINDS = (b"Revision-number", b"Node-path", b"UUID")
-OF_RECORDS = (b"Node-path", b"Node-kind", b"Node-action", b"Node-copyfrom-rev", b"Node-copyfrom-path", b"Prop-delta",
-              b"Text-delta")
+OF_RECORDS = (
+    b"Node-path",
+    b"Node-kind",
+    b"Node-action",
+    b"Node-copyfrom-rev",
+    b"Node-copyfrom-path",
+    b"Prop-delta",
+    b"Text-delta",
+)
 LENGTHS = (b"Prop-content-length", b"Text-content-length", b"Content-length")
 READ = frozenset(KINDS + OF_RECORDS + LENGTHS)
 LONGEST = (1 << 63) - 1
@@ -38,15 +47,20 @@ REVISION = re.compile(rb"(Revision-number: .*\n)Prop-content-length: ([0-9]{1,18
 CHANGE = re.compile(
     rb"\n*(Node-path: .*\nNode-kind: .*\nNode-action: .*\n)(?:Text-content-md5: .*\nText-content-sha1: .*\n)?"
     rb"Text-content-length: ([0-9]{1,18})\n(?:Text-content-md5: .*\nText-content-sha1: .*\n)?"
-    rb"Content-length: \2\n\n")
+    rb"Content-length: \2\n\n"
+)
 # The headers of a record in the orders in which Subversion writes them. Those of another one are read line by line.
 SKIPPED = rb"(?:Text-(?:copy-source|content|delta-base)-(?:md5|sha1): [^\n]*\n)*"
 RECORD = re.compile(
     rb"\n*(Node-path: [^\n]*\n(?:Node-kind: [^\n]*\n)?Node-action: [^\n]*\n"
-    rb"(?:Node-copyfrom-rev: [^\n]*\nNode-copyfrom-path: [^\n]*\n)?)" + SKIPPED +
-    rb"(Prop-delta: true\n)?(Text-delta: true\n)?" + SKIPPED +
-    rb"(?:Prop-content-length: ([0-9]{1,18})\n)?(Text-delta: true\n)?(?:Text-content-length: ([0-9]{1,18})\n)?" +
-    SKIPPED + rb"(?:Content-length: ([0-9]{1,18})\n)?\n")
+    rb"(?:Node-copyfrom-rev: [^\n]*\nNode-copyfrom-path: [^\n]*\n)?)"
+    + SKIPPED
+    + rb"(Prop-delta: true\n)?(Text-delta: true\n)?"
+    + SKIPPED
+    + rb"(?:Prop-content-length: ([0-9]{1,18})\n)?(Text-delta: true\n)?(?:Text-content-length: ([0-9]{1,18})\n)?"
+    + SKIPPED
+    + rb"(?:Content-length: ([0-9]{1,18})\n)?\n"
+)
 
 
 class Malformed(Exception):
@@ -58,19 +72,19 @@ class Copy:
     """What is known of a copy beside its bytes."""
 
     format: int = 0
-    uuid: Optional[bytes] = None
+    uuid: bytes | None = None
     records: int = 0
     # The offset in the copy of each revision.
-    revisions: List[int] = field(default_factory=list)
+    revisions: list[int] = field(default_factory=list)
     # Whether these are the revisions from 0 on, each once.
     is_from_0: bool = True
     # The revision and the path of each copy of a path of the revision before to itself.
-    renewals: List[Tuple[int, bytes]] = field(default_factory=list)
+    renewals: list[tuple[int, bytes]] = field(default_factory=list)
     # How many bytes the copy has, and how many of the given dump were read.
     length: int = 0
     read: int = 0
     # Why the dump is not well formed, where it isn't.
-    fault: Optional[str] = None
+    fault: str | None = None
 
 
 def clean(path: bytes) -> bytes:
@@ -84,23 +98,23 @@ def number_of(digits: bytes) -> int:
     return number(digits)
 
 
-def text_at(section: bytes, at: int, letter: bytes) -> Tuple[bytes, int]:
+def text_at(section: bytes, at: int, letter: bytes) -> tuple[bytes, int]:
     """The name or the value at a place of a property section, and the place after it."""
     end = section.find(b"\n", at)
     if end < 0 or not section.startswith(letter, at):
         raise Malformed("a property does not have its form")
-    stop = end + 1 + number_of(section[at + len(letter):end])
+    stop = end + 1 + number_of(section[at + len(letter) : end])
     if not section.startswith(b"\n", stop):
         raise Malformed("a property does not have its length")
-    return section[end + 1:stop], stop + 1
+    return section[end + 1 : stop], stop + 1
 
 
-def entries_of(section: bytes, is_delta: bool) -> List[Tuple[bytes, Optional[bytes]]]:
+def entries_of(section: bytes, is_delta: bool) -> list[tuple[bytes, bytes | None]]:
     """The names and the values of a property section; without a value where the property is deleted."""
-    entries: List[Tuple[bytes, Optional[bytes]]] = []
+    entries: list[tuple[bytes, bytes | None]] = []
     at = 0
     while at + len(LAST_LINE) != len(section) or not section.endswith(LAST_LINE):
-        value: Optional[bytes] = None
+        value: bytes | None = None
         if is_delta and section.startswith(b"D ", at):
             name, at = text_at(section, at, b"D ")
         else:
@@ -110,7 +124,7 @@ def entries_of(section: bytes, is_delta: bool) -> List[Tuple[bytes, Optional[byt
     return entries
 
 
-def entry(name: bytes, value: Optional[bytes]) -> bytes:
+def entry(name: bytes, value: bytes | None) -> bytes:
     if value is None:
         return b"D %d\n%s\n" % (len(name), name)
     return b"K %d\n%s\nV %d\n%s\n" % (len(name), name, len(value), value)
@@ -125,9 +139,12 @@ def is_one_mergeinfo(section: bytes) -> bool:
     """Whether a property section sets `svn:mergeinfo` and nothing else. Long values need not be taken apart then."""
     if not section.startswith(ONE_MERGEINFO):
         return False
-    digits, _, _ = section[len(ONE_MERGEINFO):len(ONE_MERGEINFO) + 32].partition(b"\n")
-    return digits.isdigit() and len(ONE_MERGEINFO) + len(digits) + int(digits) + 12 == len(section) and \
-        section.endswith(b"\n" + LAST_LINE)
+    digits, _, _ = section[len(ONE_MERGEINFO) : len(ONE_MERGEINFO) + 32].partition(b"\n")
+    return (
+        digits.isdigit()
+        and len(ONE_MERGEINFO) + len(digits) + int(digits) + 12 == len(section)
+        and section.endswith(b"\n" + LAST_LINE)
+    )
 
 
 def mergeinfo_alone(section: bytes, is_delta: bool) -> bytes:
@@ -164,7 +181,7 @@ class Stripper:
             while at >= 0:
                 at = self._block(at)
                 turn += 1
-                if turn & 0xfff == 0:
+                if turn & 0xFFF == 0:
                     seen(self.source.base + at)
             if self.source.is_cut:
                 raise Malformed("the dump was cut while it was read")
@@ -183,10 +200,10 @@ class Stripper:
     def _first_line(self) -> int:
         source = self.source
         source.want(0, len(MAGIC) + 2)
-        line = bytes(source.data[:len(MAGIC) + 2])
+        line = bytes(source.data[: len(MAGIC) + 2])
         self.copy.format = FORMATS.get(line, 0)
         if self.copy.format == 0:
-            self._put(bytes(source.data[:1 << 16]))
+            self._put(bytes(source.data[: 1 << 16]))
             raise Malformed("the input is no dump in format 2 or 3")
         self._put(line + b"\n")
         return len(line)
@@ -210,7 +227,7 @@ class Stripper:
         if found is None or found.end() + int(found[2]) > len(data):
             return at
         after = found.end() + int(found[2])
-        self._put_revision(found[1] + self._place(at), data[found.end():after])
+        self._put_revision(found[1] + self._place(at), data[found.end() : after])
         return after
 
     def _records(self, at: int) -> int:
@@ -225,7 +242,7 @@ class Stripper:
     def _texts(self, at: int) -> int:
         """Copies records that change a text alone, which most do, in less than half of the time of other ones."""
         data, base, end, match = self.source.data, self.source.base, len(self.source.data), CHANGE.match
-        pieces: List[bytes] = []
+        pieces: list[bytes] = []
         while found := match(data, at):
             front, length = found.groups()
             after = found.end() + int(length)
@@ -254,7 +271,7 @@ class Stripper:
             kept = b"\n"
             if properties is not None:
                 has_changes = self.copy.format == 3 and delta is not None
-                kept = body_of(mergeinfo_alone(data[begin:begin + section], has_changes))
+                kept = body_of(mergeinfo_alone(data[begin : begin + section], has_changes))
         except Malformed:
             return at
         if COPIED in front:
@@ -274,7 +291,7 @@ class Stripper:
         """Copies a block whose headers come in any order."""
         source = self.source
         end = source.data.find(b"\n\n", at)
-        lines = bytes(source.data[at:end + 2] if end >= 0 else source.data[at:])
+        lines = bytes(source.data[at : end + 2] if end >= 0 else source.data[at:])
         place = self._place(at)
         # What the copy has of a block that is not well formed or not whole.
         raw = place + lines
@@ -306,10 +323,10 @@ class Stripper:
         self._put(head + b"\n")
         return self._after(raw, b"", end + 2, section + rest)
 
-    def _section(self, raw: bytes, at: int, length: int) -> Tuple[bytes, int]:
+    def _section(self, raw: bytes, at: int, length: int) -> tuple[bytes, int]:
         """The next bytes of the dump, which are a property section, and the place after them."""
         at = self.source.want(at, length)
-        section = bytes(self.source.data[at:at + length])
+        section = bytes(self.source.data[at : at + length])
         if len(section) < length:
             self._put(raw + section)
             raise Malformed("the dump ends within a body")
@@ -363,7 +380,7 @@ def headers_of(lines: bytes) -> Headers:
     return headers
 
 
-def lengths_of(headers: Headers) -> Tuple[int, int]:
+def lengths_of(headers: Headers) -> tuple[int, int]:
     """The length of the property section of a block, and of the rest of its body."""
     properties, text, body = [number_of(headers.get(name, b"0")) for name in LENGTHS]
     if b"Content-length" not in headers:

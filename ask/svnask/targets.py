@@ -1,6 +1,8 @@
 """What a user names: a path with a peg revision, and revisions by number, `HEAD` or a date."""
+from __future__ import annotations
+
 import re
-from typing import List, NamedTuple, Optional, Tuple
+from typing import NamedTuple
 
 from .digits import number
 from .errors import Denied
@@ -29,7 +31,7 @@ def decoded(text: bytes) -> str:
     return text.decode("utf-8", "surrogateescape")
 
 
-def split_peg(text: str) -> Tuple[str, str]:
+def split_peg(text: str) -> tuple[str, str]:
     """The path and the peg. The peg is after the last `@` of the last component; an `@` at the end says that there is
     none, and lets a path have one."""
     folder, slash, name = text.rpartition("/")
@@ -40,12 +42,12 @@ def split_peg(text: str) -> Tuple[str, str]:
 def path_of(text: str) -> bytes:
     """A path of the repository, with or without `^/` or a slash at its front."""
     if URL.match(text):
-        raise Denied("E170000", "'%s' is a URL, and a dump has none: name the path in it, such as trunk" % text)
+        raise Denied("E170000", f"'{text}' is a URL, and a dump has none: name the path in it, such as trunk")
     if text.startswith("^/") or text == "^":
         text = text[1:]
     parts = [part for part in encoded(text).split(b"/") if part not in (b"", b".")]
     if b".." in parts:
-        raise Denied("E195002", "a path may not have '..': '%s'" % text)
+        raise Denied("E195002", f"a path may not have '..': '{text}'")
     return b"/" + b"/".join(parts)
 
 
@@ -65,12 +67,12 @@ def revision_of(history: History, text: str) -> int:
 
 
 def syntax_error(text: str) -> Denied:
-    return Denied("E205000", "Syntax error in revision argument '%s'" % text)
+    return Denied("E205000", f"Syntax error in revision argument '{text}'")
 
 
 def known(history: History, rev: int) -> int:
     if rev > history.head:
-        raise Denied("E160006", "No such revision %d" % rev)
+        raise Denied("E160006", f"No such revision {rev}")
     return rev
 
 
@@ -80,14 +82,14 @@ def target_of(history: History, text: str) -> Target:
     return Target(path_of(path), known(history, revision_of(history, peg) if peg else history.head))
 
 
-def range_of(history: History, text: str) -> Tuple[int, int]:
+def range_of(history: History, text: str) -> tuple[int, int]:
     """`LO:HI`, in either order, or one revision."""
     lo, colon, hi = split_range(text)
     first = revision_of(history, lo)
     return first, revision_of(history, hi) if colon else first
 
 
-def split_range(text: str) -> Tuple[str, str, str]:
+def split_range(text: str) -> tuple[str, str, str]:
     """The two sides of a range. A date in braces may have colons."""
     depth = 0
     for at, letter in enumerate(text):
@@ -95,29 +97,29 @@ def split_range(text: str) -> Tuple[str, str, str]:
         if letter == ":" and depth == 0:
             if at == len(text) - 1 or at == 0:
                 raise syntax_error(text)
-            return text[:at], ":", text[at + 1:]
+            return text[:at], ":", text[at + 1 :]
     return text, "", ""
 
 
-def change_of_option(word: str) -> Tuple[int, int]:
+def change_of_option(word: str) -> tuple[int, int]:
     """The range of a word of `-c`: `N`, `N-M`, or `-N`, which is N, too, for what is printed."""
     found = CHANGE.match(word)
     if found is None:
-        raise Denied("E205000", "Non-numeric change argument (%s) given to -c" % word)
+        raise Denied("E205000", f"Non-numeric change argument ({word}) given to -c")
     back, first, dash, last = found[1], number(found[2]), found[3], number(found[4] or "0")
     if back and dash:
-        raise Denied("E205000", "Negative number in range (%s) not supported with -c" % word)
+        raise Denied("E205000", f"Negative number in range ({word}) not supported with -c")
     if first == 0:
         raise Denied("E205000", "There is no change 0")
     return first, last if dash else first
 
 
-def changes_of_option(texts: List[str]) -> List[Tuple[int, int]]:
+def changes_of_option(texts: list[str]) -> list[tuple[int, int]]:
     """The ranges of `-c`, which are words between commas and white space."""
     return [change_of_option(word) for text in texts for word in re.split("[, \n\r\t\v]+", text) if word]
 
 
-def ranges_of(history: History, ranges: List[str], changes: List[str]) -> Optional[List[Tuple[int, int]]]:
+def ranges_of(history: History, ranges: list[str], changes: list[str]) -> list[tuple[int, int]] | None:
     """The ranges of `-r` and `-c`, or none where neither is given."""
     changed = changes_of_option(changes)
     if ranges and changed:

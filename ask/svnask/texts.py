@@ -1,4 +1,6 @@
 """Texts of a repository, which may be any bytes, for a file of XML or a line on a terminal."""
+from __future__ import annotations
+
 import re
 import sys
 
@@ -13,7 +15,7 @@ def readable(text: bytes) -> str:
     return CONTROL.sub(escaped, text.decode("utf-8", "backslashreplace"))
 
 
-def escaped(found: "re.Match[str]") -> str:
+def escaped(found: re.Match[str]) -> str:
     return found[0].encode("unicode_escape").decode("ascii")
 
 

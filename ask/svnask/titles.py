@@ -1,5 +1,5 @@
 """What a picture tells of each of its marks, under the pointer."""
-from typing import Dict, List, Tuple
+from __future__ import annotations
 
 from . import dates, log
 from .graph import Copy, Dot, Graph, Lane, Merge
@@ -10,11 +10,11 @@ from .texts import readable
 MOST_LISTED = 24
 
 
-def listed(revisions: List[int]) -> str:
+def listed(revisions: list[int]) -> str:
     """Rising revisions, of many only the newest ones."""
-    shown = ", ".join("r%d" % rev for rev in revisions[-MOST_LISTED:])
+    shown = ", ".join(f"r{rev}" for rev in revisions[-MOST_LISTED:])
     more = len(revisions) - MOST_LISTED
-    return "%s, and %d older" % (shown, more) if more > 0 else shown
+    return f"{shown}, and {more} older" if more > 0 else shown
 
 
 def name_of(life: Life) -> str:
@@ -36,25 +36,25 @@ def about_revision(history: History, rev: int) -> str:
 def about_copy(copy: Copy) -> str:
     assert copy.life.source is not None
     path, rev = copy.life.source
-    return "r%d: %s is a copy of %s@%d" % (copy.life.first, name_of(copy.life), readable(path), rev)
+    return f"r{copy.life.first}: {name_of(copy.life)} is a copy of {readable(path)}@{rev}"
 
 
 def about_move(before: Life, life: Life) -> str:
-    return "r%d: moved from %s to %s" % (life.first, name_of(before), name_of(life))
+    return f"r{life.first}: moved from {name_of(before)} to {name_of(life)}"
 
 
 def about_end(history: History, life: Life) -> str:
     rev = life.last + 1
-    return "r%d: %s is deleted or replaced\n%s" % (rev, name_of(life), about_revision(history, rev))
+    return f"r{rev}: {name_of(life)} is deleted or replaced\n{about_revision(history, rev)}"
 
 
 def about_lane(lane: Lane) -> str:
     """The names of a lane, and the revisions in which it has them."""
-    return "\n".join("%s %s" % (name_of(life), span_of(life)) for life in lane.lives)
+    return "\n".join(f"{name_of(life)} {span_of(life)}" for life in lane.lives)
 
 
 def span_of(life: Life) -> str:
-    return "r%d" % life.first if life.first == life.last else "r%d\u2013r%d" % (life.first, life.last)
+    return f"r{life.first}" if life.first == life.last else f"r{life.first}\u2013r{life.last}"
 
 
 class Titles:
@@ -64,7 +64,7 @@ class Titles:
         self._history = history
         self._graph = graph
         # What is to be told of a revision of a lane.
-        self._notes: Dict[Tuple[int, int], List[str]] = {}
+        self._notes: dict[tuple[int, int], list[str]] = {}
         for copy in graph.copies:
             self._note(copy.lane, copy.life.first, about_copy(copy))
         for number, lane in enumerate(graph.lanes):
@@ -83,7 +83,7 @@ class Titles:
         if merge.is_carried:
             text += ", carried along by another merge"
         if merge.lost is not None:
-            text += ", no longer merged from r%d on" % merge.lost
+            text += f", no longer merged from r{merge.lost} on"
         return text
 
     def dot(self, dot: Dot) -> str:

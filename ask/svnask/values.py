@@ -1,7 +1,10 @@
 """Values of `svn:mergeinfo`: what a text says, and which paths have one through the revisions."""
+from __future__ import annotations
+
 import bisect
 import re
-from typing import Dict, Iterable, Iterator, List, NamedTuple, Optional, Tuple
+from collections.abc import Iterable, Iterator
+from typing import NamedTuple
 
 from .changes import is_at_or_below
 from .digits import number
@@ -19,10 +22,10 @@ class Run(NamedTuple):
     inheritable: bool
 
 
-Value = Dict[bytes, List[Run]]
+Value = dict[bytes, list[Run]]
 
 
-def runs_of(text: bytes) -> List[Run]:
+def runs_of(text: bytes) -> list[Run]:
     runs = []
     for element in text.split(b","):
         found = RANGE.match(element)
@@ -38,7 +41,7 @@ def runs_of(text: bytes) -> List[Run]:
     return runs
 
 
-def has_clash(runs: List[Run]) -> bool:
+def has_clash(runs: list[Run]) -> bool:
     """Whether a revision is in a run that is inheritable and in one that is not."""
     reached = {True: 0, False: 0}
     for run in sorted(runs):
@@ -48,7 +51,7 @@ def has_clash(runs: List[Run]) -> bool:
     return False
 
 
-def value_of(text: bytes) -> Optional[Value]:
+def value_of(text: bytes) -> Value | None:
     """What a text says, or None where Subversion can't read it."""
     value: Value = {}
     lines = text.split(b"\n")
@@ -72,14 +75,14 @@ class Explicit:
     """The texts of `svn:mergeinfo` that paths have themselves, revision by revision."""
 
     def __init__(self, records: Iterable[Record]) -> None:
-        self._paths: List[bytes] = []
+        self._paths: list[bytes] = []
         # For each path that ever had a text, the revisions in which that changed, and what it had from then on.
-        self._revs: Dict[bytes, List[int]] = {}
-        self._texts: Dict[bytes, List[Optional[bytes]]] = {}
+        self._revs: dict[bytes, list[int]] = {}
+        self._texts: dict[bytes, list[bytes | None]] = {}
         for record in records:
             self._apply(record)
 
-    def text(self, path: bytes, rev: int) -> Optional[bytes]:
+    def text(self, path: bytes, rev: int) -> bytes | None:
         """The text of a path in a revision."""
         revs = self._revs.get(path)
         if revs is None:
@@ -87,18 +90,18 @@ class Explicit:
         at = bisect.bisect_right(revs, rev)
         return self._texts[path][at - 1] if at else None
 
-    def events(self, path: bytes) -> List[int]:
+    def events(self, path: bytes) -> list[int]:
         """The revisions in which the text of a path was put, changed or taken away, rising."""
         return self._revs.get(path, [])
 
-    def below(self, top: bytes, rev: int) -> Iterator[Tuple[bytes, bytes]]:
+    def below(self, top: bytes, rev: int) -> Iterator[tuple[bytes, bytes]]:
         """The paths at or below one that have a text in a revision, and these."""
         for path in self._known(top):
             text = self.text(path, rev)
             if text is not None:
                 yield path, text
 
-    def _known(self, top: bytes) -> List[bytes]:
+    def _known(self, top: bytes) -> list[bytes]:
         """The paths at or below one that ever had a text."""
         front = top if top.endswith(b"/") else top + b"/"
         first, last = bisect.bisect_left(self._paths, front), bisect.bisect_left(self._paths, front[:-1] + b"0")
@@ -106,7 +109,7 @@ class Explicit:
             return list(self._paths)
         return ([top] if top in self._revs else []) + self._paths[first:last]
 
-    def _put(self, path: bytes, rev: int, text: Optional[bytes]) -> None:
+    def _put(self, path: bytes, rev: int, text: bytes | None) -> None:
         if path not in self._revs:
             if text is None:
                 return
@@ -126,7 +129,7 @@ class Explicit:
             source, rev = record.source
             top = record.path
             for path, text in list(self.below(source, rev)):
-                rest = path[len(source):].lstrip(b"/")
+                rest = path[len(source) :].lstrip(b"/")
                 self._put(joined(top, rest), record.rev, text)
         if record.mergeinfo is not None and record.action != "delete":
             self._put(record.path, record.rev, record.mergeinfo.text)
@@ -141,5 +144,4 @@ def joined(top: bytes, rest: bytes) -> bytes:
 
 def rest_below(path: bytes, top: bytes) -> bytes:
     assert is_at_or_below(path, top)
-    return path[len(top):].lstrip(b"/")
-
+    return path[len(top) :].lstrip(b"/")

@@ -1,5 +1,5 @@
 """The verbs of the command."""
-from typing import List
+from __future__ import annotations
 
 from .asking import AskVerb
 from .base import Verb
@@ -10,6 +10,19 @@ from .logs import LogVerb, ShowVerb
 from .merges import MergeinfoVerb
 from .places import SegmentsVerb, WhereVerb
 
-VERBS: List[Verb] = [
-    LogVerb(), ShowVerb(), MergeinfoVerb(), WhereVerb(), SegmentsVerb(), BranchesVerb(), ContainsVerb(),
-    UnmergedVerb(), ChangedTagsVerb(), GraphVerb(), RecordVerb(), ByteVerb(), InfoVerb(), AskVerb()]
+VERBS: list[Verb] = [
+    LogVerb(),
+    ShowVerb(),
+    MergeinfoVerb(),
+    WhereVerb(),
+    SegmentsVerb(),
+    BranchesVerb(),
+    ContainsVerb(),
+    UnmergedVerb(),
+    ChangedTagsVerb(),
+    GraphVerb(),
+    RecordVerb(),
+    ByteVerb(),
+    InfoVerb(),
+    AskVerb(),
+]

@@ -1,6 +1,8 @@
 """`ask`."""
+from __future__ import annotations
+
 from argparse import ArgumentParser, Namespace
-from typing import Iterator, Tuple
+from collections.abc import Iterator
 
 from ..answers import Answer, Line
 from ..errors import Failed
@@ -17,19 +19,19 @@ class AskVerb(Verb):
     def arguments(self, parser: ArgumentParser) -> None:
         parser.add_argument("queries", metavar="QUERIES", help="a file of queries as svnhist takes them")
 
-    def answers(self, history: History, words: Namespace) -> Iterator[Tuple[bytes, Answer]]:
+    def answers(self, history: History, given: Namespace) -> Iterator[tuple[bytes, Answer]]:
         try:
-            with open(words.queries, "rb") as file:
+            with open(given.queries, "rb") as file:
                 lines = file.read().split(b"\n")
         except OSError as error:
-            raise Failed("cannot read %s: %s" % (words.queries, error.strerror)) from error
+            raise Failed(f"cannot read {given.queries}: {error.strerror}") from error
         if lines[-1] == b"":
             lines.pop()
-        for answer in history.ask([Line(b"/", 0, line) for line in lines]):
+        for answer in history.ask([Line(line) for line in lines]):
             yield answer.query.line(), answer
 
-    def text(self, history: History, words: Namespace) -> Iterator[bytes]:
-        for line, answer in self.answers(history, words):
+    def text(self, history: History, given: Namespace) -> Iterator[bytes]:
+        for line, answer in self.answers(history, given):
             status = answer.status
             if status == "bad-query":
                 status += ": " + bad_query(line)
@@ -37,10 +39,13 @@ class AskVerb(Verb):
                 yield line + b"\t" + status.encode("utf-8") + b"\n"
             yield from (line + b"\t" + result + b"\n" for result in answer.lines)
 
-    def objects(self, history: History, words: Namespace) -> Iterator[Object]:
-        for line, answer in self.answers(history, words):
-            found: Object = {"query": decoded(line), "status": answer.status,
-                             "lines": [decoded(result) for result in answer.lines]}
+    def objects(self, history: History, given: Namespace) -> Iterator[Object]:
+        for line, answer in self.answers(history, given):
+            found: Object = {
+                "query": decoded(line),
+                "status": answer.status,
+                "lines": [decoded(result) for result in answer.lines],
+            }
             if answer.status == "bad-query":
                 found["reason"] = bad_query(line)
             yield found

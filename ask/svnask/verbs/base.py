@@ -1,16 +1,18 @@
 """What all verbs of the command have in common."""
+from __future__ import annotations
+
 import re
 from argparse import ArgumentParser, ArgumentTypeError, Namespace
-from typing import Any, Dict, Iterator, Optional
+from collections.abc import Iterator
+from typing import Any
 
 from ..changes import Change
 from ..digits import number
-from ..errors import Denied
 from ..history import History
 from ..store import Record
-from ..targets import decoded, revision_of
+from ..targets import decoded
 
-Object = Dict[str, Any]
+Object = dict[str, Any]
 
 
 class Verb:
@@ -24,11 +26,11 @@ class Verb:
     def arguments(self, parser: ArgumentParser) -> None:
         """Tells the parser what follows the verb."""
 
-    def text(self, history: History, words: Namespace) -> Iterator[bytes]:
+    def text(self, history: History, given: Namespace) -> Iterator[bytes]:
         """What is printed, piece after piece."""
         raise NotImplementedError
 
-    def objects(self, history: History, words: Namespace) -> Iterator[Object]:
+    def objects(self, history: History, given: Namespace) -> Iterator[Object]:
         """The same for a script, one object a line."""
         raise NotImplementedError
 
@@ -36,11 +38,11 @@ class Verb:
 def counted(text: str) -> int:
     """The number that an argument is."""
     if re.match("[0-9]+\\Z", text) is None:
-        raise ArgumentTypeError("'%s' is not a number" % text)
+        raise ArgumentTypeError(f"'{text}' is not a number")
     return number(text)
 
 
-def shown(text: Optional[bytes]) -> Optional[str]:
+def shown(text: bytes | None) -> str | None:
     return None if text is None else decoded(text)
 
 
@@ -53,20 +55,24 @@ def object_of_change(change: Change) -> Object:
 
 def object_of_revision(history: History, rev: int) -> Object:
     revision = history.revision(rev)
-    return {"revision": rev, "author": shown(revision.author), "date": shown(revision.date),
-            "message": shown(revision.message), "changes": [object_of_change(each) for each in history.changes(rev)]}
-
-
-def existing(history: History, text: str) -> int:
-    rev = revision_of(history, text)
-    if rev > history.head:
-        raise Denied("E160006", "No such revision %d" % rev)
-    return rev
+    return {
+        "revision": rev,
+        "author": shown(revision.author),
+        "date": shown(revision.date),
+        "message": shown(revision.message),
+        "changes": [object_of_change(each) for each in history.changes(rev)],
+    }
 
 
 def object_of_record(record: Record) -> Object:
-    found: Object = {"record": record.number, "revision": record.rev, "path": decoded(record.path),
-                     "action": record.action, "kind": record.kind, "byte": record.at}
+    found: Object = {
+        "record": record.number,
+        "revision": record.rev,
+        "path": decoded(record.path),
+        "action": record.action,
+        "kind": record.kind,
+        "byte": record.at,
+    }
     if record.source:
         found["from"] = {"path": decoded(record.source[0]), "revision": record.source[1]}
     if record.mergeinfo:

@@ -1,21 +1,27 @@
 """`branches`, `contains`, `unmerged` and `changed-tags`: all branches at once."""
+from __future__ import annotations
+
 from argparse import ArgumentParser, Namespace
-from typing import Iterator, List
+from collections.abc import Iterator
 
 from .. import branches
 from ..history import History
-from ..lives import Life, moved_lives
-from ..targets import decoded, path_of, target_of
-from .base import Object, Verb, existing
+from ..lives import Life
+from ..targets import decoded, known, path_of, revision_of, target_of
+from .base import Object, Verb
 
 
-def patterns_of(words: Namespace) -> List[bytes]:
-    return [path_of(pattern) for pattern in words.patterns]
+def patterns_of(given: Namespace) -> list[bytes]:
+    return [path_of(pattern) for pattern in given.patterns]
 
 
 def add_patterns(parser: ArgumentParser, default: str) -> None:
-    parser.add_argument("patterns", metavar="PATTERN", nargs="*",
-                        help="paths, in which *, ? and [..] stand for letters of a name; %s if none is given" % default)
+    parser.add_argument(
+        "patterns",
+        metavar="PATTERN",
+        nargs="*",
+        help=f"paths, in which *, ? and [..] stand for letters of a name; {default} if none is given",
+    )
 
 
 def object_of_life(life: Life) -> Object:
@@ -36,22 +42,16 @@ class BranchesVerb(Verb):
     def arguments(self, parser: ArgumentParser) -> None:
         add_patterns(parser, "/trunk, /branches/* and /tags/*")
 
-    def text(self, history: History, words: Namespace) -> Iterator[bytes]:
-        lives = branches.lives_of(history, patterns_of(words))
-        changes = branches.last_changes(history, lives)
-        moved = moved_lives(lives)
-        for life in lives:
-            origin = (b"moved " if life in moved else b"") + origin_of(life)
+    def text(self, history: History, given: Namespace) -> Iterator[bytes]:
+        for life, last_change, is_moved in branches.listed(history, patterns_of(given)):
+            origin = (b"moved " if is_moved else b"") + origin_of(life)
             end = b"" if life.is_alive else b"\tended in r%d" % (life.last + 1)
-            yield b"%s\tr%d-r%d\t%s\tchanged in r%d%s\n" % (life.path, life.first, life.last, origin, changes[life],
-                                                            end)
+            span = b"r%d-r%d" % (life.first, life.last)
+            yield b"%s\t%s\t%s\tchanged in r%d%s\n" % (life.path, span, origin, last_change, end)
 
-    def objects(self, history: History, words: Namespace) -> Iterator[Object]:
-        lives = branches.lives_of(history, patterns_of(words))
-        changes = branches.last_changes(history, lives)
-        moved = moved_lives(lives)
-        for life in lives:
-            yield dict(object_of_life(life), last_change=changes[life], is_moved=life in moved)
+    def objects(self, history: History, given: Namespace) -> Iterator[Object]:
+        for life, last_change, is_moved in branches.listed(history, patterns_of(given)):
+            yield dict(object_of_life(life), last_change=last_change, is_moved=is_moved)
 
 
 class ContainsVerb(Verb):
@@ -62,12 +62,15 @@ class ContainsVerb(Verb):
         parser.add_argument("revision", metavar="REV")
         add_patterns(parser, "/trunk, /branches/* and /tags/*")
 
-    def text(self, history: History, words: Namespace) -> Iterator[bytes]:
-        for path, how in branches.holders(history, patterns_of(words), existing(history, words.revision)):
+    def holders(self, history: History, given: Namespace) -> Iterator[branches.Holder]:
+        return branches.holders(history, patterns_of(given), known(history, revision_of(history, given.revision)))
+
+    def text(self, history: History, given: Namespace) -> Iterator[bytes]:
+        for path, how in self.holders(history, given):
             yield b"%s\t%s\n" % (path, how.encode())
 
-    def objects(self, history: History, words: Namespace) -> Iterator[Object]:
-        for path, how in branches.holders(history, patterns_of(words), existing(history, words.revision)):
+    def objects(self, history: History, given: Namespace) -> Iterator[Object]:
+        for path, how in self.holders(history, given):
             yield {"path": decoded(path), "how": how}
 
 
@@ -77,19 +80,20 @@ class UnmergedVerb(Verb):
 
     def arguments(self, parser: ArgumentParser) -> None:
         add_patterns(parser, "/branches/*")
-        parser.add_argument("--into", metavar="TARGET[@PEG]", default="/trunk",
-                            help="the target, /trunk if none is given")
+        parser.add_argument(
+            "--into", metavar="TARGET[@PEG]", default="/trunk", help="the target, /trunk if none is given"
+        )
 
-    def left(self, history: History, words: Namespace) -> Iterator[branches.Left]:
-        return branches.unmerged(history, patterns_of(words), target_of(history, words.into))
+    def left(self, history: History, given: Namespace) -> Iterator[branches.Left]:
+        return branches.unmerged(history, patterns_of(given), target_of(history, given.into))
 
-    def text(self, history: History, words: Namespace) -> Iterator[bytes]:
-        for path, revisions in self.left(history, words):
+    def text(self, history: History, given: Namespace) -> Iterator[bytes]:
+        for path, revisions in self.left(history, given):
             for rev, is_partial in revisions:
                 yield b"%s\tr%d%s\n" % (path, rev, b"*" if is_partial else b"")
 
-    def objects(self, history: History, words: Namespace) -> Iterator[Object]:
-        for path, revisions in self.left(history, words):
+    def objects(self, history: History, given: Namespace) -> Iterator[Object]:
+        for path, revisions in self.left(history, given):
             for rev, is_partial in revisions:
                 yield {"path": decoded(path), "revision": rev, "partial": is_partial}
 
@@ -101,12 +105,17 @@ class ChangedTagsVerb(Verb):
     def arguments(self, parser: ArgumentParser) -> None:
         add_patterns(parser, "/tags/*")
 
-    def text(self, history: History, words: Namespace) -> Iterator[bytes]:
-        for life, is_changed_when_made, revisions in branches.touched(history, patterns_of(words)):
+    def text(self, history: History, given: Namespace) -> Iterator[bytes]:
+        for life, is_changed_when_made, revisions in branches.touched(history, patterns_of(given)):
             changed = ([life.first] if is_changed_when_made else []) + revisions
             yield b"%s@%d\tmade in r%d %s\tchanged in %s\n" % (
-                life.path, life.last, life.first, origin_of(life), b", ".join(b"r%d" % rev for rev in changed))
+                life.path,
+                life.last,
+                life.first,
+                origin_of(life),
+                b", ".join(b"r%d" % rev for rev in changed),
+            )
 
-    def objects(self, history: History, words: Namespace) -> Iterator[Object]:
-        for life, is_changed_when_made, revisions in branches.touched(history, patterns_of(words)):
+    def objects(self, history: History, given: Namespace) -> Iterator[Object]:
+        for life, is_changed_when_made, revisions in branches.touched(history, patterns_of(given)):
             yield dict(object_of_life(life), is_changed_when_made=is_changed_when_made, changed=revisions)

@@ -1,6 +1,8 @@
 """`record`, `byte` and `info`: what stands in the dump itself."""
+from __future__ import annotations
+
 from argparse import ArgumentParser, Namespace
-from typing import Iterator, Optional, Tuple
+from collections.abc import Iterator
 
 from ..errors import Failed
 from ..history import History
@@ -23,18 +25,18 @@ class RecordVerb(Verb):
     def arguments(self, parser: ArgumentParser) -> None:
         parser.add_argument("number", metavar="K", type=counted)
 
-    def record(self, history: History, words: Namespace) -> Record:
+    def record(self, history: History, given: Namespace) -> Record:
         for _, record in history.blocks():
-            if record is not None and record.number == words.number:
+            if record is not None and record.number == given.number:
                 return record
         has = "the dump has %d" if history.is_whole else "%d could be read of the dump"
-        raise Failed("there is no record %d: %s" % (words.number, has % history.index.records), 1)
+        raise Failed("there is no record %d: %s" % (given.number, has % history.index.records), 1)
 
-    def text(self, history: History, words: Namespace) -> Iterator[bytes]:
-        return described(history, self.record(history, words))
+    def text(self, history: History, given: Namespace) -> Iterator[bytes]:
+        return described(history, self.record(history, given))
 
-    def objects(self, history: History, words: Namespace) -> Iterator[Object]:
-        yield object_of_record(self.record(history, words))
+    def objects(self, history: History, given: Namespace) -> Iterator[Object]:
+        yield object_of_record(self.record(history, given))
 
 
 class ByteVerb(Verb):
@@ -45,24 +47,24 @@ class ByteVerb(Verb):
     def arguments(self, parser: ArgumentParser) -> None:
         parser.add_argument("offset", metavar="B", type=counted)
 
-    def block(self, history: History, words: Namespace) -> Tuple[int, Optional[Record]]:
-        if not 0 <= words.offset <= history.index.size:
-            raise Failed("the dump has %d bytes" % history.index.size, 1)
-        found: Tuple[int, Optional[Record]] = (0, None)
+    def block(self, history: History, given: Namespace) -> tuple[int, Record | None]:
+        if not 0 <= given.offset <= history.index.size:
+            raise Failed(f"the dump has {history.index.size} bytes", 1)
+        found: tuple[int, Record | None] = (0, None)
         for at, record in history.blocks():
-            if at > words.offset:
+            if at > given.offset:
                 break
             found = at, record
         return found
 
-    def text(self, history: History, words: Namespace) -> Iterator[bytes]:
-        at, record = self.block(history, words)
+    def text(self, history: History, given: Namespace) -> Iterator[bytes]:
+        at, record = self.block(history, given)
         if record is not None:
             return described(history, record)
         return iter([b"block at byte %d\n" % at] + [b"  " + line + b"\n" for line in history.header(at)])
 
-    def objects(self, history: History, words: Namespace) -> Iterator[Object]:
-        at, record = self.block(history, words)
+    def objects(self, history: History, given: Namespace) -> Iterator[Object]:
+        at, record = self.block(history, given)
         yield object_of_record(record) if record is not None else {"byte": at}
 
 
@@ -72,15 +74,21 @@ class InfoVerb(Verb):
 
     def object(self, history: History) -> Object:
         dates = [history.revision(rev).date for rev in (0, history.head)]
-        return {"format": history.index.format, "uuid": shown(history.index.uuid), "youngest": history.head,
-                "first_date": shown(dates[0]), "last_date": shown(dates[1]), "revisions": history.head + 1,
-                "records": history.index.records}
+        return {
+            "format": history.index.format,
+            "uuid": shown(history.index.uuid),
+            "youngest": history.head,
+            "first_date": shown(dates[0]),
+            "last_date": shown(dates[1]),
+            "revisions": history.head + 1,
+            "records": history.index.records,
+        }
 
-    def text(self, history: History, words: Namespace) -> Iterator[bytes]:
+    def text(self, history: History, given: Namespace) -> Iterator[bytes]:
         history.check()
         for name, value in self.object(history).items():
             yield encoded("%s: %s\n" % (name.replace("_", " "), "-" if value is None else value))
 
-    def objects(self, history: History, words: Namespace) -> Iterator[Object]:
+    def objects(self, history: History, given: Namespace) -> Iterator[Object]:
         history.check()
         yield self.object(history)

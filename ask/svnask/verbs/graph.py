@@ -1,10 +1,12 @@
 """`graph`."""
+from __future__ import annotations
+
 import contextlib
 import os
 import stat
 import tempfile
 from argparse import ArgumentParser, Namespace
-from typing import Iterable, Iterator
+from collections.abc import Iterable, Iterator
 
 from .. import graph, picture
 from ..errors import Failed, Usage
@@ -21,29 +23,36 @@ class GraphVerb(Verb):
         add_patterns(parser, "/trunk, /branches/* and /tags/*")
         parser.add_argument("-o", "--output", metavar="FILE", help="where to write it, in place of the standard output")
 
-    def text(self, history: History, words: Namespace) -> Iterator[bytes]:
-        if words.output is not None and history.is_read_from(words.output):
-            raise Usage("-o %s would overwrite the dump" % words.output)
-        if words.output == "":
+    def text(self, history: History, given: Namespace) -> Iterator[bytes]:
+        if given.output is not None and history.is_read_from(given.output):
+            raise Usage(f"-o {given.output} would overwrite the dump")
+        if given.output == "":
             raise Usage("-o takes the name of a file")
-        pieces = picture.svg_of(history, graph.graph_of(history, patterns_of(words)))
-        if words.output is None:
+        pieces = picture.svg_of(history, graph.graph_of(history, patterns_of(given)))
+        if given.output is None:
             yield from pieces
         else:
-            write(words.output, pieces)
+            write(given.output, pieces)
 
-    def objects(self, history: History, words: Namespace) -> Iterator[Object]:
-        if words.output is not None:
+    def objects(self, history: History, given: Namespace) -> Iterator[Object]:
+        if given.output is not None:
             raise Usage("-o is for the picture: --json prints objects")
-        found = graph.graph_of(history, patterns_of(words))
+        found = graph.graph_of(history, patterns_of(given))
         for number, lane in enumerate(found.lanes):
             lives = [object_of_life(life) for life in lane.lives]
             yield {"type": "lane", "lane": number, "kind": lane.kind, "lives": lives, "revisions": lane.revisions}
         for copy in found.copies:
             yield dict(object_of_life(copy.life), type="copy", lane=copy.lane, source_lane=copy.source)
         for merge in found.merges:
-            yield {"type": "merge", "source_lane": merge.source, "lane": merge.target, "revision": merge.rev,
-                   "merged": merge.revisions, "lost": merge.lost, "is_carried": merge.is_carried}
+            yield {
+                "type": "merge",
+                "source_lane": merge.source,
+                "lane": merge.target,
+                "revision": merge.rev,
+                "merged": merge.revisions,
+                "lost": merge.lost,
+                "is_carried": merge.is_carried,
+            }
 
 
 def write(name: str, pieces: Iterable[bytes]) -> None:
@@ -56,7 +65,7 @@ def write(name: str, pieces: Iterable[bytes]) -> None:
             with open(final, "wb") as file:
                 file.writelines(pieces)
     except OSError as error:
-        raise Failed("cannot write %s: %s" % (name, error.strerror)) from error
+        raise Failed(f"cannot write {name}: {error.strerror}") from error
 
 
 def replace(final: str, pieces: Iterable[bytes]) -> None:

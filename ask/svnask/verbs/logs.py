@@ -1,14 +1,16 @@
 """`log` and `show`."""
+from __future__ import annotations
+
 import re
 from argparse import ArgumentParser, Namespace
-from typing import Iterator
+from collections.abc import Iterator
 
 from .. import log
 from ..digits import number
 from ..errors import Denied
 from ..history import History
-from ..targets import ranges_of, target_of
-from .base import Object, Verb, existing, object_of_revision
+from ..targets import known, ranges_of, revision_of, target_of
+from .base import Object, Verb, object_of_revision
 
 LIMIT = re.compile(r"\s*([-+]?)([0-9]+)\Z")
 
@@ -26,23 +28,24 @@ class LogVerb(Verb):
         parser.add_argument("-v", "--verbose", action="store_true")
         parser.add_argument("--stop-on-copy", action="store_true")
 
-    def options(self, history: History, words: Namespace) -> log.Options:
+    def options(self, history: History, given: Namespace) -> log.Options:
         limit = None
-        if words.limit is not None:
-            found = LIMIT.match(words.limit)
+        if given.limit is not None:
+            found = LIMIT.match(given.limit)
             if found is None:
                 raise Denied("E205000", "Non-numeric limit argument given")
             limit = number(found[2])
             if limit == 0 or found[1] == "-":
                 raise Denied("E200004", "Argument to --limit must be positive")
-        return log.Options(ranges_of(history, words.ranges, words.changes), limit, words.quiet, words.verbose,
-                           words.stop_on_copy)
+        return log.Options(
+            ranges_of(history, given.ranges, given.changes), limit, given.quiet, given.verbose, given.stop_on_copy
+        )
 
-    def text(self, history: History, words: Namespace) -> Iterator[bytes]:
-        return log.log_text(history, target_of(history, words.target), self.options(history, words))
+    def text(self, history: History, given: Namespace) -> Iterator[bytes]:
+        return log.log_text(history, target_of(history, given.target), self.options(history, given))
 
-    def objects(self, history: History, words: Namespace) -> Iterator[Object]:
-        for rev in log.shown(history, target_of(history, words.target), self.options(history, words)):
+    def objects(self, history: History, given: Namespace) -> Iterator[Object]:
+        for rev in log.shown(history, target_of(history, given.target), self.options(history, given)):
             yield object_of_revision(history, rev)
 
 
@@ -53,11 +56,11 @@ class ShowVerb(Verb):
     def arguments(self, parser: ArgumentParser) -> None:
         parser.add_argument("revision", metavar="REV")
 
-    def text(self, history: History, words: Namespace) -> Iterator[bytes]:
+    def text(self, history: History, given: Namespace) -> Iterator[bytes]:
         history.check()
-        rev = existing(history, words.revision)
+        rev = known(history, revision_of(history, given.revision))
         yield log.entry_text(history, rev, log.Options(is_verbose=True)) + log.RULE
 
-    def objects(self, history: History, words: Namespace) -> Iterator[Object]:
+    def objects(self, history: History, given: Namespace) -> Iterator[Object]:
         history.check()
-        yield object_of_revision(history, existing(history, words.revision))
+        yield object_of_revision(history, known(history, revision_of(history, given.revision)))

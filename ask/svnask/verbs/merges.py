@@ -1,9 +1,11 @@
 """`mergeinfo`."""
+from __future__ import annotations
+
 from argparse import ArgumentParser, Namespace
-from typing import Dict, Iterator, List, Tuple
+from collections.abc import Iterator
 
 from .. import log, mergeinfo
-from ..answers import Inherited, Mergeinfo
+from ..answers import Mergeinfo
 from ..errors import Denied, Usage
 from ..history import History, one
 from ..targets import decoded, range_of, target_of
@@ -22,39 +24,39 @@ class MergeinfoVerb(Verb):
         parser.add_argument("-R", "--recursive", action="store_true")
         parser.add_argument("-r", "--revision", dest="ranges", metavar="LO:HI", action="append", default=[])
 
-    def value(self, history: History, words: Namespace) -> Dict[bytes, str]:
-        if words.target is not None or words.recursive or words.ranges:
+    def value(self, history: History, given: Namespace) -> dict[bytes, str]:
+        if given.target is not None or given.recursive or given.ranges:
             raise Usage("a target, -R and -r belong to --show-revs")
-        target = target_of(history, words.source)
-        answer = one(history.ask([Mergeinfo(*target)]), Inherited)
+        target = target_of(history, given.source)
+        answer = one(history.ask([Mergeinfo(*target)]))
         if answer.status == "malformed-mergeinfo":
-            raise Denied("E200020", "the mergeinfo of '%s' can't be read" % decoded(target.path))
+            raise Denied("E200020", f"the mergeinfo of '{decoded(target.path)}' can't be read")
         if not answer.ok:
             raise log.not_found(target, target.rev)
         return answer.value
 
-    def revisions(self, history: History, words: Namespace) -> List[Tuple[int, bool]]:
-        if words.target is None:
+    def revisions(self, history: History, given: Namespace) -> list[tuple[int, bool]]:
+        if given.target is None:
             raise Usage("--show-revs takes a source and a target")
-        if len(words.ranges) > 1:
+        if len(given.ranges) > 1:
             raise Denied("E205000", "Multiple revision arguments encountered; can't specify -r more than once")
-        bounds = range_of(history, words.ranges[0]) if words.ranges else None
-        target = target_of(history, words.target)
-        source = target_of(history, words.source)
-        question = mergeinfo.Question(words.show_revs, words.recursive, bounds)
+        bounds = range_of(history, given.ranges[0]) if given.ranges else None
+        target = target_of(history, given.target)
+        source = target_of(history, given.source)
+        question = mergeinfo.Question(given.show_revs, given.recursive, bounds)
         explicit = Explicit(history.records())
         answers = history.answers(mergeinfo.queries_of(explicit, source, target, question))
         return mergeinfo.show_revs(history, explicit, answers, source, target, question)
 
-    def text(self, history: History, words: Namespace) -> Iterator[bytes]:
-        if words.show_revs:
-            return mergeinfo.show_revs_text(self.revisions(history, words))
-        return (b"%s:%s\n" % (path, ranges.encode("ascii")) for path, ranges in self.value(history, words).items())
+    def text(self, history: History, given: Namespace) -> Iterator[bytes]:
+        if given.show_revs:
+            return mergeinfo.show_revs_text(self.revisions(history, given))
+        return (b"%s:%s\n" % (path, ranges.encode("ascii")) for path, ranges in self.value(history, given).items())
 
-    def objects(self, history: History, words: Namespace) -> Iterator[Object]:
-        if words.show_revs:
-            for rev, starred in self.revisions(history, words):
+    def objects(self, history: History, given: Namespace) -> Iterator[Object]:
+        if given.show_revs:
+            for rev, starred in self.revisions(history, given):
                 yield {"revision": rev, "partial": starred}
         else:
-            for path, ranges in self.value(history, words).items():
+            for path, ranges in self.value(history, given).items():
                 yield {"path": decoded(path), "ranges": ranges}

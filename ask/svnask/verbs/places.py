@@ -1,12 +1,14 @@
 """`where` and `segments`."""
+from __future__ import annotations
+
 from argparse import ArgumentParser, Namespace
-from typing import Iterator, Optional
+from collections.abc import Iterator
 
 from .. import log
 from ..answers import Segments
 from ..history import History
-from ..targets import target_of
-from .base import Object, Verb, existing, shown
+from ..targets import known, revision_of, target_of
+from .base import Object, Verb, shown
 
 
 class WhereVerb(Verb):
@@ -17,18 +19,19 @@ class WhereVerb(Verb):
         parser.add_argument("target", metavar="PATH[@PEG]")
         parser.add_argument("revision", metavar="REV")
 
-    def answer(self, history: History, words: Namespace) -> Optional[bytes]:
-        target = target_of(history, words.target)
-        answer = history.locate(target.path, target.rev, existing(history, words.revision))
+    def answer(self, history: History, given: Namespace) -> bytes | None:
+        target = target_of(history, given.target)
+        rev = known(history, revision_of(history, given.revision))
+        answer = history.locate(target.path, target.rev, rev)
         if not answer.ok:
             raise log.not_found(target, target.rev)
         return answer.path
 
-    def text(self, history: History, words: Namespace) -> Iterator[bytes]:
-        yield (self.answer(history, words) or b"-") + b"\n"
+    def text(self, history: History, given: Namespace) -> Iterator[bytes]:
+        yield (self.answer(history, given) or b"-") + b"\n"
 
-    def objects(self, history: History, words: Namespace) -> Iterator[Object]:
-        yield {"path": shown(self.answer(history, words))}
+    def objects(self, history: History, given: Namespace) -> Iterator[Object]:
+        yield {"path": shown(self.answer(history, given))}
 
 
 class SegmentsVerb(Verb):
@@ -38,16 +41,16 @@ class SegmentsVerb(Verb):
     def arguments(self, parser: ArgumentParser) -> None:
         parser.add_argument("target", metavar="PATH[@PEG]")
 
-    def answer(self, history: History, words: Namespace) -> Segments:
-        target = target_of(history, words.target)
+    def answer(self, history: History, given: Namespace) -> Segments:
+        target = target_of(history, given.target)
         answer = history.segments(*target)
         if not answer.ok:
             raise log.not_found(target, target.rev)
         return answer
 
-    def text(self, history: History, words: Namespace) -> Iterator[bytes]:
-        yield self.answer(history, words).text + b"\n"
+    def text(self, history: History, given: Namespace) -> Iterator[bytes]:
+        yield self.answer(history, given).text + b"\n"
 
-    def objects(self, history: History, words: Namespace) -> Iterator[Object]:
-        for segment in self.answer(history, words).segments:
+    def objects(self, history: History, given: Namespace) -> Iterator[Object]:
+        for segment in self.answer(history, given).segments:
             yield {"first": segment.lo, "last": segment.hi, "path": shown(segment.path)}

@@ -1,0 +1,274 @@
+"""Input that somebody makes to do harm: the time and the memory that it takes, and those of twice as much.
+
+Each shape is made in a size and in twice that size, and both are measured in turns. Twice the input may take 2.4 times
+the time and 2.1 times the memory. The input is the dump and the queries together. For each of its bytes the memory may
+be 20 bytes, or 60 in two shapes, more than a run on a dump without records takes, which is mostly the memory of the
+process that starts the program, and 1 MB, since runs differ. The first run of each input shows whether it ends as it
+must: with a report in which all answers have one status, or with a refusal. If it was long, it is measured and no other
+follows.
+
+A run is ended after two minutes, or where it would take 12 GB. It counts as not met, and twice its input is not run. A
+shape is a function that makes a dump in large pieces, one that makes queries, or both. Their names are the title of a
+row. Queries alone are about the example.
+
+Keys that collide are names, texts of mergeinfo, and pairs of a directory and a file in it, which `colliding.c` finds for
+the fixed seed of the hashes. A run takes a random seed, so as many others must take as long. What they take under the
+fixed seed stands beside them, to show that they do collide there.
+"""
+from __future__ import annotations
+
+import math
+import signal
+from collections.abc import Iterator
+from dataclasses import dataclass
+from pathlib import Path
+from typing import Any, Callable
+
+from bench import hostile_dumps as dumps
+from bench.colliding import Finder
+from bench.histories import remove
+from bench.hostile_dumps import MOST_WORKERS, Maker, Pieces
+from bench.measure import NOTHING, REFUSED, words_of
+from bench.parts import Cell, Limit, Measurements, Part, Row, Setup, most, table
+from dev.running import Failed, Limits, Measured, Words, started
+
+# What a run may take, also one of a dump that claims a length, and the seconds from which on it is not repeated.
+MOST_SECONDS = 120
+MOST_ROOM = 12 << 30
+SMALL_ROOM = 1 << 30
+LONG = 2
+MOST_FOR_TWICE = most(2.4, "time of twice the input")
+MOST_MEMORY_FOR_TWICE = most(2.1, "memory of twice the input")
+MOST_PER_BYTE = most(20, "peak bytes for a byte")
+MOST_PER_BYTE_OF_DEEP_PATHS = most(60, "peak bytes for a byte of deep copies and distant names")
+MOST_OF_OTHERS = most(3, "time of keys that collide relative to others")
+DIFFERENCE = 1000000
+# The exit status of the program where it gets no memory.
+OUT_OF_MEMORY = 4
+
+
+def nothing(_: int) -> Pieces:
+    return iter(())
+
+
+@dataclass(frozen=True)
+class Shape:
+    """What makes the dump and the queries, the size that both are made for, the status of all answers or why the dump is
+    refused, and how the program is run."""
+
+    dump: Maker
+    size: int
+    asked: Maker = nothing
+    answer: str = "ok"
+    refusal: str | None = None
+    block: int = 0
+    workers: int = 1
+    room: int = MOST_ROOM
+    most_per_byte: Limit = MOST_PER_BYTE
+    name: str = ""
+
+    def title(self) -> str:
+        """The names of what makes the dump and the queries, and how the program is run."""
+        makers = [each for each in (self.dump, self.asked) if each not in (dumps.example, nothing)]
+        names = [self.name] if self.name else [each.__name__.replace("_", " ") for each in makers]
+        blocks = [f"BLOCK {self.block}"] * (self.block > 0)
+        return ", ".join(names + blocks + [f"{self.workers} workers"] * (self.workers > 1))
+
+
+def of_example(asked: Maker, size: int, answer: str, workers: int = 1) -> Shape:
+    return Shape(dumps.example, size, asked, answer, workers=workers)
+
+
+SHAPES = [
+    Shape(dumps.header_of_many_lines, 1000000),
+    Shape(dumps.long_header_line, 50000000),
+    Shape(dumps.long_number_in_a_header, 50000000),
+    Shape(dumps.many_newlines, 200000000),
+    Shape(dumps.long_property, 100000000),
+    Shape(dumps.many_properties_in_one_section, 500000),
+    Shape(dumps.text_of_claimed_length, 50000000, refusal="5 Truncated", room=SMALL_ROOM),
+    Shape(dumps.properties_of_claimed_length, 50000000, refusal="5 Truncated", room=SMALL_ROOM),
+    Shape(dumps.many_revisions_without_records, 2000000),
+    Shape(dumps.deletes_of_one_path, 1000000, refusal="18 Missing at record 3"),
+    Shape(dumps.adds_and_deletes_of_one_path, 500000),
+    Shape(dumps.entries_of_one_directory, 500000),
+    Shape(dumps.files_below_many_directories, 20000),
+    Shape(dumps.files_below_many_directories_in_revisions, 20000),
+    Shape(dumps.files_below_deep_copies, 2000, most_per_byte=MOST_PER_BYTE_OF_DEEP_PATHS),
+    Shape(dumps.files_below_directories_of_distant_names, 2000, most_per_byte=MOST_PER_BYTE_OF_DEEP_PATHS),
+    Shape(dumps.long_paths_of_new_names, 500, refusal="16 NoParent at record 1"),
+    Shape(dumps.changes_of_long_paths, 500),
+    Shape(dumps.nested_copies_of_the_root, 50000),
+    Shape(dumps.copies_of_a_wide_directory, 2000, dumps.an_entry_of_each_copy),
+    Shape(dumps.changes_in_revisions, 20000, block=1, workers=MOST_WORKERS),
+    Shape(dumps.distinct_mergeinfo_values, 500000),
+    Shape(dumps.mergeinfo_malformed_in_its_last_line, 49000000, dumps.mergeinfo_of_the_file, "malformed-mergeinfo"),
+    Shape(dumps.mergeinfo_lines_that_clash, 500000, dumps.mergeinfo_of_the_file),
+    Shape(dumps.mergeinfo_lines_of_one_path, 500000, dumps.mergeinfo_of_the_file),
+    Shape(dumps.short_mergeinfo_lines, 200000, dumps.mergeinfo_of_the_file),
+    of_example(dumps.long_path_in_a_query, 10000000, "no-such-path"),
+    of_example(dumps.many_components_in_a_query, 5000000, "no-such-path"),
+    of_example(dumps.line_of_tabs, 200000000, "bad-query"),
+    of_example(dumps.many_merged, 500000, "ok", MOST_WORKERS),
+    of_example(dumps.many_empty_lines, 500000, "bad-query", MOST_WORKERS),
+    Shape(dumps.short_mergeinfo_lines, 50000, dumps.merged_for_each_worker, workers=MOST_WORKERS),
+    # What is asked takes the product of the queries and the history, and so may the report.
+    Shape(dumps.mergeinfo_above_a_long_name, 2500, dumps.mergeinfo_below),
+    Shape(dumps.merges_of_all_revisions, 5000, dumps.eligible_for_each_revision),
+    Shape(dumps.changes_in_revisions, 2000, dumps.log_for_each_revision),
+    Shape(dumps.moves_of_one_file, 2000, dumps.first_path_for_each_move),
+    Shape(dumps.nested_copies_of_the_root, 20000, dumps.origin_of_the_nested_path),
+    Shape(dumps.nested_copies_of_the_root, 2000, dumps.segments_of_the_nested_path),
+]
+KEYS = 100000
+Keys = Callable[[int], Any]
+
+
+def colliding_shapes(finder: Finder) -> Iterator[tuple[Shape, Shape]]:
+    """Keys that collide, and as many that do not."""
+
+    def pair(name: str, maker: Callable[[Any], Pieces], colliding: Keys, others: Keys) -> tuple[Shape, Shape]:
+        one, other = (lambda count: maker(colliding(count)), lambda count: maker(others(count)))
+        return Shape(one, KEYS, name=name), Shape(other, KEYS, name=f"other {name}")
+
+    yield pair("names", dumps.new_names, finder.names, range)
+    yield pair("mergeinfo", dumps.new_values, finder.names, range)
+    yield pair("nodes of the index", dumps.new_nodes, finder.pairs, dumps.ordinary_pairs)
+
+
+class Input:
+    """A shape in one size, the best time and the greatest memory of its runs so far, and the size of its report."""
+
+    def __init__(self, setup: Setup, shape: Shape, size: int) -> None:
+        self.shape = shape
+        self.title = shape.title()
+        self.size = size
+        kinds = ("dump", "queries", "report")
+        self.dump, self.queries, self.report = (setup.folder / f"hostile-{size}.{kind}" for kind in kinds)
+        for path, make in ((self.dump, shape.dump), (self.queries, shape.asked)):
+            with open(path, "wb") as file:
+                file.writelines(make(size))
+        self.bytes = self.dump.stat().st_size + self.queries.stat().st_size
+        self.command = words_of(setup.program, self.dump, self.queries, shape.block, shape.workers)
+        self.wall = self.fixed = math.inf
+        self.peak = self.reported = 0
+        self.status: int | None = None
+        self.is_ended = False
+        self.is_repeated = False
+
+    def run(self, report: Path, before: Words = ()) -> Measured:
+        """Runs the program once, after these words."""
+        taken = started([*before, *self.command], report=report, limits=Limits(MOST_SECONDS, self.shape.room))
+        self.peak = max(self.peak, taken.peak)
+        return taken
+
+    def run_first(self) -> None:
+        """The run whose report is checked. Its time counts if it was long."""
+        taken = self.run(self.report)
+        self.status = taken.outcome.status
+        self.is_ended = self.status in (-signal.SIGALRM, OUT_OF_MEMORY)
+        if not self.is_ended:
+            self.check(taken)
+        self.is_repeated = not self.is_ended and taken.wall < LONG
+        if not self.is_repeated:
+            self.wall = taken.wall
+        self.reported = self.report.stat().st_size
+        self.report.unlink()
+
+    def run_again(self) -> None:
+        if self.is_repeated:
+            taken = self.run(NOTHING)
+            if taken.outcome.status != self.status:
+                raise Failed(f"{self.title} ended before with {self.status}, and now with {taken.outcome.shown()}")
+            self.wall = min(self.wall, taken.wall)
+
+    def run_fixed(self, entropy: Path) -> None:
+        """A run under the fixed seed, since the object that is loaded gives no random bytes."""
+        self.fixed = self.run(NOTHING, ["/usr/bin/env", f"LD_PRELOAD={entropy}"]).wall
+
+    def check(self, taken: Measured) -> None:
+        errors = taken.outcome.errors.decode("utf-8", "replace").strip()
+        if self.shape.refusal is None:
+            is_right = self.status == 0 and self.answered() == [self.shape.answer] * self.asked()
+        else:
+            is_right = self.status == REFUSED and errors.startswith("svnhist: dump refused: " + self.shape.refusal)
+        if not is_right:
+            raise Failed(f"{self.title} has other answers than it must have, or ended with {taken.outcome.shown()}")
+
+    def answered(self) -> list[str]:
+        """The status of each answer."""
+        with open(self.report, "rb") as file:
+            return [line.split()[1].decode() for line in file if line.startswith(b"#")]
+
+    def asked(self) -> int:
+        with open(self.queries, "rb") as file:
+            return sum(1 for _ in file)
+
+    def shown_wall(self) -> Cell:
+        if self.wall == math.inf:
+            return "not run"
+        return f"ended, {self.wall:.0f}" if self.is_ended else self.wall
+
+
+def measured(setup: Setup, shape: Shape, entropy: Path | None = None) -> tuple[Input, Input]:
+    """The measured inputs of a shape, in its size and in twice that; also under the fixed seed, given what to load."""
+    size = setup.scaled(shape.size)
+    once, twice = Input(setup, shape, size), Input(setup, shape, 2 * size)
+    once.run_first()
+    if once.is_ended:
+        twice.is_ended = True
+    else:
+        twice.run_first()
+    for each in (once, twice) * setup.times:
+        each.run_again()
+    for each in (once, twice):
+        if entropy is not None:
+            each.run_fixed(entropy)
+        remove(each.dump, each.queries)
+    return once, twice
+
+
+SHAPES_HEADING = (
+    "shape | bytes:, | report, MB:.1f | seconds:.3f | peak MB:.1f | "
+    f"time of twice the input, relative, {MOST_FOR_TWICE}:.2f | memory, relative, {MOST_MEMORY_FOR_TWICE}:.2f | "
+    f"peak bytes for a byte, {MOST_PER_BYTE}, or 60 for deep copies and distant names:.2f"
+)
+KEYS_HEADING = (
+    f"keys | number:, | seconds:.3f | seconds, others:.3f | relative, {MOST_OF_OTHERS}:.2f | "
+    "seconds under the fixed seed:.3f"
+)
+
+
+def shape_row(setup: Setup, shape: Shape, spared: int) -> Row:
+    """Nothing is known of the ratios of a run that was ended but that they do not meet their limits."""
+    once, twice = measured(setup, shape)
+    ratios: list[float | None] = [None] * 3
+    if not (once.is_ended or twice.is_ended):
+        per_byte = max(max(0, each.peak - spared) / each.bytes for each in (once, twice))
+        ratios = [twice.wall / once.wall, twice.peak / once.peak, per_byte]
+    limits = (MOST_FOR_TWICE, MOST_MEMORY_FOR_TWICE, shape.most_per_byte)
+    found = [limit.of(ratio) for limit, ratio in zip(limits, ratios)]
+    return [once.title, once.bytes, once.reported / 1e6, once.shown_wall(), once.peak / 1e6, *found]
+
+
+def colliding_rows(setup: Setup, finder: Finder, colliding: Shape, others: Shape) -> list[Row]:
+    def row(one: Input, other: Input) -> Row:
+        ratio = None if one.is_ended else one.wall / other.wall
+        return [one.title, one.size, one.shown_wall(), other.shown_wall(), MOST_OF_OTHERS.of(ratio), one.fixed]
+
+    return [row(one, other) for one, other in zip(measured(setup, colliding, finder.path), measured(setup, others))]
+
+
+def run(setup: Setup) -> Measurements:
+    base = Input(setup, Shape(dumps.without_records, 0), 0)
+    base.run_first()
+    remove(base.dump, base.queries)
+    yield f"A run on a dump without records takes {base.peak / 1e6:.1f} MB."
+    yield table("hostile-input", SHAPES_HEADING, [shape_row(setup, shape, base.peak + DIFFERENCE) for shape in SHAPES])
+    finder = Finder(setup.folder)
+    rows = [row for pair in colliding_shapes(finder) for row in colliding_rows(setup, finder, *pair)]
+    yield table("colliding-keys", KEYS_HEADING, rows)
+
+
+LIMITS = [MOST_FOR_TWICE, MOST_MEMORY_FOR_TWICE, MOST_PER_BYTE, MOST_PER_BYTE_OF_DEEP_PATHS, MOST_OF_OTHERS]
+PART = Part(__name__, __doc__, run, LIMITS)

@@ -1,0 +1,118 @@
+"""All benchmarks, one part after the other. The exit status is 1 if a limit is missed.
+
+The input is made in a temporary directory (TMPDIR selects it), which is removed at the end.
+"""
+from __future__ import annotations
+
+import argparse
+import datetime
+import json
+import os
+import platform
+import subprocess
+import sys
+import tempfile
+from collections.abc import Iterable
+from importlib import import_module
+from pathlib import Path
+from typing import Any
+
+from bench.parts import Item, Part, Setup, Table, part_to_json
+from dev.running import Failed
+from dev.tree import programs
+
+# The modules of the parts, in their order.
+MODULES = """
+reading_bundles reading_dumps short_history_queries merged_and_eligible workers whole_runs blocks wide_directories
+plain_python long_history_queries queries_per_second mergeinfo_values long_mergeinfo ranges hostile_input
+ten_million_records svnask_calls svnhist_live_turns
+"""
+PARTS: list[Part] = [import_module(f"bench.{name}").PART for name in MODULES.split()]
+
+
+def words() -> argparse.ArgumentParser:
+    about = "Measures how long the program takes. The exit status is 1 if a limit is missed."
+    parser = argparse.ArgumentParser(prog="run", description=about)
+    built = programs()
+    program = "the built program (default: that of this tree)"
+    parser.add_argument("program", nargs="?", type=Path, default=built.svnhist, help=program)
+    before = "an older build, which reading-dumps, workers and long-mergeinfo run as well"
+    parser.add_argument("--before", metavar="PROGRAM", type=Path, help=before)
+    live = "the built svnhist-live of svnhist-live-turns (default: that of this tree)"
+    parser.add_argument("--live", metavar="PROGRAM", type=Path, default=built.svnhist_live, help=live)
+    parser.add_argument("--quick", action="store_true", help="input of a tenth of the size, and svnadmin load if found")
+    parser.add_argument("--times", type=int, default=5, help="measurements of which the best counts (default 5)")
+    parser.add_argument("--only", choices=[part.name for part in PARTS], metavar="PART", help="one part (default: all)")
+    parser.add_argument("--json", metavar="FILE", type=Path, help="writes what was measured to a file, too")
+    parser.add_argument("--list", action="store_true", help="prints the parts, and what they measure")
+    return parser
+
+
+def machine() -> dict[str, Any]:
+    """What the measurements were made on."""
+    info = Path("/proc/cpuinfo").read_text(encoding="utf-8", errors="replace").splitlines()
+    models = [line.partition(": ")[2] for line in info if line.startswith("model name")]
+    return {
+        "system": platform.platform(),
+        "processor": models[0] if models else platform.machine(),
+        "cores": len(os.sched_getaffinity(0)),
+        "memory": os.sysconf("SC_PAGE_SIZE") * os.sysconf("SC_PHYS_PAGES"),
+        "python": platform.python_version(),
+    }
+
+
+def measured(part: Part, setup: Setup) -> list[Item]:
+    """Runs a part, and prints what it measures."""
+    print(f"## {part.name}\n\nThe best of {setup.times} measurements.\n", flush=True)
+    items = []
+    for item in part.run(setup):
+        items.append(item)
+        print(item if isinstance(item, Table) else item + "\n", flush=True)
+        for judged in item.judged() if isinstance(item, Table) else ():
+            if judged.limit not in part.limits:
+                raise Failed(f"{part.name} does not declare the limit of {judged.text}")
+    return items
+
+
+def is_every_limit_met(items: Iterable[Item]) -> bool:
+    return all(judged.is_met for item in items if isinstance(item, Table) for judged in item.judged())
+
+
+def measure_all(parts: Iterable[Part], setup: Setup, file: Path | None = None) -> int:
+    """Runs parts, and writes what was measured to the file after each. Returns the exit status, 1 if a limit is missed."""
+    given = {"program": str(setup.program), "is_quick": setup.is_quick, "times": setup.times}
+    report: dict[str, Any] = {"date": datetime.date.today().isoformat(), "machine": machine(), **given, "parts": []}
+    status = 0
+    for part in parts:
+        items = measured(part, setup)
+        status = status if is_every_limit_met(items) else 1
+        report["parts"].append(part_to_json(part, items))
+        if file:
+            file.write_text(json.dumps(report, indent=1) + "\n", encoding="utf-8")
+    return status
+
+
+def found(program: Path) -> Path:
+    if not os.access(program, os.X_OK):
+        raise Failed(f"{program} does not exist; ./svnhist builds it")
+    return program.resolve()
+
+
+def main() -> int:
+    given = words().parse_args()
+    if given.list:
+        print("".join(f"{part.name:<24} {part.line}\n" for part in PARTS), end="")
+        return 0
+    parts = [part for part in PARTS if given.only in (None, part.name)]
+    with tempfile.TemporaryDirectory(prefix="svnhist-bench-") as folder:
+        try:
+            before = given.before and found(given.before)
+            live = given.live.resolve()
+            setup = Setup(found(given.program), live, before, Path(folder), given.times, given.quick)
+            return measure_all(parts, setup, given.json)
+        except (Failed, subprocess.CalledProcessError) as failed:
+            sys.exit(f"run: {failed}")
+
+
+if __name__ == "__main__":
+    sys.exit(main())

@@ -1,0 +1,169 @@
+"""Values of `svn:mergeinfo` of about 1 MB, beside Subversion's own reader and plain Python.
+
+Each value is that of a directory, and all queries ask which mergeinfo a file in it inherits. A run reads the value once,
+and each query makes it inherited and prints it. So the time of a value is that of a run with queries less that of a run
+without, divided by their number. The other readers measure themselves (`value_readers.py`).
+"""
+from __future__ import annotations
+
+import subprocess
+import sys
+from functools import partial
+from typing import Callable, NamedTuple
+
+from bench.histories import BENCH, revision, write_dump
+from bench.measure import Command, best_in_turns
+from bench.parts import Judged, Measurements, Part, Row, Setup, limits_table, most, table
+from bench.questions import Asked, Peg, line
+from bench.subversion import BINDINGS
+from dev.dumps import DIR, FILE, added, mergeinfo
+from dev.running import Failed, Measured, Words, peak_of
+
+QUERIES = 10
+SMALL_QUERIES = 500000
+QUERY = line("mergeinfo", Peg("dir/file", 1))
+# Memory is measured on values with this many times more parts.
+LARGER = 10
+SMALL = "/a:1"
+WIDE = "/a:1-2147483647"
+
+# What the other readers are run by. Debian's bindings are built for Debian's own Python.
+PLAIN, OF_BINDINGS, OF_LIBRARY = "plain", "bindings", "library"
+READERS = {OF_BINDINGS: str(BINDINGS), OF_LIBRARY: str(BINDINGS), PLAIN: sys.executable}
+
+MOST_OF_BINDINGS = most(0.2, "time relative to the bindings")
+MOST_OF_TWICE = most(2.4, "time for twice the value")
+MOST_OF_WIDE = most(1.2, f"`{WIDE}`, time relative to `{SMALL}`")
+HEADING = (
+    "value | bytes:, | ms per query:.1f | ms, plain Python:.1f | ms, bindings:.1f | ms, C library:.1f | "
+    f"what Subversion reads | relative to the bindings, {MOST_OF_BINDINGS}:.3f"
+)
+Runs = dict[object, Callable[[], Measured]]
+
+
+class Form(NamedTuple):
+    """A form of `generate_value`: a title, the number of parts, and what share of them Subversion is given. Its memory
+    grows as the square of the number of lines with one path, to 1.6 GB for 10,000."""
+
+    name: str
+    title: str
+    parts: int
+    share: int = 1
+
+    def text(self, count: int) -> bytes:
+        words: Words = [BENCH / "generate_value", self.name, str(count)]
+        return subprocess.run(words, stdout=subprocess.PIPE, check=True).stdout
+
+    def titled(self, count: int) -> str:
+        return self.title % format(count, ",")
+
+
+FORMS = [
+    Form("many-paths", "%s lines with different paths", 10000),
+    Form("one-line", "one line with %s elements", 100000),
+    Form("one-path", "%s lines with one path", 100000, 10),
+]
+
+
+class Value:
+    """A directory that has a value, and a file in it."""
+
+    def __init__(self, setup: Setup, name: str, text: bytes) -> None:
+        self.size = len(text)
+        nodes = added(b"dir", DIR, mergeinfo(text)), added(b"dir/file", FILE)
+        self.asked = Asked(setup, write_dump(setup.folder / name, [revision(1, *nodes)]))
+
+    def runs(self, queries: int) -> Runs:
+        """A run without queries, and one with so many."""
+        return {(self, count): partial(self.asked.ask, [QUERY] * count) for count in (0, queries)}
+
+    def seconds(self, best: dict[object, Measured], queries: int) -> float:
+        """The time of one query."""
+        return (best[self, queries].wall - best[self, 0].wall) / queries
+
+    def peak(self, queries: int) -> float:
+        return peak_of(self.asked.command([QUERY] * queries).words) / 1e6
+
+
+class Formed:
+    """A value of a form, one of twice its size, and the other readers of it."""
+
+    def __init__(self, setup: Setup, form: Form, readers: list[str]) -> None:
+        self.setup = setup
+        self.form = form
+        self.count = setup.scaled(form.parts)
+        self.value, self.twice = (self.value_of(times) for times in (1, 2))
+        self.readers = {reader: self.command_of(reader) for reader in readers}
+        self.seconds: dict[str, float] = {}
+
+    def value_of(self, times: int) -> Value:
+        """A value so many times as large."""
+        return Value(self.setup, f"{self.form.name}-{times}", self.form.text(self.count * times))
+
+    def command_of(self, reader: str) -> Command:
+        path = self.setup.folder / f"{self.form.name}-{reader}"
+        path.write_bytes(self.form.text(self.count // (1 if reader == PLAIN else self.form.share)))
+        return Command([READERS[reader], BENCH / "value_readers.py", reader, path])
+
+    def runs(self) -> Runs:
+        readers: Runs = {(self, reader): partial(self.read, reader) for reader in self.readers}
+        return {**self.value.runs(QUERIES), **self.twice.runs(QUERIES), **readers}
+
+    def read(self, reader: str) -> Measured:
+        """A run of another reader, which prints its seconds. Plain Python prints what the program does as well."""
+        taken = self.readers[reader].run()
+        seconds, _, lines = taken.outcome.output.partition(b"\n")
+        if reader == PLAIN and self.value.asked.ask([QUERY]).outcome.output != b"#1 ok\n" + lines:
+            raise Failed("plain Python and the program print different lines")
+        self.seconds[reader] = min(float(seconds), self.seconds.get(reader, float("inf")))
+        return taken
+
+    def row(self, best: dict[object, Measured]) -> Row:
+        ours = self.value.seconds(best, QUERIES)
+        others = [self.seconds.get(reader) for reader in (PLAIN, OF_BINDINGS, OF_LIBRARY)]
+        share = "all" if self.form.share == 1 else f"1/{self.form.share}"
+        bindings = self.seconds.get(OF_BINDINGS)
+        ratio = bindings and MOST_OF_BINDINGS.of(ours / bindings)
+        seconds = [each and each * 1e3 for each in (ours, *others)]
+        return [self.form.titled(self.count), self.value.size, *seconds, share, ratio]
+
+    def growth(self, best: dict[object, Measured]) -> Judged:
+        """The time for twice the value relative to that for the value; the size is not exactly twice the other."""
+        ratio = self.twice.seconds(best, QUERIES) / self.value.seconds(best, QUERIES)
+        return MOST_OF_TWICE.of(2 * ratio * self.value.size / self.twice.size, self.form.titled(self.count))
+
+    def memory_row(self) -> Row:
+        value = self.value_of(LARGER)
+        row: Row = [self.form.titled(self.count * LARGER), value.size / 1e6, value.peak(0), value.peak(1)]
+        value.asked.dump.unlink()
+        return row
+
+
+def installed_readers() -> list[str]:
+    """The readers that this machine has; plain Python always is one."""
+    try:
+        subprocess.run([BINDINGS, "-c", "import svn.core"], stderr=subprocess.DEVNULL, check=True)
+    except (OSError, subprocess.CalledProcessError):
+        return [PLAIN]
+    return list(READERS)
+
+
+def run(setup: Setup) -> Measurements:
+    readers = installed_readers()
+    if len(readers) == 1:
+        yield f"{BINDINGS} has no bindings of Subversion, so these are left out."
+    forms = [Formed(setup, form, readers) for form in FORMS]
+    small, wide = (Value(setup, f"small-{len(text)}", text.encode()) for text in (SMALL, WIDE))
+    queries = setup.scaled(SMALL_QUERIES)
+    runs: Runs = {key: run for form in forms for key, run in form.runs().items()}
+    best = best_in_turns({**runs, **small.runs(queries), **wide.runs(queries)}, setup.times)
+    yield table("mergeinfo-values", HEADING, [form.row(best) for form in forms])
+    heading = "value | MB:.1f | peak MB without queries:.1f | peak MB with one:.1f"
+    yield table("mergeinfo-values-memory", heading, [form.memory_row() for form in forms])
+    one, other = small.seconds(best, queries), wide.seconds(best, queries)
+    yield f"A query takes {one * 1e6:.2f} microseconds for `{SMALL}` and {other * 1e6:.2f} for `{WIDE}`."
+    limits = [*(form.growth(best) for form in forms), MOST_OF_WIDE.of(other / one)]
+    yield limits_table("mergeinfo-values-limits", limits)
+
+
+PART = Part(__name__, __doc__, run, [MOST_OF_BINDINGS, MOST_OF_TWICE, MOST_OF_WIDE])

@@ -1,0 +1,81 @@
+"""How many queries of each verb the program answers in a second, beside the Python bindings of Subversion.
+
+The history is one of changes, and there are 3,000 queries of each verb. `svnadmin load` is fed with the same dump until
+it has taken ten minutes, and the bindings answer from what it loaded, so all pegs are of that part. The program has the
+whole history. Its time is that of a run with the queries, many times over, less that of a run without. The bindings get
+fewer queries of the slow verbs; the ratio is that of the times for the queries that both got.
+"""
+from __future__ import annotations
+
+import random
+from collections.abc import Sequence
+from dataclasses import dataclass
+
+from bench.histories import MIXES, SIZES, generate
+from bench.parts import Cell, Measurements, Part, Row, Setup, least, table
+from bench.questions import Answer, Asked, drawn_line, later_half, pegs_at_ends, records_of
+from bench.subversion import LOADING_SECONDS, ask_bindings, folder_in_memory, load_part
+from dev.running import Measured
+
+ASKED = 3000
+# For each verb, how many of the queries the bindings get.
+ASKED_OF_BINDINGS = {"locate": 3000, "segments": 3000, "log": 200, "mergeinfo": 3000, "merged": 200, "eligible": 200}
+# The queries are repeated until they are so many, or their report has about so many bytes.
+LEAST_ASKED = 500000
+MOST_REPORT = 1 << 28
+LEAST_OF_BINDINGS = least(100, "time of the bindings relative to that of the program")
+HEADING = (
+    "verb | queries:, | ms per query:.4f | queries per second:,.0f | queries, bindings:, | ms, bindings:.4f | "
+    f"ms, program:.4f | same answers:, | ratio, {LEAST_OF_BINDINGS}:,.0f"
+)
+
+
+@dataclass(frozen=True)
+class Whole:
+    """The program on the whole dump, and a run without queries."""
+
+    asked: Asked
+    base: Measured
+
+    def seconds(self, lines: list[str]) -> float:
+        """The time of a query, by so many that it can be measured."""
+        size = len(self.asked.ask(lines).outcome.output)
+        many = lines * max(1, min(LEAST_ASKED // len(lines), MOST_REPORT // size))
+        return (self.asked.best(many).wall - self.base.wall) / len(many)
+
+
+def same_answers(verb: str, ours: Sequence[Answer], others: Sequence[list[str]]) -> int:
+    """How many answers are the same. Those of the bindings to `log` have revisions alone."""
+    found = [[line.split(" ")[0] for line in lines] if verb == "log" else lines for _, lines in ours]
+    return sum(lines == other for lines, other in zip(found, others))
+
+
+def row(whole: Whole, url: str | None, verb: str, lines: list[str]) -> Row:
+    each = whole.seconds(lines)
+    cells: list[Cell] = [f"`{verb}`", len(lines), each * 1e3, 1 / each]
+    given = lines[:: len(lines) // ASKED_OF_BINDINGS[verb]]
+    other = ask_bindings(url, given)
+    if other is None:
+        return cells + [None] * 5
+    ours = each if len(given) == len(lines) else whole.seconds(given)
+    same = same_answers(verb, whole.asked.answers(given), other.answers)
+    return [*cells, len(given), other.seconds * 1e3, ours * 1e3, same, LEAST_OF_BINDINGS.of(other.seconds / ours)]
+
+
+def run(setup: Setup) -> Measurements:
+    revisions = setup.scaled(SIZES[-1])
+    dump = generate(setup.folder / "verbs.dump", MIXES["changes"], revisions)
+    asked = Asked(setup, dump)
+    whole = Whole(asked, asked.best([]))
+    with folder_in_memory(setup.folder) as above:
+        loaded = load_part(dump, above / "verbs", setup.scaled(LOADING_SECONDS))
+        if loaded:
+            yield f"Subversion loaded {loaded.last:,} of {revisions:,} revisions."
+        last = loaded.last if loaded else revisions
+        lot, pegs = random.Random(5), later_half([peg for peg in pegs_at_ends(records_of(dump)) if peg.rev <= last])
+        asked_lines = {verb: [drawn_line(lot, pegs, verb) for _ in range(ASKED)] for verb in ASKED_OF_BINDINGS}
+        url = loaded.url if loaded else None
+        yield table("queries-per-second", HEADING, [row(whole, url, *each) for each in asked_lines.items()])
+
+
+PART = Part(__name__, __doc__, run, [LEAST_OF_BINDINGS])

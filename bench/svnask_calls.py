@@ -1,0 +1,110 @@
+"""svnask: its first call about a dump, later calls, and many answers, beside `grep` and the program itself.
+
+The first call reads and keeps what questions need. The history has release branches, and half of its bytes are
+mergeinfo. All times are processor seconds, of the commands and of what they start, and the best of some runs in turns.
+The program answers with as many workers as svnask has.
+"""
+from __future__ import annotations
+
+import os
+import shutil
+import subprocess
+import sys
+from functools import partial
+from operator import attrgetter
+from pathlib import Path
+from typing import Callable
+
+from bench.histories import BENCH, generate, load_into_cache
+from bench.measure import NOTHING, Command, best_in_turns
+from bench.parts import Measurements, Part, Row, Setup, limits_table, most, table
+from bench.questions import Peg, line, written
+from dev.running import Measured, Words, measure, peak_of
+from dev.tree import EXAMPLES, ROOT, SVNASK
+
+GENERATED = ["--mix", "releases", "--records", "24", "--no-checksums", "--body", "0:200"]
+REVISIONS = 20000
+# How many of the revisions change mergeinfo, and how many lines of answers are read.
+VALUES = 0.6
+LINES = 14000000
+GREP = ["grep", "-c", "-a", "^Node-path"]
+# What a later call takes more than the program, for which its limit has room.
+MORE = 0.2
+
+MOST_OF_GREP = most(15.0, "the first call relative to grep -c")
+MOST_MEGABYTES = most(100.0, "the first call, peak MB")
+MOST_OF_PROGRAM = most(1.5, f"a later log but for {MORE} seconds, relative to svnhist")
+MOST_OF_LINES = most(3.0, "the module, many answers relative to svnhist")
+
+
+class Asked:
+    """A dump, the same without texts, and the commands about them."""
+
+    def __init__(self, setup: Setup) -> None:
+        self.program = setup.program
+        self.dump = setup.folder / "asked"
+        self.stripped = setup.folder / "asked-stripped"
+        self.cache = setup.folder / "cache"
+        self.compiled = setup.folder / "compiled"
+        self.queries = setup.folder / "asked-queries"
+        self.workers = min(len(os.sched_getaffinity(0)), 64)
+        self.rev = setup.scaled(REVISIONS)
+        generate(self.dump, [*GENERATED, "--values", str(int(self.rev * VALUES))], self.rev)
+        with open(self.dump, "rb") as dump, open(self.stripped, "wb") as stripped:
+            subprocess.run([EXAMPLES / "strip-texts"], stdin=dump, stdout=stripped, check=True)
+        load_into_cache(self.dump)
+
+    def python(self, *words: str | Path) -> Words:
+        """A script in Python with the program and the cache of this benchmark, and compiled once, as when installed."""
+        python = [f"PYTHONPYCACHEPREFIX={self.compiled}", f"PYTHONPATH={ROOT / 'ask'}"]
+        own = [f"SVNHIST={self.program}", f"XDG_CACHE_HOME={self.cache}"]
+        return ["/usr/bin/env", "-u", "PYTHONDONTWRITEBYTECODE", *python, *own, sys.executable, *words]
+
+    def grep(self) -> Measured:
+        return Command([*GREP, self.dump]).run()
+
+    def first_words(self) -> Words:
+        """The first call, with an empty cache. Its question is one that the program isn't asked."""
+        shutil.rmtree(self.cache, ignore_errors=True)
+        return self.python(SVNASK, self.dump, "record", "1")
+
+    def first(self) -> Measured:
+        return Command(self.first_words()).run()
+
+    def later(self) -> Measured:
+        return Command(self.python(SVNASK, self.dump, "log", "-q", "trunk")).run()
+
+    def alone(self, count: int) -> Measured:
+        """The program about the dump without texts, with so many queries of the log of the trunk."""
+        written(self.queries, [line("log", Peg("trunk", self.rev))] * count)
+        words: Words = [self.program, self.stripped, self.queries, "0", str(self.workers)]
+        return measure(words, file=NOTHING, is_kept=False).expect()
+
+    def read(self, count: int) -> Measured:
+        """All answers to so many queries, read by the module."""
+        return Command(self.python(BENCH / "answer_reader.py", self.dump, "trunk", str(count))).run()
+
+
+def run(setup: Setup) -> Measurements:
+    asked = Asked(setup)
+    dump, stripped = (path.stat().st_size / 1e6 for path in (asked.dump, asked.stripped))
+    records = int(asked.grep().outcome.output)
+    yield f"A dump of {dump:.1f} MB, {stripped:.1f} MB without texts, {records} records."
+    count = setup.scaled(LINES) // asked.later().outcome.output.count(b"\nr")
+    pairs: list[dict[str, Callable[[], Measured]]] = [
+        {"`grep -c ^Node-path`": asked.grep, "svnask, the first question": asked.first},
+        {"svnhist, the log of the trunk": partial(asked.alone, 1), "svnask, the same as a later question": asked.later},
+        {"svnhist, many logs": partial(asked.alone, count), "the module, the same": partial(asked.read, count)},
+    ]
+    cost = attrgetter("processor")
+    best = {name: taken for pair in pairs for name, taken in best_in_turns(pair, setup.times, cost).items()}
+    grep, first, alone, later, many, read = (taken.processor for taken in best.values())
+    rows: list[Row] = [[name, taken.processor, taken.peak / 1e6] for name, taken in best.items()]
+    yield table("svnask", "what runs | processor s:.3f | peak MB:.0f", rows)
+    yield f"Lines of the many logs: {best['the module, the same'].outcome.output.decode().strip()}."
+    limits = [MOST_OF_GREP.of(first / grep), MOST_MEGABYTES.of(peak_of(asked.first_words()) / 1e6)]
+    limits += [MOST_OF_PROGRAM.of((later - MORE) / alone), MOST_OF_LINES.of(read / many)]
+    yield limits_table("svnask-limits", limits)
+
+
+PART = Part(__name__, __doc__, run, [MOST_OF_GREP, MOST_MEGABYTES, MOST_OF_PROGRAM, MOST_OF_LINES])

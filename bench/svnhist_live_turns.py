@@ -1,0 +1,210 @@
+"""svnhist-live: how long it takes to reply to pieces of ten revisions, and to questions after many pieces.
+
+A talk begins with a history of changes of 120,000 revisions, and 10,000 pieces of ten revisions each follow. Another
+one is about the same history, read at once. A time is that from before a turn is written until its whole reply was
+read, and so it includes the ways of both through pipes. Questions are asked in both talks in turns, each of them some
+times, of which the best counts; the replies must be the same.
+
+Where Subversion is installed, `svn log -q` answers questions, too, from a repository into which as much of the same
+dump was loaded as ten minutes are enough for. Its time includes its start.
+"""
+from __future__ import annotations
+
+import itertools
+import math
+import os
+import random
+import statistics
+import subprocess
+import time
+from collections.abc import Iterator, Sequence
+from contextlib import contextmanager
+from pathlib import Path
+from typing import NamedTuple
+
+from bench.histories import MIXES, generate, remove, revisions_of
+from bench.parts import Judged, Measurements, Part, Row, Setup, limits_table, most, table
+from bench.questions import Peg, Question, later_half, pegs_at_ends, records_of
+from bench.subversion import ASKED_OF_COMMAND, LOADING_SECONDS, Loaded, ask_command, folder_in_memory, load_part
+from dev.running import Failed, Words
+
+# The revisions before the first piece, the pieces, and the revisions of each.
+REVISIONS = 120000
+PIECES = 10000
+TEN = 10
+# How many pieces are looked at, at the beginning and at the end, and how many questions of each kind.
+TIMED = 200
+VERBS = ("log", "mergeinfo", "segments")
+WORKERS = 1
+READ = 1 << 16
+MOST_MILLISECONDS = {name: most(20, f"a piece, {name} of the first {TIMED}, ms") for name in ("median", "worst")}
+MOST_OF_AT_ONCE = {verb: most(1.5, f"`{verb}` after all pieces, relative to the same read at once") for verb in VERBS}
+
+
+class Talk:
+    """A running talk, of which each turn is timed."""
+
+    def __init__(self, child: subprocess.Popen[bytes]) -> None:
+        assert child.stdin and child.stdout
+        self.child = child
+        self.input, self.output = child.stdin.fileno(), child.stdout.fileno()
+        self.reply()
+
+    def reply(self) -> bytes:
+        """All up to the next empty line, which ends a reply."""
+        pieces: list[bytes] = []
+        end = b""
+        while end != b"\n\n":
+            piece = os.read(self.output, READ)
+            if not piece:
+                raise Failed(f"svnhist-live ended with {self.child.wait()}")
+            pieces.append(piece)
+            end = (end + piece)[-2:]
+        return b"".join(pieces)
+
+    def turn(self, text: bytes) -> tuple[float, bytes]:
+        """The seconds until the reply to a turn, and the reply."""
+        began = time.perf_counter()
+        while text:
+            text = text[os.write(self.input, text) :]
+        reply = self.reply()
+        return time.perf_counter() - began, reply
+
+
+@contextmanager
+def talk_about(live: Path, dump: Path) -> Iterator[Talk]:
+    words: Words = [live, dump, str(WORKERS)]
+    with subprocess.Popen(words, stdin=subprocess.PIPE, stdout=subprocess.PIPE, bufsize=0) as child:
+        try:
+            yield Talk(child)
+        finally:
+            child.kill()
+
+
+class Talks(NamedTuple):
+    """The talk to which the pieces come, and that about the same history, read at once."""
+
+    after: Talk
+    at_once: Talk
+
+
+class History(NamedTuple):
+    """The files of the whole history and of the part before the first piece, the revisions, and the pegs of paths."""
+
+    whole: Path
+    front: Path
+    first: int
+    last: int
+    pegs: list[Peg]
+
+
+def made(setup: Setup) -> History:
+    front = setup.folder / "live-front.dump"
+    first = setup.scaled(REVISIONS)
+    last = first + setup.scaled(PIECES) * TEN
+    whole = generate(setup.folder / "live.dump", MIXES["changes"], last)
+    with open(front, "wb") as file:
+        file.writelines(itertools.islice(revisions_of(whole), first + 2))
+    return History(whole, front, first, last, pegs_at_ends(records_of(whole)))
+
+
+def pieces_of(history: History) -> Iterator[bytes]:
+    """The pieces as turns."""
+    revisions = itertools.islice(revisions_of(history.whole), history.first + 2, None)
+    while piece := b"".join(itertools.islice(revisions, TEN)):
+        yield b"piece %d\n" % len(piece) + piece
+
+
+def grown(talk: Talk, history: History) -> list[float]:
+    """The milliseconds of each piece."""
+    found = []
+    for number, turn in enumerate(pieces_of(history), 1):
+        seconds, reply = talk.turn(turn)
+        if reply != b"ready %d\n\n" % (history.first + TEN * number):
+            raise Failed(f"the reply to piece {number} is {reply!r}")
+        found.append(seconds * 1e3)
+    return found
+
+
+def pieces_row(title: str, taken: Sequence[float]) -> Row:
+    return [title, statistics.median(taken), max(taken)]
+
+
+def questions_of(history: History, last: int, count: int) -> list[Question]:
+    """So many questions about the later half of the revisions up to one."""
+    lot, pegs = random.Random(6), later_half([peg for peg in history.pegs if peg.rev <= last])
+    return [Question.drawn(lot, pegs) for _ in range(count)]
+
+
+def ask_both(talks: Talks, line: bytes) -> list[float]:
+    """The milliseconds of a question in each talk."""
+    (after, one), (at_once, other) = (talk.turn(line) for talk in talks)
+    if one != other or b" ok\n" not in one:
+        raise Failed(f"the replies to {line!r} differ, or are no answers")
+    return [after * 1e3, at_once * 1e3]
+
+
+def asked(talks: Talks, verb: str, questions: Sequence[Question], times: int) -> list[float]:
+    """The median of the milliseconds of a question in each talk."""
+    lines = [question.line(verb).encode() for question in questions]
+    best = [[math.inf] * len(talks) for _ in lines]
+    for place, line in list(enumerate(lines)) * times:
+        best[place] = [min(pair) for pair in zip(best[place], ask_both(talks, line))]
+    return [statistics.median(each) for each in zip(*best)]
+
+
+def beside_subversion(talks: Talks, history: History, loaded: Loaded | None, times: int) -> str:
+    """The time of `svn log` beside that of the same questions after all pieces, in words."""
+    if loaded is None:
+        return "There is no `svn`, so no `svn log` stands beside `log`."
+    same = questions_of(history, loaded.last, ASKED_OF_COMMAND)
+    ours, other = asked(talks, "log", same, times)[0], ask_command(same, "log", loaded.url)
+    assert other is not None
+    return (
+        f"{len(same)} questions `log` about the {loaded.last:,} revisions that Subversion has loaded take {ours:.3f} ms "
+        f"each. `svn log -q` takes {other * 1e3:.3f} ms, {other * 1e3 / ours:.0f} times as long."
+    )
+
+
+def judged(pieces: Sequence[float], questions: dict[str, list[float]]) -> Iterator[Judged]:
+    """The limits, of the first pieces and of questions after all of them."""
+    first = pieces[:TIMED]
+    yield MOST_MILLISECONDS["median"].of(statistics.median(first))
+    yield MOST_MILLISECONDS["worst"].of(max(first))
+    for verb, (after, at_once) in questions.items():
+        yield MOST_OF_AT_ONCE[verb].of(after / at_once)
+
+
+def measured(setup: Setup, history: History, loaded: Loaded | None) -> Measurements:
+    questions = questions_of(history, history.last, TIMED)
+    with talk_about(setup.live, history.front) as after, talk_about(setup.live, history.whole) as at_once:
+        talks = Talks(after, at_once)
+        pieces = grown(after, history)
+        found = {verb: asked(talks, verb, questions, setup.times) for verb in VERBS}
+        rows = [
+            pieces_row(f"one of the first {TIMED} pieces", pieces[:TIMED]),
+            pieces_row(f"one of the last {TIMED} pieces", pieces[-TIMED:]),
+            pieces_row(f"one of all {len(pieces):,} pieces", pieces),
+        ]
+        for verb, (one, other) in found.items():
+            rows.append([f"`{verb}` after all pieces", one, None])
+            rows.append([f"`{verb}` on the same history, read at once", other, None])
+        yield table("svnhist-live", "what is replied to | median, ms:.3f | worst, ms:.3f", rows)
+        yield limits_table("svnhist-live-limits", list(judged(pieces, found)))
+        yield beside_subversion(talks, history, loaded, setup.times)
+
+
+def run(setup: Setup) -> Measurements:
+    if not os.access(setup.live, os.X_OK):
+        yield f"There is no program {setup.live}, so no talk was measured."
+        return
+    history = made(setup)
+    pieces = f"{history.first:,} revisions, then pieces of {TEN} up to {history.last:,}"
+    yield f"{pieces}, and {TIMED} questions of each verb."
+    with folder_in_memory(setup.folder) as above:
+        loaded = load_part(history.whole, above / "live", setup.scaled(LOADING_SECONDS))
+        yield from measured(setup, history, loaded)
+    remove(history.whole, history.front)
+
+
+PART = Part(__name__, __doc__, run, [*MOST_MILLISECONDS.values(), *MOST_OF_AT_ONCE.values()])

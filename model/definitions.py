@@ -1,0 +1,720 @@
+#!/usr/bin/env python3
+"""A literal implementation of docs/definitions.md: reads a bundle, or the files of four arguments, and prints the
+report.
+
+It was written from the documentation alone, with a list of every path of every revision, for comparison with the
+program and with Subversion. It is neither fast nor sparing with memory. A dump that is refused, a record that is faulty
+and input that is no bundle end it with the line and the exit status that are documented for the program.
+
+It imports nothing of this tree, so that a copy of this file is a program, too.
+"""
+from __future__ import annotations
+
+import os
+import re
+import sys
+from collections.abc import Callable, Iterable, Iterator, Sequence
+from typing import NamedTuple, Union
+
+FIRST_NAME = b"SVN-fs-dump-format-version: "
+MERGEINFO = b"svn:mergeinfo"
+LENGTHS = (b"Prop-content-length", b"Text-content-length", b"Content-length")
+OF_NODES = (b"Node-path", b"Node-kind", b"Node-action", b"Node-copyfrom-rev", b"Node-copyfrom-path")
+HEADERS_READ = {b"UUID", b"Revision-number", *OF_NODES, *LENGTHS, b"Prop-delta", b"Text-delta"}
+GREATEST_LENGTH = 9223372036854775807
+GREATEST_REVISION = 2147483647
+MOST_QUERIES = 1000000
+MOST_WORKERS = 64
+ELEMENT = re.compile(rb"([0-9]+)(?:-([0-9]+))?(\*?)")
+
+# The components of a path.
+Path = tuple[bytes, ...]
+Headers = dict[bytes, bytes]
+Lines = list[bytes]
+
+
+class Place(NamedTuple):
+    """A path in a revision."""
+
+    path: Path
+    revision: int
+
+
+class Record(NamedTuple):
+    """What the headers and the property section of a block say. A property that is deleted has the value None."""
+
+    path: Path
+    action: bytes
+    kind: bytes | None
+    source: Place | None
+    properties: dict[bytes, bytes | None]
+
+
+class Entry(NamedTuple):
+    """What a tree has at a path, with the text of its mergeinfo."""
+
+    kind: bytes | None
+    origin: Place | None
+    mergeinfo: bytes | None
+
+
+Tree = dict[Path, Entry]
+
+
+class History(NamedTuple):
+    """The tree of each revision, and the paths that its records name."""
+
+    trees: list[Tree]
+    named: list[list[Path]]
+
+
+class Run(NamedTuple):
+    """Neighbouring revisions of mergeinfo of one kind."""
+
+    low: int
+    high: int
+    inheritable: bool
+
+
+# The runs of each source path.
+Value = dict[Path, list[Run]]
+
+
+class NoReport(Exception):
+    """The exit status, and the line without the name of the program."""
+
+    def __init__(self, status: int, line: str) -> None:
+        super().__init__(status, line)
+        self.status = status
+        self.line = line
+
+
+class Malformed(Exception):
+    """A property section or a value of svn:mergeinfo does not have its form."""
+
+
+def refused(reason: str, place: str, at: int) -> NoReport:
+    return NoReport(1, f"dump refused: {reason} at {place} {at}")
+
+
+def number_of(text: bytes, greatest: int) -> int | None:
+    """The value of decimal digits, or None if they are none or the value is above the given one."""
+    digits = text.lstrip(b"0") or b"0"
+    return int(digits) if text.isdigit() and len(digits) < 20 and int(digits) <= greatest else None
+
+
+def parts_of(path: bytes) -> Path:
+    """The components of a path."""
+    return tuple(part for part in path.split(b"/") if part)
+
+
+def has_dot(parts: Path) -> bool:
+    return b"." in parts or b".." in parts
+
+
+def printed(path: Path | None) -> bytes:
+    return b"-" if path is None else b"/" + b"/".join(path)
+
+
+def is_below(path: Path, above: Path) -> bool:
+    return path[: len(above)] == above
+
+
+# Dumps
+
+
+class Lengths(NamedTuple):
+    """The lengths of a property section and of a body."""
+
+    section: int
+    body: int
+
+
+class Block(NamedTuple):
+    """A block after the first line: its place, its headers, its property section and the place after it."""
+
+    at: int
+    headers: Headers
+    section: bytes
+    end: int
+
+
+def headers_of(lines: Lines, at: int) -> Headers:
+    """The headers in the complete lines of a block, after reasons 3 and 4."""
+    headers: Headers = {}
+    for line in lines:
+        name, colon, value = line.partition(b":")
+        if not colon or not name or (name in headers and name in HEADERS_READ):
+            raise refused("3 Header", "byte", at)
+        headers[name] = value[1:] if value.startswith(b" ") else value
+    if lengths_of(headers) is None:
+        raise refused("4 Length", "byte", at)
+    return headers
+
+
+def lengths_of(headers: Headers) -> Lengths | None:
+    """The lengths of the property section and of the body, or None where one of them is not a length."""
+    section, text, body = (number_of(headers.get(name, b"0"), GREATEST_LENGTH) for name in LENGTHS)
+    if section is None or text is None or body is None or section + text > GREATEST_LENGTH:
+        return None
+    if b"Content-length" not in headers:
+        body = section + text
+    return Lengths(section, body) if body >= section + text else None
+
+
+def format_of(data: bytes) -> int:
+    """The format in the first line of a dump, 2 or 3."""
+    line, end, _ = data.partition(b"\n")
+    if not data.startswith(FIRST_NAME):
+        raise refused("1 Magic", "byte", 0)
+    if end and line not in (FIRST_NAME + b"2", FIRST_NAME + b"3"):
+        raise refused("2 Version", "byte", 0)
+    if not end:
+        raise refused("5 Truncated", "byte", 0)
+    return int(line[len(FIRST_NAME) :])
+
+
+def blocks_of(data: bytes) -> Iterator[Block]:
+    at = data.index(b"\n") + 1
+    while True:
+        while data[at : at + 1] == b"\n":
+            at += 1
+        if at == len(data):
+            return
+        head, complete, _ = data[at:].partition(b"\n\n")
+        lines = head.split(b"\n")
+        headers = headers_of(lines if complete else lines[:-1], at)
+        lengths = lengths_of(headers)
+        start = at + len(head) + len(b"\n\n")
+        if not complete or lengths is None or start + lengths.body > len(data):
+            raise refused("5 Truncated", "byte", at)
+        end = start + lengths.body
+        yield Block(at, headers, data[start : start + lengths.section], end)
+        at = end
+
+
+def piece_of(section: bytes, at: int, letter: bytes) -> tuple[bytes, int]:
+    """The bytes of a name or of a value, whose line with the length begins at a place, and the place after them."""
+    line = section[at:].partition(b"\n")[0]
+    start = at + len(line) + 1
+    length = number_of(line[2:], GREATEST_LENGTH)
+    if line[:2] != letter + b" " or length is None or section[start + length : start + length + 1] != b"\n":
+        raise Malformed
+    return section[start : start + length], start + length + 1
+
+
+def has_changes(form: int, headers: Headers) -> bool:
+    """Whether the property section of a block in a dump of this format has changes, and not the whole list."""
+    return form == 3 and headers.get(b"Prop-delta") == b"true"
+
+
+def entry_of(section: bytes, at: int, changes: bool) -> tuple[bytes, bytes | None, int]:
+    """A name that begins at a place, its value or None where it is deleted, and the place after it."""
+    if changes and section[at : at + 1] == b"D":
+        name, at = piece_of(section, at, b"D")
+        return name, None, at
+    name, at = piece_of(section, at, b"K")
+    value, at = piece_of(section, at, b"V")
+    return name, value, at
+
+
+def properties_of(section: bytes, changes: bool) -> dict[bytes, bytes | None]:
+    """What the last entry of each name says in a property section. A whole list deletes what it does not name."""
+    properties: dict[bytes, bytes | None] = {MERGEINFO: None} if section and not changes else {}
+    at = 0
+    while section and section[at:] != b"PROPS-END\n":
+        name, value, at = entry_of(section, at, changes)
+        properties[name] = value
+    return properties
+
+
+def source_of(headers: Headers) -> Place | None:
+    """The source of a block without reason 7."""
+    if headers[b"Node-action"] not in (b"add", b"replace") or b"Node-copyfrom-rev" not in headers:
+        return None
+    rev = number_of(headers[b"Node-copyfrom-rev"], GREATEST_REVISION)
+    return None if rev is None else Place(parts_of(headers[b"Node-copyfrom-path"]), rev)
+
+
+def record_of(form: int, headers: Headers, section: bytes) -> Record:
+    """The record of a block without reasons 6 and 7."""
+    properties = properties_of(section, has_changes(form, headers))
+    path = parts_of(headers[b"Node-path"])
+    return Record(path, headers[b"Node-action"], headers.get(b"Node-kind"), source_of(headers), properties)
+
+
+def is_bad_record(headers: Headers, revisions: int) -> bool:
+    """Whether reason 7 applies to a record that has a number of revisions before it."""
+    action = headers.get(b"Node-action")
+    if revisions == 0 or action not in (b"add", b"replace", b"delete", b"change"):
+        return True
+    if action in (b"delete", b"change"):
+        return False
+    if b"Node-copyfrom-rev" in headers and b"Node-copyfrom-path" in headers:
+        return number_of(headers[b"Node-copyfrom-rev"], GREATEST_REVISION) is None
+    has_part = b"Node-copyfrom-rev" in headers or b"Node-copyfrom-path" in headers
+    return has_part or headers.get(b"Node-kind") not in (b"file", b"dir")
+
+
+def reason_against(form: int, headers: Headers, section: bytes, revisions: int) -> str | None:
+    """The first of reasons 6 to 14 that applies to a complete block with a number of revisions before it, or None."""
+    if b"Revision-number" in headers:
+        return None if number_of(headers[b"Revision-number"], revisions) == revisions else "8 Revision"
+    if b"Node-path" not in headers:
+        return None if b"UUID" in headers else "7 BadRecord"
+    try:
+        properties_of(section, has_changes(form, headers))
+    except Malformed:
+        return "6 Props"
+    if is_bad_record(headers, revisions):
+        return "7 BadRecord"
+    record = record_of(form, headers, section)
+    paths = [record.path] + ([record.source.path] if record.source else [])
+    if any(has_dot(path) for path in paths):
+        return "9 BadPath"
+    if form == 2 and b"true" in (headers.get(b"Prop-delta"), headers.get(b"Text-delta")):
+        return "10 Delta"
+    if record.source and record.source.revision >= revisions - 1:
+        return "11 CopyRevision"
+    if record.path == () and record.action != b"change":
+        return "12 RootAction"
+    if revisions == 1:
+        return "13 RevisionZero"
+    return "14 TooLarge" if any(len(path) > 1024 for path in paths) else None
+
+
+def records_of(data: bytes) -> list[list[Record]]:
+    """The records of each revision of a dump."""
+    form = format_of(data)
+    revisions: list[list[Record]] = []
+    for at, headers, section, _ in blocks_of(data):
+        reason = reason_against(form, headers, section, len(revisions))
+        if reason:
+            raise refused(reason, "byte", at)
+        if b"Revision-number" in headers:
+            revisions.append([])
+        elif b"Node-path" in headers:
+            revisions[-1].append(record_of(form, headers, section))
+    if not revisions:
+        raise refused("8 Revision", "byte", len(data))
+    return revisions
+
+
+# Trees
+
+
+def fault_of(trees: list[Tree], tree: Tree, record: Record) -> str | None:
+    """The fault of a record after the trees of the revisions before it and the tree before it, or None."""
+    path = record.path
+    if record.action != b"add" and path not in tree:
+        return "18 Missing"
+    if record.action == b"add" and path in tree:
+        return "17 Exists"
+    if record.action == b"add" and (path[:-1] not in tree or tree[path[:-1]].kind != b"dir"):
+        return "16 NoParent"
+    if record.source and record.source.path not in trees[record.source.revision]:
+        return "19 NoSource"
+    return None
+
+
+def without(tree: Tree, path: Path) -> Tree:
+    return {each: entry for each, entry in tree.items() if not is_below(each, path)}
+
+
+def after(trees: list[Tree], tree: Tree, record: Record) -> Tree:
+    """The tree after a record that is not faulty."""
+    path = record.path
+    if record.action == b"delete":
+        return without(tree, path)
+    if record.action == b"change":
+        tree = dict(tree)
+    elif record.source is None:
+        tree = without(tree, path)
+        tree[path] = Entry(record.kind, None, None)
+    else:
+        source, rev = record.source
+        tree = without(tree, path)
+        tree.update(
+            (path + each[len(source) :], Entry(entry.kind, Place(each, rev), entry.mergeinfo))
+            for each, entry in trees[rev].items()
+            if is_below(each, source)
+        )
+    if MERGEINFO in record.properties:
+        tree[path] = tree[path]._replace(mergeinfo=record.properties[MERGEINFO])
+    return tree
+
+
+def history_of(data: bytes) -> History:
+    revisions = records_of(data)
+    trees: list[Tree] = []
+    count = 0
+    for rev, records in enumerate(revisions):
+        tree: Tree = {(): Entry(b"dir", None, None)}
+        if rev > 0:
+            tree = {path: Entry(entry.kind, Place(path, rev - 1), entry.mergeinfo) for path, entry in trees[-1].items()}
+        for record in records:
+            count += 1
+            fault = fault_of(trees, tree, record)
+            if fault:
+                raise refused(fault, "record", count)
+            tree = after(trees, tree, record)
+        trees.append(tree)
+    return History(trees, [[record.path for record in records] for records in revisions])
+
+
+# Mergeinfo
+
+
+def run_of(element: bytes) -> Run:
+    """The first and the last revision of an element, and whether they are inheritable."""
+    form = ELEMENT.fullmatch(element)
+    if not form:
+        raise Malformed
+    low = number_of(form[1], GREATEST_REVISION)
+    high = number_of(form[2], GREATEST_REVISION) if form[2] else low
+    if not low or not high or (form[2] and low >= high):
+        raise Malformed
+    return Run(low, high, not form[3])
+
+
+def clash(one: Run, other: Run) -> bool:
+    """Whether two runs give a revision both ways."""
+    return one.inheritable != other.inheritable and one.low <= other.high and other.low <= one.high
+
+
+def line_of(line: bytes) -> tuple[Path, list[Run]]:
+    """The source path of a line of mergeinfo, and its runs."""
+    path, colon, rest = line.rpartition(b":")
+    rest = rest.lstrip(b" \t")
+    if not colon or has_dot(parts_of(path)):
+        raise Malformed
+    runs = [run_of(element) for element in rest.split(b",")] if rest else []
+    if any(clash(one, other) for one in runs for other in runs):
+        raise Malformed
+    return parts_of(path), runs
+
+
+def canonical(runs: list[Run]) -> list[Run]:
+    """The longest runs of revisions of one kind; a revision that is given both ways is inheritable."""
+    bounds = sorted({run.low for run in runs} | {run.high + 1 for run in runs})
+    found: list[Run] = []
+    for low, bound in zip(bounds, bounds[1:]):
+        kinds = [run.inheritable for run in runs if run.low <= low <= run.high]
+        if kinds and found and found[-1].high + 1 == low and found[-1].inheritable == any(kinds):
+            low = found.pop().low
+        if kinds:
+            found.append(Run(low, bound - 1, any(kinds)))
+    return found
+
+
+def value_of(text: bytes) -> Value:
+    """The runs of each source path of a mergeinfo text."""
+    if text.endswith(b"\n"):
+        text = text[:-1]
+    value: Value = {}
+    for path, runs in [line_of(line) for line in text.split(b"\n")] if text else []:
+        value.setdefault(path, []).extend(runs)
+    return {path: canonical(runs) for path, runs in value.items() if runs}
+
+
+def effective(tree: Tree, path: Path) -> Value:
+    """The runs of each source path of the mergeinfo that a path has or inherits."""
+    for above in [path[:length] for length in range(len(path), -1, -1)]:
+        text = tree[above].mergeinfo
+        if text is not None:
+            value = value_of(text)
+            if above == path:
+                return value
+            rest = path[len(above) :]
+            inherited = {source + rest: [run for run in runs if run.inheritable] for source, runs in value.items()}
+            return {source: runs for source, runs in inherited.items() if runs}
+    return {}
+
+
+# Queries
+
+
+def peg_of(field: bytes) -> Place | None:
+    """A path and its peg revision, or None."""
+    path, at, digits = field.rpartition(b"@")
+    peg = number_of(digits, GREATEST_REVISION)
+    return None if not at or peg is None or has_dot(parts_of(path)) else Place(parts_of(path), peg)
+
+
+def revision_of(field: bytes) -> int | None:
+    return number_of(field, GREATEST_REVISION)
+
+
+class Bounds(NamedTuple):
+    """The first and the last revision of a range."""
+
+    low: int
+    high: int
+
+
+def range_of(field: bytes) -> Bounds | None:
+    first, _, last = field.partition(b":")
+    low, high = revision_of(first), revision_of(last)
+    return None if low is None or high is None or low > high else Bounds(low, high)
+
+
+def location(trees: list[Tree], path: Path, rev: int, wanted: int) -> Path | None:
+    """The path in the wanted revision of a path in a revision, or None."""
+    while rev != wanted:
+        origin = trees[rev][path].origin
+        if origin is None or origin.revision < wanted:
+            return None
+        path, rev = origin
+    return path
+
+
+def locate(history: History, peg: Place, wanted: int) -> Lines:
+    return [printed(location(history.trees, *peg, wanted))]
+
+
+def places(trees: list[Tree], peg: Place) -> list[tuple[int, Path | None]]:
+    """The location in each revision up to the peg, the newest first, down to the lowest in which there is one."""
+    found = [(rev, location(trees, *peg, rev)) for rev in range(peg.revision, -1, -1)]
+    while found[-1][1] is None:
+        found.pop()
+    return found
+
+
+class Segment(NamedTuple):
+    low: int
+    high: int
+    path: Path | None
+
+
+def segments(history: History, peg: Place) -> Lines:
+    """The location segments: the longest ranges of revisions with the same location, or with none."""
+    found: list[Segment] = []
+    for rev, place in places(history.trees, peg):
+        if found and found[-1].path == place:
+            found[-1] = found[-1]._replace(low=rev)
+        else:
+            found.append(Segment(rev, rev, place))
+    return [b"%d-%d %s" % (low, high, printed(place)) for low, high, place in found]
+
+
+def is_operative(history: History, path: Path, rev: int) -> bool:
+    tree = history.trees[rev]
+    if rev == 0 or path not in tree:
+        return False
+    return any(is_below(each, path) for each in history.named[rev]) or tree[path].origin != Place(path, rev - 1)
+
+
+def operative_places(history: History, peg: Place) -> list[tuple[int, Path]]:
+    """The revisions that are operative on the location of a path in them, the newest first, each with that location."""
+    found = places(history.trees, peg)
+    return [(rev, place) for rev, place in found if place is not None and is_operative(history, place, rev)]
+
+
+def log(history: History, peg: Place) -> Lines:
+    return [b"r%d %s" % (rev, printed(place)) for rev, place in operative_places(history, peg)]
+
+
+def printed_run(run: Run) -> bytes:
+    text = b"%d" % run.low if run.low == run.high else b"%d-%d" % (run.low, run.high)
+    return text if run.inheritable else text + b"*"
+
+
+def mergeinfo(history: History, peg: Place) -> Lines:
+    path, rev = peg
+    value = {printed(source): runs for source, runs in effective(history.trees[rev], path).items()}
+    return [source + b":" + b",".join(map(printed_run, runs)) for source, runs in sorted(value.items())]
+
+
+def kind_in(runs: list[Run], rev: int) -> bool | None:
+    """Whether a revision of a rangelist is inheritable; None if the rangelist does not have it."""
+    kinds = [run.inheritable for run in runs if run.low <= rev <= run.high]
+    return kinds[0] if kinds else None
+
+
+class Candidate(NamedTuple):
+    """An operative revision of a source, its location, and whether the effective mergeinfo of the target has the
+    revision for that location as an inheritable one; None if it does not have it."""
+
+    revision: int
+    place: Path
+    inheritable: bool | None
+
+
+def candidates(history: History, source: Place, target: Place) -> list[Candidate]:
+    """The operative revisions of the source in rising order."""
+    path, peg = target
+    value = effective(history.trees[peg], path)
+    found = reversed(operative_places(history, source))
+    return [Candidate(rev, place, kind_in(value.get(place, []), rev)) for rev, place in found]
+
+
+def merged(history: History, source: Place, target: Place) -> Lines:
+    return [
+        b"r%d" % rev + (b"" if inheritable else b"*")
+        for rev, _, inheritable in candidates(history, source, target)
+        if inheritable is not None
+    ]
+
+
+def eligible(history: History, source: Place, target: Place) -> Lines:
+    return [
+        b"r%d" % rev
+        for rev, place, inheritable in candidates(history, source, target)
+        if inheritable is None and location(history.trees, *target, rev) != place
+    ]
+
+
+def revision_in(line: bytes) -> int:
+    """The revision of a result line."""
+    return int(line.split(b" ")[0].strip(b"r*"))
+
+
+def lines_in(lines: Lines, bounds: Bounds) -> Lines:
+    """The result lines of revisions from the lowest to the highest one of a range."""
+    return [line for line in lines if bounds.low <= revision_in(line) <= bounds.high]
+
+
+# What a field of a query says.
+Field = Union[Place, int]
+
+
+class Verb(NamedTuple):
+    """The fields of a query, its result lines, and whether it may have a range as a further field."""
+
+    forms: Sequence[Callable[[bytes], Field | None]]
+    lines_of: Callable[..., Lines]
+    has_range: bool = False
+
+
+VERBS = {
+    b"locate": Verb((peg_of, revision_of), locate),
+    b"segments": Verb((peg_of,), segments),
+    b"log": Verb((peg_of,), log, has_range=True),
+    b"mergeinfo": Verb((peg_of,), mergeinfo),
+    b"merged": Verb((peg_of, peg_of), merged, has_range=True),
+    b"eligible": Verb((peg_of, peg_of), eligible, has_range=True),
+}
+
+
+class Query(NamedTuple):
+    """A verb, what its fields say, and the range of a query that has one."""
+
+    verb: Verb
+    fields: list[Field]
+    bounds: Bounds | None
+
+
+def query_of(line: bytes) -> Query | None:
+    """What a line asks, or None if it is no query."""
+    name, *fields = line.split(b"\t")
+    verb = VERBS.get(name)
+    if verb is None:
+        return None
+    bounds = None
+    if verb.has_range and len(fields) == len(verb.forms) + 1:
+        bounds = range_of(fields.pop())
+        if bounds is None:
+            return None
+    values = [form(field) for form, field in zip(verb.forms, fields)]
+    found = [value for value in values if value is not None]
+    return Query(verb, found, bounds) if len(fields) == len(found) == len(verb.forms) else None
+
+
+def answer_of(history: History, line: bytes) -> Lines:
+    """The status, and the result lines."""
+    query = query_of(line)
+    if query is None:
+        return [b"bad-query"]
+    for peg in query.fields:
+        if isinstance(peg, Place):
+            if peg.revision >= len(history.trees):
+                return [b"no-such-revision"]
+            if peg.path not in history.trees[peg.revision]:
+                return [b"no-such-path"]
+    try:
+        lines = query.verb.lines_of(history, *query.fields)
+    except Malformed:
+        return [b"malformed-mergeinfo"]
+    return [b"ok"] + (lines if query.bounds is None else lines_in(lines, query.bounds))
+
+
+# Input
+
+
+class Input(NamedTuple):
+    queries: Lines
+    dump: bytes
+
+
+class Answer(NamedTuple):
+    """A query, and its status and result lines."""
+
+    query: bytes
+    lines: Lines
+
+
+def numbers_of(fields: Iterable[bytes]) -> list[int]:
+    """The values of BLOCK, WORKERS and the number of queries, or of the first two of them."""
+    most = (GREATEST_REVISION, MOST_WORKERS, MOST_QUERIES)
+    numbers = [number_of(field, greatest) for field, greatest in zip(fields, most)]
+    found = [number for number in numbers if number is not None]
+    if len(found) < len(numbers) or found[1] == 0:
+        raise wrong_usage()
+    return found
+
+
+def wrong_usage() -> NoReport:
+    return NoReport(2, "usage: svnhist DUMP QUERIES BLOCK WORKERS")
+
+
+def parts_of_bundle(data: bytes) -> Input:
+    """The queries and the dump of a bundle."""
+    head, _, rest = data.partition(b"\n")
+    fields = head.split(b" ")
+    if len(fields) != 3 or data == head:
+        raise wrong_usage()
+    _, _, count = numbers_of(fields)
+    pieces = rest.split(b"\n", count)
+    if len(pieces) <= count:
+        raise wrong_usage()
+    return Input(pieces[:-1], pieces[-1])
+
+
+def parts_of_files(words: list[str]) -> Input:
+    """The queries and the dump of two files."""
+    if len(words) != 4:
+        raise wrong_usage()
+    numbers_of([os.fsencode(word) for word in words[2:]])
+    with open(words[1], "rb") as queries, open(words[0], "rb") as dump:
+        lines = queries.read().split(b"\n")
+        if not lines[-1]:
+            lines.pop()
+        if len(lines) > MOST_QUERIES:
+            raise NoReport(1, f"more than {MOST_QUERIES} queries")
+        return Input(lines, dump.read())
+
+
+def answers_of(queries: Lines, dump: bytes) -> list[Answer]:
+    history = history_of(dump)
+    return [Answer(line, answer_of(history, line)) for line in queries]
+
+
+def report_of(answers: list[Answer]) -> bytes:
+    return b"".join(
+        b"#%d " % number + b"".join(line + b"\n" for line in answer.lines) for number, answer in enumerate(answers, 1)
+    )
+
+
+def main() -> int:
+    try:
+        words = sys.argv[1:]
+        given = parts_of_files(words) if words else parts_of_bundle(sys.stdin.buffer.read())
+        sys.stdout.buffer.write(report_of(answers_of(*given)))
+    except NoReport as reason:
+        print("svnhist: " + reason.line, file=sys.stderr)
+        return reason.status
+    return 0
+
+
+if __name__ == "__main__":
+    sys.exit(main())

@@ -1,0 +1,145 @@
+"""What a release has: which file stands where in the tarball and in the Debian package."""
+from __future__ import annotations
+
+import gzip
+import os
+import re
+from collections.abc import Iterable, Iterator
+from typing import NamedTuple
+
+from dev.tree import DOCS, ROOT
+
+SVNASK = ROOT / "ask" / "svnask"
+# The pages for those who change svnhist. All other ones are for its users.
+FOR_DEVELOPERS = ["DECISIONS.md", "code-map.md", "developing.md", "glossary.md", "releasing.md"]
+MANUALS = ["svnhist.1", "svnhist-live.1", "svnask.1"]
+MODULE = "usr/lib/python3/dist-packages/svnask/"
+PAGES = "usr/share/doc/svnhist/"
+EXAMPLE = re.compile(r"(?:examples|interop)/[\w-]+\.(?:dump|bundle|queries|report)")
+LINK = re.compile(r"(!?)\[([^\]]*)\]\(([^)\s#]*)(#[^)\s]*)?\)")
+
+
+class File(NamedTuple):
+    """A file of a release: where it stands, what it has, and its mode."""
+
+    path: str
+    content: bytes
+    mode: int = 0o644
+
+
+class Parts(NamedTuple):
+    """What a release is made of beside the sources: the programs, and the licences of what is linked into them, both by
+    their names."""
+
+    programs: dict[str, bytes]
+    licences: dict[str, bytes]
+
+
+def read(name: str) -> bytes:
+    """A file of the source tree."""
+    return (ROOT / name).read_bytes()
+
+
+def version() -> str:
+    return read("ask/svnask/VERSION").decode("ascii").strip()
+
+
+def manual(name: str) -> bytes:
+    """A manual page, which names the version at its foot."""
+    head, quoted, rest = read(f"docs/{name}").partition(b'"svnhist"')
+    if not quoted or head.count(b"\n") > 2:
+        raise ValueError(f"docs/{name} has no place for a version in its head")
+    return head + b'"svnhist %s"' % version().encode("ascii") + rest
+
+
+def module() -> list[File]:
+    """The files of svnask, by their places in the module."""
+    paths = (path for path in SVNASK.rglob("*") if path.suffix == ".py" or path.name == "VERSION")
+    return sorted(File(str(path.relative_to(SVNASK)), path.read_bytes()) for path in paths)
+
+
+def names_of_pages() -> list[str]:
+    below = sorted(path.name for path in DOCS.iterdir() if path.suffix in (".md", ".svg"))
+    return ["README.md", "SECURITY.md", *(f"docs/{name}" for name in below if name not in FOR_DEVELOPERS)]
+
+
+def examples(names: Iterable[str]) -> list[File]:
+    """The examples that pages name, and the script that they call."""
+    found = sorted({name for page in names for name in EXAMPLE.findall(read(page).decode("utf-8"))})
+    kept = [File(name, read(name)) for name in found if (ROOT / name).exists()]
+    return [*kept, File("examples/strip-texts", read("examples/strip-texts"), 0o755)]
+
+
+def with_live_links(name: str, page: str, paths: list[str]) -> str:
+    """A page whose links to files that the release doesn't have are plain text."""
+
+    def shown(found: re.Match[str]) -> str:
+        target = os.path.normpath(os.path.join(os.path.dirname(name), found[3]))
+        is_kept = not found[3] or ":" in found[3] or target in paths
+        return found[0] if is_kept else found[2]
+
+    return LINK.sub(shown, page)
+
+
+def pages(others: list[str]) -> list[File]:
+    """The pages for users, with the examples that they speak of. They may lead to other files, too."""
+    names = names_of_pages()
+    kept = examples(names)
+    paths = names + others + [file.path for file in kept]
+    for name in names:
+        text = read(name)
+        if name.endswith(".md"):
+            text = with_live_links(name, text.decode("utf-8"), paths).encode("utf-8")
+        kept.append(File(name, text))
+    return kept
+
+
+def of_tarball(parts: Parts) -> list[File]:
+    """The files of the tarball: the folder has the shape of the source tree, so that the commands of the pages run in
+    it as they stand."""
+    others = ["CHANGELOG.md", "LICENSE"]
+    files = [*programs(parts), File("svnask", read("svnask"), 0o755)]
+    files += [File(name, read(name)) for name in others] + [File("COPYRIGHT", read("release/copyright"))]
+    files += [File("ask/svnask/" + file.path, file.content) for file in module()]
+    files += [File("man/man1/" + name, manual(name)) for name in MANUALS]
+    files += [File("licenses/" + name, content) for name, content in parts.licences.items()]
+    return sorted(in_folder(f"svnhist-{version()}/", files + pages(others)))
+
+
+def programs(parts: Parts) -> list[File]:
+    return [File(name, text, 0o755) for name, text in parts.programs.items()]
+
+
+def in_folder(folder: str, files: Iterable[File]) -> Iterator[File]:
+    for file in files:
+        yield file._replace(path=folder + file.path)
+
+
+def of_system(script: bytes) -> bytes:
+    """A script for the Python that has the module, whatever stands first on the path."""
+    return script.replace(b"#!/usr/bin/env python3\n", b"#!/usr/bin/python3\n", 1)
+
+
+def notices(parts: Parts) -> bytes:
+    """The licences of what is linked into the programs, one after another."""
+    return b"\n".join(b"==== %s\n\n%s" % (name.encode("ascii"), text) for name, text in sorted(parts.licences.items()))
+
+
+def packed(content: bytes) -> bytes:
+    return gzip.compress(content, 9, mtime=0)
+
+
+def of_package(parts: Parts, debian_changelog: bytes) -> list[File]:
+    """The files that the Debian package installs."""
+    files = list(in_folder("usr/bin/", programs(parts) + [File("svnask", of_system(read("svnask")), 0o755)]))
+    files += in_folder(MODULE, module())
+    files += [File(f"usr/share/man/man1/{name}.gz", packed(manual(name))) for name in MANUALS]
+    files += in_folder(PAGES, pages([]))
+    files += [
+        File(PAGES + "copyright", read("release/copyright")),
+        File(PAGES + "notices.gz", packed(notices(parts))),
+        File(PAGES + "changelog.gz", packed(read("CHANGELOG.md"))),
+        File(PAGES + "changelog.Debian.gz", packed(debian_changelog)),
+        File("usr/share/lintian/overrides/svnhist", read("release/lintian-overrides")),
+    ]
+    return sorted(files)

@@ -1,0 +1,147 @@
+"""What the tests of svnask have in common."""
+from __future__ import annotations
+
+import contextlib
+import io
+import os
+import signal
+import sys
+import time
+from collections.abc import Iterator
+from pathlib import Path
+from typing import Callable, NamedTuple, Union
+from unittest import mock
+
+from dev import running
+from dev.dumps import Properties, revision_properties
+from dev.tree import INTEROP, SVNASK
+from svnask import cli, engine
+from svnask.history import History
+from tests.base import FolderTest, ProgramTest
+
+Word = Union[str, Path]
+ENDING = (signal.SIGINT, signal.SIGTERM, signal.SIGHUP)
+NOTHING = Path(os.devnull)
+
+
+class Done(NamedTuple):
+    """The exit status of a command, and what it printed."""
+
+    status: int | None
+    output: bytes
+    said: str
+
+
+def dump_of(name: str) -> Path:
+    return INTEROP / f"{name}.dump"
+
+
+def content_of(name: str) -> bytes:
+    return dump_of(name).read_bytes()
+
+
+def names() -> list[str]:
+    """The recorded repositories."""
+    return sorted(path.stem for path in INTEROP.glob("*.svn"))
+
+
+def commands(text: str) -> list[list[str]]:
+    """The words of command lines, which semicolons separate."""
+    return [line.split() for line in text.split(";")]
+
+
+def command(*words: Word) -> list[Word]:
+    """The command on these arguments."""
+    return [sys.executable, SVNASK, *words]
+
+
+def run(*words: Word, given: bytes | Path = b"", **variables: str) -> Done:
+    """Runs the command with this standard input, and these variables of the environment."""
+    done = running.run(command(*words), given, environment=variables)
+    return Done(done.status, done.output, done.errors.decode("utf-8", "replace"))
+
+
+def called(*words: Word, **variables: str) -> Done:
+    """The same without a process of its own, which is faster, and without standard input."""
+    kept = {number: signal.getsignal(number) for number in ENDING}
+    written, said = io.BytesIO(), io.StringIO()
+    output = io.TextIOWrapper(written)
+    try:
+        with mock.patch.dict(os.environ, variables), contextlib.redirect_stdout(output), contextlib.redirect_stderr(
+            said
+        ):
+            status = cli.main([os.fspath(word) for word in words])
+    finally:
+        for number, handler in kept.items():
+            signal.signal(number, handler)
+    output.flush()
+    return Done(status, written.getvalue(), said.getvalue())
+
+
+@contextlib.contextmanager
+def signals_end() -> Iterator[None]:
+    """Has what is started meanwhile end at a signal, whether or not the caller of the tests ignores it: a handler is
+    not inherited, and a signal that is ignored is."""
+    kept = {number: signal.signal(number, lambda number, frame: None) for number in ENDING}
+    try:
+        yield
+    finally:
+        for number, handler in kept.items():
+            signal.signal(number, handler)
+
+
+def wait_for(is_so: Callable[[], object]) -> None:
+    """Waits until something is so, which it should be soon."""
+    end = time.monotonic() + 60
+    while not is_so():
+        if time.monotonic() > end:
+            raise AssertionError("it is not so after a minute")
+        time.sleep(0.01)
+
+
+def refusal_of_engine(dump: Path) -> str:
+    """What the engine itself says of a dump."""
+    done = running.run([engine.find_engine(), dump, NOTHING, "0", "1"], NOTHING)
+    return done.errors.decode().partition("svnhist: ")[2].strip()
+
+
+def named(number: int, message: str = "message", author: str = "alice") -> Properties:
+    """The properties of a revision."""
+    date = b"2024-01-%02dT00:00:00.000000Z" % (1 + number % 28)
+    return revision_properties(as_bytes(message), as_bytes(author), date)
+
+
+def as_bytes(text: str) -> bytes:
+    return text.encode("utf-8", "surrogateescape")
+
+
+class UtcTest(FolderTest):
+    """A test by UTC, with a cache of its own."""
+
+    def setUp(self) -> None:
+        super().setUp()
+        self.addCleanup(time.tzset)
+        self.cache = self.folder / "cache"
+        variables = mock.patch.dict(os.environ, TZ="UTC", XDG_CACHE_HOME=str(self.cache))
+        variables.start()
+        self.addCleanup(variables.stop)
+        time.tzset()
+
+
+class Case(UtcTest, ProgramTest):
+    """A test that asks the program."""
+
+    def setUp(self) -> None:
+        super().setUp()
+        os.environ["SVNHIST"] = str(self.programs.svnhist)
+
+    def script(self, name: str, *lines: str) -> str:
+        """The path of a shell script."""
+        path = self.made(name, "\n".join(("#!/bin/sh", *lines, "")).encode())
+        path.chmod(0o700)
+        return str(path)
+
+    def history(self, dump: Path) -> History:
+        history = History.open(str(dump))
+        self.addCleanup(history.close)
+        return history

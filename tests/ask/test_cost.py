@@ -1,0 +1,61 @@
+"""What a question costs: how often svnhist is run, and how work grows with the number of branches."""
+from __future__ import annotations
+
+import time
+import unittest
+from collections.abc import Iterator
+from unittest import mock
+
+from dev.dumps import added, dump_of
+from svnask import engine
+from svnask.answers import Answer, Query
+from svnask.lives import Life, moved_lives
+from tests.ask import base
+
+DUMP = base.dump_of("merges")
+
+
+class Runs(base.Case):
+    def runs(self, *words: str) -> int:
+        """How often a question runs svnhist."""
+        run = engine.run
+        counted: list[int] = []
+
+        def counting(dump: str, queries: list[Query[Answer]]) -> Iterator[Answer]:
+            counted.append(len(queries))
+            return run(dump, queries)
+
+        with mock.patch.object(engine, "run", counting):
+            done = base.called(DUMP, *words)
+        self.assertEqual((done.status, done.said), (0, ""), words)
+        return len(counted)
+
+    def test_a_question_runs_svnhist_once(self) -> None:
+        queries = self.made("queries", b"log\ttrunk@3\nlog\ttrunk@2\n")
+        asked = base.commands(
+            "log trunk; log -r 3 branches/one@17; log -c 3,5,9-7 trunk@3; log -r 18 trunk@3; show 3; mergeinfo trunk; "
+            "info; mergeinfo --show-revs merged trunk branches/two; where trunk 3; segments trunk; branches; "
+            "mergeinfo --show-revs eligible -R trunk branches/two; contains 5; unmerged; changed-tags /*/*; graph; "
+            "unmerged /* /*/* --into branches/two; graph /*/* --json"
+        )
+        for words in (*asked, ["ask", str(queries)]):
+            self.assertEqual(self.runs(*words), 1, words)
+        for verb in ("record", "byte"):
+            self.assertEqual(self.runs(verb, "1"), 0, verb)
+
+    def test_the_last_change_of_a_long_life_is_looked_for_in_its_end_first(self) -> None:
+        dump = self.made("dump", dump_of([added(b"trunk"), added(b"tags")], *([] for _ in range(2, 200))))
+        with mock.patch.object(engine, "run", wraps=engine.run) as run:
+            self.assertIn(b"changed in r1\n", base.called(dump, "branches").output)
+        self.assertEqual(run.call_count, 2)
+
+
+class Growth(unittest.TestCase):
+    def test_moves_are_found_in_a_table(self) -> None:
+        found = [
+            Life(b"/b/%d" % number, 2 * number + 1, 2 * number + 2, (b"/b/%d" % (number - 1), 2 * number), False)
+            for number in range(1, 30000)
+        ]
+        begun = time.monotonic()
+        self.assertEqual(moved_lives(found), set(found[1:]))
+        self.assertLess(time.monotonic() - begun, 10)

@@ -1,0 +1,27 @@
+"""The examples in the docstrings of the module."""
+from __future__ import annotations
+
+import doctest
+import importlib
+import os
+import pkgutil
+
+import svnask
+from dev.tree import ROOT
+from tests.ask import base
+
+
+class Examples(base.Case):
+    def test_each_example_gives_what_it_shows(self) -> None:
+        self.addCleanup(os.chdir, os.getcwd())
+        os.chdir(ROOT)
+        history = self.history(base.dump_of("branches"))
+        names = ["svnask"] + [found.name for found in pkgutil.walk_packages(svnask.__path__, "svnask.")]
+        count = 0
+        for name in names:
+            module = importlib.import_module(name)
+            # Where nothing is said, `-v` of the tests would have it print each example.
+            done = doctest.testmod(module, verbose=False, extraglobs={"history": history})
+            self.assertEqual(done.failed, 0, name)
+            count += done.attempted
+        self.assertGreater(count, 20)

@@ -1,0 +1,197 @@
+"""Packs the built programs as a release has them, without root and without the toolchain, and runs what was packed: the
+commands of the pages in the folder of the tarball, and the programs that the Debian package installs. It also has
+`scripts/release` refuse what is not tested."""
+from __future__ import annotations
+
+import gzip
+import io
+import os
+import re
+import shutil
+import sys
+import tarfile
+from collections.abc import Mapping
+from pathlib import Path
+from typing import Optional
+
+from dev.checks import Checks
+from dev.running import Outcome, run
+from dev.tree import ROOT, Programs
+from release.archives import package, tarball
+from release.contents import LINK, MANUALS, Parts, of_package, of_tarball, version
+from release.program import PROGRAMS, Program
+from tests.base import ProgramTest
+from tests.copies import PARTS, copied_tree
+from tests.test_shown_commands import ShownCommands
+
+WHEN = 1767225600
+LICENCES = {"LGPL-2.1": b"The text of the licence.\n"}
+BUILT_USING = "glibc (= 2.36-9)"
+CHANGELOG = b"svnhist (0) unstable; urgency=medium\n"
+# The pages that name files of a release.
+NAMING = ("README.md", "docs/building.md")
+NAMED = re.compile(r"svnhist[-_](\d+(?:\.\d+)+)")
+NEWEST = re.compile(r"^## \[(.*)\] - \d{4}-\d\d-\d\d$", re.MULTILINE)
+LOG = b"r5 /trunk\nr2 /trunk\nr1 /trunk\n"
+DUMP = "interop/branches.dump"
+
+
+def parts_of(programs: Programs) -> Parts:
+    return Parts({each.name: getattr(programs, each.crate).read_bytes() for each in PROGRAMS}, LICENCES)
+
+
+def dead_links(root: Path) -> list[str]:
+    """The links of the pages that lead to no file of the release."""
+    dead = []
+    for page in root.rglob("*.md"):
+        targets = [found[2] for found in LINK.findall(page.read_text("utf-8"))]
+        dead += [each for each in targets if each and ":" not in each and not (page.parent / each).exists()]
+    return dead
+
+
+def without_git() -> dict[str, Optional[str]]:
+    """Takes away what names another repository."""
+    return {name: None for name in os.environ if name.startswith("GIT_")}
+
+
+def done(words: list[str], folder: Path | None = None) -> bytes:
+    """What a command prints, which must not fail."""
+    found = run(words, folder=folder, environment=without_git())
+    if found.status != 0:
+        raise AssertionError(f"{words}: {found.shown()}")
+    return found.output
+
+
+class Versions(Checks):
+    def test_the_pages_name_the_files_of_this_version(self) -> None:
+        for page in NAMING:
+            self.compare(page, {version()}, set(NAMED.findall((ROOT / page).read_text("utf-8"))))
+
+    def test_the_changelog_begins_with_this_version(self) -> None:
+        newest = NEWEST.search((ROOT / "CHANGELOG.md").read_text("utf-8"))
+        self.assertEqual(newest and newest[1], version())
+
+
+class Tarballs(ShownCommands):
+    def test_a_tarball_has_the_same_bytes_each_time(self) -> None:
+        one, other = (tarball(of_tarball(parts_of(self.programs)), WHEN) for _ in range(2))
+        self.assertTrue(one == other)
+
+    def test_commands_of_the_pages_in_a_tarball(self) -> None:
+        with tarfile.open(fileobj=io.BytesIO(tarball(of_tarball(parts_of(self.programs)), WHEN))) as files:
+            files.extractall(self.folder / "tarball")
+        (root,) = (self.folder / "tarball").iterdir()
+        self.compare("the folder of the tarball", f"svnhist-{version()}", root.name)
+        self.compare("links of the tarball", [], dead_links(root))
+        self.check_commands(root)
+
+
+class Packages(ProgramTest):
+    needed = ("svnhist", "svnhist_live")
+
+    def setUp(self) -> None:
+        super().setUp()
+        if shutil.which("dpkg-deb") is None:
+            self.skipTest("dpkg-deb is not installed")
+        self.packed = self.package()
+        self.file = str(self.made("svnhist.deb", self.packed))
+        self.root = self.folder / "root"
+        done(["dpkg-deb", "-x", self.file, str(self.root)])
+
+    def package(self) -> bytes:
+        return package(of_package(parts_of(self.programs), CHANGELOG), BUILT_USING, WHEN)
+
+    def run_installed(self, *words: str) -> Outcome:
+        """What a program of the package prints about the first dump of the README."""
+        path = f"{self.root / 'usr' / 'bin'}{os.pathsep}{os.environ.get('PATH', os.defpath)}"
+        module = self.root / "usr" / "lib" / "python3" / "dist-packages"
+        variables = {
+            "PATH": path,
+            "PYTHONPATH": str(module),
+            "XDG_CACHE_HOME": str(self.folder / "cache"),
+            "TZ": "UTC",
+            "SVNHIST": None,
+        }
+        pages = self.root / "usr" / "share" / "doc" / "svnhist"
+        return run(words, b"log\ttrunk@10\n", environment=variables, folder=pages)
+
+    def version_in(self, name: str) -> str:
+        """What a manual page has for a version."""
+        with gzip.open(self.root / "usr" / "share" / "man" / "man1" / f"{name}.gz", "rt", encoding="utf-8") as file:
+            return "".join(re.findall(r'^\.TH .* "(svnhist \S+)"', file.read(), re.MULTILINE))
+
+    def test_a_package_has_the_same_bytes_each_time(self) -> None:
+        self.assertTrue(self.package() == self.packed)
+
+    def test_the_version(self) -> None:
+        self.compare("the package", f"{version()}-1\n".encode(), done(["dpkg-deb", "-f", self.file, "Version"]))
+        for name in MANUALS:
+            self.compare(name, f"svnhist {version()}", self.version_in(name))
+
+    def test_no_link_is_dead(self) -> None:
+        self.assertEqual(dead_links(self.root / "usr" / "share" / "doc" / "svnhist"), [])
+
+    def test_the_programs(self) -> None:
+        svnask = str(self.root / "usr" / "bin" / "svnask")
+        self.compare("the Python of svnask", b"#!/usr/bin/python3", Path(svnask).read_bytes().splitlines()[0])
+        wanted: Mapping[tuple[str, ...], bytes] = {
+            ("svnhist", DUMP, "/dev/stdin", "0", "1"): b"#1 ok\n" + LOG,
+            ("svnhist-live", DUMP, "1"): b"ready 13\n\n#1 ok\n" + LOG + b"\n",
+            (sys.executable, svnask, DUMP, "where", "tags/one-1.0", "4"): b"/branches/one\n",
+            (sys.executable, svnask, "--version"): f"svnask {version()}\n".encode(),
+            ("sh", "-c", f"examples/strip-texts < {DUMP} | wc -c"): b"2517\n",
+        }
+        for words, output in wanted.items():
+            self.compare(" ".join(words), Outcome(0, output, b""), self.run_installed(*words))
+
+
+class Refusals(ProgramTest):
+    """What `scripts/release` says of a tree that `./test` did not pass on, of other programs, and of changes."""
+
+    needed = ("svnhist", "svnhist_live")
+
+    def setUp(self) -> None:
+        super().setUp()
+        if shutil.which("git") is None:
+            self.skipTest("git is not installed")
+        parts = (*PARTS, ".gitignore", "dev", "release")
+        self.root = copied_tree(self.folder, self.programs, parts)
+        self.tested = self.root / "out" / "tested"
+        self.tested.parent.mkdir()
+        git = ["git", "-c", "user.name=tests", "-c", "user.email=tests@localhost", "-c", "commit.gpgsign=false"]
+        for words in (["init", "-q"], ["add", "-A"], ["commit", "-q", "-m", "tests"]):
+            done(git + words, self.root)
+        self.tree = done(["git", "rev-parse", "HEAD^{tree}"], self.root).decode()
+
+    def check_refusal(self, name: str, line: str) -> None:
+        found = run([self.root / "scripts" / "release"], folder=self.root, environment=without_git())
+        self.compare(name, Outcome(1, b"", f"release: {line}\n".encode()), found)
+
+    def sums(self) -> dict[Program, str]:
+        """What `sha256sum` prints of each program."""
+        paths = [f"crates/{program.crate}/out/{program.crate}" for program in PROGRAMS]
+        return dict(zip(PROGRAMS, done(["sha256sum", *paths], self.root).decode().splitlines(keepends=True)))
+
+    def test_a_tree_that_is_not_tested(self) -> None:
+        self.check_refusal("untested", "./test did not pass on this tree")
+        self.tested.write_text("0" * 40 + "\n" + "".join(self.sums().values()))
+        self.check_refusal("another tree", "./test passed on another tree")
+        (self.root / "new").touch()
+        self.check_refusal("changes", "the tree has changes that are not committed")
+
+    def test_other_programs(self) -> None:
+        sums = self.sums()
+        for program, line in sums.items():
+            others = "".join(each for each in sums.values() if each != line)
+            reason = f"{program.name} is not the one that ./test passed"
+            self.tested.write_text(self.tree + others + "0" * 64 + line[64:])
+            self.check_refusal(f"another {program.name}", reason)
+            self.tested.write_text(self.tree + others)
+            self.check_refusal(f"{program.name} untested", reason)
+
+    def test_programs_of_other_sources(self) -> None:
+        self.tested.write_text(self.tree + "".join(self.sums().values()))
+        # They are judged in their order, so the last one is the first to be spoiled.
+        for program in reversed(PROGRAMS):
+            (self.root / "crates" / program.crate / "out" / "made-from").write_text("")
+            self.check_refusal(program.name, f"{program.name} is not built from these sources")

@@ -1,0 +1,130 @@
+"""Runs the commands that the documentation shows and compares their output with what the page shows.
+
+These are the lines after `$ `: in a manual page those of each block between `.EX` and `.EE`, in the other pages those
+of each block marked `console`. Lines after `> ` that follow continue the command. The lines from there up to the next
+command are its output.
+"""
+from __future__ import annotations
+
+import os
+import re
+from collections.abc import Iterator, Mapping
+from pathlib import Path
+from typing import NamedTuple, Optional
+
+from dev.checks import Check
+from dev.running import Limits, run
+from dev.tree import INTEROP, ROOT
+from tests.base import ProgramTest
+from tests.copies import copied_tree, make_command
+
+# fmt: off
+PAGES = [
+    "README.md", "docs/recipes.md", "docs/queries.md", "docs/dump-format.md", "docs/svnask.md", "docs/svnhist.1",
+    "docs/svnhist-live.1", "docs/svnask.1",
+]
+# fmt: on
+CONSOLE = re.compile(r"^```console\n(.*?)^```$", re.MULTILINE | re.DOTALL)
+EXAMPLE = re.compile(r"^\.EX\n(.*?)^\.EE$", re.MULTILINE | re.DOTALL)
+# A command of GNU parallel, which not every machine has. Only a block with one may need what such a block made.
+PARALLEL = re.compile(r"^\$ parallel ", re.MULTILINE)
+# Commands of the examples. REPO is the repository of interop/branches.dump, and URL that of interop/merges.dump. All
+# hosts are this machine.
+TOOLS = {
+    "svnadmin": [
+        'cd "$INTEROP" && case "$*" in',
+        "'dump -q REPO') exec cat branches.dump ;;",
+        "'dump -q -r 0:7 REPO') exec sed '/^Revision-number: 8$/,$ d' branches.dump ;;",
+        "'dump -q --incremental -r 8:13 REPO')",
+        "exec sed -n '1,4 p; /^Revision-number: 8$/,$ p' branches.dump ;;",
+        "esac",
+        "exit 1",
+    ],
+    "svnrdump": [
+        'cd "$INTEROP" && case "$*" in',
+        "'dump -q URL') exec cat merges-svnrdump.dump ;;",
+        "'dump -q -r 0:7 URL') exec sed '/^Revision-number: 8$/,$ d' merges-svnrdump.dump ;;",
+        "'dump -q --incremental -r 8:19 URL')",
+        "exec sed -n '1,4 p; /^Revision-number: 8$/,$ p' merges-svnrdump.dump ;;",
+        "esac",
+        "exit 1",
+    ],
+    "svn": ['test "$*" = "list URL/branches@17" && exec printf "%s/\\n" one three two', "exit 1"],
+    "svnlook": ['test "$*" = "youngest REPO" && exec echo 13', "exit 1"],
+    "ssh": ['case "$1" in host | host[12]) shift ;; *) exit 1 ;; esac', 'test "$1" != -- || shift', 'exec sh -c "$*"'],
+}
+LIMITS = Limits(seconds=600)
+# Variables, of which one that is None is taken away.
+Environment = Mapping[str, Optional[str]]
+
+
+class Command(NamedTuple):
+    """A command with the output that the page shows."""
+
+    line: str
+    output: str
+
+
+def blocks_of(page: str) -> list[str]:
+    text = (ROOT / page).read_text("utf-8")
+    if not page.endswith(".1"):
+        return CONSOLE.findall(text)
+    return [block.replace(r"\-", "-").replace(r"\(ha", "^").replace(r"\e", "\\") for block in EXAMPLE.findall(text)]
+
+
+def commands_of(block: str) -> Iterator[Command]:
+    pieces = re.split(r"^\$ (.*(?:\n> .*)*)\n", block, flags=re.MULTILINE)
+    return (Command(lines.replace("\n> ", "\n"), output) for lines, output in zip(pieces[1::2], pieces[2::2]))
+
+
+class ShownCommands(ProgramTest):
+    """The commands of the pages, in the root of a tree that has the programs."""
+
+    needed = ("svnhist", "svnhist_live")
+
+    def environment_of(self, root: Path) -> Environment:
+        """What the commands run with, wherever the tests run: the programs of the root, of which svnask asks one, the
+        commands of the examples, and a home without settings. The pages show dates by UTC."""
+        tools = self.folder / "tools"
+        for name, lines in TOOLS.items():
+            make_command(tools, name, lines)
+        for name in ("svnhist", "svnhist-live", "svnask"):
+            (tools / name).symlink_to(root / name)
+        return {
+            **{name: None for name in os.environ if name.startswith("PARALLEL")},
+            "PATH": f"{tools}{os.pathsep}{os.environ.get('PATH', os.defpath)}",
+            "TZ": "UTC",
+            "HOME": str(self.folder),
+            "XDG_CACHE_HOME": str(self.folder / "cache"),
+            "SVNHIST": str(root / "svnhist"),
+            "INTEROP": str(INTEROP),
+            "PARALLEL_SHELL": "/bin/sh",
+            "PERL_BADLANG": "0",
+        }
+
+    def output_of(self, line: str, root: Path, environment: Environment) -> str:
+        """What a command prints, on standard error, too."""
+        words = ["sh", "-c", 'exec sh -c "$1" 2>&1', "sh", line]
+        done = run(words, Path(os.devnull), folder=root, environment=environment, limits=LIMITS)
+        return (done.output + done.errors).decode("utf-8", "replace")
+
+    def check_commands(self, root: Path) -> None:
+        """Runs the commands of all pages, but for those of GNU parallel where that is not installed: moreutils has
+        another command of this name."""
+        environment = self.environment_of(root)
+        has_parallel = self.output_of("parallel --version", root, environment).startswith("GNU parallel")
+        for page in PAGES:
+            for block in blocks_of(page):
+                if PARALLEL.search(block) and not has_parallel:
+                    with self.subTest(page):
+                        self.skipTest("GNU parallel is not installed")
+                    continue
+                self.check_all(
+                    Check(f"{page}: {line}", wanted, self.output_of(line, root, environment))
+                    for line, wanted in commands_of(block)
+                )
+
+
+class InTheSourceTree(ShownCommands):
+    def test_commands_of_the_pages(self) -> None:
+        self.check_commands(copied_tree(self.folder, self.programs))
