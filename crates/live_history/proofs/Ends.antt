@@ -61,11 +61,12 @@ AreReplied-none state old sent = record {
 
 -- a talk ends before any turn is replied to
 pub IsEndEarly-now : (state : TalkState) (old : Stream) (gone : Option (List ℕ)) (after : PullState) (sent : PushState) (error : TalkError) (rest : List ℕ)
-    → sent.gone ≡ gone → IsReadUpTo old after rest → IsEndReason state old after sent rest [] error → IsEndEarly state old gone after sent error
-IsEndEarly-now state old gone after sent error rest unsent read why = record {
+    → state.answered ≤ most_answered → sent.gone ≡ gone → IsReadUpTo old after rest → IsEndReason state old after sent rest [] error → IsEndEarly state old gone after sent error
+IsEndEarly-now state old gone after sent error rest few unsent read why = record {
   turns = [];
   rest = rest;
   are = All-nil IsTurn;
+  few = few;
   read = read;
   said = [];
   part = [];
@@ -103,6 +104,7 @@ module _ {state : TalkState} {old mid : Stream} {gone : Option (List ℕ)} {betw
     turns = turns ++ next.turns;
     rest = next.rest;
     are = All-append IsTurn turns next.turns first.are next.are;
+    few = subst (λ later. later.answered ≤ most_answered) (sym (after_turns-append state turns next.turns)) next.few;
     read = subst (IsReadUpTo old after) (sym (append_assoc (turns_bytes turns) (turns_bytes next.turns) next.rest) ∙ ap (λ bytes. bytes ++ next.rest) (bytes-more next.turns)) (IsReadUpTo-more first.taken next.read);
     said = first.said ++ next.said;
     part = next.part;

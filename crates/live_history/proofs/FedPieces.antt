@@ -1,5 +1,5 @@
 -- Bytes of a piece that come to the reader of a dump, after others.
-use Rattle.std.proofs.Common.{◌≡◌, ◌⊎◌, ℕ, ◌+◌, ◌<◌, ◌≤◌, None, inl, inr, List, [], ◌++◌, length, take, drop, refl, sym, ap, subst, ◌∙◌, append_assoc, append-nil, arith, length-append, length-drop, take-append-drop}
+use Rattle.std.proofs.Common.{◌≡◌, ◌⊎◌, ℕ, ◌+◌, ◌<◌, ◌≤◌, None, inl, inr, List, [], ◌++◌, length, take, drop, refl, sym, ap, subst, ◌∙◌, append_assoc, append-nil, arith, length-append, take-append-drop}
 use Rattle.std.proofs.lemmas.List.{length-take-le}
 use Rattle.devices.specs.Device.{PullState}
 use Rattle.svn_dump.specs.Decided.{IsDecidedError, IsUndecided}
@@ -59,15 +59,18 @@ module _ {feed fed : FeedValue} {done : ℕ} {old mid : Stream} (first : IsFed f
     going = going;
   }
 
-  -- those that have come decide nothing
-  IsPartOfPiece-fed : (before : List ℕ) (size : ℕ) (rest : List ℕ) → HasRead feed before → done < size → rest ≡ [] → IsPartOfPiece before size (first.bytes ++ rest)
-  IsPartOfPiece-fed before size rest has short none =
-      let all : first.bytes ++ rest ≡ first.bytes = ap (λ more. first.bytes ++ more) none ∙ append-nil first.bytes in
-      rw all (record { short = omega (arith, short, first.all); undecided = by first.undecided })
+  pub IsFed-undecided : (before : List ℕ) → HasRead feed before → (first.bytes ≡ []) ⊎ IsUndecided (before ++ first.bytes)
+  IsFed-undecided before has = by first.undecided
     where
       by : (first.bytes ≡ []) ⊎ ((each : List ℕ) → HasRead feed each → IsUndecided (each ++ first.bytes)) → (first.bytes ≡ []) ⊎ IsUndecided (before ++ first.bytes)
       by (inl nothing) = inl nothing
       by (inr undecided) = inr (undecided before has)
+
+  -- those that have come decide nothing
+  IsPartOfPiece-fed : (before : List ℕ) (size : ℕ) (rest : List ℕ) → HasRead feed before → done < size → rest ≡ [] → IsPartOfPiece before size (first.bytes ++ rest)
+  IsPartOfPiece-fed before size rest has short none =
+      let all : first.bytes ++ rest ≡ first.bytes = ap (λ more. first.bytes ++ more) none ∙ append-nil first.bytes in
+      rw all (record { short = omega (arith, short, first.all); undecided = IsFed-undecided before has })
 
   -- no more can be read
   pub IsPieceEnd-unread : (before : List ℕ) (size : ℕ) (after : PullState) (error : TalkError) → HasRead feed before → done < size → IsReadEnd mid after error [] → IsPieceEnd before size old after error
@@ -91,7 +94,7 @@ module _ {feed fed : FeedValue} {done : ℕ} {old mid : Stream} (first : IsFed f
       let all = AreLast-more first.taken last in
       record {
         rest = first.bytes ++ [];
-        read = record { bytes = all.bytes; failures = omega (arith, all.ended.failures) };
+        read = record { bytes = all.bytes; ends = omega (arith, all.ended.ends); failures = omega (arith, all.ended.failures) };
         why = inr (inr (inl (record { is = refl; ended = all.ended; part = IsPartOfPiece-fed before size [] has short refl })));
       }
 
@@ -99,7 +102,7 @@ module _ {feed fed : FeedValue} {done : ℕ} {old mid : Stream} (first : IsFed f
   pub IsPieceEnd-decided : (before : List ℕ) (size : ℕ) (ahead : ReadAheadValue) (after : PullState) (count : ℕ) (error : DumpError) → mid ≡ stream ahead after → count ≤ length ahead.unread → done + count ≤ size → length ahead.unread ≤ most_bytes
       → HasRead feed before → ((bytes : List ℕ) → HasRead fed bytes → IsDecidedError (bytes ++ take count ahead.unread) error) → IsPieceEnd before size old after (Run (run_error_of_dump error))
   IsPieceEnd-decided before size ahead after count error here inside within near has decided =
-      let left : IsReadUpTo mid after ahead.unread = rw here (record { bytes = Consumes-unread ahead.unread after.left; failures = omega arith }) in
+      let left : IsReadUpTo mid after ahead.unread = rw here (record { bytes = Consumes-unread ahead.unread after.left; ends = omega arith; failures = omega arith }) in
       let read = IsReadUpTo-more first.taken left in
       by error (decided (before ++ first.bytes) (first.read before has)) read
     where
@@ -109,15 +112,17 @@ module _ {feed fed : FeedValue} {done : ℕ} {old mid : Stream} (first : IsFed f
         rest = first.bytes ++ ahead.unread;
         read = read;
         why = inl (record {
-          front = first.bytes ++ take count ahead.unread;
+          front = first.bytes;
+          last = take count ahead.unread;
           more = drop count ahead.unread;
           number = number;
           at = at;
           is = refl;
           whole = ap (λ rest. first.bytes ++ rest) (sym (take-append-drop count ahead.unread)) ∙ sym (append_assoc first.bytes (take count ahead.unread) (drop count ahead.unread));
-          within = omega (arith, within, first.all, length-append first.bytes (take count ahead.unread), length-take-le count ahead.unread inside);
-          near = omega (arith, near, length-drop count ahead.unread);
-          why = inl (rw (sym (append_assoc before first.bytes (take count ahead.unread))) decides);
+          within = omega (arith, within, first.all, length-take-le count ahead.unread inside);
+          near = omega (arith, near, ap length (take-append-drop count ahead.unread), length-append (take count ahead.unread) (drop count ahead.unread));
+          before = IsFed-undecided before has;
+          why = inl decides;
         });
       }
 

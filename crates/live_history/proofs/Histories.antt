@@ -1,10 +1,10 @@
 -- A history that was read, or that has grown by a piece, and why there is none.
-use Rattle.std.proofs.Common.{ℕ, ◌≤◌, inl, inr, List, ◌++◌, length, refl, arith}
+use Rattle.std.proofs.Common.{ℕ, ◌≤◌, inl, inr, List, [], ◌++◌, length, refl, sym, ap, append-nil, arith}
 use Rattle.devices.specs.Device.{PullState}
 use Rattle.svn_dump.specs.Dump.{DumpValue, history_in_bytes}
 use Rattle.svn_dump.specs.DumpError.{IsRefusal}
 use Rattle.svn_dump.specs.DumpText.{IsDumpText}
-use Rattle.svn_dump.specs.Feed.{FeedValue}
+use Rattle.svn_dump.specs.Feed.{FeedValue, HasRead}
 use Rattle.svn_dump.specs.declared.error.DumpError.{DumpError}
 use Rattle.svn_dump.specs.declared.error.DumpError.TheVariants as refusal
 use Rattle.svn_report.specs.Load.{IsReadWhole}
@@ -21,6 +21,7 @@ use Rattle.live_history.specs.ReadAhead.{ReadAheadValue, stream}
 use Rattle.live_history.specs.Stream.{IsReadUpTo, Stream}
 use Rattle.live_history.specs.TalkEnd.{IsNoHistory}
 use Rattle.live_history.specs.declared.talk_error.TalkError.TheVariants.{Run}
+use Rattle.live_history.proofs.FedPieces.{IsFed-undecided}
 use Rattle.live_history.proofs.ReadAheads.{Consumes-unread}
 use Rattle.live_history.proofs.Streams.{IsReadUpTo-more}
 
@@ -42,26 +43,28 @@ IsNoHistory-load old new bytes dump load.Memory all read first = tt
 
 module _ {feed fed : FeedValue} {size : ℕ} {old : Stream} (ahead : ReadAheadValue) (after : PullState) (first : IsFed feed size old (stream ahead after) fed) (near : length ahead.unread ≤ most_bytes) (before : List ℕ) where
   rest_read : IsReadUpTo old after (first.bytes ++ ahead.unread)
-  rest_read = IsReadUpTo-more first.taken (record { bytes = Consumes-unread ahead.unread after.left; failures = omega arith })
+  rest_read = IsReadUpTo-more first.taken (record { bytes = Consumes-unread ahead.unread after.left; ends = omega arith; failures = omega arith })
 
   -- its end shows a refusal
-  pub IsPieceEnd-refused : (error : DumpError) → IsRefusal (before ++ first.bytes) error → IsPieceEnd before size old after (Run (run_error_of_dump error))
-  IsPieceEnd-refused (refusal.Refused number at) refused = record {
+  pub IsPieceEnd-refused : (error : DumpError) → HasRead feed before → IsRefusal (before ++ first.bytes) error → IsPieceEnd before size old after (Run (run_error_of_dump error))
+  IsPieceEnd-refused (refusal.Refused number at) has refused = record {
     rest = first.bytes ++ ahead.unread;
     read = rest_read;
     why = inl (record {
       front = first.bytes;
+      last = [];
       more = ahead.unread;
       number = number;
       at = at;
       is = refl;
-      whole = refl;
+      whole = ap (λ front. front ++ ahead.unread) (sym (append-nil first.bytes));
       within = omega (arith, first.all);
-      near = near;
-      why = inr (first.all, refused);
+      near = omega (arith, near);
+      before = IsFed-undecided first before has;
+      why = inr (refl, first.all, refused);
     });
   }
-  IsPieceEnd-refused refusal.Memory refused = record { rest = first.bytes ++ ahead.unread; read = rest_read; why = inr (inr (inr (inr refl))) }
+  IsPieceEnd-refused refusal.Memory has refused = record { rest = first.bytes ++ ahead.unread; read = rest_read; why = inr (inr (inr (inr refl))) }
 
   -- it has a faulty record
   pub IsPieceEnd-load : (dump : DumpValue) (error : LoadError) → IsDumpText (before ++ first.bytes) (history_in_bytes dump) → IsLoadError dump error → IsPieceEnd before size old after (Run (run_error_of_load error))

@@ -15,7 +15,7 @@ use Rattle.live_history.specs.ReadAhead.{ReadAheadValue, stream}
 use Rattle.live_history.specs.Replies.{AreReplied, IsUpToPiece}
 use Rattle.live_history.specs.Stream.{AreTaken, IsReadUpTo, Stream}
 use Rattle.live_history.specs.Talk.{IsTalk, TalkState, after_turns, ready_text}
-use Rattle.live_history.specs.TalkEnd.{IsEndEarly, IsOutputKept}
+use Rattle.live_history.specs.TalkEnd.{IsEndEarly, IsOutputKept, most_answered}
 use Rattle.live_history.specs.Talking.{IsAfterPiece, IsUnsaid}
 use Rattle.live_history.specs.Turn.{IsTurn, Turn, piece, piece_line, turn_bytes, turns_bytes}
 use Rattle.live_history.specs.declared.history.History.{History}
@@ -28,7 +28,7 @@ use Rattle.live_history.proofs.Talks.{IsTalk-none, IsTalk-one, after_turns-appen
 
 -- ---- a piece after queries
 
-module _ (state : TalkState) (old : Stream) (gone : Option (List ℕ)) (mid : Stream) (between : PushState) (answered size : ℕ) (up : IsUpToPiece state old gone mid between answered size) where
+module _ (state : TalkState) (old : Stream) (gone : Option (List ℕ)) (mid : Stream) (between : PushState) (answered size : ℕ) (up : IsUpToPiece state old gone mid between answered size) (few : answered ≤ most_answered) where
   abbrev pub asked : TalkState
   asked = record { dump = state.dump; answered = answered }
 
@@ -42,7 +42,7 @@ module _ (state : TalkState) (old : Stream) (gone : Option (List ℕ)) (mid : St
   IsEndEarly-piece after error end =
       let line = up.line in
       let rest = line_text (piece_line line.digits) ++ end.rest in
-      IsEndEarly-queries after between error (IsEndEarly-now asked up.between between.gone after between error rest refl (IsReadUpTo-more line.taken end.read) (inl (
+      IsEndEarly-queries after between error (IsEndEarly-now asked up.between between.gone after between error rest few refl (IsReadUpTo-more line.taken end.read) (inl (
         refl,
         inr (inl (record {
           digits = line.digits;
@@ -71,12 +71,12 @@ module _ (state : TalkState) (old : Stream) (gone : Option (List ℕ)) (mid : St
     talk = IsTalk-one asked turn ready (history_in_bytes grown.repo, is.is.dump, refl)
 
     unread : IsReadUpTo up.between input (turns_bytes (turn ∷ []) ++ ahead.unread)
-    unread = IsReadUpTo-more taken (record { bytes = Consumes-unread ahead.unread input.left; failures = omega arith })
+    unread = IsReadUpTo-more taken (record { bytes = Consumes-unread ahead.unread input.left; ends = omega arith; failures = omega arith })
 
     -- there was no memory for what is said for it
     pub IsEndEarly-silent : IsEndEarly state old gone input between (Run run.Memory)
     IsEndEarly-silent =
-        IsEndEarly-queries input between (Run run.Memory) (IsEndEarly-now asked up.between between.gone input between (Run run.Memory) (turns_bytes (turn ∷ []) ++ ahead.unread) refl unread
+        IsEndEarly-queries input between (Run run.Memory) (IsEndEarly-now asked up.between between.gone input between (Run run.Memory) (turns_bytes (turn ∷ []) ++ ahead.unread) few refl unread
         (inl (refl, inr (inr (inr (inr refl))))))
 
     -- a front of it went out
@@ -85,6 +85,7 @@ module _ (state : TalkState) (old : Stream) (gone : Option (List ℕ)) (mid : St
       turns = [];
       rest = turns_bytes (turn ∷ []) ++ ahead.unread;
       are = All-nil IsTurn;
+      few = few;
       read = unread;
       said = [];
       part = take cause.sent ready;
@@ -97,6 +98,7 @@ module _ (state : TalkState) (old : Stream) (gone : Option (List ℕ)) (mid : St
         more = ahead.unread;
         are = All-cons IsTurn turn [] turn_is (All-nil IsTurn);
         some = omega arith;
+        few = few;
         whole = refl;
         near = near;
         said = ready;

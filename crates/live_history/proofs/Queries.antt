@@ -38,7 +38,7 @@ turns_bytes-queries lines = sym (flat_map-mapped turn_bytes query lines)
 
 -- what was read ahead and not taken
 pub unread-read : (ahead : ReadAheadValue) (input : PullState) → IsReadUpTo (stream ahead input) input ahead.unread
-unread-read ahead input = record { bytes = Consumes-unread ahead.unread input.left; failures = omega arith }
+unread-read ahead input = record { bytes = Consumes-unread ahead.unread input.left; ends = omega arith; failures = omega arith }
 
 -- ---- turns that were replied to
 
@@ -79,12 +79,12 @@ module _ {state : TalkState} {old mid : Stream} {gone : Option (List ℕ)} {betw
   pub IsEndEarly-then : (after : PullState) (sent : PushState) (error : TalkError) → IsEndEarly now mid between.gone after sent error → IsEndEarly state old gone after sent error
   IsEndEarly-then after sent error next = IsEndEarly-more first.replied (subst (λ later. IsEndEarly later mid between.gone after sent error) (sym first.after_is) next)
 
-  pub IsEndEarly-line : (after : PullState) (error : TalkError) → IsLineEnd mid after error → IsEndEarly state old gone after between error
-  IsEndEarly-line after error end = IsEndEarly-then after between error (by end.why)
+  pub IsEndEarly-line : (after : PullState) (error : TalkError) → answered ≤ most_answered → IsLineEnd mid after error → IsEndEarly state old gone after between error
+  IsEndEarly-line after error few end = IsEndEarly-then after between error (by end.why)
     where
       by : IsCutLine mid after end.rest error ⊎ IsUnreadLine mid after end.rest error ⊎ (error ≡ Run run.Memory) → IsEndEarly now mid between.gone after between error
-      by (inl cut) = IsEndEarly-now now mid between.gone after between error end.rest refl end.read (inl (refl, inl cut))
-      by (inr lost) = IsEndEarly-now now mid between.gone after between error end.rest refl end.read (inl (refl, inr (inr (inr lost))))
+      by (inl cut) = IsEndEarly-now now mid between.gone after between error end.rest few refl end.read (inl (refl, inl cut))
+      by (inr lost) = IsEndEarly-now now mid between.gone after between error end.rest few refl end.read (inl (refl, inr (inr (inr lost))))
 
   -- the input ended then
   pub AreAllReplied-then : (after : PullState) → answered ≤ most_answered → AreLast mid after [] → AreAllReplied state old gone after between
@@ -109,16 +109,16 @@ AreNear-queries bytes rest (line ∷ lines) are some near =
     let first = All-head (λ each. IsTurn (query each)) line lines are.are in
     omega (arith, AreNear-line bytes line more near whole first.0, length-append (flat_map line_text lines) rest)
 
-module _ (state : TalkState) (ahead : ReadAheadValue) (input : PullState) (sent : PushState) where
+module _ (state : TalkState) (few : state.answered ≤ most_answered) (ahead : ReadAheadValue) (input : PullState) (sent : PushState) where
   -- there is no memory
   pub IsEndEarly-memory : IsEndEarly state (stream ahead input) sent.gone input sent (Run run.Memory)
   IsEndEarly-memory =
-      IsEndEarly-now state (stream ahead input) sent.gone input sent (Run run.Memory) ahead.unread refl (unread-read ahead input) (inl (refl, inr (inr (inr (inr refl)))))
+      IsEndEarly-now state (stream ahead input) sent.gone input sent (Run run.Memory) ahead.unread few refl (unread-read ahead input) (inl (refl, inr (inr (inr (inr refl)))))
 
   -- as many were answered as may be
-  pub IsEndEarly-many : HasQuery ahead.unread → AreNear ahead.unread → most_answered ≤ state.answered → IsEndEarly state (stream ahead input) sent.gone input sent TooMany
+  pub IsEndEarly-many : HasQuery ahead.unread → AreNear ahead.unread → state.answered ≡ most_answered → IsEndEarly state (stream ahead input) sent.gone input sent TooMany
   IsEndEarly-many (line, rest, first) near all =
-      IsEndEarly-now state (stream ahead input) sent.gone input sent TooMany ahead.unread refl (unread-read ahead input)
+      IsEndEarly-now state (stream ahead input) sent.gone input sent TooMany ahead.unread few refl (unread-read ahead input)
       (inl (refl, inr (inr (inl (record { is = refl; all = all; line = line; more = rest; query_is = first.is; whole = first.whole; near = AreNear-line ahead.unread line rest near first.whole first.is.0 })))))
 
 module _ (dump : DumpValue) (state : TalkState) (is : IsLawfulDump state.dump (history_in_bytes dump)) (ahead : ReadAheadValue) (input : PullState) (lines : List (List ℕ)) (rest : List ℕ) (are : AreQueries ahead.unread lines rest) where
@@ -132,12 +132,13 @@ module _ (dump : DumpValue) (state : TalkState) (is : IsLawfulDump state.dump (h
   talk = IsTalk-queries (history_in_bytes dump) state lines is
 
   -- a front of the replies to them went out
-  pub IsEndEarly-part : (gone : Option (List ℕ)) (sent : PushState) (cause : SendError) → 0 < length lines → AreNear ahead.unread → cause.sent ≤ length text → Appends gone sent.gone (take cause.sent text) → IsTrue sent.has_failed
+  pub IsEndEarly-part : (gone : Option (List ℕ)) (sent : PushState) (cause : SendError) → state.answered + length lines ≤ most_answered → 0 < length lines → AreNear ahead.unread → cause.sent ≤ length text → Appends gone sent.gone (take cause.sent text) → IsTrue sent.has_failed
       → IsEndEarly state (stream ahead input) gone input sent (Unsent cause)
-  IsEndEarly-part gone sent cause some near within part failed = record {
+  IsEndEarly-part gone sent cause few some near within part failed = record {
     turns = [];
     rest = ahead.unread;
     are = All-nil IsTurn;
+    few = omega (arith, few);
     read = unread-read ahead input;
     said = [];
     part = take cause.sent text;
@@ -150,6 +151,7 @@ module _ (dump : DumpValue) (state : TalkState) (is : IsLawfulDump state.dump (h
       more = rest;
       are = are_turns;
       some = omega (arith, some, length-map lines query);
+      few = subst (λ later. later.answered ≤ most_answered) (sym (after_turns-queries state lines)) few;
       whole = are.whole ∙ ap (λ front. front ++ rest) (sym (turns_bytes-queries lines));
       near = AreNear-queries ahead.unread rest lines are some near;
       said = text;

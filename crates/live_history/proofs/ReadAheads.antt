@@ -1,6 +1,7 @@
 -- Bytes that are read ahead of an input, and the lines that they begin with.
 use Rattle.std.proofs.Common.{◌≡◌, ℕ, ◌+◌, ◌-◌, ◌≤◌, ◌==◌, false, true, inl, inr, List, [], ◌∷◌, ◌++◌, None, Option, Some, length, get_or, take, drop, sym, ap, subst, ◌∙◌, refl, append_assoc, arith, length-append, length-drop, take-append-drop, take_all}
 use Rattle.std.specs.Io.KnownBytes.{Consumes, Keeps, prepend_known}
+use Rattle.std.specs.Prelude.{Bool, if◌then◌else◌}
 use Rattle.std.proofs.KnownBytes.{Consumes-kept, Consumes-trans}
 use Rattle.std.proofs.lemmas.Bool.{cases_lt}
 use Rattle.std.proofs.Math.ListN.{get_or-append}
@@ -36,6 +37,11 @@ Consumes-ahead unread given (Some bytes) (Some rest) is = ap (λ more. unread ++
 pub Consumes-taken : (unread taken rest : List ℕ) (left : Option (List ℕ)) → unread ≡ taken ++ rest → Consumes (prepend_known unread left) (prepend_known rest left) taken
 Consumes-taken unread taken rest None whole = tt
 Consumes-taken unread taken rest (Some bytes) whole = ap (λ front. front ++ bytes) whole ∙ append_assoc taken rest bytes
+
+-- a call is counted once
+pub one_at_most : (is : Bool) → (if is then 1 else 0) ≤ 1
+one_at_most true = omega arith
+one_at_most false = omega arith
 
 -- ---- lines
 

@@ -84,6 +84,7 @@ module _ (dump read input : PullState) (output : PushState) (history : History) 
         turns = talk.turns;
         rest = talk.rest;
         are = talk.are;
+        few = talk.few;
         read = talk.read;
         said = talk.said;
         part = talk.part;

@@ -60,7 +60,8 @@ module _ (old : Stream) where
     pub unread : IsUnread after
     pub line : Lacks 10 rest
 
-  -- these bytes were read, and then no more could be
+  -- these bytes were read; no more than one call came to the end or failed
   pub record IsReadUpTo (after : PullState) (rest : List ℕ) : Type 0 where
     pub bytes : Consumes old.come after.left rest
+    pub ends : after.ends ≤ old.ends + 1
     pub failures : after.failures ≤ old.failures + 1

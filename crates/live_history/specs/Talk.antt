@@ -23,11 +23,11 @@ pub record TalkState : Type 0 where
 abbrev pub start_of : List ℕ → TalkState
 start_of dump = record { dump = dump; answered = 0 }
 
--- the youngest revision
+-- the line that says the youngest revision, and an empty line
 abbrev pub ready_text : HistoryOfBytes → List ℕ
 ready_text history = line_text (codes "ready " ++ decimal (length history - 1)) ++ line_text []
 
--- the answer as a report has it, with its number in the talk
+-- the answer as a report has it, with its number in the talk, and an empty line
 abbrev pub query_text : HistoryOfBytes → ℕ → List ℕ → List ℕ
 query_text history number line =
     line_text (answer_text number (answer_of history (trees_of bytes_eq history) (query_of line)))

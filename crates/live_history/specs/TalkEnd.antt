@@ -1,5 +1,5 @@
--- How a talk ends: with its input, or before it.
-use Rattle.std.specs.Prelude.{◌≡◌, ◌⊎◌, ℕ, ◌<◌, ◌≤◌, All, IsFalse, IsTrue, List, [], ◌++◌, Option, Some, length, take, ⊤}
+-- How a talk ends: with its input, or early.
+use Rattle.std.specs.Prelude.{◌≡◌, ◌⊎◌, ℕ, ◌+◌, ◌<◌, ◌≤◌, All, IsFalse, IsTrue, List, [], ◌++◌, Option, Some, length, take, ⊤}
 use Rattle.std.specs.Io.KnownBytes.{Appends, append_known}
 use Rattle.devices.specs.Device.{PullState, PushState}
 use Rattle.devices.specs.declared.sending.SendError.{SendError}
@@ -28,19 +28,22 @@ most_answered = 4294967295
 
 -- ---- why a piece of so many bytes was not taken to a dump; `rest` is what was read after its line
 
--- its bytes up to there decide the refusal, or all of them do
+-- the last bytes that came decide the refusal, and those before them decide none; or the dump with all of its bytes is
+-- refused so
 pub record IsRefusedPiece (dump : List ℕ) (size : ℕ) (rest : List ℕ) (error : TalkError) : Type 0 where
   pub front : List ℕ
+  pub last : List ℕ
   pub more : List ℕ
   pub number : ℕ
   pub at : ℕ
   pub is : error ≡ Run (run.Dump (Refused number at))
-  pub whole : rest ≡ front ++ more
-  pub within : length front ≤ size
-  pub near : length more ≤ most_bytes
-  pub why : IsDecided (dump ++ front) number at ⊎ ((length front ≡ size) × IsFirstAt (dump ++ front) number at)
+  pub whole : rest ≡ front ++ last ++ more
+  pub within : length front + length last ≤ size
+  pub near : length last + length more ≤ most_bytes
+  pub before : (front ≡ []) ⊎ IsUndecided (dump ++ front)
+  pub why : IsDecided (dump ++ front ++ last) number at ⊎ ((last ≡ []) × (length front ≡ size) × IsFirstAt (dump ++ front) number at)
 
--- with them the dump has a faulty record
+-- all of its bytes came, and with them the dump has a faulty record
 pub record IsFaultyPiece (dump : List ℕ) (size : ℕ) (rest : List ℕ) (error : TalkError) : Type 0 where
   pub bytes : List ℕ
   pub more : List ℕ
@@ -73,7 +76,7 @@ IsPieceReason dump size old after rest error =
     IsRefusedPiece dump size rest error ⊎ IsFaultyPiece dump size rest error
     ⊎ IsCutPiece dump size old after rest error ⊎ IsUnreadPiece dump size old after rest error ⊎ (error ≡ Run run.Memory)
 
--- ---- why a talk ended before its input; `rest` is what was read after the turns that were replied to
+-- ---- why a talk ended early; `rest` is what was read after the turns that were replied to
 
 -- a piece was not taken
 pub record IsEndInPiece (state : TalkState) (old : Stream) (after : PullState) (rest : List ℕ) (error : TalkError) : Type 0 where
@@ -87,7 +90,7 @@ pub record IsEndInPiece (state : TalkState) (old : Stream) (after : PullState) (
 -- as many queries were answered as may be, and another one came
 pub record IsOneTooMany (state : TalkState) (rest : List ℕ) (error : TalkError) : Type 0 where
   pub is : error ≡ TooMany
-  pub all : most_answered ≤ state.answered
+  pub all : state.answered ≡ most_answered
   pub line : List ℕ
   pub more : List ℕ
   pub query_is : IsTurn (query line)
@@ -102,6 +105,7 @@ pub record IsUnsent (state : TalkState) (sent : PushState) (rest part : List ℕ
   pub more : List ℕ
   pub are : All IsTurn turns
   pub some : 0 < length turns
+  pub few : (after_turns state turns).answered ≤ most_answered
   pub whole : rest ≡ turns_bytes turns ++ more
   pub near : length more ≤ most_bytes
   pub said : List ℕ
@@ -135,6 +139,7 @@ module _ (state : TalkState) (old : Stream) (gone : Option (List ℕ)) where
     pub turns : List Turn
     pub rest : List ℕ
     pub are : All IsTurn turns
+    pub few : (after_turns state turns).answered ≤ most_answered
     pub read : IsReadUpTo old after (turns_bytes turns ++ rest)
     pub said : List ℕ
     pub part : List ℕ
@@ -151,7 +156,7 @@ IsNoHistory old new (run.Fault fault) = IsFaultyFrom old new fault
 IsNoHistory old new (run.Read which) = (which ≡ source.Dump) × IsUnreadFrom old new
 IsNoHistory old new run.Memory = ⊤
 
--- the dump has no lawful history, and nothing was read of the input or went out
+-- there is no history of the dump, for one of these reasons, and nothing was read of the input or went out
 pub record IsNoTalk (dump dump_after : PullState) (input after : PullState) (output sent : PushState) (error : TalkError) : Type 0 where
   pub reason : RunError
   pub is : error ≡ Run reason
@@ -189,7 +194,7 @@ module _ (dump dump_after : PullState) (input after : PullState) (output sent : 
     pub talk : IsEndEarly (start_of bytes) (stream_of most_reads input) (append_known output.gone (ready_text history)) after sent error
     pub kept : IsOutputKept sent error
 
-  -- a front of that went out, before the output failed
+  -- a front of the line with the youngest revision went out, before the output failed
   pub record IsReadyUnsent (error : TalkError) : Type 0 where
     pub history : HistoryOfBytes
     pub bytes : List ℕ

@@ -1,4 +1,4 @@
--- The line and the status by which the program reports that a talk ended before its input did.
+-- The line and the status by which the program reports that a talk ended early.
 use Rattle.std.specs.Prelude.{◌≡◌, ℕ, List, [], ◌∷◌, ◌++◌, codes}
 use Rattle.devices.specs.Device.{PushState}
 use Rattle.devices.specs.Sending.{PrintsLine}

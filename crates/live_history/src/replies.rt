@@ -87,6 +87,7 @@ fn reply_to_queries<'r, R: Threads + Wait + Sync, O: Push>(
     requires cells { length repo.now.values ≤ length memo.now }
     requires some_worker { 0 < workers }
     requires few_workers { workers ≤ most_workers }
+    requires few_answered { answered.old ≤ most_answered }
     ensures ok { OnOk result ((state : TalkState) → IsLawfulDump state.dump (history_in_bytes repo.now)
         → state.answered ≡ answered.old → (input : PullState)
         → AreRepliedTo state (stream ahead.old input) (O.state output.old).gone (stream ahead.new input)

@@ -1,4 +1,4 @@
-//! Why a talk ended before its input did, and how the program reports that.
+//! Why a talk ended early, and how the program reports that.
 ghost use Rattle.live_history.specs.TalkError.{IsTalkErrorLine};
 
 use devices::{Push, SendError, print_line};
@@ -13,7 +13,7 @@ const CUT: &[u8] = b"svnhist: standard input ends within a turn\n";
 
 const UNSENT: &[u8] = b"svnhist: cannot write the report\n";
 
-/// Why a talk ended before its input did. Each is displayed as its line, without `svnhist: ` and the newline.
+/// Why a talk ended early. Each is displayed as its line, without `svnhist: ` and the newline.
 #[derive(Debug, Drop, Error)]
 pub enum TalkError {
     /// The dump or a piece of it is refused, a device could not be read, or memory ran out.

@@ -23,7 +23,7 @@ use std::thread::Threads;
 
 /// Reads a dump to its end, says its youngest revision, and takes turns until the input ends: it replies to queries, and
 /// takes further pieces of the dump, after each of which it says the youngest revision. Each reply ends with an empty
-/// line, and goes out before more of the input is read than was there.
+/// line. It goes out before the talk reads on, which no clause says.
 ///
 /// Queries that are there at once are answered by so many workers, 16 for each at a time. A piece is the bytes that
 /// follow those of the dump so far, and ends where a block does. A piece that is refused ends the talk.

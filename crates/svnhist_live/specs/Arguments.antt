@@ -11,8 +11,9 @@ pub record ArgumentsValue : Type 0 where
 abbrev pub arguments_view : Arguments → ArgumentsValue
 arguments_view a = record { dump = a.dump.now; workers = a.workers }
 
--- the number as it is written
+-- the texts are a path and a number of workers
 pub record IsArguments (texts : List (List ℕ)) (value : ArgumentsValue) : Type 0 where
+  -- the number as it is written
   pub second : List ℕ
   pub whole : texts ≡ value.dump ∷ second ∷ []
   pub workers : number_up_to most_workers second ≡ Some value.workers

@@ -16,7 +16,7 @@ module _ {D : Type 0} (opens : List ℕ → D → Type 0) (refuses : List ℕ �
     pub opened : opens path dump
     pub right : IsWholeTalk (state dump) (state read) input after output sent
 
-  -- why it ended before its input did
+  -- why it ended early
   pub record IsErrorOnDump (path : List ℕ) (error : TalkError) : Type 0 where
     pub dump : D
     pub read : D

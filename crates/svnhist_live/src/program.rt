@@ -23,7 +23,7 @@ use svn_report::RunError;
 const USAGE: &[u8] = b"svnhist: usage: svnhist-live DUMP WORKERS\n";
 
 /// Does what the arguments after the program's name ask for, and answers the status with which the program ends. Where
-/// the talk ends before its input does, one line for `errors` says why.
+/// there is no whole talk, one line for `errors` says why.
 pub(crate) fn run<
     R: RandomSource + Threads + Wait + Sync,
     F: Open<D>,

@@ -10,17 +10,17 @@ use Rattle.live_history.proofs.replies.reply_to_queries.Goals as goal
 
 pub returns-then-most-eq0-clause-error : goal.returns-then-most-eq0-clause-error
 returns-then-most-eq0-clause-error g c = λ state is same input.
-    IsEndEarly-many state c.args.ahead.now input (g.O.Push.state c.args.output.now) c.requires.query c.requires.near (omega (arith, same, c.if-most-eq0.true, c.min-most.ensures, c.requires.some_worker))
+    IsEndEarly-many state (omega (arith, same, c.requires.few_answered)) c.args.ahead.now input (g.O.Push.state c.args.output.now) c.requires.query c.requires.near (omega (arith, same, c.if-most-eq0.true, c.min-most.ensures, c.requires.some_worker))
 
 pub returns-in_err-lines-clause-error : goal.returns-in_err-lines-clause-error
 returns-in_err-lines-clause-error g c =
     let told = err_from_is_err_and c.from_residual.result c.from_residual.ensures.1 in
-    rw (told.1, told.2) (λ state is same input. IsEndEarly-memory state c.args.ahead.now input (g.O.Push.state c.args.output.now))
+    rw (told.1, told.2) (λ state is same input. IsEndEarly-memory state (omega (arith, same, c.requires.few_answered)) c.args.ahead.now input (g.O.Push.state c.args.output.now))
 
 pub returns-in_err-text-clause-error : goal.returns-in_err-text-clause-error
 returns-in_err-text-clause-error g c =
     let told = err_from_is_err_and c.from_residual-in_err-text.result c.from_residual-in_err-text.ensures.1 in
-    rw (told.1, told.2) (λ state is same input. IsEndEarly-memory state c.args.ahead.now input (g.O.Push.state c.args.output.now))
+    rw (told.1, told.2) (λ state is same input. IsEndEarly-memory state (omega (arith, same, c.requires.few_answered)) c.args.ahead.now input (g.O.Push.state c.args.output.now))
 
 pub returns-in_err-send-clause-error : goal.returns-in_err-send-clause-error
 returns-in_err-send-clause-error g c =
@@ -37,7 +37,7 @@ returns-in_err-send-clause-error g c =
     let text : c.as_slice-2.result.now ≡ replies dump state.answered lines =
     c.as_slice-2.ensures.value ∙ c.in_ok-text.ensures ∙ ap (λ all. replies dump c.args.answered.now (lent_lines all)) c.as_slice.ensures.value ∙ ap (λ n. replies dump n lines) (sym same) in
     let counted = length-map c.in_ok-lines.lines.items (λ line. line.now) in
-    IsEndEarly-part dump state is ahead input lines rest are old.gone new cause (omega (arith, counted, c.in_ok-lines.ensures.some)) c.requires.near
+    IsEndEarly-part dump state is ahead input lines rest are old.gone new cause (omega (arith, same, counted, c.in_ok-lines.ensures.few, c.min-most.ensures, c.requires.few_answered)) (omega (arith, counted, c.in_ok-lines.ensures.some)) c.requires.near
     (omega (arith, c.in_err-send.ensures.within, ap length text))
     (subst (λ all. Appends old.gone new.gone (take cause.sent all)) text c.in_err-send.ensures.sent) (search (rules, c.in_err-send.ensures.failed)))
 

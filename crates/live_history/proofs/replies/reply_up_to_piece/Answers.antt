@@ -9,7 +9,7 @@ use Rattle.live_history.proofs.replies.reply_up_to_piece.Goals as goal
 pub returns-in_err-memo-clause-error : goal.returns-in_err-memo-clause-error
 returns-in_err-memo-clause-error g c =
     let told = err_from_is_err_and c.from_residual.result c.from_residual.ensures.1 in
-    rw (told.1, told.2) (λ state is same. IsEndEarly-memory state c.args.ahead.now (g.I.Pull.state c.args.input.now) (g.O.Push.state c.args.output.now))
+    rw (told.1, told.2) (λ state is same. IsEndEarly-memory state (omega (arith, same, c.requires.few_answered)) c.args.ahead.now (g.I.Pull.state c.args.input.now) (g.O.Push.state c.args.output.now))
 
 pub turns-init : goal.turns-init
 turns-init g c = record {
@@ -23,7 +23,7 @@ turns-init g c = record {
 pub returns-in_err-read_next-clause-error : goal.returns-in_err-read_next-clause-error
 returns-in_err-read_next-clause-error g c =
     let told = err_from_is_err_and c.from_residual-in_err-read_next.result c.from_residual-in_err-read_next.ensures.1 in
-    rw (told.1, told.2) (λ state is same. IsEndEarly-line (c.turns.invariant.replied state is same) (g.I.Pull.state c.read_next.new.input) _ c.in_err-read_next.ensures.error)
+    rw (told.1, told.2) (λ state is same. IsEndEarly-line (c.turns.invariant.replied state is same) (g.I.Pull.state c.read_next.new.input) _ c.turns.invariant.few c.in_err-read_next.ensures.error)
 
 pub turns-preserved : goal.turns-preserved
 turns-preserved g c =

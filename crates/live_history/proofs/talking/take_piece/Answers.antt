@@ -19,7 +19,7 @@ returns-in_err-grown-in-Ok-Some-clause-error g c =
     let between = g.O.Push.state c.reply_up_to_piece.new.output in
     let answered = c.reply_up_to_piece.new.answered in
     rw (told.1, told.2) (λ state is same.
-    IsEndEarly-piece state old gone mid between answered c.in-Ok-Some.size (subst (IsUpToNext state old gone mid after between answered) c.in-Ok-Some.field-0-is (c.in-Ok-Some.ensures.ok state is.dump same))
+    IsEndEarly-piece state old gone mid between answered c.in-Ok-Some.size (subst (IsUpToNext state old gone mid after between answered) c.in-Ok-Some.field-0-is (c.in-Ok-Some.ensures.ok state is.dump same)) c.in-Ok-Some.ensures.few_answered
     (g.I.Pull.state c.grow.new.input) _ (c.in_err-grown-in-Ok-Some.ensures.error state.dump is))
 
 pub returns-in-Ok-clause-taken : goal.returns-in-Ok-clause-taken
@@ -30,7 +30,7 @@ returns-in-Ok-clause-taken g c = λ state is same.
     let mid = stream c.reply_up_to_piece.new.ahead after in
     let between = g.O.Push.state c.reply_up_to_piece.new.output in
     let answered = c.reply_up_to_piece.new.answered in
-    IsAfterPiece-ready state old gone mid between answered c.in-Ok-Some.size (subst (IsUpToNext state old gone mid after between answered) c.in-Ok-Some.field-0-is (c.in-Ok-Some.ensures.ok state is.dump same))
+    IsAfterPiece-ready state old gone mid between answered c.in-Ok-Some.size (subst (IsUpToNext state old gone mid after between answered) c.in-Ok-Some.field-0-is (c.in-Ok-Some.ensures.ok state is.dump same)) c.in-Ok-Some.ensures.few_answered
     c.grow.new.ahead (g.I.Pull.state c.grow.new.input) c.in_ok-grown-in-Ok-Some.grown (c.in_ok-grown-in-Ok-Some.ensures.ok state.dump is) c.in_ok-grown-in-Ok-Some.ensures.near (g.O.Push.state c.say_ready.new.output)
     c.in-Ok.ensures.said
 
@@ -47,7 +47,7 @@ returns-in-Err-say_ready-clause-error g c = λ state is same.
     let mid = stream c.reply_up_to_piece.new.ahead after in
     let between = g.O.Push.state c.reply_up_to_piece.new.output in
     let answered = c.reply_up_to_piece.new.answered in
-    IsEndEarly-unsaid state old gone mid between answered c.in-Ok-Some.size (subst (IsUpToNext state old gone mid after between answered) c.in-Ok-Some.field-0-is (c.in-Ok-Some.ensures.ok state is.dump same))
+    IsEndEarly-unsaid state old gone mid between answered c.in-Ok-Some.size (subst (IsUpToNext state old gone mid after between answered) c.in-Ok-Some.field-0-is (c.in-Ok-Some.ensures.ok state is.dump same)) c.in-Ok-Some.ensures.few_answered
     c.grow.new.ahead (g.I.Pull.state c.grow.new.input) c.in_ok-grown-in-Ok-Some.grown (c.in_ok-grown-in-Ok-Some.ensures.ok state.dump is) c.in_ok-grown-in-Ok-Some.ensures.near (g.O.Push.state c.say_ready.new.output)
     c.in-Err-say_ready.e c.in-Err-say_ready.ensures.error
 
