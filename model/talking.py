@@ -6,11 +6,13 @@ has replied to all turns that came, or has ended where what came decides that.
 """
 from __future__ import annotations
 
+import itertools
 import random
 import re
 import sys
 import tempfile
 import traceback
+from collections import Counter
 from collections.abc import Iterator
 from pathlib import Path
 
@@ -19,7 +21,7 @@ from dev.dialogue import Step
 from dev.running import Outcome
 from dev.tree import programs
 from model import comparing, drawn_talks, turns
-from model.comparing import RUNS, Comparison, Counted, Judged
+from model.comparing import RUNS, Comparison, Counted, Found
 from model.drawn_talks import DrawnTalk
 from model.turns import Talk
 
@@ -33,7 +35,6 @@ MOST_BYTES = 5000
 WAYS = {"at once": 15, "turn by turn": 35, "byte by byte": 5, "cut": 15, "cut, with waits": 30}
 REASON = re.compile(r"dump refused: ([0-9]+ [A-Za-z]+) at (?:byte|record) [0-9]+")
 STATUS = re.compile(rb"#[0-9]+ (\S+)\n")
-READY = b"ready "
 # How most talks end.
 WHOLE = "talk to the end of the input"
 
@@ -68,18 +69,9 @@ def cuts_of(lot: random.Random, way: str, drawn: DrawnTalk, talk: Talk) -> list[
         return list(range(1, size + 1))
     if way == "turn by turn":
         ends = [each.at for each in talk.said]
-        return ends + cuts_after(lot, talk, ends, size) + [size]
-    cuts = [0]
-    for piece in pieces.cut(lot, drawn.given):
-        cuts.append(cuts[-1] + len(piece))
-    return cuts
-
-
-def cuts_after(lot: random.Random, talk: Talk, ends: list[int], size: int) -> list[int]:
-    """Cuts of what comes after the last reply, where something in it is refused."""
-    if not ends or talk.status == 0:
-        return []
-    return sorted(lot.randint(ends[-1], size) for _ in range(CUTS_OF_A_REFUSED_PIECE))
+        count = CUTS_OF_A_REFUSED_PIECE if ends and talk.status != 0 else 0
+        return ends + sorted(lot.randint(ends[-1], size) for _ in range(count)) + [size]
+    return list(itertools.accumulate(map(len, pieces.cut(lot, drawn.given)), initial=0))
 
 
 def waits_of(lot: random.Random, way: str, cuts: list[int]) -> list[int]:
@@ -124,19 +116,19 @@ def ending_of(talk: Talk) -> str:
 
 
 def counted(way: str, talk: Talk) -> Iterator[Counted]:
-    """What is counted of a talk: its ending, the way in which its input came, its pieces and its answers."""
-    yield Counted(RUNS, ending_of(talk))
-    yield Counted("(ways in which the input came)", way)
+    """The ending of a talk, the way in which its input came, its pieces and its answers."""
+    yield RUNS, ending_of(talk)
+    yield "(ways in which the input came)", way
     if talk.said:
-        pieces_taken = sum(each.text.startswith(READY) for each in talk.said) - 1
-        yield Counted("(pieces that were taken)", str(pieces_taken) if pieces_taken < 5 else "5 or more")
+        count = sum(each.text.startswith(b"ready ") for each in talk.said) - 1
+        yield "(pieces that were taken)", str(count) if count < 5 else "5 or more"
     for each in talk.said:
         status = STATUS.match(each.text)
         if status:
-            yield Counted("(answers)", status[1].decode())
+            yield "(answers)", status[1].decode()
 
 
-def judge(program: Path, folder: Path, seed: int) -> Judged:
+def judge(program: Path, folder: Path, seed: int) -> Found:
     """The difference in the talk of a seed, if there is one, and what is counted of it."""
     lot = random.Random("cuts of %d" % seed)
     drawn = drawn_talks.talk_of(seed)
@@ -149,7 +141,8 @@ def judge(program: Path, folder: Path, seed: int) -> Judged:
         paths = comparing.keep(Path(own), seed, files)
         found = dialogue.run([program, paths["dump"], str(drawn.workers)], steps, SECONDS)
     words = f"{drawn.workers} workers, the input {way}"
-    return Judged(comparing.difference(folder, seed, files, words, outcome_of(talk), found), list(counted(way, talk)))
+    differing = comparing.difference(folder, seed, files, words, outcome_of(talk), found)
+    return Found(differing, Counter(counted(way, talk)))
 
 
 COMPARISON = Comparison("talks", "Compares svnhist-live with the model in a talk drawn for each seed.", judge, WHOLE)
