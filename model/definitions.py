@@ -10,6 +10,8 @@ It imports nothing of this tree, so that a copy of this file is a program, too.
 """
 from __future__ import annotations
 
+import itertools
+import operator
 import os
 import re
 import sys
@@ -31,6 +33,7 @@ ELEMENT = re.compile(rb"([0-9]+)(?:-([0-9]+))?(\*?)")
 Path = tuple[bytes, ...]
 Headers = dict[bytes, bytes]
 Lines = list[bytes]
+Bounds = tuple[int, int]
 
 
 class Place(NamedTuple):
@@ -123,13 +126,6 @@ def is_below(path: Path, above: Path) -> bool:
 # Dumps
 
 
-class Lengths(NamedTuple):
-    """The lengths of a property section and of a body."""
-
-    section: int
-    body: int
-
-
 class Block(NamedTuple):
     """A block after the first line: its place, its headers, its property section and the place after it."""
 
@@ -140,26 +136,26 @@ class Block(NamedTuple):
 
 
 def headers_of(lines: Lines, at: int) -> Headers:
-    """The headers in the complete lines of a block, after reasons 3 and 4."""
+    """The headers in the complete lines of a block, after reason 3."""
     headers: Headers = {}
     for line in lines:
         name, colon, value = line.partition(b":")
         if not colon or not name or (name in headers and name in HEADERS_READ):
             raise refused("3 Header", "byte", at)
         headers[name] = value[1:] if value.startswith(b" ") else value
-    if lengths_of(headers) is None:
-        raise refused("4 Length", "byte", at)
     return headers
 
 
-def lengths_of(headers: Headers) -> Lengths | None:
-    """The lengths of the property section and of the body, or None where one of them is not a length."""
+def lengths_of(headers: Headers, at: int) -> tuple[int, int]:
+    """The lengths of the property section and of the body of a block, after reason 4."""
     section, text, body = (number_of(headers.get(name, b"0"), GREATEST_LENGTH) for name in LENGTHS)
     if section is None or text is None or body is None or section + text > GREATEST_LENGTH:
-        return None
+        raise refused("4 Length", "byte", at)
     if b"Content-length" not in headers:
         body = section + text
-    return Lengths(section, body) if body >= section + text else None
+    if body < section + text:
+        raise refused("4 Length", "byte", at)
+    return section, body
 
 
 def format_of(data: bytes) -> int:
@@ -184,13 +180,12 @@ def blocks_of(data: bytes) -> Iterator[Block]:
         head, complete, _ = data[at:].partition(b"\n\n")
         lines = head.split(b"\n")
         headers = headers_of(lines if complete else lines[:-1], at)
-        lengths = lengths_of(headers)
+        section, body = lengths_of(headers, at)
         start = at + len(head) + len(b"\n\n")
-        if not complete or lengths is None or start + lengths.body > len(data):
+        if not complete or start + body > len(data):
             raise refused("5 Truncated", "byte", at)
-        end = start + lengths.body
-        yield Block(at, headers, data[start : start + lengths.section], end)
-        at = end
+        yield Block(at, headers, data[start : start + section], start + body)
+        at = start + body
 
 
 def piece_of(section: bytes, at: int, letter: bytes) -> tuple[bytes, int]:
@@ -203,28 +198,16 @@ def piece_of(section: bytes, at: int, letter: bytes) -> tuple[bytes, int]:
     return section[start : start + length], start + length + 1
 
 
-def has_changes(form: int, headers: Headers) -> bool:
-    """Whether the property section of a block in a dump of this format has changes, and not the whole list."""
-    return form == 3 and headers.get(b"Prop-delta") == b"true"
-
-
-def entry_of(section: bytes, at: int, changes: bool) -> tuple[bytes, bytes | None, int]:
-    """A name that begins at a place, its value or None where it is deleted, and the place after it."""
-    if changes and section[at : at + 1] == b"D":
-        name, at = piece_of(section, at, b"D")
-        return name, None, at
-    name, at = piece_of(section, at, b"K")
-    value, at = piece_of(section, at, b"V")
-    return name, value, at
-
-
 def properties_of(section: bytes, changes: bool) -> dict[bytes, bytes | None]:
     """What the last entry of each name says in a property section. A whole list deletes what it does not name."""
     properties: dict[bytes, bytes | None] = {MERGEINFO: None} if section and not changes else {}
     at = 0
     while section and section[at:] != b"PROPS-END\n":
-        name, value, at = entry_of(section, at, changes)
-        properties[name] = value
+        is_deleted = changes and section[at : at + 1] == b"D"
+        name, at = piece_of(section, at, b"D" if is_deleted else b"K")
+        properties[name] = None
+        if not is_deleted:
+            properties[name], at = piece_of(section, at, b"V")
     return properties
 
 
@@ -234,13 +217,6 @@ def source_of(headers: Headers) -> Place | None:
         return None
     rev = number_of(headers[b"Node-copyfrom-rev"], GREATEST_REVISION)
     return None if rev is None else Place(parts_of(headers[b"Node-copyfrom-path"]), rev)
-
-
-def record_of(form: int, headers: Headers, section: bytes) -> Record:
-    """The record of a block without reasons 6 and 7."""
-    properties = properties_of(section, has_changes(form, headers))
-    path = parts_of(headers[b"Node-path"])
-    return Record(path, headers[b"Node-action"], headers.get(b"Node-kind"), source_of(headers), properties)
 
 
 def is_bad_record(headers: Headers, revisions: int) -> bool:
@@ -256,19 +232,8 @@ def is_bad_record(headers: Headers, revisions: int) -> bool:
     return has_part or headers.get(b"Node-kind") not in (b"file", b"dir")
 
 
-def reason_against(form: int, headers: Headers, section: bytes, revisions: int) -> str | None:
-    """The first of reasons 6 to 14 that applies to a complete block with a number of revisions before it, or None."""
-    if b"Revision-number" in headers:
-        return None if number_of(headers[b"Revision-number"], revisions) == revisions else "8 Revision"
-    if b"Node-path" not in headers:
-        return None if b"UUID" in headers else "7 BadRecord"
-    try:
-        properties_of(section, has_changes(form, headers))
-    except Malformed:
-        return "6 Props"
-    if is_bad_record(headers, revisions):
-        return "7 BadRecord"
-    record = record_of(form, headers, section)
+def reason_against(form: int, headers: Headers, record: Record, revisions: int) -> str | None:
+    """The first of reasons 9 to 14 that applies to a record with a number of revisions before it, or None."""
     paths = [record.path] + ([record.source.path] if record.source else [])
     if any(has_dot(path) for path in paths):
         return "9 BadPath"
@@ -283,18 +248,38 @@ def reason_against(form: int, headers: Headers, section: bytes, revisions: int) 
     return "14 TooLarge" if any(len(path) > 1024 for path in paths) else None
 
 
+def record_of(form: int, block: Block, revisions: int) -> Record:
+    """The record of a block with a number of revisions before it, after reasons 6 to 14."""
+    at, headers, section, _ = block
+    try:
+        properties = properties_of(section, form == 3 and headers.get(b"Prop-delta") == b"true")
+    except Malformed:
+        raise refused("6 Props", "byte", at) from None
+    if is_bad_record(headers, revisions):
+        raise refused("7 BadRecord", "byte", at)
+    path, action, kind = parts_of(headers[b"Node-path"]), headers[b"Node-action"], headers.get(b"Node-kind")
+    record = Record(path, action, kind, source_of(headers), properties)
+    reason = reason_against(form, headers, record, revisions)
+    if reason:
+        raise refused(reason, "byte", at)
+    return record
+
+
 def records_of(data: bytes) -> list[list[Record]]:
     """The records of each revision of a dump."""
     form = format_of(data)
     revisions: list[list[Record]] = []
-    for at, headers, section, _ in blocks_of(data):
-        reason = reason_against(form, headers, section, len(revisions))
-        if reason:
-            raise refused(reason, "byte", at)
-        if b"Revision-number" in headers:
+    for block in blocks_of(data):
+        count = len(revisions)
+        if b"Revision-number" in block.headers:
+            if number_of(block.headers[b"Revision-number"], count) != count:
+                raise refused("8 Revision", "byte", block.at)
             revisions.append([])
-        elif b"Node-path" in headers:
-            revisions[-1].append(record_of(form, headers, section))
+        elif b"Node-path" in block.headers:
+            record = record_of(form, block, count)
+            revisions[-1].append(record)
+        elif b"UUID" not in block.headers:
+            raise refused("7 BadRecord", "byte", block.at)
     if not revisions:
         raise refused("8 Revision", "byte", len(data))
     return revisions
@@ -445,17 +430,11 @@ def revision_of(field: bytes) -> int | None:
     return number_of(field, GREATEST_REVISION)
 
 
-class Bounds(NamedTuple):
-    """The first and the last revision of a range."""
-
-    low: int
-    high: int
-
-
 def range_of(field: bytes) -> Bounds | None:
+    """The first and the last revision of a range, or None."""
     first, _, last = field.partition(b":")
     low, high = revision_of(first), revision_of(last)
-    return None if low is None or high is None or low > high else Bounds(low, high)
+    return None if low is None or high is None or low > high else (low, high)
 
 
 def location(trees: list[Tree], path: Path, rev: int, wanted: int) -> Path | None:
@@ -480,21 +459,13 @@ def places(trees: list[Tree], peg: Place) -> list[tuple[int, Path | None]]:
     return found
 
 
-class Segment(NamedTuple):
-    low: int
-    high: int
-    path: Path | None
-
-
 def segments(history: History, peg: Place) -> Lines:
     """The location segments: the longest ranges of revisions with the same location, or with none."""
-    found: list[Segment] = []
-    for rev, place in places(history.trees, peg):
-        if found and found[-1].path == place:
-            found[-1] = found[-1]._replace(low=rev)
-        else:
-            found.append(Segment(rev, rev, place))
-    return [b"%d-%d %s" % (low, high, printed(place)) for low, high, place in found]
+    lines = []
+    for place, found in itertools.groupby(places(history.trees, peg), operator.itemgetter(1)):
+        revs = [rev for rev, _ in found]
+        lines.append(b"%d-%d %s" % (revs[-1], revs[0], printed(place)))
+    return lines
 
 
 def is_operative(history: History, path: Path, rev: int) -> bool:
@@ -531,21 +502,13 @@ def kind_in(runs: list[Run], rev: int) -> bool | None:
     return kinds[0] if kinds else None
 
 
-class Candidate(NamedTuple):
-    """An operative revision of a source, its location, and whether the effective mergeinfo of the target has the
-    revision for that location as an inheritable one; None if it does not have it."""
-
-    revision: int
-    place: Path
-    inheritable: bool | None
-
-
-def candidates(history: History, source: Place, target: Place) -> list[Candidate]:
-    """The operative revisions of the source in rising order."""
+def candidates(history: History, source: Place, target: Place) -> list[tuple[int, Path, bool | None]]:
+    """The operative revisions of the source in rising order, with its location in each, and whether the effective
+    mergeinfo of the target has the revision for that location as an inheritable one; None if it does not have it."""
     path, peg = target
     value = effective(history.trees[peg], path)
     found = reversed(operative_places(history, source))
-    return [Candidate(rev, place, kind_in(value.get(place, []), rev)) for rev, place in found]
+    return [(rev, place, kind_in(value.get(place, []), rev)) for rev, place in found]
 
 
 def merged(history: History, source: Place, target: Place) -> Lines:
@@ -564,14 +527,9 @@ def eligible(history: History, source: Place, target: Place) -> Lines:
     ]
 
 
-def revision_in(line: bytes) -> int:
-    """The revision of a result line."""
-    return int(line.split(b" ")[0].strip(b"r*"))
-
-
-def lines_in(lines: Lines, bounds: Bounds) -> Lines:
+def lines_in(lines: Lines, low: int, high: int) -> Lines:
     """The result lines of revisions from the lowest to the highest one of a range."""
-    return [line for line in lines if bounds.low <= revision_in(line) <= bounds.high]
+    return [line for line in lines if low <= int(line.split(b" ")[0].strip(b"r*")) <= high]
 
 
 # What a field of a query says.
@@ -596,16 +554,8 @@ VERBS = {
 }
 
 
-class Query(NamedTuple):
-    """A verb, what its fields say, and the range of a query that has one."""
-
-    verb: Verb
-    fields: list[Field]
-    bounds: Bounds | None
-
-
-def query_of(line: bytes) -> Query | None:
-    """What a line asks, or None if it is no query."""
+def query_of(line: bytes) -> tuple[Verb, list[Field], Bounds | None] | None:
+    """The verb of a line, what its fields say and its range, if it has one; None if the line is no query."""
     name, *fields = line.split(b"\t")
     verb = VERBS.get(name)
     if verb is None:
@@ -617,7 +567,7 @@ def query_of(line: bytes) -> Query | None:
             return None
     values = [form(field) for form, field in zip(verb.forms, fields)]
     found = [value for value in values if value is not None]
-    return Query(verb, found, bounds) if len(fields) == len(found) == len(verb.forms) else None
+    return (verb, found, bounds) if len(fields) == len(found) == len(verb.forms) else None
 
 
 def answer_of(history: History, line: bytes) -> Lines:
@@ -625,32 +575,21 @@ def answer_of(history: History, line: bytes) -> Lines:
     query = query_of(line)
     if query is None:
         return [b"bad-query"]
-    for peg in query.fields:
+    verb, fields, bounds = query
+    for peg in fields:
         if isinstance(peg, Place):
             if peg.revision >= len(history.trees):
                 return [b"no-such-revision"]
             if peg.path not in history.trees[peg.revision]:
                 return [b"no-such-path"]
     try:
-        lines = query.verb.lines_of(history, *query.fields)
+        lines = verb.lines_of(history, *fields)
     except Malformed:
         return [b"malformed-mergeinfo"]
-    return [b"ok"] + (lines if query.bounds is None else lines_in(lines, query.bounds))
+    return [b"ok"] + (lines_in(lines, *bounds) if bounds else lines)
 
 
 # Input
-
-
-class Input(NamedTuple):
-    queries: Lines
-    dump: bytes
-
-
-class Answer(NamedTuple):
-    """A query, and its status and result lines."""
-
-    query: bytes
-    lines: Lines
 
 
 def numbers_of(fields: Iterable[bytes]) -> list[int]:
@@ -667,7 +606,7 @@ def wrong_usage() -> NoReport:
     return NoReport(2, "usage: svnhist DUMP QUERIES BLOCK WORKERS")
 
 
-def parts_of_bundle(data: bytes) -> Input:
+def parts_of_bundle(data: bytes) -> tuple[Lines, bytes]:
     """The queries and the dump of a bundle."""
     head, _, rest = data.partition(b"\n")
     fields = head.split(b" ")
@@ -677,10 +616,10 @@ def parts_of_bundle(data: bytes) -> Input:
     pieces = rest.split(b"\n", count)
     if len(pieces) <= count:
         raise wrong_usage()
-    return Input(pieces[:-1], pieces[-1])
+    return pieces[:-1], pieces[-1]
 
 
-def parts_of_files(words: list[str]) -> Input:
+def parts_of_files(words: list[str]) -> tuple[Lines, bytes]:
     """The queries and the dump of two files."""
     if len(words) != 4:
         raise wrong_usage()
@@ -691,17 +630,17 @@ def parts_of_files(words: list[str]) -> Input:
             lines.pop()
         if len(lines) > MOST_QUERIES:
             raise NoReport(1, f"more than {MOST_QUERIES} queries")
-        return Input(lines, dump.read())
+        return lines, dump.read()
 
 
-def answers_of(queries: Lines, dump: bytes) -> list[Answer]:
+def answers_of(queries: Lines, dump: bytes) -> list[Lines]:
     history = history_of(dump)
-    return [Answer(line, answer_of(history, line)) for line in queries]
+    return [answer_of(history, line) for line in queries]
 
 
-def report_of(answers: list[Answer]) -> bytes:
+def report_of(answers: list[Lines]) -> bytes:
     return b"".join(
-        b"#%d " % number + b"".join(line + b"\n" for line in answer.lines) for number, answer in enumerate(answers, 1)
+        b"#%d " % number + b"".join(line + b"\n" for line in lines) for number, lines in enumerate(answers, 1)
     )
 
 
