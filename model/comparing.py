@@ -7,7 +7,7 @@ import multiprocessing
 import os
 import tempfile
 from collections import Counter
-from collections.abc import Callable, Iterator, Mapping
+from collections.abc import Callable, Iterable, Iterator, Mapping
 from pathlib import Path
 from typing import NamedTuple
 
@@ -29,6 +29,15 @@ class Difference(NamedTuple):
     way: str
     wanted: str
     found: str
+
+
+class Run(NamedTuple):
+    """A run of the program: the way in which its input came, its files, how it must end and how it ended."""
+
+    way: str
+    files: Mapping[str, bytes]
+    wanted: Outcome
+    found: Outcome
 
 
 class Found(NamedTuple):
@@ -68,15 +77,15 @@ def keep(folder: Path, seed: int, files: Mapping[str, bytes]) -> dict[str, Path]
     return paths
 
 
-def difference(
-    folder: Path, seed: int, files: Mapping[str, bytes], way: str, wanted: Outcome, found: Outcome
-) -> dict[int, Difference]:
-    """The difference of two outcomes by the seed, if there is one; the files and both outcomes are kept then."""
-    if wanted == found:
-        return {}
-    texts = {"model": text_of(wanted), "program": text_of(found)}
-    keep(folder, seed, {**files, **texts})
-    return {seed: Difference(way, *first_difference(texts["model"], texts["program"]))}
+def found_of(folder: Path, seed: int, runs: Iterable[Run], counted: Iterable[Counted]) -> Found:
+    """What is found of a seed. The files and both outcomes of the first run that differs are kept."""
+    counts = Counter(counted)
+    for run in runs:
+        if run.wanted != run.found:
+            texts = {"model": text_of(run.wanted), "program": text_of(run.found)}
+            keep(folder, seed, {**run.files, **texts})
+            return Found({seed: Difference(run.way, *first_difference(*texts.values()))}, counts)
+    return Found({}, counts)
 
 
 def compare(judge: Judge, program: Path, folder: Path, seeds: range, jobs: int | None = None) -> Iterator[Found]:

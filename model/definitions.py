@@ -93,10 +93,10 @@ class NoReport(Exception):
 
 
 class Malformed(Exception):
-    """A property section or a value of svn:mergeinfo does not have its form."""
+    """A property section, a value of svn:mergeinfo or a query does not have its form."""
 
 
-def refused(reason: str, place: str, at: int) -> NoReport:
+def refused(reason: str, at: int, place: str = "byte") -> NoReport:
     return NoReport(1, f"dump refused: {reason} at {place} {at}")
 
 
@@ -141,7 +141,7 @@ def headers_of(lines: Lines, at: int) -> Headers:
     for line in lines:
         name, colon, value = line.partition(b":")
         if not colon or not name or (name in headers and name in HEADERS_READ):
-            raise refused("3 Header", "byte", at)
+            raise refused("3 Header", at)
         headers[name] = value[1:] if value.startswith(b" ") else value
     return headers
 
@@ -150,11 +150,11 @@ def lengths_of(headers: Headers, at: int) -> tuple[int, int]:
     """The lengths of the property section and of the body of a block, after reason 4."""
     section, text, body = (number_of(headers.get(name, b"0"), GREATEST_LENGTH) for name in LENGTHS)
     if section is None or text is None or body is None or section + text > GREATEST_LENGTH:
-        raise refused("4 Length", "byte", at)
+        raise refused("4 Length", at)
     if b"Content-length" not in headers:
         body = section + text
     if body < section + text:
-        raise refused("4 Length", "byte", at)
+        raise refused("4 Length", at)
     return section, body
 
 
@@ -162,11 +162,11 @@ def format_of(data: bytes) -> int:
     """The format in the first line of a dump, 2 or 3."""
     line, end, _ = data.partition(b"\n")
     if not data.startswith(FIRST_NAME):
-        raise refused("1 Magic", "byte", 0)
+        raise refused("1 Magic", 0)
     if end and line not in (FIRST_NAME + b"2", FIRST_NAME + b"3"):
-        raise refused("2 Version", "byte", 0)
+        raise refused("2 Version", 0)
     if not end:
-        raise refused("5 Truncated", "byte", 0)
+        raise refused("5 Truncated", 0)
     return int(line[len(FIRST_NAME) :])
 
 
@@ -183,7 +183,7 @@ def blocks_of(data: bytes) -> Iterator[Block]:
         section, body = lengths_of(headers, at)
         start = at + len(head) + len(b"\n\n")
         if not complete or start + body > len(data):
-            raise refused("5 Truncated", "byte", at)
+            raise refused("5 Truncated", at)
         yield Block(at, headers, data[start : start + section], start + body)
         at = start + body
 
@@ -254,14 +254,14 @@ def record_of(form: int, block: Block, revisions: int) -> Record:
     try:
         properties = properties_of(section, form == 3 and headers.get(b"Prop-delta") == b"true")
     except Malformed:
-        raise refused("6 Props", "byte", at) from None
+        raise refused("6 Props", at) from None
     if is_bad_record(headers, revisions):
-        raise refused("7 BadRecord", "byte", at)
+        raise refused("7 BadRecord", at)
     path, action, kind = parts_of(headers[b"Node-path"]), headers[b"Node-action"], headers.get(b"Node-kind")
     record = Record(path, action, kind, source_of(headers), properties)
     reason = reason_against(form, headers, record, revisions)
     if reason:
-        raise refused(reason, "byte", at)
+        raise refused(reason, at)
     return record
 
 
@@ -273,15 +273,15 @@ def records_of(data: bytes) -> list[list[Record]]:
         count = len(revisions)
         if b"Revision-number" in block.headers:
             if number_of(block.headers[b"Revision-number"], count) != count:
-                raise refused("8 Revision", "byte", block.at)
+                raise refused("8 Revision", block.at)
             revisions.append([])
         elif b"Node-path" in block.headers:
             record = record_of(form, block, count)
             revisions[-1].append(record)
         elif b"UUID" not in block.headers:
-            raise refused("7 BadRecord", "byte", block.at)
+            raise refused("7 BadRecord", block.at)
     if not revisions:
-        raise refused("8 Revision", "byte", len(data))
+        raise refused("8 Revision", len(data))
     return revisions
 
 
@@ -341,7 +341,7 @@ def history_of(data: bytes) -> History:
             count += 1
             fault = fault_of(trees, tree, record)
             if fault:
-                raise refused(fault, "record", count)
+                raise refused(fault, count, "record")
             tree = after(trees, tree, record)
         trees.append(tree)
     return History(trees, [[record.path for record in records] for records in revisions])
@@ -419,22 +419,28 @@ def effective(tree: Tree, path: Path) -> Value:
 # Queries
 
 
-def peg_of(field: bytes) -> Place | None:
-    """A path and its peg revision, or None."""
+def revision_of(field: bytes) -> int:
+    rev = number_of(field, GREATEST_REVISION)
+    if rev is None:
+        raise Malformed
+    return rev
+
+
+def peg_of(field: bytes) -> Place:
+    """A path and its peg revision."""
     path, at, digits = field.rpartition(b"@")
-    peg = number_of(digits, GREATEST_REVISION)
-    return None if not at or peg is None or has_dot(parts_of(path)) else Place(parts_of(path), peg)
+    if not at or has_dot(parts_of(path)):
+        raise Malformed
+    return Place(parts_of(path), revision_of(digits))
 
 
-def revision_of(field: bytes) -> int | None:
-    return number_of(field, GREATEST_REVISION)
-
-
-def range_of(field: bytes) -> Bounds | None:
-    """The first and the last revision of a range, or None."""
+def range_of(field: bytes) -> Bounds:
+    """The first and the last revision of a range."""
     first, _, last = field.partition(b":")
     low, high = revision_of(first), revision_of(last)
-    return None if low is None or high is None or low > high else (low, high)
+    if low > high:
+        raise Malformed
+    return low, high
 
 
 def location(trees: list[Tree], path: Path, rev: int, wanted: int) -> Path | None:
@@ -539,7 +545,7 @@ Field = Union[Place, int]
 class Verb(NamedTuple):
     """The fields of a query, its result lines, and whether it may have a range as a further field."""
 
-    forms: Sequence[Callable[[bytes], Field | None]]
+    forms: Sequence[Callable[[bytes], Field]]
     lines_of: Callable[..., Lines]
     has_range: bool = False
 
@@ -554,28 +560,22 @@ VERBS = {
 }
 
 
-def query_of(line: bytes) -> tuple[Verb, list[Field], Bounds | None] | None:
-    """The verb of a line, what its fields say and its range, if it has one; None if the line is no query."""
+def query_of(line: bytes) -> tuple[Verb, list[Field], Bounds | None]:
+    """The verb of a line, what its fields say, and its range, if it has one."""
     name, *fields = line.split(b"\t")
     verb = VERBS.get(name)
-    if verb is None:
-        return None
-    bounds = None
-    if verb.has_range and len(fields) == len(verb.forms) + 1:
-        bounds = range_of(fields.pop())
-        if bounds is None:
-            return None
-    values = [form(field) for form, field in zip(verb.forms, fields)]
-    found = [value for value in values if value is not None]
-    return (verb, found, bounds) if len(fields) == len(found) == len(verb.forms) else None
+    if verb is None or len(fields) - len(verb.forms) not in (0, verb.has_range):
+        raise Malformed
+    bounds = range_of(fields[-1]) if len(fields) > len(verb.forms) else None
+    return verb, [form(field) for form, field in zip(verb.forms, fields)], bounds
 
 
 def answer_of(history: History, line: bytes) -> Lines:
     """The status, and the result lines."""
-    query = query_of(line)
-    if query is None:
+    try:
+        verb, fields, bounds = query_of(line)
+    except Malformed:
         return [b"bad-query"]
-    verb, fields, bounds = query
     for peg in fields:
         if isinstance(peg, Place):
             if peg.revision >= len(history.trees):

@@ -11,17 +11,15 @@ import re
 import sys
 import tempfile
 import traceback
-from collections import Counter
-from collections.abc import Iterable, Iterator, Mapping
+from collections.abc import Iterable, Iterator
 from pathlib import Path
-from typing import NamedTuple
 
 from dev import dialogue, pieces
 from dev.dialogue import Step
 from dev.running import Outcome, Words
 from dev.tree import programs
 from model import bundles, comparing, definitions
-from model.comparing import RUNS, Comparison, Counted, Difference, Found
+from model.comparing import RUNS, Comparison, Counted, Found, Run
 from model.definitions import Lines
 
 SECONDS = 60
@@ -32,15 +30,6 @@ STARRED = re.compile(rb"r[0-9]+\*")
 REASON = re.compile(rb"svnhist: dump refused: ([0-9]+ [A-Za-z]+) at (?:byte|record) [0-9]+\n")
 FORMAT = re.compile(rb"SVN-fs-dump-format-version: ([23])\n")
 OFFSET = re.compile(rb"(?<= at byte )[0-9]+(?=\n)")
-
-
-class Run(NamedTuple):
-    """A run of the program: how it got its input, the files of it, how it must end and how it ended."""
-
-    way: str
-    files: Mapping[str, bytes]
-    wanted: Outcome
-    found: Outcome
 
 
 def by_model(bundle: bytes) -> tuple[list[Lines], Outcome]:
@@ -67,7 +56,7 @@ def ended(words: Words, given: Iterable[bytes] = ()) -> Outcome:
 
 def runs_of(program: Path, folder: Path, seed: int, bundle: bytes, wanted: Outcome) -> Iterator[Run]:
     lot = random.Random("pieces of %d" % seed)
-    yield Run("a bundle", {}, wanted, ended([program], pieces.cut(lot, bundle)))
+    yield Run("a bundle", {"bundle": bundle}, wanted, ended([program], pieces.cut(lot, bundle)))
     try:
         lines, dump = definitions.parts_of_bundle(bundle)
     except definitions.NoReport:
@@ -75,22 +64,11 @@ def runs_of(program: Path, folder: Path, seed: int, bundle: bytes, wanted: Outco
     if lot.random() < MOVED:
         dump, size = pieces.moved(lot, dump)
         wanted = moved_by(size, wanted)
-    files = {"dump": dump, "queries": b"".join(line + b"\n" for line in lines)}
+    files = {"bundle": bundle, "dump": dump, "queries": b"".join(line + b"\n" for line in lines)}
     paths = comparing.keep(folder, seed, files)
     words: Words = [paths["queries"], *bundle.partition(b"\n")[0].split(b" ")[:2]]
     yield Run("files", files, wanted, ended([program, paths["dump"], *words]))
     yield Run("a pipe", files, wanted, ended([program, "/dev/stdin", *words], pieces.cut(lot, dump)))
-
-
-def difference(program: Path, folder: Path, seed: int, bundle: bytes, wanted: Outcome) -> dict[int, Difference]:
-    """The first run of the program that differs, by the seed; its files are kept."""
-    with tempfile.TemporaryDirectory(prefix="svnhist-fuzz-") as own:
-        for run in runs_of(program, Path(own), seed, bundle, wanted):
-            files = {"bundle": bundle, **run.files}
-            differing = comparing.difference(folder, seed, files, run.way, run.wanted, run.found)
-            if differing:
-                return differing
-    return {}
 
 
 # What is counted
@@ -143,7 +121,9 @@ def judge(program: Path, folder: Path, seed: int) -> Found:
     """The first run with the bundle of a seed that differs, if one does, and what is counted of it."""
     bundle = bundles.bundle_of(seed)
     answers, wanted = by_model(bundle)
-    return Found(difference(program, folder, seed, bundle, wanted), Counter(counted(bundle, answers, wanted)))
+    with tempfile.TemporaryDirectory(prefix="svnhist-fuzz-") as own:
+        runs = runs_of(program, Path(own), seed, bundle, wanted)
+        return comparing.found_of(folder, seed, runs, counted(bundle, answers, wanted))
 
 
 COMPARISON = Comparison("fuzz", "Compares the program with the model on a bundle drawn for each seed.", judge, "report")

@@ -12,7 +12,6 @@ import re
 import sys
 import tempfile
 import traceback
-from collections import Counter
 from collections.abc import Iterator
 from pathlib import Path
 
@@ -21,17 +20,11 @@ from dev.dialogue import Step
 from dev.running import Outcome
 from dev.tree import programs
 from model import comparing, drawn_talks, turns
-from model.comparing import RUNS, Comparison, Counted, Found
+from model.comparing import RUNS, Comparison, Counted, Found, Run
 from model.drawn_talks import DrawnTalk
 from model.turns import Talk
 
 SECONDS = 60
-# At so many cuts at drawn places a reply is waited for, at most.
-MOST_WAITS = 6
-# In a piece that is refused the input is cut at so many places more.
-CUTS_OF_A_REFUSED_PIECE = 3
-# A longer input doesn't come byte by byte.
-MOST_BYTES = 5000
 WAYS = {"at once": 15, "turn by turn": 35, "byte by byte": 5, "cut": 15, "cut, with waits": 30}
 REASON = re.compile(r"dump refused: ([0-9]+ [A-Za-z]+) at (?:byte|record) [0-9]+")
 STATUS = re.compile(rb"#[0-9]+ (\S+)\n")
@@ -57,7 +50,7 @@ def outcome_of(talk: Talk) -> Outcome:
 
 def drawn_way(lot: random.Random, drawn: DrawnTalk) -> str:
     way = lot.choices(list(WAYS), list(WAYS.values()))[0]
-    return "cut" if way == "byte by byte" and len(drawn.given) > MOST_BYTES else way
+    return "cut" if way == "byte by byte" and len(drawn.given) > 5000 else way
 
 
 def cuts_of(lot: random.Random, way: str, drawn: DrawnTalk, talk: Talk) -> list[int]:
@@ -69,7 +62,8 @@ def cuts_of(lot: random.Random, way: str, drawn: DrawnTalk, talk: Talk) -> list[
         return list(range(1, size + 1))
     if way == "turn by turn":
         ends = [each.at for each in talk.said]
-        count = CUTS_OF_A_REFUSED_PIECE if ends and talk.status != 0 else 0
+        # In a piece that is refused the input is cut more often.
+        count = 3 if ends and talk.status != 0 else 0
         return ends + sorted(lot.randint(ends[-1], size) for _ in range(count)) + [size]
     return list(itertools.accumulate(map(len, pieces.cut(lot, drawn.given)), initial=0))
 
@@ -78,8 +72,7 @@ def waits_of(lot: random.Random, way: str, cuts: list[int]) -> list[int]:
     """At which of the cuts replies are waited for."""
     if way == "turn by turn":
         return cuts
-    count = MOST_WAITS if way == "cut, with waits" else 0
-    return lot.sample(cuts, min(len(cuts), count))
+    return lot.sample(cuts, min(len(cuts), 6)) if way == "cut, with waits" else []
 
 
 def is_over(drawn: DrawnTalk, talk: Talk, at: int) -> bool:
@@ -140,9 +133,8 @@ def judge(program: Path, folder: Path, seed: int) -> Found:
     with tempfile.TemporaryDirectory(prefix="svnhist-talks-") as own:
         paths = comparing.keep(Path(own), seed, files)
         found = dialogue.run([program, paths["dump"], str(drawn.workers)], steps, SECONDS)
-    words = f"{drawn.workers} workers, the input {way}"
-    differing = comparing.difference(folder, seed, files, words, outcome_of(talk), found)
-    return Found(differing, Counter(counted(way, talk)))
+    run = Run(f"{drawn.workers} workers, the input {way}", files, outcome_of(talk), found)
+    return comparing.found_of(folder, seed, [run], counted(way, talk))
 
 
 COMPARISON = Comparison("talks", "Compares svnhist-live with the model in a talk drawn for each seed.", judge, WHOLE)

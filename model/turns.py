@@ -68,12 +68,6 @@ def raise_decided(front: bytes) -> None:
             raise
 
 
-def read_cut(dump: bytes) -> None:
-    """Raises why a talk ends whose input ends within a piece; the bytes are those of the dump up to there."""
-    raise_decided(dump)
-    raise NoReport(1, CUT)
-
-
 def replies(dump: bytes, given: bytes) -> Iterator[Said]:
     """What is said, one after another, until there is a reason to end."""
     history = definitions.history_of(dump)
@@ -93,7 +87,8 @@ def replies(dump: bytes, given: bytes) -> Iterator[Said]:
             dump += piece
             at += len(piece)
             if len(piece) < size:
-                read_cut(dump)
+                raise_decided(dump)
+                raise NoReport(1, CUT)
             history = definitions.history_of(dump)
             yield Said(at, ready(history))
 
