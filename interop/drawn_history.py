@@ -10,7 +10,6 @@ Tree = dict[str, str]
 # The words of a step, none where there is no path for it.
 Step = list[str]
 
-SEED = 20
 # How deep directories are in which something is added, how far back the sources of copies are, and how large trees are.
 DEEPEST, OLDEST, MOST_PATHS = 4, 8, 40
 
@@ -92,7 +91,7 @@ class Draft:
 
 def drawn_revisions(count: int) -> Iterator[Step]:
     """The steps of so many revisions."""
-    lot = Lot(SEED)
+    lot = Lot(20)
     trees: list[Tree] = [{"": "dir"}]
     for rev in range(1, count + 1):
         draft = Draft(lot, trees)
