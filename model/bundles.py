@@ -59,8 +59,7 @@ def with_odd_field(draft: Draft, fields: list[bytes]) -> list[bytes]:
     """The fields with one replaced, left out or added."""
     lot = draft.lot
     at = lot.randrange(len(fields) + 1)
-    choices: list[list[bytes]] = [[], [peg(draft)], [lot.choice(odd.FIELDS)], [lot.choice(odd.FIELDS)]]
-    more = lot.choice(choices)
+    more: list[bytes] = lot.choice([[], [peg(draft)], [lot.choice(odd.FIELDS)], [lot.choice(odd.FIELDS)]])
     return fields[:at] + more + fields[at + lot.choice((0, 1, 1)) :]
 
 

@@ -22,15 +22,6 @@ RUNS = ""
 Counted = tuple[str, str]
 
 
-class Difference(NamedTuple):
-    """A run that differs: the way in which its input came, and the first lines that differ, of the model and of the
-    program."""
-
-    way: str
-    wanted: str
-    found: str
-
-
 class Run(NamedTuple):
     """A run of the program: the way in which its input came, its files, how it must end and how it ended."""
 
@@ -41,9 +32,10 @@ class Run(NamedTuple):
 
 
 class Found(NamedTuple):
-    """The seeds that differ, and how often each thing came up."""
+    """The seeds that differ, with the way in which the input came and the first lines that differ, in words; and how
+    often each thing came up."""
 
-    differing: dict[int, Difference]
+    differing: dict[int, str]
     counts: Counter[Counted]
 
     @property
@@ -84,7 +76,9 @@ def found_of(folder: Path, seed: int, runs: Iterable[Run], counted: Iterable[Cou
         if run.wanted != run.found:
             texts = {"model": text_of(run.wanted), "program": text_of(run.found)}
             keep(folder, seed, {**run.files, **texts})
-            return Found({seed: Difference(run.way, *first_difference(*texts.values()))}, counts)
+            by_model, by_program = first_difference(texts["model"], texts["program"])
+            words = f"{run.way}\n    the model:   {by_model}\n    the program: {by_program}"
+            return Found({seed: words}, counts)
     return Found({}, counts)
 
 
@@ -102,17 +96,6 @@ def print_counts(counts: Counter[Counted]) -> None:
         print(f"{group or 'runs'}:")
         for shape, count in shapes.most_common():
             print(f"  {count:8} {100 * count / total:5.1f} %  {shape}")
-
-
-def compare_and_print(judge: Judge, given: argparse.Namespace, folder: Path) -> Found:
-    """Compares all seeds, and prints those that differ when they come."""
-    whole = Found({}, Counter())
-    for part in compare(judge, given.program, folder, range(given.first, given.last + 1), given.jobs):
-        for seed, each in part.differing.items():
-            print(f"seed {seed}, {each.way}\n    the model:   {each.wanted}\n    the program: {each.found}", flush=True)
-        whole.differing.update(part.differing)
-        whole.counts.update(part.counts)
-    return whole
 
 
 def arguments(comparison: Comparison, program: Path) -> argparse.Namespace:
@@ -136,15 +119,19 @@ def main(comparison: Comparison, program: Path) -> int:
     given = arguments(comparison, program)
     folder = Path(given.keep or tempfile.mkdtemp(prefix="svnhist-fuzz-"))
     folder.mkdir(parents=True, exist_ok=True)
-    found = compare_and_print(comparison.judge, given, folder)
+    whole = Found({}, Counter())
+    for found in compare(comparison.judge, given.program, folder, range(given.first, given.last + 1), given.jobs):
+        for seed, words in found.differing.items():
+            print(f"seed {seed}, {words}", flush=True)
+        whole.differing.update(found.differing)
+        whole.counts.update(found.counts)
     if given.counts:
-        print_counts(found.counts)
-    differing = len(found.differing)
+        print_counts(whole.counts)
+    differing, runs = len(whole.differing), whole.runs
     if differing:
         print(f"kept in {folder}")
     elif not given.keep:
         folder.rmdir()
-    ended = found.counts[RUNS, comparison.ending]
-    agreeing = found.runs - differing
-    print(f"{found.runs} seeds, {ended} with a {comparison.ending}: {agreeing} agree, {differing} differ")
-    return 1 if differing or found.runs == 0 else 0
+    ended = whole.counts[RUNS, comparison.ending]
+    print(f"{runs} seeds, {ended} with a {comparison.ending}: {runs - differing} agree, {differing} differ")
+    return 1 if differing or runs == 0 else 0

@@ -226,10 +226,10 @@ def is_bad_record(headers: Headers, revisions: int) -> bool:
         return True
     if action in (b"delete", b"change"):
         return False
-    if b"Node-copyfrom-rev" in headers and b"Node-copyfrom-path" in headers:
+    has_rev, has_path = b"Node-copyfrom-rev" in headers, b"Node-copyfrom-path" in headers
+    if has_rev and has_path:
         return number_of(headers[b"Node-copyfrom-rev"], GREATEST_REVISION) is None
-    has_part = b"Node-copyfrom-rev" in headers or b"Node-copyfrom-path" in headers
-    return has_part or headers.get(b"Node-kind") not in (b"file", b"dir")
+    return has_rev or has_path or headers.get(b"Node-kind") not in (b"file", b"dir")
 
 
 def reason_against(form: int, headers: Headers, record: Record, revisions: int) -> str | None:
@@ -518,19 +518,13 @@ def candidates(history: History, source: Place, target: Place) -> list[tuple[int
 
 
 def merged(history: History, source: Place, target: Place) -> Lines:
-    return [
-        b"r%d" % rev + (b"" if inheritable else b"*")
-        for rev, _, inheritable in candidates(history, source, target)
-        if inheritable is not None
-    ]
+    found = candidates(history, source, target)
+    return [b"r%d" % rev + (b"" if inheritable else b"*") for rev, _, inheritable in found if inheritable is not None]
 
 
 def eligible(history: History, source: Place, target: Place) -> Lines:
-    return [
-        b"r%d" % rev
-        for rev, place, inheritable in candidates(history, source, target)
-        if inheritable is None and location(history.trees, *target, rev) != place
-    ]
+    found = [(rev, place) for rev, place, inheritable in candidates(history, source, target) if inheritable is None]
+    return [b"r%d" % rev for rev, place in found if location(history.trees, *target, rev) != place]
 
 
 def lines_in(lines: Lines, low: int, high: int) -> Lines:
@@ -596,10 +590,9 @@ def numbers_of(fields: Iterable[bytes]) -> list[int]:
     """The values of BLOCK, WORKERS and the number of queries, or of the first two of them."""
     most = (GREATEST_REVISION, MOST_WORKERS, MOST_QUERIES)
     numbers = [number_of(field, greatest) for field, greatest in zip(fields, most)]
-    found = [number for number in numbers if number is not None]
-    if len(found) < len(numbers) or found[1] == 0:
+    if None in numbers or numbers[1] == 0:
         raise wrong_usage()
-    return found
+    return [number for number in numbers if number is not None]
 
 
 def wrong_usage() -> NoReport:
@@ -638,10 +631,9 @@ def answers_of(queries: Lines, dump: bytes) -> list[Lines]:
     return [answer_of(history, line) for line in queries]
 
 
-def report_of(answers: list[Lines]) -> bytes:
-    return b"".join(
-        b"#%d " % number + b"".join(line + b"\n" for line in lines) for number, lines in enumerate(answers, 1)
-    )
+def report_of(answers: list[Lines], first: int = 1) -> bytes:
+    """The answers, numbered from a first number on."""
+    return b"".join(b"#%d %s\n" % (number, b"\n".join(lines)) for number, lines in enumerate(answers, first))
 
 
 def main() -> int:

@@ -17,9 +17,6 @@ from model.odd_parts import PROP_DELTA, TEXT_DELTA
 # The kind of each path of a revision.
 Tree = dict[Path, bytes]
 
-# How many paths a tree has at most after a copy.
-MOST_PATHS = 50
-
 
 @dataclass
 class Block:
@@ -301,7 +298,7 @@ class Draft:
         top, rev = source
         copied = {path + each[len(top) :]: kind for each, kind in self.trees[rev].items() if is_below(each, top)}
         self.clear(path)
-        if self.chance(0.45) or len(copied) + len(self.trees[-1]) > MOST_PATHS:
+        if self.chance(0.45) or len(copied) + len(self.trees[-1]) > 50:
             kind = self.lot.choice((b"dir", b"dir", b"file"))
             self.trees[-1][path] = kind
             self.record(action, path, kind)

@@ -8,10 +8,11 @@ early.
 """
 from __future__ import annotations
 
+import contextlib
 import itertools
 import random
 import re
-from collections.abc import Callable, Iterator
+from collections.abc import Callable
 from typing import NamedTuple, Optional
 
 from dev import pieces
@@ -64,19 +65,14 @@ class Part(NamedTuple):
 # Parts of a dump
 
 
-def blocks_of(dump: bytes) -> Iterator[Block]:
-    """The blocks up to the first one that does not have its form."""
-    try:
-        definitions.format_of(dump)
-        yield from definitions.blocks_of(dump)
-    except definitions.NoReport:
-        return
-
-
 def places_of(dump: bytes) -> list[tuple[int, int, int]]:
     """The ends of blocks at which a dump may be cut, from the first revision on, each with the begin of the next block
-    and the youngest revision up to there."""
-    blocks = list(blocks_of(dump))
+    and the youngest revision up to there; up to the first block that does not have its form."""
+    blocks: list[Block] = []
+    with contextlib.suppress(definitions.NoReport):
+        definitions.format_of(dump)
+        for block in definitions.blocks_of(dump):
+            blocks.append(block)
     following = [block.at for block in blocks[1:]] + [block.end for block in blocks[-1:]]
     counts = itertools.accumulate(b"Revision-number" in block.headers for block in blocks)
     return [(block.end, at, count - 1) for block, at, count in zip(blocks, following, counts) if count > 0]
@@ -168,31 +164,19 @@ CHANGES: dict[Optional[Callable[[random.Random, list[Part]], None]], int] = {
 # Turns
 
 
-def fits(line: bytes, youngest: int) -> bool:
-    """Whether a line has pegs, and all are revisions that exist."""
-    pegs = PEG.findall(line)
-    return bool(pegs) and all(int(peg) <= youngest for peg in pegs)
-
-
 def drawn_line(lot: random.Random, queries: list[bytes], youngest: int) -> bytes:
     """A query, mostly one about revisions that exist, or a line that is nearly one before a piece."""
     if lot.random() < 0.05:
         return lot.choice(NEAR_PIECES)
-    fitting = [line for line in queries if fits(line, youngest)]
+    fitting = [line for line in queries if max(map(int, PEG.findall(line)), default=youngest + 1) <= youngest]
     return lot.choice(fitting if fitting and lot.random() < 0.9 else queries)
 
 
-def drawn_count(lot: random.Random, is_last: bool) -> int:
-    """How many lines stand after a part of the dump."""
-    if lot.random() < 0.02:
-        return lot.randint(1, 300)
-    return lot.choice((0, 5, 10, 20) if is_last else (0, 0, 1, 1, 2, 3, 5, 8, 12))
-
-
-def drawn_lines(lot: random.Random, queries: list[bytes], asked: list[bytes], youngest: int, count: int) -> list[bytes]:
-    """Lines after a part of the dump, some of which were asked before."""
+def drawn_lines(lot: random.Random, queries: list[bytes], asked: list[bytes], youngest: int, last: bool) -> list[bytes]:
+    """Lines after a part of the dump, or after the last one, some of which were asked before."""
+    few = (0, 5, 10, 20) if last else (0, 0, 1, 1, 2, 3, 5, 8, 12)
     found: list[bytes] = []
-    for _ in range(count):
+    for _ in range(lot.randint(1, 300) if lot.random() < 0.02 else lot.choice(few)):
         if asked + found and lot.random() < 0.3:
             found.append(lot.choice(asked + found))
         else:
@@ -216,7 +200,7 @@ def input_of(lot: random.Random, queries: list[bytes], parts: list[Part]) -> byt
             given += piece_turn(lot, part)
         if part.is_cut:
             break
-        lines = drawn_lines(lot, queries, asked, part.youngest, drawn_count(lot, number == len(parts) - 1))
+        lines = drawn_lines(lot, queries, asked, part.youngest, number == len(parts) - 1)
         given += b"".join(line + b"\n" for line in lines)
         asked += lines
     return given

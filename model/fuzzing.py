@@ -16,13 +16,12 @@ from pathlib import Path
 
 from dev import dialogue, pieces
 from dev.dialogue import Step
-from dev.running import Outcome, Words
+from dev.running import SECONDS, Outcome, Words
 from dev.tree import programs
 from model import bundles, comparing, definitions
 from model.comparing import RUNS, Comparison, Counted, Found, Run
 from model.definitions import Lines
 
-SECONDS = 60
 # The share of the dumps whose blocks are moved.
 MOVED = 0.25
 # A line of an answer to `merged` with a revision that is not inheritable.
@@ -44,11 +43,6 @@ def by_model(bundle: bytes) -> tuple[list[Lines], Outcome]:
         return [], Outcome(None, b"", traceback.format_exc().encode())
 
 
-def moved_by(size: int, outcome: Outcome) -> Outcome:
-    """What is wanted of a dump whose blocks are later by so many bytes."""
-    return outcome._replace(errors=OFFSET.sub(lambda found: b"%d" % (int(found[0]) + size), outcome.errors))
-
-
 def ended(words: Words, given: Iterable[bytes] = ()) -> Outcome:
     """How a command ended whose input came in these pieces."""
     return dialogue.run(words, [Step(piece) for piece in given], SECONDS)
@@ -63,7 +57,8 @@ def runs_of(program: Path, folder: Path, seed: int, bundle: bytes, wanted: Outco
         return
     if lot.random() < MOVED:
         dump, size = pieces.moved(lot, dump)
-        wanted = moved_by(size, wanted)
+        errors = OFFSET.sub(lambda found: b"%d" % (int(found[0]) + size), wanted.errors)
+        wanted = wanted._replace(errors=errors)
     files = {"bundle": bundle, "dump": dump, "queries": b"".join(line + b"\n" for line in lines)}
     paths = comparing.keep(folder, seed, files)
     words: Words = [paths["queries"], *bundle.partition(b"\n")[0].split(b" ")[:2]]
@@ -99,9 +94,9 @@ def share_of(queries: Lines, answers: list[Lines]) -> Counted:
 
 def ending_of(outcome: Outcome) -> str:
     """A word for how a run ended: with a report, with the reason of a refusal, or with another status."""
-    reason = REASON.fullmatch(outcome.errors)
     if outcome.status == 0:
         return "report"
+    reason = REASON.fullmatch(outcome.errors)
     return reason[1].decode() if reason else f"status {outcome.status}"
 
 

@@ -17,14 +17,13 @@ from pathlib import Path
 
 from dev import dialogue, pieces
 from dev.dialogue import Step
-from dev.running import Outcome
+from dev.running import SECONDS, Outcome
 from dev.tree import programs
 from model import comparing, drawn_talks, turns
 from model.comparing import RUNS, Comparison, Counted, Found, Run
 from model.drawn_talks import DrawnTalk
 from model.turns import Talk
 
-SECONDS = 60
 WAYS = {"at once": 15, "turn by turn": 35, "byte by byte": 5, "cut": 15, "cut, with waits": 30}
 REASON = re.compile(r"dump refused: ([0-9]+ [A-Za-z]+) at (?:byte|record) [0-9]+")
 STATUS = re.compile(rb"#[0-9]+ (\S+)\n")
@@ -38,11 +37,6 @@ def by_model(drawn: DrawnTalk) -> Talk:
     except Exception:  # pylint: disable=broad-exception-caught
         # A fault of the model is a difference.
         return Talk([], -1, traceback.format_exc())
-
-
-def outcome_of(talk: Talk) -> Outcome:
-    line = b"svnhist: %s\n" % talk.line.encode() if talk.line else b""
-    return Outcome(talk.status, b"".join(each.text for each in talk.said), line)
 
 
 # How the input comes
@@ -75,12 +69,6 @@ def waits_of(lot: random.Random, way: str, cuts: list[int]) -> list[int]:
     return lot.sample(cuts, min(len(cuts), 6)) if way == "cut, with waits" else []
 
 
-def is_over(drawn: DrawnTalk, talk: Talk, at: int) -> bool:
-    """Whether the talk has ended when so many bytes of its input have come."""
-    was_last = not talk.said or talk.said[-1].at <= at
-    return talk.status != 0 and was_last and turns.is_over(drawn.dump, drawn.given[:at])
-
-
 def steps_at(drawn: DrawnTalk, talk: Talk, cuts: list[int], waits: list[int]) -> Iterator[Step]:
     """The input up to each cut, up to the one at which the talk is seen to have ended."""
     begin = 0
@@ -89,7 +77,8 @@ def steps_at(drawn: DrawnTalk, talk: Talk, cuts: list[int], waits: list[int]) ->
         if at not in waits:
             yield Step(text)
             continue
-        has_ended = is_over(drawn, talk, at)
+        was_last = not talk.said or talk.said[-1].at <= at
+        has_ended = talk.status != 0 and was_last and turns.is_over(drawn.dump, drawn.given[:at])
         yield Step(text, sum(len(each.text) for each in talk.said if each.at <= at), has_ended)
         if has_ended:
             break
@@ -100,11 +89,9 @@ def steps_at(drawn: DrawnTalk, talk: Talk, cuts: list[int], waits: list[int]) ->
 
 def ending_of(talk: Talk) -> str:
     """How a talk ended, in words: with its input, or with a reason against its dump or a piece."""
-    if talk.status == 0:
-        return WHOLE
     reason = REASON.fullmatch(talk.line)
     if not reason:
-        return talk.line
+        return talk.line or WHOLE
     return ("a piece: " if talk.said else "the dump: ") + reason[1]
 
 
@@ -133,7 +120,9 @@ def judge(program: Path, folder: Path, seed: int) -> Found:
     with tempfile.TemporaryDirectory(prefix="svnhist-talks-") as own:
         paths = comparing.keep(Path(own), seed, files)
         found = dialogue.run([program, paths["dump"], str(drawn.workers)], steps, SECONDS)
-    run = Run(f"{drawn.workers} workers, the input {way}", files, outcome_of(talk), found)
+    line = b"svnhist: %s\n" % talk.line.encode() if talk.line else b""
+    wanted = Outcome(talk.status, b"".join(each.text for each in talk.said), line)
+    run = Run(f"{drawn.workers} workers, the input {way}", files, wanted, found)
     return comparing.found_of(folder, seed, [run], counted(way, talk))
 
 

@@ -43,11 +43,6 @@ def ready(history: History) -> bytes:
     return b"ready %d\n\n" % (len(history.trees) - 1)
 
 
-def answer(history: History, number: int, line: bytes) -> bytes:
-    status, *lines = definitions.answer_of(history, line)
-    return b"#%d %s\n" % (number, status) + b"".join(each + b"\n" for each in lines) + b"\n"
-
-
 def may_change(front: bytes, number: int, at: int) -> bool:
     """Whether a reason against these bytes may be none, or another one, if more of the dump follows them."""
     if number == 1:
@@ -81,7 +76,8 @@ def replies(dump: bytes, given: bytes) -> Iterator[Said]:
         size = piece_size(line)
         if size is None:
             count += 1
-            yield Said(at, answer(history, count, line))
+            answer = definitions.answer_of(history, line)
+            yield Said(at, definitions.report_of([answer], count) + b"\n")
         else:
             piece = given[at : at + size]
             dump += piece
