@@ -5,14 +5,13 @@ import fcntl
 import os
 import select
 import subprocess
+import sys
 import time
 from collections.abc import Iterable, Sequence
 from typing import IO, NamedTuple
 
 from dev.running import Outcome, Words
 
-# The command of Linux that sets the size of a pipe, which Python before 3.10 has no name for.
-SET_PIPE_SIZE = getattr(fcntl, "F_SETPIPE_SZ", 1031)
 # The size of the smallest pipe. One of this size can be written to only when it is empty.
 PAGE = 4096
 
@@ -60,18 +59,16 @@ class Dialogue:
         except BrokenPipeError:
             self.input.close()
 
-    def wait_for(self, size: int) -> None:
-        """Returns when so many bytes were printed, or the program has ended."""
+    def wait_for(self, size: int, what: str = "a reply did not come") -> None:
+        """Returns when so many bytes were printed, or the program prints no more."""
         until = time.monotonic() + self.seconds
         while self.open and len(self.output) < size:
-            self.step(until, "a reply did not come")
+            self.step(until, what)
 
     def wait_for_end(self) -> None:
         """Returns when the program has ended."""
-        until = time.monotonic() + self.seconds
-        while self.open:
-            self.step(until, "the end did not come")
-        self.child.wait(max(0.0, until - time.monotonic()))
+        self.wait_for(sys.maxsize, "the end did not come")
+        self.child.wait(self.seconds)
 
     def take(self, steps: Iterable[Step]) -> Outcome:
         for step in steps:
@@ -94,7 +91,8 @@ def run(words: Words, steps: Sequence[Step], seconds: float) -> Outcome:
         dialogue = Dialogue(child, seconds)
         os.set_blocking(dialogue.input.fileno(), False)
         if all(len(step.text) <= PAGE for step in steps):
-            fcntl.fcntl(dialogue.input, SET_PIPE_SIZE, PAGE)
+            # Python before 3.10 has no name for the command that sets the size of a pipe.
+            fcntl.fcntl(dialogue.input, getattr(fcntl, "F_SETPIPE_SZ", 1031), PAGE)
         try:
             return dialogue.take(steps)
         except (TimeoutError, subprocess.TimeoutExpired) as late:

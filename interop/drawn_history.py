@@ -18,15 +18,6 @@ def is_below(path: str, above: str) -> bool:
     return path == above or above == "" or path.startswith(above + "/")
 
 
-def below(tree: Tree, top: str) -> Tree:
-    """The kinds of a path and of what is below it, by what follows it in their paths."""
-    return {
-        path[len(top) :] if top else "/" + path if path else "": kind
-        for path, kind in tree.items()
-        if is_below(path, top)
-    }
-
-
 class Draft:
     """A revision in the making, whose steps avoid the paths that others of its steps changed."""
 
@@ -81,7 +72,7 @@ class Draft:
         if not sources:
             return []
         source = self.lot.one_of(sources)
-        kinds = below(self.trees[rev], source)
+        kinds = {path[len(source) :]: kind for path, kind in self.trees[rev].items() if is_below(path, source)}
         if len(self.tree) + len(kinds) > MOST_PATHS:
             return []
         steps = ["delete", fresh] if fresh in self.tree else []

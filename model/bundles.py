@@ -95,7 +95,6 @@ def parts_of(lot: random.Random, seed: int) -> tuple[list[bytes], bytes]:
 def bundle_of(seed: int) -> bytes:
     lot = random.Random(seed)
     queries, dump = parts_of(lot, seed)
-    is_odd = lot.random() < 0.005
-    head = lot.choice(odd.HEADS) if is_odd else b"%d %d %%d" % (lot.randint(0, 5), lot.randint(1, 4))
+    head = lot.choice(odd.HEADS) if lot.random() < 0.005 else b"%d %d %%d" % (lot.randint(0, 5), lot.randint(1, 4))
     lines = [head % len(queries) if b"%" in head else head, *queries]
     return b"".join(line + b"\n" for line in lines) + dump

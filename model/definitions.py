@@ -26,7 +26,6 @@ HEADERS_READ = {b"UUID", b"Revision-number", *OF_NODES, *LENGTHS, b"Prop-delta",
 GREATEST_LENGTH = 9223372036854775807
 GREATEST_REVISION = 2147483647
 MOST_QUERIES = 1000000
-MOST_WORKERS = 64
 ELEMENT = re.compile(rb"([0-9]+)(?:-([0-9]+))?(\*?)")
 
 # The components of a path.
@@ -588,7 +587,7 @@ def answer_of(history: History, line: bytes) -> Lines:
 
 def numbers_of(fields: Iterable[bytes]) -> list[int]:
     """The values of BLOCK, WORKERS and the number of queries, or of the first two of them."""
-    most = (GREATEST_REVISION, MOST_WORKERS, MOST_QUERIES)
+    most = (GREATEST_REVISION, 64, MOST_QUERIES)
     numbers = [number_of(field, greatest) for field, greatest in zip(fields, most)]
     if None in numbers or numbers[1] == 0:
         raise wrong_usage()
