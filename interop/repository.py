@@ -161,9 +161,8 @@ class Repository:
     def log(self, place: Place, some: Sequence[int] | None = None) -> Answer:
         """The answer with all revisions or with some."""
         status, segments, revisions = self.history(place)
-        return Answer(
-            status, ["r%d %s" % (rev, path_in(segments, rev)) for rev in (revisions if some is None else some)]
-        )
+        wanted = revisions if some is None else some
+        return Answer(status, ["r%d %s" % (rev, path_in(segments, rev)) for rev in wanted])
 
     def _run_log(self, place: Place, *more: str) -> Outcome:
         return self.tools.try_run("svn", "log", "-q", *more, self.target(place))
@@ -191,4 +190,4 @@ class Repository:
         """Whether the text of svn:mergeinfo that holds for a path is malformed. Subversion answers as if there were
         none."""
         text = self.opened.nearest_mergeinfo(*place)
-        return text is not None and parsed(text).status != "ok"
+        return text is not None and bindings.parsed(text) is None
