@@ -11,20 +11,21 @@ from collections.abc import Callable, Mapping, Sequence
 from contextlib import ExitStack
 from dataclasses import dataclass
 from pathlib import Path
-from typing import IO, NamedTuple, Optional, Union
+from typing import IO, NamedTuple, Union
 
 # A word of a command line, and a command line.
 Word = Union[str, bytes, Path]
 Words = Sequence[Word]
 # Seconds until a run counts as hung.
 SECONDS = 60
+NOTHING = Path(os.devnull)
 STARTER = Path(__file__).with_name("starter.py")
 
 
 class Outcome(NamedTuple):
     """How a run ended: its exit status, None if it had to be killed, and what it printed."""
 
-    status: Optional[int]
+    status: int | None
     output: bytes
     errors: bytes
 
@@ -59,9 +60,7 @@ def run(
     The variables stand beside those of this process; one that is None is taken away."""
     variables: dict[str, str | None] = {**os.environ, **(environment or {})}
     with ExitStack() as files:
-        output: int | IO[bytes] = subprocess.PIPE
-        if taker is not None:
-            output = files.enter_context(open(taker, "wb"))
+        output: int | IO[bytes] = subprocess.PIPE if taker is None else files.enter_context(open(taker, "wb"))
         source = None
         if isinstance(given, Path):
             # By the system's call, since it may be a directory.
@@ -97,29 +96,29 @@ class Measured(NamedTuple):
     peak: int
     outcome: Outcome
 
-    def expect(self, status: int = 0) -> Measured:
-        if self.outcome.status != status:
+    def expect(self) -> Measured:
+        if self.outcome.status != 0:
             raise Failed("the command ended with " + self.outcome.shown())
         return self
 
 
-def measure(words: Words, feeder: Words | None = None, file: Path = Path(os.devnull), is_kept: bool = True) -> Measured:
+def fed_by(feeder: Words, processes: ExitStack) -> IO[bytes] | None:
+    """What a command prints, which runs until the end of the processes."""
+    return processes.enter_context(subprocess.Popen(feeder, stdout=subprocess.PIPE)).stdout
+
+
+def measure(words: Words, feeder: Words | None = None, file: Path = NOTHING, is_kept: bool = True) -> Measured:
     """Runs a command whose input is a file or the output of another command. Output that is not kept goes to
     /dev/null."""
-    with tempfile.TemporaryFile() as errors, ExitStack() as files:
-        output = files.enter_context(tempfile.TemporaryFile() if is_kept else open(os.devnull, "w+b"))
+    with ExitStack() as files:
+        errors = files.enter_context(tempfile.TemporaryFile())
+        output = files.enter_context(tempfile.TemporaryFile() if is_kept else open(NOTHING, "w+b"))
         began = time.perf_counter()
-        feeding = None if feeder is None else subprocess.Popen(feeder, stdout=subprocess.PIPE)
-        source = feeding.stdout if feeding is not None and feeding.stdout is not None else open(file, "rb")
-        with source:
-            child = subprocess.Popen(
-                words, stdin=source, stdout=output, stderr=errors, env={**os.environ, "LC_ALL": "C"}
-            )
+        given = fed_by(feeder, files) if feeder else files.enter_context(open(file, "rb"))
+        child = subprocess.Popen(words, stdin=given, stdout=output, stderr=errors, env={**os.environ, "LC_ALL": "C"})
         _, status, usage = os.wait4(child.pid, 0)
         wall = time.perf_counter() - began
         child.returncode = os.waitstatus_to_exitcode(status)
-        if feeding is not None:
-            feeding.wait()
         output.seek(0)
         errors.seek(0)
         outcome = Outcome(child.returncode, output.read(), errors.read())
@@ -132,18 +131,15 @@ def best_of(times: int, runs: Callable[[], Measured]) -> Measured:
 
 
 def started(
-    words: Words, *, feeder: Words | None = None, report: Path = Path(os.devnull), limits: Limits = Limits(120)
+    words: Words, *, feeder: Words | None = None, report: Path = NOTHING, limits: Limits = Limits(120)
 ) -> Measured:
     """Runs a command by a small process, since the system counts what the process that starts a command had before as
     memory of the command. What it prints goes to a file."""
-    starting: Words = [sys.executable, "-I", "-S", STARTER, str(int(limits.seconds)), str(limits.memory or -1), report]
+    starter: Words = [sys.executable, "-I", "-S", STARTER, str(int(limits.seconds)), str(limits.memory or -1), report]
+    pipe = subprocess.PIPE
     with ExitStack() as processes:
-        given: int | IO[bytes] | None = subprocess.DEVNULL
-        if feeder is not None:
-            given = processes.enter_context(subprocess.Popen(feeder, stdout=subprocess.PIPE)).stdout
-        done = subprocess.run(
-            [*starting, *words], stdin=given, stdout=subprocess.PIPE, stderr=subprocess.PIPE, check=True
-        )
+        given = fed_by(feeder, processes) if feeder else subprocess.DEVNULL
+        done = subprocess.run([*starter, *words], stdin=given, stdout=pipe, stderr=pipe, check=True)
     wall, processor, peak, status = done.stdout.split()
     return Measured(float(wall), float(processor), int(peak) * 1024, Outcome(int(status), b"", done.stderr))
 

@@ -51,10 +51,10 @@ def shown(lines: list[bytes] | None) -> str:
 
 
 class Compared(NamedTuple):
-    """What came of a dump: how many queries agree and differ, how many ways gave another report, and what is wrong, in
-    words."""
+    """What came of a dump: how many queries were asked and how many answers differ, how many ways gave another report,
+    and what is wrong, in words."""
 
-    agreeing: int
+    queries: int
     differing: int
     wrong_ways: int
     wrong: list[str]
@@ -90,17 +90,9 @@ def compare(program: Path, recorded: Recorded) -> Compared:
     queries = recorded.lines()
     found = run([program], recorded.bundle(queries), limits=LIMITS)
     if found.status != 0:
-        return Compared(0, len(queries), 0, [f"{recorded.name}: no report, {found.shown()}"])
+        return Compared(len(queries), len(queries), 0, [f"{recorded.name}: no report, {found.shown()}"])
     answers, others = wrong_answers(recorded, found.output), wrong_ways(program, recorded, found.output)
-    return Compared(len(queries) - len(answers), len(answers), len(others), answers + others)
-
-
-def compare_and_print(program: Path, recorded: Recorded) -> Compared:
-    found = compare(program, recorded)
-    for words in found.wrong:
-        print(words)
-    print(f"{recorded.name:20} {found.agreeing:5} agree, {found.differing:4} differ")
-    return found
+    return Compared(len(queries), len(answers), len(others), answers + others)
 
 
 def main() -> int:
@@ -110,12 +102,17 @@ def main() -> int:
     parser.add_argument("--recorded", type=Path, default=INTEROP, help="the folder with the recorded files")
     given = parser.parse_args()
     program = Path(os.path.abspath(given.program))
-    found = [compare_and_print(program, each) for each in recorded_in(given.recorded)]
-    agreeing, differing = sum(each.agreeing for each in found), sum(each.differing for each in found)
-    wrong = sum(each.wrong_ways for each in found)
-    print(f"{len(found) * len(ways())} runs on files and from pipes: {wrong} print another report than the bundle")
-    print(f"{len(found)} dumps, {agreeing + differing} queries: {agreeing} agree, {differing} differ")
-    return 1 if differing or wrong or not found else 0
+    dumps = recorded_in(given.recorded)
+    queries = differing = wrong = 0
+    for recorded in dumps:
+        found = compare(program, recorded)
+        for each in found.wrong:
+            print(each)
+        print(f"{recorded.name:20} {found.queries - found.differing:5} agree, {found.differing:4} differ")
+        queries, differing, wrong = queries + found.queries, differing + found.differing, wrong + found.wrong_ways
+    print(f"{len(dumps) * len(ways())} runs on files and from pipes: {wrong} print another report than the bundle")
+    print(f"{len(dumps)} dumps, {queries} queries: {queries - differing} agree, {differing} differ")
+    return 1 if differing or wrong or not dumps else 0
 
 
 if __name__ == "__main__":

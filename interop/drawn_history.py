@@ -10,22 +10,12 @@ Tree = dict[str, str]
 # The words of a step, none where there is no path for it.
 Step = list[str]
 
-SEED = 20
 # How deep directories are in which something is added, how far back the sources of copies are, and how large trees are.
 DEEPEST, OLDEST, MOST_PATHS = 4, 8, 40
 
 
 def is_below(path: str, above: str) -> bool:
     return path == above or above == "" or path.startswith(above + "/")
-
-
-def below(tree: Tree, top: str) -> Tree:
-    """The kinds of a path and of what is below it, by what follows it in their paths."""
-    return {
-        path[len(top) :] if top else "/" + path if path else "": kind
-        for path, kind in tree.items()
-        if is_below(path, top)
-    }
 
 
 class Draft:
@@ -82,7 +72,7 @@ class Draft:
         if not sources:
             return []
         source = self.lot.one_of(sources)
-        kinds = below(self.trees[rev], source)
+        kinds = {path[len(source) :]: kind for path, kind in self.trees[rev].items() if is_below(path, source)}
         if len(self.tree) + len(kinds) > MOST_PATHS:
             return []
         steps = ["delete", fresh] if fresh in self.tree else []
@@ -92,7 +82,7 @@ class Draft:
 
 def drawn_revisions(count: int) -> Iterator[Step]:
     """The steps of so many revisions."""
-    lot = Lot(SEED)
+    lot = Lot(20)
     trees: list[Tree] = [{"": "dir"}]
     for rev in range(1, count + 1):
         draft = Draft(lot, trees)

@@ -16,25 +16,19 @@ Make = Callable[[Workshop], None]
 def branches(shop: Workshop) -> None:
     """Branches and tags, a branch that is deleted, and tags of older revisions."""
     shop.make("trunk/lib", "branches", "tags")
-    shop.write("trunk/main.c", "int main;\n")
-    shop.write("trunk/lib/util.c", "int util;\n")
-    shop.commit("Begin")  # 1
-    shop.write("trunk/main.c", "int main = 1;\n")
-    shop.commit("Change the program")  # 2
+    shop.commit("Begin", {"trunk/main.c": "int main;\n", "trunk/lib/util.c": "int util;\n"})  # 1
+    shop.commit("Change the program", {"trunk/main.c": "int main = 1;\n"})  # 2
     shop.server("copy", "HEAD", "trunk", "branches/one")  # 3
     shop.server("copy", "1", "trunk", "tags/begun")  # 4, of an older revision
-    shop.write("branches/one/new.c", "int new;\n")
-    shop.write("trunk/lib/late.c", "int late;\n")
-    shop.commit("Add a file to each line")  # 5
+    shop.commit("Add a file to each line", {"branches/one/new.c": "int new;\n", "trunk/lib/late.c": "int late;\n"})  # 5
     shop.server("copy", "HEAD", "branches/one", "tags/one-1.0")  # 6
     shop.server("copy", "HEAD", "trunk/lib", "branches/lib")  # 7, of a part alone
     shop.delete("branches/one")
     shop.commit("The branch is done")  # 8
     shop.copy("trunk", "branches/two")
-    shop.write("branches/two/main.c", "int main = 2;\n")
-    shop.write("branches/two/lib/two.c", "int two;\n")
     shop.delete("branches/two/lib/util.c")
-    shop.commit("Branch and change in one revision")  # 9
+    files = {"branches/two/main.c": "int main = 2;\n", "branches/two/lib/two.c": "int two;\n"}
+    shop.commit("Branch and change in one revision", files)  # 9
     shop.server("copy", "5", "branches/one", "branches/one-again")  # 10
     shop.server("copy", "4", "branches/one/lib", "branches/two/lib/old")  # 11
     shop.server("delete", "tags/begun")  # 12
@@ -44,34 +38,25 @@ def branches(shop: Workshop) -> None:
 def renames(shop: Workshop) -> None:
     """Renames of files and directories, inside a renamed directory, back to the first name, and a swap of two names."""
     shop.make("a/b/c")
-    shop.write("a/x", "x\n")
-    shop.write("a/b/y", "y\n")
-    shop.write("a/b/c/z", "z\n")
-    shop.write("top", "top\n")
-    shop.commit("Begin")  # 1
-    shop.move("a/x", "a/x2")
+    shop.commit("Begin", {"a/x": "x\n", "a/b/y": "y\n", "a/b/c/z": "z\n", "top": "top\n"})  # 1
+    shop.move({"a/x": "a/x2"})
     shop.commit("Rename a file")  # 2
-    shop.move("a", "m")
+    shop.move({"a": "m"})
     shop.commit("Rename a directory")  # 3
-    shop.move("m", "n")
-    shop.move("n/b", "n/bb")
-    shop.write("n/bb/y", "y\nmore\n")
-    shop.commit("Rename a directory and one inside it, and change a file")  # 4
-    shop.move("n/bb/c/z", "z")
-    shop.move("n/bb/c", "n/x2.dir")
+    shop.move({"m": "n", "n/b": "n/bb"})
+    shop.commit("Rename a directory and one inside it, and change a file", {"n/bb/y": "y\nmore\n"})  # 4
+    shop.move({"n/bb/c/z": "z", "n/bb/c": "n/x2.dir"})
     shop.commit("Move up")  # 5
-    shop.move("n", "a")
+    shop.move({"n": "a"})
     shop.commit("Back to the first name")  # 6
-    shop.move("top", "hold")
-    shop.move("z", "top")
-    shop.move("hold", "z")
+    shop.move({"top": "hold", "z": "top", "hold": "z"})
     shop.commit("Swap two names")  # 7
-    shop.move("a/x2", "A")
+    shop.move({"a/x2": "A"})
     shop.commit("A name in other letters")  # 8
     shop.make("deep/er/still")
-    shop.move("a/bb", "deep/er/still/bb")
+    shop.move({"a/bb": "deep/er/still/bb"})
     shop.commit("Move into directories that are new too")  # 9
-    shop.move("deep/er", "er")
+    shop.move({"deep/er": "er"})
     shop.delete("deep")
     shop.commit("Move out and delete what is left")  # 10
 
@@ -79,9 +64,7 @@ def renames(shop: Workshop) -> None:
 def copies(shop: Workshop) -> None:
     """Copies of copies, into themselves, of older revisions, of the root, with changes, and of mixed revisions."""
     shop.make("s/in")
-    shop.write("s/f", "f\n")
-    shop.write("s/in/g", "g\n")
-    shop.commit("Begin")  # 1
+    shop.commit("Begin", {"s/f": "f\n", "s/in/g": "g\n"})  # 1
     shop.server("copy", "HEAD", "s", "t")  # 2
     shop.server("copy", "HEAD", "t", "u")  # 3
     shop.server("copy", "HEAD", "u/in", "u/in/in")  # 4, a directory into itself
@@ -93,16 +76,13 @@ def copies(shop: Workshop) -> None:
     shop.copy("v/u/in", "p/u/again")
     shop.delete("p/u/in")
     shop.copy("s/f", "p/in/f")
-    shop.write("p/in/f", "f\nin p\n")
-    shop.commit("A copy with copies, a deletion and a change in it")  # 9
-    shop.write("s/f", "f\n10\n")
-    shop.commit("One file", update=False)  # 10
-    shop.write("s/in/g", "g\n11\n")
-    shop.commit("Another file", update=False)  # 11, the working copy has mixed revisions
+    shop.commit("A copy with copies, a deletion and a change in it", {"p/in/f": "f\nin p\n"})  # 9
+    shop.commit("One file", {"s/f": "f\n10\n"}, update=False)  # 10
+    shop.commit("Another file", {"s/in/g": "g\n11\n"}, update=False)  # 11, the working copy has mixed revisions
     shop.copy("s", "mixed")
     shop.commit("A copy of mixed revisions")  # 12
-    shop.svn("update", "-q", "-r", "7", "s/in")
-    shop.svn("update", "-q", "-r", "4", "s/u")
+    shop.svn("update", "-r", "7", "s/in")
+    shop.svn("update", "-r", "4", "s/u")
     shop.copy("s", "mixed2")
     shop.commit("A copy that leaves out what was not there")  # 13
     shop.server("copy", "HEAD", "mixed", "chain1")  # 14
@@ -114,18 +94,12 @@ def copies(shop: Workshop) -> None:
 def replaced(shop: Workshop) -> None:
     """Replaced files and directories: by new ones, by copies, by the other kind, inside a copy, and by oneself."""
     shop.make("d/in", "e")
-    shop.write("f", "f\n")
-    shop.write("d/g", "g\n")
-    shop.write("d/in/h", "h\n")
-    shop.write("e/g", "other g\n")
-    shop.commit("Begin")  # 1
+    shop.commit("Begin", {"f": "f\n", "d/g": "g\n", "d/in/h": "h\n", "e/g": "other g\n"})  # 1
     shop.delete("f")
-    shop.write("f", "another f\n")
-    shop.commit("A file by a new one")  # 2
+    shop.commit("A file by a new one", {"f": "another f\n"})  # 2
     shop.delete("d")
     shop.make("d")
-    shop.write("d/g", "another g\n")
-    shop.commit("A directory by a new one")  # 3
+    shop.commit("A directory by a new one", {"d/g": "another g\n"})  # 3
     shop.delete("f")
     shop.copy("e/g", "f")
     shop.commit("A file by a copy")  # 4
@@ -136,14 +110,12 @@ def replaced(shop: Workshop) -> None:
     shop.delete("k/in")
     shop.copy("e", "k/in")
     shop.delete("k/g")
-    shop.write("k/g", "new in a copy\n")
-    shop.commit("Replacements inside a copy")  # 8
+    shop.commit("Replacements inside a copy", {"k/g": "new in a copy\n"})  # 8
     shop.server("delete", "e", "put", "e")  # 9, a directory by a file
     shop.server("delete", "f", "mkdir", "f")  # 10, a file by a directory
     shop.delete("k")
     shop.copy("d", "k")
-    shop.write("k/in/more", "more\n")
-    shop.commit("A directory by a copy with an addition")  # 11
+    shop.commit("A directory by a copy with an addition", {"k/in/more": "more\n"})  # 11
     shop.server("copy", "8", "k/in", "in8")  # 12
     shop.server("delete", "d", "mkdir", "d", "copy", "8", "k/in", "d/in")  # 13
 
@@ -151,20 +123,17 @@ def replaced(shop: Workshop) -> None:
 def again(shop: Workshop) -> None:
     """Paths deleted and added again: new, as copies of the same or of other sources, or from an older revision."""
     shop.make("trunk/a", "b")
-    shop.write("trunk/a/f", "f\n")
-    shop.commit("Begin")  # 1
+    shop.commit("Begin", {"trunk/a/f": "f\n"})  # 1
     shop.server("copy", "HEAD", "trunk", "b/one")  # 2
     shop.server("delete", "b/one")  # 3
     shop.server("copy", "HEAD", "trunk", "b/one")  # 4, the same source again
     shop.server("delete", "b/one/a/f")  # 5
-    shop.write("b/one/a/f", "new\n")
-    shop.commit("New at a path that was copied before")  # 6
+    shop.commit("New at a path that was copied before", {"b/one/a/f": "new\n"})  # 6
     shop.server("delete", "b/one")  # 7
     shop.server("copy", "6", "b/one", "b/one")  # 8, out of the past
     shop.server("delete", "trunk/a")  # 9
     shop.make("trunk/a")
-    shop.write("trunk/a/f", "fresh\n")
-    shop.commit("New at a deleted path")  # 10
+    shop.commit("New at a deleted path", {"trunk/a/f": "fresh\n"})  # 10
     shop.server("copy", "HEAD", "trunk", "b/two")  # 11
     shop.server("delete", "trunk/a/f", "delete", "b/two/a")  # 12
     shop.server("copy", "1", "trunk/a/f", "trunk/a/f")  # 13, the first, not the second
@@ -177,134 +146,88 @@ def again(shop: Workshop) -> None:
 def merges(shop: Workshop) -> None:
     """Merges: of all eligible revisions, of one, reversed, recorded only, into a subdirectory, and back."""
     shop.make("trunk/lib", "branches")
-    shop.write("trunk/a", "a\n")
-    shop.write("trunk/lib/b", "b\n")
-    shop.commit("Begin")  # 1
+    shop.commit("Begin", {"trunk/a": "a\n", "trunk/lib/b": "b\n"})  # 1
     shop.server("copy", "HEAD", "trunk", "branches/one")  # 2
     shop.server("copy", "HEAD", "trunk", "branches/two")  # 3
-    shop.write("trunk/new", "new\n")
     shop.make("trunk/dir")
-    shop.write("trunk/dir/in", "in\n")
-    shop.commit("Additions that a merge will copy")  # 4
-    shop.write("trunk/a", "a\nmore\n")
-    shop.commit("Change a file")  # 5
+    shop.commit("Additions that a merge will copy", {"trunk/new": "new\n", "trunk/dir/in": "in\n"})  # 4
+    shop.commit("Change a file", {"trunk/a": "a\nmore\n"})  # 5
     shop.delete("trunk/lib/b")
     shop.commit("Delete a file")  # 6
-    shop.svn("merge", "-q", "^/trunk", "branches/one")
-    shop.commit("Merge all that is due")  # 7
-    shop.svn("merge", "-q", "-c", "5", "^/trunk", "branches/two")
-    shop.commit("Pick one change")  # 8
-    shop.svn("merge", "-q", "--record-only", "-c", "6", "^/trunk", "branches/two")
-    shop.commit("Record one change alone")  # 9
-    shop.write("branches/one/new", "new\nin one\n")
-    shop.write("branches/one/only", "only\n")
-    shop.commit("Work on the branch")  # 10
-    shop.svn("merge", "-q", "^/branches/one", "trunk")
-    shop.commit("Merge the branch back")  # 11
-    shop.svn("merge", "-q", "-c", "-11", "^/trunk", "trunk")
-    shop.commit("Reverse that")  # 12
-    shop.svn("merge", "-q", "-c", "4", "^/trunk", "branches/two")
-    shop.commit("Pick the additions")  # 13
-    shop.write("trunk/dir/in", "in\n14\n")
-    shop.commit("Change inside a directory")  # 14
-    shop.svn("merge", "-q", "-c", "14", "^/trunk/dir", "branches/two/dir")
-    shop.commit("Merge into a part of a branch")  # 15
-    shop.svn("merge", "-q", "--accept", "working", "-c", "-8", "^/branches/two", "branches/two")
-    shop.commit("Reverse on the branch")  # 16
+    shop.merge("Merge all that is due", "^/trunk", "branches/one")  # 7
+    shop.merge("Pick one change", "-c", "5", "^/trunk", "branches/two")  # 8
+    shop.merge("Record one change alone", "--record-only", "-c", "6", "^/trunk", "branches/two")  # 9
+    shop.commit("Work on the branch", {"branches/one/new": "new\nin one\n", "branches/one/only": "only\n"})  # 10
+    shop.merge("Merge the branch back", "^/branches/one", "trunk")  # 11
+    shop.merge("Reverse that", "-c", "-11", "^/trunk", "trunk")  # 12
+    shop.merge("Pick the additions", "-c", "4", "^/trunk", "branches/two")  # 13
+    shop.commit("Change inside a directory", {"trunk/dir/in": "in\n14\n"})  # 14
+    shop.merge("Merge into a part of a branch", "-c", "14", "^/trunk/dir", "branches/two/dir")  # 15
+    shop.merge("Reverse on the branch", "--accept", "working", "-c", "-8", "^/branches/two", "branches/two")  # 16
     shop.server("copy", "11", "trunk", "branches/three")  # 17, takes its mergeinfo along
-    shop.svn("propdel", "-q", "svn:mergeinfo", "branches/one")
+    shop.set("branches/one", {"svn:mergeinfo": None})
     shop.commit("Forget what was merged")  # 18
-    shop.svn("merge", "-q", "--depth", "files", "-c", "14", "^/trunk", "branches/three")
-    shop.commit("Merge what is for the directory alone")  # 19
+    shop.merge(
+        "Merge what is for the directory alone", "--depth", "files", "-c", "14", "^/trunk", "branches/three"
+    )  # 19
 
 
 def properties(shop: Workshop) -> None:
     """Properties that look like parts of a dump, with newlines and all bytes; set, changed and deleted."""
     shop.make("d", "dup")
-    shop.write("f", "")
-    shop.write("no-newline", "no newline at the end")
-    shop.write(
-        "looks-like-a-dump",
-        "SVN-fs-dump-format-version: 2\n\nRevision-number: 1\n\nNode-path: evil\nNode-action: delete\n\nPROPS-END\n",
-    )
-    shop.commit("Begin")  # 1
-    shop.property("f", "lines", b"one\ntwo\n\nthree\n")
-    shop.property("f", "headers", b"PROPS-END\n\nNode-path: d\nNode-action: delete\n\nK 3\nkey\nV 5\nvalue\n")
+    blocks = "Revision-number: 1\n\nNode-path: evil\nNode-action: delete\n\nPROPS-END\n"
+    shop.write({"looks-like-a-dump": "SVN-fs-dump-format-version: 2\n\n" + blocks})
+    shop.commit("Begin", {"f": "", "no-newline": "no newline at the end"})  # 1
+    headers = b"PROPS-END\n\nNode-path: d\nNode-action: delete\n\nK 3\nkey\nV 5\nvalue\n"
+    shop.set("f", {"lines": b"one\ntwo\n\nthree\n", "headers": headers})
     shop.commit("Properties with newlines")  # 2
-    shop.property("d", "bytes", bytes(range(256)))
-    shop.property("d", "zeros", b"\0\0\0")
-    shop.property("d", "empty", b"")
+    shop.set("d", {"bytes": bytes(range(256)), "zeros": b"\0\0\0", "empty": b""})
     shop.commit("Properties with all bytes, with zeros and with nothing")  # 3
-    shop.property("d", "svn:ignore", b"*.o\n*.a\n")
-    shop.property("f", "svn:eol-style", b"native")
-    shop.property("f", "svn:keywords", b"Id Revision")
-    shop.property("no-newline", "svn:executable", b"*")
-    shop.property(".", "of-the-root", b"\xff\xfe\x00root\n")
+    shop.set("d", {"svn:ignore": b"*.o\n*.a\n"})
+    shop.set("f", {"svn:eol-style": b"native", "svn:keywords": b"Id Revision"})
+    shop.set("no-newline", {"svn:executable": b"*"})
+    shop.set(".", {"of-the-root": b"\xff\xfe\x00root\n"})
     shop.commit("Properties that Subversion knows, and one of the root")  # 4
-    shop.svn("propdel", "-q", "lines", "f")
-    shop.svn("propdel", "-q", "zeros", "d")
-    shop.property("f", "headers", b"V 1\nD 3\nkey\n")
+    shop.set("d", {"zeros": None})
+    shop.set("f", {"lines": None, "headers": b"V 1\nD 3\nkey\n"})
     shop.commit("Delete and change")  # 5
     shop.copy("d", "e")
-    shop.property("e", "bytes", bytes(reversed(range(256))))
-    shop.svn("propdel", "-q", "svn:ignore", "e")
+    shop.set("e", {"bytes": bytes(reversed(range(256))), "svn:ignore": None})
     shop.copy("f", "dup/f")
     shop.commit("Copies, with and without changed properties")  # 6
     shop.link("link", "looks-like-a-dump")
-    shop.write("binary", bytes(range(256)) * 2)
-    shop.commit("A link and a text of all bytes")  # 7
-    shop.property(".", "of-the-root", b"")
-    shop.property("f", "long", b"".join(b"%d\n" % n for n in range(300)))
+    shop.commit("A link and a text of all bytes", {"binary": bytes(range(256)) * 2})  # 7
+    shop.set(".", {"of-the-root": b""})
+    shop.set("f", {"long": b"".join(b"%d\n" % n for n in range(300))})
     shop.delete("d")
     shop.commit("An empty value, a long one, and a deletion")  # 8
-    shop.move("e", "d")
-    shop.property("d", "odd:name_-.9", b"name")
+    shop.move({"e": "d"})
+    shop.set("d", {"odd:name_-.9": b"name"})
     shop.commit("A rename with a property that has an odd name")  # 9
-    shop.svn("propdel", "-q", "headers", "f")
-    shop.svn("propdel", "-q", "long", "f")
-    shop.svn("propdel", "-q", "svn:eol-style", "f")
-    shop.svn("propdel", "-q", "svn:keywords", "f")
+    shop.set("f", {"headers": None, "long": None, "svn:eol-style": None, "svn:keywords": None})
     shop.commit("The last property goes")  # 10
 
 
 def names(shop: Workshop) -> None:
     """Names that are hard to write in a header or in a query."""
     shop.make("at@here", "two  spaces", " leading", "trailing ", "@", "@2", "d@")
-    shop.write("at@here/a@1", "a\n")
-    shop.write("at@here/@@", "b\n")
-    shop.write("two  spaces/a b", "c\n")
-    shop.write(" leading/ x ", "d\n")
-    shop.write("trailing /...", "e\n")
-    shop.write("Node-path: x", "f\n")
-    shop.commit("Begin")  # 1
+    shop.write({"at@here/a@1": "a\n", "at@here/@@": "b\n", "two  spaces/a b": "c\n"})
+    shop.commit("Begin", {" leading/ x ": "d\n", "trailing /...": "e\n", "Node-path: x": "f\n"})  # 1
     shop.make("\u00fcml\u00e4ut", "u\u0308mla\u0308ut", "\u540d\u524d", ".hidden", "-", "~")
-    shop.write("\u540d\u524d/\U0001f600", "g\n")
-    shop.write("\u00fcml\u00e4ut/\u00df.txt", "h\n")
-    shop.write("u\u0308mla\u0308ut/\u00df.txt", "i\n")
-    shop.commit("Names beyond ASCII")  # 2
-    shop.move("at@here", "at@there")
-    shop.move("two  spaces", "two spaces")
+    shop.write({"\u00fcml\u00e4ut/\u00df.txt": "h\n", "u\u0308mla\u0308ut/\u00df.txt": "i\n"})
+    shop.commit("Names beyond ASCII", {"\u540d\u524d/\U0001f600": "g\n"})  # 2
+    shop.move({"at@here": "at@there", "two  spaces": "two spaces"})
     shop.commit("Rename two")  # 3
-    shop.move("\u00fcml\u00e4ut", "trailing /\u00fcml\u00e4ut")
-    shop.move("\u540d\u524d", "\u540d")
+    shop.move({"\u00fcml\u00e4ut": "trailing /\u00fcml\u00e4ut", "\u540d\u524d": "\u540d"})
     shop.copy("@", "@@")
-    shop.write("@@/@1", "j\n")
-    shop.commit("Rename others")  # 4
+    shop.commit("Rename others", {"@@/@1": "j\n"})  # 4
     shop.make("%41", "a:b", "#", "?", "&amp;", '"quoted"', "back\\slash", "*", "$HOME", "[x]", "{y}")
-    shop.write("%41/%2F", "k\n")
-    shop.write("a:b/Content-length: 7", "l\n")
-    shop.write("#/-r", "m\n")
-    shop.write("back\\slash/n\\", "n\n")
-    shop.commit("Names with signs")  # 5
-    shop.move("%41", "A")
-    shop.move("a:b", "a: b")
-    shop.move("back\\slash", "?/back\\slash")
+    shop.write({"%41/%2F": "k\n", "a:b/Content-length: 7": "l\n"})
+    shop.commit("Names with signs", {"#/-r": "m\n", "back\\slash/n\\": "n\n"})  # 5
+    shop.move({"%41": "A", "a:b": "a: b", "back\\slash": "?/back\\slash", "d@": "d", "@2": "d@"})
     shop.copy("#", "# #")
-    shop.move("d@", "d")
-    shop.move("@2", "d@")
     shop.commit("Rename those")  # 6
-    shop.move(" leading", "leading")
-    shop.move("trailing ", "trailing")
+    shop.move({" leading": "leading", "trailing ": "trailing"})
     shop.delete("@@")
     shop.copy("@", "@@")
     shop.commit("Without the spaces")  # 7
@@ -313,23 +236,21 @@ def names(shop: Workshop) -> None:
 def roots(shop: Workshop) -> None:
     """Changes of the root, revisions that change nothing, and files beside the usual directories."""
     shop.empty_revision()  # 1
-    shop.property(".", "of-the-root", b"one")
+    shop.set(".", {"of-the-root": b"one"})
     shop.commit("A property of the root in an empty tree")  # 2
-    shop.write("f", "f\n")
     shop.make("d")
-    shop.commit("Begin")  # 3
+    shop.commit("Begin", {"f": "f\n"})  # 3
     shop.empty_revision()  # 4
     shop.empty_revision()  # 5
     shop.server("copy", "HEAD", "", "all")  # 6
-    shop.property(".", "of-the-root", b"two")
-    shop.write("d/g", "g\n")
-    shop.move("f", "d/f")
-    shop.commit("The root and what is below it")  # 7
+    shop.set(".", {"of-the-root": b"two"})
+    shop.move({"f": "d/f"})
+    shop.commit("The root and what is below it", {"d/g": "g\n"})  # 7
     shop.server("propset", "of-the-root", "two", "")  # 8, to what it is
     shop.server("copy", "4", "", "all/old")  # 9
     shop.server("delete", "all/f")  # 10
     shop.empty_revision()  # 11
-    shop.svn("propdel", "-q", "of-the-root", ".")
+    shop.set(".", {"of-the-root": None})
     shop.commit("No properties of the root")  # 12
     shop.server("copy", "1", "", "nothing")  # 13, an empty root
     shop.server("delete", "d", "delete", "all", "delete", "nothing")  # 14, an empty tree
@@ -342,8 +263,7 @@ def deep(shop: Workshop) -> None:
     """Deeply nested directories, and a file that moves at each step."""
     folders = ["l%d" % depth for depth in range(12)]
     shop.make("/".join(folders))
-    shop.write("f", "f\n")
-    shop.commit("Begin")  # 1
+    shop.commit("Begin", {"f": "f\n"})  # 1
     here = "f"
     for depth in range(1, len(folders) + 1):  # 2 to 13
         there = "/".join(folders[:depth] + ["f%d" % depth])
@@ -366,10 +286,7 @@ def drawn(shop: Workshop) -> None:
 def inherited(shop: Workshop) -> None:
     """Values that are inherited, over levels, in part, and from the root; emptied, copied, replaced and removed."""
     shop.make("trunk/a/b/c", "trunk/lib", "branches")
-    shop.write("trunk/f", "f\n")
-    shop.write("trunk/a/g", "g\n")
-    shop.write("trunk/a/b/h", "h\n")
-    shop.commit("Begin")  # 1
+    shop.commit("Begin", {"trunk/f": "f\n", "trunk/a/g": "g\n", "trunk/a/b/h": "h\n"})  # 1
     shop.mergeinfo({"trunk": b"/a:1\n/a-b:1\n/a.b/c:1\n/a0:1"})  # 2, in another order below it
     shop.mergeinfo({"trunk/a": b"/other:1*,2\n/others:2*"})  # 3, of which a part is inherited
     shop.mergeinfo({"": b"/:1,2*,3\n/vendor:2*"})  # 4, the root as a source path
@@ -391,8 +308,7 @@ def inherited(shop: Workshop) -> None:
 def written(shop: Workshop) -> None:
     """Values in forms that no client writes: blanks, overlapping ranges, several lines of one path, unusual paths."""
     shop.make("d/in/side", "e/in")
-    shop.write("d/in/f", "f\n")
-    shop.commit("Begin")  # 1
+    shop.commit("Begin", {"d/in/f": "f\n"})  # 1
     shop.mergeinfo({"d": b"/trunk: \t 3-5,7", "e": b"/trunk:9,3-5*,1,7-8,6*\n"})  # 2
     shop.mergeinfo({"d": b"/trunk:3-6,5-9,4,12,10-11", "e": b"/trunk:4-6*,5-9*,1-3"})  # 3
     shop.mergeinfo({"d": b"/trunk:3*\n/b:1\n/trunk:1-2*\n/trunk:3,5\n/b:2-3*"})  # 4
@@ -409,8 +325,7 @@ def written(shop: Workshop) -> None:
 def malformed(shop: Workshop) -> None:
     """Malformed values: above and below good ones, of the root, copied, put right, replaced and removed."""
     shop.make("trunk/a/b", "branches")
-    shop.write("trunk/a/f", "f\n")
-    shop.commit("Begin")  # 1
+    shop.commit("Begin", {"trunk/a/f": "f\n"})  # 1
     shop.mergeinfo({"": b"/vendor:1", "trunk": b"no colon"})  # 2
     shop.mergeinfo({"trunk/a": b"/b:2"})  # 3, a good value below it
     shop.server("copy", "HEAD", "trunk", "branches/one")  # 4
@@ -425,19 +340,5 @@ def malformed(shop: Workshop) -> None:
     shop.mergeinfo({"branches/one": b"/trunk: 4"})  # 13
 
 
-ALL: list[Make] = [
-    branches,
-    renames,
-    copies,
-    replaced,
-    again,
-    merges,
-    properties,
-    names,
-    roots,
-    deep,
-    drawn,
-    inherited,
-    written,
-    malformed,
-]
+OF_VALUES = [inherited, written, malformed]
+ALL = [branches, renames, copies, replaced, again, merges, properties, names, roots, deep, drawn, *OF_VALUES]

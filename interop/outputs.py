@@ -6,6 +6,7 @@ output is the code of the error, such as E160013.
 """
 from __future__ import annotations
 
+import itertools
 import random
 import re
 import urllib.parse
@@ -17,9 +18,7 @@ from dev import running
 from interop.tools import ENVIRONMENT
 
 BRANCH = re.compile(r"/(?:trunk|(?:b|branches|tags)/[^/]+)\Z")
-LOGS = 40
-PAIRS = 40
-ERROR = re.compile(r"^svn: (E\d+):", re.MULTILINE)
+ERROR = re.compile(rb"^svn: (E[0-9]+):", re.MULTILINE)
 
 
 class Output(NamedTuple):
@@ -43,23 +42,16 @@ def read(path: str | Path) -> Iterator[Output]:
 def write(path: Path, outputs: Sequence[Output]) -> None:
     with open(path, "wb") as file:
         for output in outputs:
-            file.write(
-                b"$ %s\n%d %d\n%s\n"
-                % ("\t".join(output.arguments).encode(), output.status, len(output.text), output.text)
-            )
-
-
-def target(path: str, peg: int) -> str:
-    return f"{path}@{peg}"
+            arguments = "\t".join(output.arguments).encode()
+            file.write(b"$ %s\n%d %d\n%s\n" % (arguments, output.status, len(output.text), output.text))
 
 
 def run(url: str, arguments: list[str]) -> Output:
     """What `svn` prints, with a URL in place of each target."""
-    words = ["svn", *(as_url(url, word) for word in arguments)]
-    done = running.run(words, environment=ENVIRONMENT)
+    done = running.run(["svn", *(as_url(url, word) for word in arguments)], environment=ENVIRONMENT)
     if done.status != 0:
-        found = ERROR.search(done.errors.decode("utf-8", "replace"))
-        return Output(arguments, 1, found[1].encode() if found else b"")
+        found = ERROR.search(done.errors)
+        return Output(arguments, 1, found[1] if found else b"")
     return Output(arguments, 0, done.output)
 
 
@@ -76,7 +68,7 @@ def log_of(lot: random.Random, trees: Sequence[Sequence[str]]) -> list[str]:
     paths = sorted({path for tree in trees for path in tree})
     rev = lot.choice([head, lot.randint(0, head)])
     path = lot.choice(list(trees[rev]) if lot.random() < 0.9 else paths)
-    words = ["log", target(path, rev)]
+    words = ["log", f"{path}@{rev}"]
     for option, share in (("-q", 0.3), ("-v", 0.5), ("--stop-on-copy", 0.2)):
         if lot.random() < share:
             words.append(option)
@@ -87,28 +79,17 @@ def log_of(lot: random.Random, trees: Sequence[Sequence[str]]) -> list[str]:
     return words
 
 
-def pairs_of(lot: random.Random, trees: Sequence[Sequence[str]]) -> list[tuple[str, str]]:
-    """Pairs of branches of the youngest revision, or of a path below each."""
-    branches = [path for path in trees[-1] if BRANCH.match(path)]
-    pairs = [(one, other) for one in branches for other in branches if one != other]
-    return lot.sample(pairs, min(len(pairs), PAIRS))
-
-
 def arguments_of(name: str, trees: Sequence[Sequence[str]]) -> Iterator[list[str]]:
-    """All commands for a repository, given the paths of each revision."""
+    """All commands for a repository, given the paths of each revision: logs, and the merges of some pairs of branches
+    of the youngest revision, or of a path below each."""
     lot = random.Random(name)
     head = len(trees) - 1
-    for _ in range(LOGS):
+    for _ in range(40):
         yield log_of(lot, trees)
-    for source, sink in pairs_of(lot, trees):
+    branches = [f"{path}@{head}" for path in trees[-1] if BRANCH.match(path)]
+    pairs = list(itertools.permutations(branches, 2))
+    for pair in lot.sample(pairs, min(len(pairs), 40)):
         for verb in ("merged", "eligible"):
-            words = ["mergeinfo", "--show-revs", verb, target(source, head), target(sink, head)]
+            words = ["mergeinfo", "--show-revs", verb, *pair]
             yield words
             yield words + ["-R"]
-
-
-def record(name: str, url: str, trees: Sequence[Sequence[str]], path: Path) -> int:
-    """Writes what `svn` prints about a repository, and returns the number of commands."""
-    outputs = [run(url, words) for words in arguments_of(name, trees)]
-    write(path, outputs)
-    return len(outputs)

@@ -1,32 +1,21 @@
 """The recorded files: dumps, queries about them and the answers of Subversion."""
 from __future__ import annotations
 
+from operator import attrgetter
 from pathlib import Path
-from typing import NamedTuple
 
 from dev.tree import INTEROP
 
 
-class Recorded(NamedTuple):
+class Recorded:
     """The files of a dump. Its queries and answers are those of the repository, whose name ends at the first hyphen."""
 
-    folder: Path
-    name: str
-
-    def _path(self, suffix: str) -> Path:
-        return self.folder / (self.name.partition("-")[0] + suffix)
-
-    @property
-    def dump(self) -> Path:
-        return self.folder / (self.name + ".dump")
-
-    @property
-    def queries(self) -> Path:
-        return self._path(".queries")
-
-    @property
-    def answers(self) -> Path:
-        return self._path(".answers")
+    def __init__(self, dump: Path) -> None:
+        self.dump = dump
+        self.name = dump.stem
+        repository = self.name.partition("-")[0]
+        self.queries = dump.with_name(repository + ".queries")
+        self.answers = dump.with_name(repository + ".answers")
 
     def lines(self) -> list[bytes]:
         """The queries, without their newlines."""
@@ -40,4 +29,4 @@ class Recorded(NamedTuple):
 
 def recorded_in(folder: Path = INTEROP) -> list[Recorded]:
     """All dumps of a folder, in the order of their names."""
-    return [Recorded(folder, name) for name in sorted(path.name[: -len(".dump")] for path in folder.glob("*.dump"))]
+    return sorted(map(Recorded, folder.glob("*.dump")), key=attrgetter("name"))

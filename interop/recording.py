@@ -1,11 +1,5 @@
-"""Makes the repositories of histories.py with Subversion and records their dumps, queries and answers.
-
-Each repository is made, dumped, and loaded into a new one. For each path of each revision that one gives the location
-in each revision up to it (`svn info`), the location segments (the Python bindings), the log (`svn log`) and the
-effective mergeinfo (the Python bindings), and for some pairs of them the merged and the eligible revisions (the Python
-bindings). The log and the merged and eligible revisions are asked for ranges of revisions too. Some of these queries
-are kept with their answers. Some repositories are dumped in format 3 too, for the same queries and answers. The texts
-of values.py are recorded with what Subversion's parser of mergeinfo makes of them. README.md has the details.
+"""Makes the repositories of histories.py with Subversion and records their dumps, queries and answers, and what its
+parser of mergeinfo makes of the texts of values.py. README.md says what is asked, and how.
 
 It needs Debian's own Python, for which the bindings are built.
 """
@@ -20,74 +14,47 @@ from pathlib import Path
 
 from dev.running import Failed
 from dev.tree import INTEROP
-from interop import bindings, histories, outputs, questions, values
-from interop.choosing import Wanted
+from interop import bindings, histories, outputs, values
+from interop.questions import Asked, Questions, Wanted
 from interop.repository import Answer, Repository, parsed
-from interop.tools import COMMANDS, Tools, url_of
+from interop.tools import COMMANDS, Tools
 from interop.workshop import Workshop
 
-# The repositories that are dumped in format 3 too.
-IN_FORMAT_3 = ("properties", "inherited", "merges")
-# How many texts of svn:mergeinfo are drawn.
-TEXTS = 600
-# A query and its answer.
-Line = tuple[str, Answer]
+NUMBERS = (
+    ("--most", 240, "locate queries kept of a repository; of segments, log and mergeinfo a sixth each"),
+    ("--pairs", 30, "queries kept of a repository, for merged and for eligible each"),
+    ("--ranges", 8, "queries with a range kept of a repository, for log, merged and eligible each"),
+)
+FLAGS = (
+    ("--above", "record revisions above the peg instead, for which svnhist differs"),
+    ("--differing", "record only the queries that are left out otherwise, as svnhist differs"),
+    ("--outputs", "record only what the command svn prints about the dumps that are recorded already"),
+)
 
 
-def wanted_of(given: argparse.Namespace) -> Wanted:
-    return Wanted(given.most, given.pairs, given.ranges, given.above, given.differing)
-
-
-def write_files(into: Path, name: str, dump: bytes, lines: Sequence[Line]) -> None:
-    """Writes the dump, the queries and the answers."""
-    (into / (name + ".dump")).write_bytes(dump)
-    (into / (name + ".queries")).write_bytes(b"".join(query.encode() + b"\n" for query, _ in lines))
-    (into / (name + ".answers")).write_bytes(report_of([answer for _, answer in lines]))
-
-
-def report_of(answers: Sequence[Answer]) -> bytes:
-    """Answers in the form of the program's report. Only `ok` has result lines."""
-    text = "".join(
+def write_files(into: Path, name: str, dump: bytes, queries: Sequence[str], answers: Sequence[Answer]) -> None:
+    """Writes the dump, the queries, and the answers in the form of the program's report, where only `ok` has result
+    lines."""
+    report = "".join(
         f"#{number} {status}\n" + "".join(line + "\n" for line in lines if status == "ok")
         for number, (status, lines) in enumerate(answers, 1)
     )
-    return text.encode("utf-8", "surrogateescape")
+    (into / (name + ".dump")).write_bytes(dump)
+    (into / (name + ".queries")).write_bytes(b"".join(query.encode() + b"\n" for query in queries))
+    (into / (name + ".answers")).write_bytes(report.encode("utf-8", "surrogateescape"))
 
 
 def record_values(into: Path, differing: bool) -> str:
     """Records what Subversion's parser makes of the texts of values.py; returns a summary."""
-    texts = values.drawn(TEXTS)
+    texts = values.drawn(600)
     causes = [values.causes(text, parsed) for text in texts]
     kept = [text for text, found in zip(texts, causes) if bool(found) == differing]
-    lines = [(f"mergeinfo\t/f{number}@1", parsed(text)) for number, text in enumerate(kept, 1)]
-    write_files(into, "values", values.dump_of(kept), lines)
+    queries = [f"mergeinfo\t/f{number}@1" for number in range(1, len(kept) + 1)]
+    write_files(into, "values", values.dump_of(kept), queries, list(map(parsed, kept)))
     told = [f"mergeinfo {len(kept)} of {len(texts)}"]
     if differing:
         told += [f"{name} {sum(name in found for found in causes)}" for name in values.EDITS]
     return ", ".join(told)
-
-
-def kept_of(made: Repository, loaded: Repository, name: str, wanted: Wanted) -> Iterator[questions.Kept]:
-    """The queries of all verbs that are kept."""
-    if not wanted.differing:
-        yield questions.locate_queries(loaded, name, wanted)
-    if not wanted.above:
-        for verb in questions.HISTORY_VERBS:
-            yield questions.history_queries(loaded, verb, name, wanted)
-        yield questions.mergeinfo_queries(made, loaded, name, wanted)
-        for verb_of_pairs in questions.MERGE_VERBS:
-            yield questions.merge_queries(loaded, verb_of_pairs, name, wanted)
-        yield questions.log_range_queries(loaded, name, wanted)
-        for verb_of_pairs in questions.MERGE_VERBS:
-            yield questions.merge_range_queries(loaded, verb_of_pairs, name, wanted)
-
-
-def write_in_format_3(tools: Tools, repository: Path, into: Path, name: str) -> None:
-    """Writes the two dumps of a repository in format 3."""
-    deltas = tools.run("svnadmin", "dump", "-q", "--deltas", repository)
-    (into / (name + "-deltas.dump")).write_bytes(deltas)
-    of_svnrdump = tools.run("svnrdump", "dump", "-q", *tools.options, url_of(repository))
-    (into / (name + "-svnrdump.dump")).write_bytes(of_svnrdump)
 
 
 def record(tools: Tools, make: histories.Make, given: argparse.Namespace) -> str:
@@ -100,13 +67,16 @@ def record(tools: Tools, make: histories.Make, given: argparse.Namespace) -> str
     tools.load(folder / "loaded", dump)
     made, loaded = Repository(tools, shop.repository), Repository(tools, folder / "loaded")
     told = [f"{len(loaded.trees) - 1} revisions"]
-    lines: list[Line] = []
-    for kept in kept_of(made, loaded, name, wanted_of(given)):
-        lines += [(each.line, each.answer) for each in kept.queries]
-        told.append(kept.told)
-    write_files(given.into, name, dump, lines)
-    if name in IN_FORMAT_3:
-        write_in_format_3(tools, loaded.folder, given.into, name)
+    asked: list[Asked] = []
+    wanted = Wanted(given.most, given.pairs, given.ranges, given.above, given.differing)
+    for kept, words in Questions(made, loaded, name, wanted).kept():
+        asked += kept
+        told.append(words)
+    write_files(given.into, name, dump, [each.line for each in asked], [each.answer for each in asked])
+    if name in ("properties", "inherited", "merges"):
+        deltas = tools.run("svnadmin", "dump", "-q", "--deltas", loaded.folder)
+        (given.into / (name + "-deltas.dump")).write_bytes(deltas)
+        (given.into / (name + "-svnrdump.dump")).write_bytes(tools.run("svnrdump", "dump", "-q", loaded.url))
     shutil.rmtree(folder)
     return ", ".join(told)
 
@@ -117,9 +87,10 @@ def record_outputs(tools: Tools, name: str, into: Path) -> str:
     loaded = Repository(tools, folder / "loaded")
     tools.load(loaded.folder, (INTEROP / (name + ".dump")).read_bytes())
     trees = [["/" + path for path in tree] for tree in loaded.trees]
-    count = outputs.record(name, loaded.url, trees, into / (name + ".svn"))
+    found = [outputs.run(loaded.url, words) for words in outputs.arguments_of(name, trees)]
+    outputs.write(into / (name + ".svn"), found)
     shutil.rmtree(folder)
-    return f"{count} commands"
+    return f"{len(found)} commands"
 
 
 def record_all(tools: Tools, given: argparse.Namespace) -> Iterator[tuple[str, str]]:
@@ -135,21 +106,12 @@ def record_all(tools: Tools, given: argparse.Namespace) -> Iterator[tuple[str, s
 def arguments() -> argparse.Namespace:
     words = "Records the answers of Subversion. It needs Subversion with its Python bindings."
     parser = argparse.ArgumentParser(prog="record", description=words)
-    words = "the repositories to record, and values; all by default"
-    parser.add_argument("names", nargs="*", help=words)
-    words = "most locate queries kept of a repository; of segments, log and mergeinfo a sixth each (default 240)"
-    parser.add_argument("--most", type=int, default=240, help=words)
-    words = "most queries kept of a repository, for merged and for eligible each (default 30)"
-    parser.add_argument("--pairs", type=int, default=30, help=words)
-    words = "most queries with a range kept of a repository, for log, merged and eligible each (default 8)"
-    parser.add_argument("--ranges", type=int, default=8, help=words)
+    parser.add_argument("names", nargs="*", help="the repositories to record, and values; all by default")
     parser.add_argument("--into", type=Path, default=INTEROP, help="the folder for the files")
-    words = "record revisions above the peg instead, for which svnhist differs"
-    parser.add_argument("--above", action="store_true", help=words)
-    words = "record only the queries that are left out otherwise, as svnhist differs"
-    parser.add_argument("--differing", action="store_true", help=words)
-    words = "record only what the command svn prints about the dumps that are recorded already"
-    parser.add_argument("--outputs", action="store_true", help=words)
+    for name, number, words in NUMBERS:
+        parser.add_argument(name, type=int, default=number, help=f"most {words} (default {number})")
+    for name, words in FLAGS:
+        parser.add_argument(name, action="store_true", help=words)
     given = parser.parse_args()
     if given.above and given.differing:
         parser.error("--above and --differing exclude each other")

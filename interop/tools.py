@@ -6,9 +6,9 @@ from pathlib import Path
 
 from dev.running import Failed, Limits, Outcome, Word, run
 
-LIMITS = Limits(600)
 ENVIRONMENT = {"LC_ALL": "C.UTF-8", "TZ": "UTC"}
-COMMANDS = ("svn", "svnadmin", "svnlook", "svnmucc", "svnrdump")
+# The commands, and whether they take settings.
+COMMANDS = {"svn": True, "svnadmin": False, "svnlook": False, "svnmucc": True, "svnrdump": True}
 
 
 class Tools:
@@ -16,24 +16,18 @@ class Tools:
 
     def __init__(self, folder: Path) -> None:
         self.folder = folder
-        # For the commands that take settings.
-        self.options: list[Word] = ["--non-interactive", "--config-dir", folder / "settings"]
 
-    def try_run(self, *words: Word, given: bytes = b"", folder: Path | None = None) -> Outcome:
-        return run(words, given, limits=LIMITS, environment=ENVIRONMENT, folder=folder)
+    def try_run(self, command: str, *words: Word, given: bytes = b"", folder: Path | None = None) -> Outcome:
+        options: list[Word] = ["--non-interactive", "--config-dir", self.folder / "settings"]
+        line = [command, *(options if COMMANDS[command] else []), *words]
+        return run(line, given, limits=Limits(600), environment=ENVIRONMENT, folder=folder)
 
-    def run(self, *words: Word, given: bytes = b"", folder: Path | None = None) -> bytes:
+    def run(self, command: str, *words: Word, given: bytes = b"", folder: Path | None = None) -> bytes:
         """What a command prints, which must succeed."""
-        done = self.try_run(*words, given=given, folder=folder)
+        done = self.try_run(command, *words, given=given, folder=folder)
         if done.status != 0:
-            raise Failed("%s\n%s" % (" ".join(map(str, words)), done.errors.decode("utf-8", "replace")))
+            raise Failed(" ".join(map(str, (command, *words))) + "\n" + said_by(done))
         return done.output
-
-    def try_svn(self, command: str, *words: Word, folder: Path | None = None) -> Outcome:
-        return self.try_run("svn", command, *self.options, *words, folder=folder)
-
-    def svn(self, command: str, *words: Word, folder: Path | None = None) -> bytes:
-        return self.run("svn", command, *self.options, *words, folder=folder)
 
     def youngest(self, repository: Path) -> int:
         """The youngest revision."""
@@ -43,6 +37,10 @@ class Tools:
         """Makes a repository of a dump."""
         self.run("svnadmin", "create", repository)
         self.run("svnadmin", "load", "-q", "--force-uuid", "--bypass-prop-validation", repository, given=dump)
+
+
+def said_by(done: Outcome) -> str:
+    return done.errors.decode("utf-8", "replace")
 
 
 def url_of(repository: Path) -> str:

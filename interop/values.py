@@ -3,44 +3,37 @@ from __future__ import annotations
 
 import re
 from collections.abc import Callable, Sequence
-from typing import NamedTuple, Optional
+from typing import Optional
 
 from dev import dumps
 from interop.lots import Lot
 
-
-class Pieces(NamedTuple):
-    """The pieces of a text that are drawn mostly, and those that are drawn once in so many times. None among them
-    stands for what is usual."""
-
-    usual: Sequence[Optional[bytes]]
-    times: int
-    odd: Sequence[bytes]
-
-
+# The pieces of a text: those that are drawn mostly, and those that are drawn once in so many times. None among them
+# stands for what is usual.
+Pieces = tuple[Sequence[Optional[bytes]], int, Sequence[bytes]]
 # fmt: off
-PIECES = {
-    "path": Pieces(
+PIECES: dict[str, Pieces] = {
+    "path": (
         [b"/a", b"/a/b", b"/a-b", b"/b", b"a", b"b/a", b"/"], 6,
         [b"", b"//", b"//a", b"/a/", b"a//b/", b"/a:b", b"/a:3", b":", b" /a", b"/a ", b"/\t", b"/a b", b"/a,1", b"/a*",
          b".", b"..", b"./a", b"/a/.", b"/./", b"/a/./b", b"/..", b"../b", b"/a/../b", b"/...", b"/.a", b"/a..",
          b"/a\r", b"/\r/b", b"/a\0", b"/\0/b", b"/\xc3\xa4", b"/a\xcc\x88", b"/\xff\xfe", b"/A", b"/a+b"]),
-    "colon": Pieces([b":"], 30, [b"", b"::", b" :", b"=", b":\n"]),
-    "blanks": Pieces(
+    "colon": ([b":"], 30, [b"", b"::", b" :", b"=", b":\n"]),
+    "blanks": (
         [b"", b"", b"", b" "], 15, [b"\t", b" \t  ", b"\r", b" \v", b"\f", b"\r ", b"\0", b"\xc2\xa0"]),
-    "element": Pieces(
+    "element": (
         [None], 30,
         [b"", b"*", b"-", b",", b"5-3", b"3-3", b"1-2-3", b"3-", b"-3", b"+3", b"3-+5", b"3 - 5", b" 3", b"3 ", b"x",
          b"3x", b"3.5", b"1e1", b"0x3", b"3\r", b"3\0", b"\xef\xbc\x93", b"HEAD"]),
-    "number": Pieces(
+    "number": (
         [None], 20,
         [b"0", b"00", b"2147483646", b"2147483647", b"2147483648", b"3000000000", b"4294967297", b"10000000000",
          b"18446744073709551617", b"9" * 40, b"007", b"0000000008", b"00000000009", b"0" * 20 + b"4", b"0" * 12]),
-    "star": Pieces([None], 30, [b"", b"*", b"**", b" *", b"*-9", b"*9"]),
-    "comma": Pieces([b","], 30, [b", ", b" ,", b",,", b";", b" ", b".", b"\t,", b",\n"]),
-    "end": Pieces([b""], 30, [b",", b" ", b"\t", b"\r", b":", b"\0", b";"]),
-    "newline": Pieces([b"\n"], 15, [b"\n\n", b"\r\n", b"\r", b"\n ", b"\0\n", b",\n"]),
-    "last": Pieces(
+    "star": ([None], 30, [b"", b"*", b"**", b" *", b"*-9", b"*9"]),
+    "comma": ([b","], 30, [b", ", b" ,", b",,", b";", b" ", b".", b"\t,", b",\n"]),
+    "end": ([b""], 30, [b",", b" ", b"\t", b"\r", b":", b"\0", b";"]),
+    "newline": ([b"\n"], 15, [b"\n\n", b"\r\n", b"\r", b"\n ", b"\0\n", b",\n"]),
+    "last": (
         [b"", b"", b"", b"\n"], 15,
         [b"\n\n", b"\r\n", b"\n\n\n", b" ", b"\0", b"\n\0", b"\n/a", b"\n:", b",\n"]),
 }
@@ -49,8 +42,8 @@ PIECES = {
 
 def draw_piece(lot: Lot, name: str, usual: bytes = b"") -> bytes:
     """One of the pieces of a name."""
-    pieces = PIECES[name]
-    piece = lot.one_of(pieces.usual if lot.below(pieces.times) else pieces.odd)
+    mostly, times, odd = PIECES[name]
+    piece = lot.one_of(mostly if lot.below(times) else odd)
     return usual if piece is None else piece
 
 

@@ -15,37 +15,29 @@ QUERIES = 100000
 WORKERS = 64
 # How many reports of all workers are compared, on all dumps together.
 TIMES = 100
-LIMITS = Limits(600)
-DESCRIPTION = (
-    f"Answers {QUERIES} queries with {WORKERS} workers and with one, in turn on each of the recorded dumps. "
-    "The exit status is 1 if a report differs."
-)
 
 
 def report(program: Path, recorded: Recorded, workers: int) -> bytes:
     """The report on the queries of a repository, which are repeated until there are enough."""
     queries = list(itertools.islice(itertools.cycle(recorded.lines()), QUERIES))
-    found = run([program], recorded.bundle(queries, workers), limits=LIMITS)
+    found = run([program], recorded.bundle(queries, workers), limits=Limits(600))
     if found.status != 0:
         raise Failed(f"{recorded.name}, {workers} workers: {found.shown()}")
     return found.output
-
-
-def compare(program: Path, recorded: Recorded, times: int) -> int:
-    """How many of so many reports about one dump differ."""
-    wanted = report(program, recorded, 1)
-    return sum(report(program, recorded, WORKERS) != wanted for _ in range(times))
 
 
 def compare_all(program: Path, times: int = TIMES) -> Iterator[tuple[str, int]]:
     """Compares so many reports, in turn on each of the dumps: its name, and how many of its reports differ."""
     dumps = recorded_in()
     for turn, recorded in enumerate(dumps):
-        yield recorded.name, compare(program, recorded, len(range(turn, times, len(dumps))))
+        wanted = report(program, recorded, 1)
+        yield recorded.name, sum(report(program, recorded, WORKERS) != wanted for _ in range(turn, times, len(dumps)))
 
 
 def main() -> int:
-    parser = argparse.ArgumentParser(prog="workers", description=DESCRIPTION)
+    words = f"Answers {QUERIES} queries with {WORKERS} workers and with one, in turn on each of the recorded dumps. "
+    words += "The exit status is 1 if a report differs."
+    parser = argparse.ArgumentParser(prog="workers", description=words)
     parser.add_argument("program", help="the built program")
     words = f"how many reports of {WORKERS} workers are compared ({TIMES})"
     parser.add_argument("--times", type=int, default=TIMES, help=words)

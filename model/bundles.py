@@ -9,20 +9,11 @@ any.
 from __future__ import annotations
 
 import random
-from collections.abc import Callable
-from typing import NamedTuple
 
 from model import odd_parts as odd
 from model import ranges
-from model.drafts import Draft, Path, changed
-
-
-class Parts(NamedTuple):
-    """The draft of a history, queries about it, and its dump."""
-
-    draft: Draft
-    queries: list[bytes]
-    dump: bytes
+from model.definitions import Path
+from model.drafts import Draft, changed
 
 
 def peg_of(draft: Draft, path: Path, rev: int) -> bytes:
@@ -55,31 +46,20 @@ def revision(draft: Draft) -> bytes:
     return b"%s%d" % (b"0" if draft.chance(0.03) else b"", draft.lot.randint(0, draft.lot.randint(0, len(draft.trees))))
 
 
-# The fields of each query with one peg.
-VERBS: dict[bytes, tuple[Callable[[Draft], bytes], ...]] = {
-    b"locate": (peg, revision),
-    b"segments": (peg,),
-    b"log": (peg,),
-    b"mergeinfo": (peg,),
-}
-# The verbs with a source and a target.
-PAIRS = (b"merged", b"eligible")
-
-
 def verb_and_fields(draft: Draft) -> tuple[bytes, list[bytes]]:
     lot = draft.lot
     if draft.chance(draft.pairs):
-        return lot.choice(PAIRS), [peg_of(draft, path, rev) for path, rev in draft.source_and_target()]
-    verb = lot.choice(list(VERBS))
-    return verb, [field(draft) for field in VERBS[verb]]
+        verb = lot.choice((b"merged", b"eligible"))
+        return verb, [peg_of(draft, path, rev) for path, rev in draft.source_and_target()]
+    verb = lot.choice((b"locate", b"segments", b"log", b"mergeinfo"))
+    return verb, [peg(draft)] + ([revision(draft)] if verb == b"locate" else [])
 
 
 def with_odd_field(draft: Draft, fields: list[bytes]) -> list[bytes]:
     """The fields with one replaced, left out or added."""
     lot = draft.lot
     at = lot.randrange(len(fields) + 1)
-    choices: list[list[bytes]] = [[], [peg(draft)], [lot.choice(odd.FIELDS)], [lot.choice(odd.FIELDS)]]
-    more = lot.choice(choices)
+    more: list[bytes] = lot.choice([[], [peg(draft)], [lot.choice(odd.FIELDS)], [lot.choice(odd.FIELDS)]])
     return fields[:at] + more + fields[at + lot.choice((0, 1, 1)) :]
 
 
@@ -92,7 +72,8 @@ def query(draft: Draft) -> bytes:
     return changed(lot, line).replace(b"\n", b"\r") if draft.chance(0.03) else line
 
 
-def parts_of(lot: random.Random, seed: int) -> Parts:
+def parts_of(lot: random.Random, seed: int) -> tuple[list[bytes], bytes]:
+    """Queries, and the dump of a history."""
     draft = Draft(lot)
     youngest = lot.randint(0, 12) if draft.chance(0.1) else lot.randint(4, 12)
     faulty = lot.randint(1, max(youngest, 1)) if draft.chance(0.1) else None
@@ -108,12 +89,12 @@ def parts_of(lot: random.Random, seed: int) -> Parts:
             dump = changed(lot, dump)
     if draft.chance(0.01):
         dump = dump[: lot.randrange(len(dump))]
-    return Parts(draft, queries, dump)
+    return queries, dump
 
 
 def bundle_of(seed: int) -> bytes:
     lot = random.Random(seed)
-    draft, queries, dump = parts_of(lot, seed)
-    head = lot.choice(odd.HEADS) if draft.chance(0.005) else b"%d %d %%d" % (lot.randint(0, 5), lot.randint(1, 4))
-    first_line = head % len(queries) if b"%" in head else head
-    return first_line + b"\n" + b"".join(line + b"\n" for line in queries) + dump
+    queries, dump = parts_of(lot, seed)
+    head = lot.choice(odd.HEADS) if lot.random() < 0.005 else b"%d %d %%d" % (lot.randint(0, 5), lot.randint(1, 4))
+    lines = [head % len(queries) if b"%" in head else head, *queries]
+    return b"".join(line + b"\n" for line in lines) + dump

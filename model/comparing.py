@@ -2,13 +2,12 @@
 from __future__ import annotations
 
 import argparse
-import collections
 import functools
 import multiprocessing
 import os
 import tempfile
 from collections import Counter
-from collections.abc import Callable, Iterator, Mapping, Sequence
+from collections.abc import Callable, Iterable, Iterator, Mapping
 from pathlib import Path
 from typing import NamedTuple
 
@@ -19,33 +18,34 @@ from dev.running import Outcome
 PORTION = 50
 # The group of what is counted that has how the runs ended, one for each seed.
 RUNS = ""
+# Something that came up: its group, such as a verb, and its shape.
+Counted = tuple[str, str]
 
 
-class Difference(NamedTuple):
-    """A run that differs: the way in which its input came, and the first lines that differ, of the model and of the
-    program."""
+class Run(NamedTuple):
+    """A run of the program: the way in which its input came, its files, how it must end and how it ended."""
 
     way: str
-    wanted: str
-    found: str
+    files: Mapping[str, bytes]
+    wanted: Outcome
+    found: Outcome
 
 
-class Counted(NamedTuple):
-    """Something that came up: its group, such as a verb, and its shape."""
+class Found(NamedTuple):
+    """The seeds that differ, with the way in which the input came and the first lines that differ, in words; and how
+    often each thing came up."""
 
-    group: str
-    shape: str
+    differing: dict[int, str]
+    counts: Counter[Counted]
+
+    @property
+    def runs(self) -> int:
+        """How many seeds were judged."""
+        return sum(count for (group, _), count in self.counts.items() if group == RUNS)
 
 
-class Judged(NamedTuple):
-    """The difference that a seed shows, if there is one, and what is counted of it."""
-
-    difference: Difference | None
-    counted: list[Counted]
-
-
-# Judges a program by a seed, with a folder for what is kept.
-Judge = Callable[[Path, Path, int], Judged]
+# What is found of a program and a seed, with a folder for what is kept.
+Judge = Callable[[Path, Path, int], Found]
 
 
 class Comparison(NamedTuple):
@@ -55,18 +55,6 @@ class Comparison(NamedTuple):
     description: str
     judge: Judge
     ending: str
-
-
-class Found(NamedTuple):
-    """The seeds that differ, and how often each thing came up."""
-
-    differing: dict[int, Difference]
-    counts: Counter[Counted]
-
-    @property
-    def runs(self) -> int:
-        """How many seeds were judged."""
-        return sum(count for each, count in self.counts.items() if each.group == RUNS)
 
 
 def text_of(outcome: Outcome) -> bytes:
@@ -81,53 +69,33 @@ def keep(folder: Path, seed: int, files: Mapping[str, bytes]) -> dict[str, Path]
     return paths
 
 
-def difference(
-    folder: Path, seed: int, files: Mapping[str, bytes], way: str, wanted: Outcome, found: Outcome
-) -> Difference | None:
-    """The difference of two outcomes, if there is one; the files and both outcomes are kept then."""
-    if wanted == found:
-        return None
-    texts = {"model": text_of(wanted), "program": text_of(found)}
-    keep(folder, seed, {**files, **texts})
-    return Difference(way, *first_difference(texts["model"], texts["program"]))
-
-
-def compare_portion(judge: Judge, program: Path, folder: Path, seeds: Sequence[int]) -> Found:
-    found = Found({}, collections.Counter())
-    for seed in seeds:
-        judged = judge(program, folder, seed)
-        found.counts.update(judged.counted)
-        if judged.difference:
-            found.differing[seed] = judged.difference
-    return found
+def found_of(folder: Path, seed: int, runs: Iterable[Run], counted: Iterable[Counted]) -> Found:
+    """What is found of a seed. The files and both outcomes of the first run that differs are kept."""
+    counts = Counter(counted)
+    for run in runs:
+        if run.wanted != run.found:
+            texts = {"model": text_of(run.wanted), "program": text_of(run.found)}
+            keep(folder, seed, {**run.files, **texts})
+            by_model, by_program = first_difference(texts["model"], texts["program"])
+            words = f"{run.way}\n    the model:   {by_model}\n    the program: {by_program}"
+            return Found({seed: words}, counts)
+    return Found({}, counts)
 
 
 def compare(judge: Judge, program: Path, folder: Path, seeds: range, jobs: int | None = None) -> Iterator[Found]:
-    """What is found of all seeds, portion by portion."""
-    portion = functools.partial(compare_portion, judge, program, folder)
+    """What is found of each seed."""
     with multiprocessing.Pool(jobs) as pool:
-        yield from pool.imap_unordered(portion, (seeds[at : at + PORTION] for at in range(0, len(seeds), PORTION)))
+        yield from pool.imap_unordered(functools.partial(judge, program, folder), seeds, PORTION)
 
 
 def print_counts(counts: Counter[Counted]) -> None:
     """How the runs ended, and the answers to each verb."""
-    for group in sorted({each.group for each in counts}):
-        shapes = {each.shape: count for each, count in counts.items() if each.group == group}
+    for group in sorted({group for group, _ in counts}):
+        shapes = Counter({shape: count for (each, shape), count in counts.items() if each == group})
         total = sum(shapes.values())
         print(f"{group or 'runs'}:")
-        for shape, count in sorted(shapes.items(), key=lambda pair: -pair[1]):
+        for shape, count in shapes.most_common():
             print(f"  {count:8} {100 * count / total:5.1f} %  {shape}")
-
-
-def compare_and_print(judge: Judge, given: argparse.Namespace, folder: Path) -> Found:
-    """Compares all seeds, and prints those that differ when they come."""
-    whole = Found({}, collections.Counter())
-    for part in compare(judge, given.program, folder, range(given.first, given.last + 1), given.jobs):
-        for seed, each in part.differing.items():
-            print(f"seed {seed}, {each.way}\n    the model:   {each.wanted}\n    the program: {each.found}", flush=True)
-        whole.differing.update(part.differing)
-        whole.counts.update(part.counts)
-    return whole
 
 
 def arguments(comparison: Comparison, program: Path) -> argparse.Namespace:
@@ -151,15 +119,19 @@ def main(comparison: Comparison, program: Path) -> int:
     given = arguments(comparison, program)
     folder = Path(given.keep or tempfile.mkdtemp(prefix="svnhist-fuzz-"))
     folder.mkdir(parents=True, exist_ok=True)
-    found = compare_and_print(comparison.judge, given, folder)
+    whole = Found({}, Counter())
+    for found in compare(comparison.judge, given.program, folder, range(given.first, given.last + 1), given.jobs):
+        for seed, words in found.differing.items():
+            print(f"seed {seed}, {words}", flush=True)
+        whole.differing.update(found.differing)
+        whole.counts.update(found.counts)
     if given.counts:
-        print_counts(found.counts)
-    differing = len(found.differing)
+        print_counts(whole.counts)
+    differing, runs = len(whole.differing), whole.runs
     if differing:
         print(f"kept in {folder}")
     elif not given.keep:
         folder.rmdir()
-    ended = found.counts[Counted(RUNS, comparison.ending)]
-    agreeing = found.runs - differing
-    print(f"{found.runs} seeds, {ended} with a {comparison.ending}: {agreeing} agree, {differing} differ")
-    return 1 if differing or found.runs == 0 else 0
+    ended = whole.counts[RUNS, comparison.ending]
+    print(f"{runs} seeds, {ended} with a {comparison.ending}: {runs - differing} agree, {differing} differ")
+    return 1 if differing or runs == 0 else 0

@@ -10,6 +10,8 @@ It imports nothing of this tree, so that a copy of this file is a program, too.
 """
 from __future__ import annotations
 
+import itertools
+import operator
 import os
 import re
 import sys
@@ -24,13 +26,13 @@ HEADERS_READ = {b"UUID", b"Revision-number", *OF_NODES, *LENGTHS, b"Prop-delta",
 GREATEST_LENGTH = 9223372036854775807
 GREATEST_REVISION = 2147483647
 MOST_QUERIES = 1000000
-MOST_WORKERS = 64
 ELEMENT = re.compile(rb"([0-9]+)(?:-([0-9]+))?(\*?)")
 
 # The components of a path.
 Path = tuple[bytes, ...]
 Headers = dict[bytes, bytes]
 Lines = list[bytes]
+Bounds = tuple[int, int]
 
 
 class Place(NamedTuple):
@@ -90,10 +92,10 @@ class NoReport(Exception):
 
 
 class Malformed(Exception):
-    """A property section or a value of svn:mergeinfo does not have its form."""
+    """A property section, a value of svn:mergeinfo or a query does not have its form."""
 
 
-def refused(reason: str, place: str, at: int) -> NoReport:
+def refused(reason: str, at: int, place: str = "byte") -> NoReport:
     return NoReport(1, f"dump refused: {reason} at {place} {at}")
 
 
@@ -123,13 +125,6 @@ def is_below(path: Path, above: Path) -> bool:
 # Dumps
 
 
-class Lengths(NamedTuple):
-    """The lengths of a property section and of a body."""
-
-    section: int
-    body: int
-
-
 class Block(NamedTuple):
     """A block after the first line: its place, its headers, its property section and the place after it."""
 
@@ -140,37 +135,37 @@ class Block(NamedTuple):
 
 
 def headers_of(lines: Lines, at: int) -> Headers:
-    """The headers in the complete lines of a block, after reasons 3 and 4."""
+    """The headers in the complete lines of a block, after reason 3."""
     headers: Headers = {}
     for line in lines:
         name, colon, value = line.partition(b":")
         if not colon or not name or (name in headers and name in HEADERS_READ):
-            raise refused("3 Header", "byte", at)
+            raise refused("3 Header", at)
         headers[name] = value[1:] if value.startswith(b" ") else value
-    if lengths_of(headers) is None:
-        raise refused("4 Length", "byte", at)
     return headers
 
 
-def lengths_of(headers: Headers) -> Lengths | None:
-    """The lengths of the property section and of the body, or None where one of them is not a length."""
+def lengths_of(headers: Headers, at: int) -> tuple[int, int]:
+    """The lengths of the property section and of the body of a block, after reason 4."""
     section, text, body = (number_of(headers.get(name, b"0"), GREATEST_LENGTH) for name in LENGTHS)
     if section is None or text is None or body is None or section + text > GREATEST_LENGTH:
-        return None
+        raise refused("4 Length", at)
     if b"Content-length" not in headers:
         body = section + text
-    return Lengths(section, body) if body >= section + text else None
+    if body < section + text:
+        raise refused("4 Length", at)
+    return section, body
 
 
 def format_of(data: bytes) -> int:
     """The format in the first line of a dump, 2 or 3."""
     line, end, _ = data.partition(b"\n")
     if not data.startswith(FIRST_NAME):
-        raise refused("1 Magic", "byte", 0)
+        raise refused("1 Magic", 0)
     if end and line not in (FIRST_NAME + b"2", FIRST_NAME + b"3"):
-        raise refused("2 Version", "byte", 0)
+        raise refused("2 Version", 0)
     if not end:
-        raise refused("5 Truncated", "byte", 0)
+        raise refused("5 Truncated", 0)
     return int(line[len(FIRST_NAME) :])
 
 
@@ -184,13 +179,12 @@ def blocks_of(data: bytes) -> Iterator[Block]:
         head, complete, _ = data[at:].partition(b"\n\n")
         lines = head.split(b"\n")
         headers = headers_of(lines if complete else lines[:-1], at)
-        lengths = lengths_of(headers)
+        section, body = lengths_of(headers, at)
         start = at + len(head) + len(b"\n\n")
-        if not complete or lengths is None or start + lengths.body > len(data):
-            raise refused("5 Truncated", "byte", at)
-        end = start + lengths.body
-        yield Block(at, headers, data[start : start + lengths.section], end)
-        at = end
+        if not complete or start + body > len(data):
+            raise refused("5 Truncated", at)
+        yield Block(at, headers, data[start : start + section], start + body)
+        at = start + body
 
 
 def piece_of(section: bytes, at: int, letter: bytes) -> tuple[bytes, int]:
@@ -203,28 +197,16 @@ def piece_of(section: bytes, at: int, letter: bytes) -> tuple[bytes, int]:
     return section[start : start + length], start + length + 1
 
 
-def has_changes(form: int, headers: Headers) -> bool:
-    """Whether the property section of a block in a dump of this format has changes, and not the whole list."""
-    return form == 3 and headers.get(b"Prop-delta") == b"true"
-
-
-def entry_of(section: bytes, at: int, changes: bool) -> tuple[bytes, bytes | None, int]:
-    """A name that begins at a place, its value or None where it is deleted, and the place after it."""
-    if changes and section[at : at + 1] == b"D":
-        name, at = piece_of(section, at, b"D")
-        return name, None, at
-    name, at = piece_of(section, at, b"K")
-    value, at = piece_of(section, at, b"V")
-    return name, value, at
-
-
 def properties_of(section: bytes, changes: bool) -> dict[bytes, bytes | None]:
     """What the last entry of each name says in a property section. A whole list deletes what it does not name."""
     properties: dict[bytes, bytes | None] = {MERGEINFO: None} if section and not changes else {}
     at = 0
     while section and section[at:] != b"PROPS-END\n":
-        name, value, at = entry_of(section, at, changes)
-        properties[name] = value
+        is_deleted = changes and section[at : at + 1] == b"D"
+        name, at = piece_of(section, at, b"D" if is_deleted else b"K")
+        properties[name] = None
+        if not is_deleted:
+            properties[name], at = piece_of(section, at, b"V")
     return properties
 
 
@@ -236,13 +218,6 @@ def source_of(headers: Headers) -> Place | None:
     return None if rev is None else Place(parts_of(headers[b"Node-copyfrom-path"]), rev)
 
 
-def record_of(form: int, headers: Headers, section: bytes) -> Record:
-    """The record of a block without reasons 6 and 7."""
-    properties = properties_of(section, has_changes(form, headers))
-    path = parts_of(headers[b"Node-path"])
-    return Record(path, headers[b"Node-action"], headers.get(b"Node-kind"), source_of(headers), properties)
-
-
 def is_bad_record(headers: Headers, revisions: int) -> bool:
     """Whether reason 7 applies to a record that has a number of revisions before it."""
     action = headers.get(b"Node-action")
@@ -250,25 +225,14 @@ def is_bad_record(headers: Headers, revisions: int) -> bool:
         return True
     if action in (b"delete", b"change"):
         return False
-    if b"Node-copyfrom-rev" in headers and b"Node-copyfrom-path" in headers:
+    has_rev, has_path = b"Node-copyfrom-rev" in headers, b"Node-copyfrom-path" in headers
+    if has_rev and has_path:
         return number_of(headers[b"Node-copyfrom-rev"], GREATEST_REVISION) is None
-    has_part = b"Node-copyfrom-rev" in headers or b"Node-copyfrom-path" in headers
-    return has_part or headers.get(b"Node-kind") not in (b"file", b"dir")
+    return has_rev or has_path or headers.get(b"Node-kind") not in (b"file", b"dir")
 
 
-def reason_against(form: int, headers: Headers, section: bytes, revisions: int) -> str | None:
-    """The first of reasons 6 to 14 that applies to a complete block with a number of revisions before it, or None."""
-    if b"Revision-number" in headers:
-        return None if number_of(headers[b"Revision-number"], revisions) == revisions else "8 Revision"
-    if b"Node-path" not in headers:
-        return None if b"UUID" in headers else "7 BadRecord"
-    try:
-        properties_of(section, has_changes(form, headers))
-    except Malformed:
-        return "6 Props"
-    if is_bad_record(headers, revisions):
-        return "7 BadRecord"
-    record = record_of(form, headers, section)
+def reason_against(form: int, headers: Headers, record: Record, revisions: int) -> str | None:
+    """The first of reasons 9 to 14 that applies to a record with a number of revisions before it, or None."""
     paths = [record.path] + ([record.source.path] if record.source else [])
     if any(has_dot(path) for path in paths):
         return "9 BadPath"
@@ -283,20 +247,40 @@ def reason_against(form: int, headers: Headers, section: bytes, revisions: int) 
     return "14 TooLarge" if any(len(path) > 1024 for path in paths) else None
 
 
+def record_of(form: int, block: Block, revisions: int) -> Record:
+    """The record of a block with a number of revisions before it, after reasons 6 to 14."""
+    at, headers, section, _ = block
+    try:
+        properties = properties_of(section, form == 3 and headers.get(b"Prop-delta") == b"true")
+    except Malformed:
+        raise refused("6 Props", at) from None
+    if is_bad_record(headers, revisions):
+        raise refused("7 BadRecord", at)
+    path, action, kind = parts_of(headers[b"Node-path"]), headers[b"Node-action"], headers.get(b"Node-kind")
+    record = Record(path, action, kind, source_of(headers), properties)
+    reason = reason_against(form, headers, record, revisions)
+    if reason:
+        raise refused(reason, at)
+    return record
+
+
 def records_of(data: bytes) -> list[list[Record]]:
     """The records of each revision of a dump."""
     form = format_of(data)
     revisions: list[list[Record]] = []
-    for at, headers, section, _ in blocks_of(data):
-        reason = reason_against(form, headers, section, len(revisions))
-        if reason:
-            raise refused(reason, "byte", at)
-        if b"Revision-number" in headers:
+    for block in blocks_of(data):
+        count = len(revisions)
+        if b"Revision-number" in block.headers:
+            if number_of(block.headers[b"Revision-number"], count) != count:
+                raise refused("8 Revision", block.at)
             revisions.append([])
-        elif b"Node-path" in headers:
-            revisions[-1].append(record_of(form, headers, section))
+        elif b"Node-path" in block.headers:
+            record = record_of(form, block, count)
+            revisions[-1].append(record)
+        elif b"UUID" not in block.headers:
+            raise refused("7 BadRecord", block.at)
     if not revisions:
-        raise refused("8 Revision", "byte", len(data))
+        raise refused("8 Revision", len(data))
     return revisions
 
 
@@ -356,7 +340,7 @@ def history_of(data: bytes) -> History:
             count += 1
             fault = fault_of(trees, tree, record)
             if fault:
-                raise refused(fault, "record", count)
+                raise refused(fault, count, "record")
             tree = after(trees, tree, record)
         trees.append(tree)
     return History(trees, [[record.path for record in records] for records in revisions])
@@ -434,28 +418,28 @@ def effective(tree: Tree, path: Path) -> Value:
 # Queries
 
 
-def peg_of(field: bytes) -> Place | None:
-    """A path and its peg revision, or None."""
+def revision_of(field: bytes) -> int:
+    rev = number_of(field, GREATEST_REVISION)
+    if rev is None:
+        raise Malformed
+    return rev
+
+
+def peg_of(field: bytes) -> Place:
+    """A path and its peg revision."""
     path, at, digits = field.rpartition(b"@")
-    peg = number_of(digits, GREATEST_REVISION)
-    return None if not at or peg is None or has_dot(parts_of(path)) else Place(parts_of(path), peg)
+    if not at or has_dot(parts_of(path)):
+        raise Malformed
+    return Place(parts_of(path), revision_of(digits))
 
 
-def revision_of(field: bytes) -> int | None:
-    return number_of(field, GREATEST_REVISION)
-
-
-class Bounds(NamedTuple):
+def range_of(field: bytes) -> Bounds:
     """The first and the last revision of a range."""
-
-    low: int
-    high: int
-
-
-def range_of(field: bytes) -> Bounds | None:
     first, _, last = field.partition(b":")
     low, high = revision_of(first), revision_of(last)
-    return None if low is None or high is None or low > high else Bounds(low, high)
+    if low > high:
+        raise Malformed
+    return low, high
 
 
 def location(trees: list[Tree], path: Path, rev: int, wanted: int) -> Path | None:
@@ -480,21 +464,13 @@ def places(trees: list[Tree], peg: Place) -> list[tuple[int, Path | None]]:
     return found
 
 
-class Segment(NamedTuple):
-    low: int
-    high: int
-    path: Path | None
-
-
 def segments(history: History, peg: Place) -> Lines:
     """The location segments: the longest ranges of revisions with the same location, or with none."""
-    found: list[Segment] = []
-    for rev, place in places(history.trees, peg):
-        if found and found[-1].path == place:
-            found[-1] = found[-1]._replace(low=rev)
-        else:
-            found.append(Segment(rev, rev, place))
-    return [b"%d-%d %s" % (low, high, printed(place)) for low, high, place in found]
+    lines = []
+    for place, found in itertools.groupby(places(history.trees, peg), operator.itemgetter(1)):
+        revs = [rev for rev, _ in found]
+        lines.append(b"%d-%d %s" % (revs[-1], revs[0], printed(place)))
+    return lines
 
 
 def is_operative(history: History, path: Path, rev: int) -> bool:
@@ -531,47 +507,28 @@ def kind_in(runs: list[Run], rev: int) -> bool | None:
     return kinds[0] if kinds else None
 
 
-class Candidate(NamedTuple):
-    """An operative revision of a source, its location, and whether the effective mergeinfo of the target has the
-    revision for that location as an inheritable one; None if it does not have it."""
-
-    revision: int
-    place: Path
-    inheritable: bool | None
-
-
-def candidates(history: History, source: Place, target: Place) -> list[Candidate]:
-    """The operative revisions of the source in rising order."""
+def candidates(history: History, source: Place, target: Place) -> list[tuple[int, Path, bool | None]]:
+    """The operative revisions of the source in rising order, with its location in each, and whether the effective
+    mergeinfo of the target has the revision for that location as an inheritable one; None if it does not have it."""
     path, peg = target
     value = effective(history.trees[peg], path)
     found = reversed(operative_places(history, source))
-    return [Candidate(rev, place, kind_in(value.get(place, []), rev)) for rev, place in found]
+    return [(rev, place, kind_in(value.get(place, []), rev)) for rev, place in found]
 
 
 def merged(history: History, source: Place, target: Place) -> Lines:
-    return [
-        b"r%d" % rev + (b"" if inheritable else b"*")
-        for rev, _, inheritable in candidates(history, source, target)
-        if inheritable is not None
-    ]
+    found = candidates(history, source, target)
+    return [b"r%d" % rev + (b"" if inheritable else b"*") for rev, _, inheritable in found if inheritable is not None]
 
 
 def eligible(history: History, source: Place, target: Place) -> Lines:
-    return [
-        b"r%d" % rev
-        for rev, place, inheritable in candidates(history, source, target)
-        if inheritable is None and location(history.trees, *target, rev) != place
-    ]
+    found = [(rev, place) for rev, place, inheritable in candidates(history, source, target) if inheritable is None]
+    return [b"r%d" % rev for rev, place in found if location(history.trees, *target, rev) != place]
 
 
-def revision_in(line: bytes) -> int:
-    """The revision of a result line."""
-    return int(line.split(b" ")[0].strip(b"r*"))
-
-
-def lines_in(lines: Lines, bounds: Bounds) -> Lines:
+def lines_in(lines: Lines, low: int, high: int) -> Lines:
     """The result lines of revisions from the lowest to the highest one of a range."""
-    return [line for line in lines if bounds.low <= revision_in(line) <= bounds.high]
+    return [line for line in lines if low <= int(line.split(b" ")[0].strip(b"r*")) <= high]
 
 
 # What a field of a query says.
@@ -581,7 +538,7 @@ Field = Union[Place, int]
 class Verb(NamedTuple):
     """The fields of a query, its result lines, and whether it may have a range as a further field."""
 
-    forms: Sequence[Callable[[bytes], Field | None]]
+    forms: Sequence[Callable[[bytes], Field]]
     lines_of: Callable[..., Lines]
     has_range: bool = False
 
@@ -596,78 +553,52 @@ VERBS = {
 }
 
 
-class Query(NamedTuple):
-    """A verb, what its fields say, and the range of a query that has one."""
-
-    verb: Verb
-    fields: list[Field]
-    bounds: Bounds | None
-
-
-def query_of(line: bytes) -> Query | None:
-    """What a line asks, or None if it is no query."""
+def query_of(line: bytes) -> tuple[Verb, list[Field], Bounds | None]:
+    """The verb of a line, what its fields say, and its range, if it has one."""
     name, *fields = line.split(b"\t")
     verb = VERBS.get(name)
-    if verb is None:
-        return None
-    bounds = None
-    if verb.has_range and len(fields) == len(verb.forms) + 1:
-        bounds = range_of(fields.pop())
-        if bounds is None:
-            return None
-    values = [form(field) for form, field in zip(verb.forms, fields)]
-    found = [value for value in values if value is not None]
-    return Query(verb, found, bounds) if len(fields) == len(found) == len(verb.forms) else None
+    if verb is None or len(fields) - len(verb.forms) not in (0, verb.has_range):
+        raise Malformed
+    bounds = range_of(fields[-1]) if len(fields) > len(verb.forms) else None
+    return verb, [form(field) for form, field in zip(verb.forms, fields)], bounds
 
 
 def answer_of(history: History, line: bytes) -> Lines:
     """The status, and the result lines."""
-    query = query_of(line)
-    if query is None:
+    try:
+        verb, fields, bounds = query_of(line)
+    except Malformed:
         return [b"bad-query"]
-    for peg in query.fields:
+    for peg in fields:
         if isinstance(peg, Place):
             if peg.revision >= len(history.trees):
                 return [b"no-such-revision"]
             if peg.path not in history.trees[peg.revision]:
                 return [b"no-such-path"]
     try:
-        lines = query.verb.lines_of(history, *query.fields)
+        lines = verb.lines_of(history, *fields)
     except Malformed:
         return [b"malformed-mergeinfo"]
-    return [b"ok"] + (lines if query.bounds is None else lines_in(lines, query.bounds))
+    return [b"ok"] + (lines_in(lines, *bounds) if bounds else lines)
 
 
 # Input
 
 
-class Input(NamedTuple):
-    queries: Lines
-    dump: bytes
-
-
-class Answer(NamedTuple):
-    """A query, and its status and result lines."""
-
-    query: bytes
-    lines: Lines
-
-
 def numbers_of(fields: Iterable[bytes]) -> list[int]:
     """The values of BLOCK, WORKERS and the number of queries, or of the first two of them."""
-    most = (GREATEST_REVISION, MOST_WORKERS, MOST_QUERIES)
+    most = (GREATEST_REVISION, 64, MOST_QUERIES)
     numbers = [number_of(field, greatest) for field, greatest in zip(fields, most)]
-    found = [number for number in numbers if number is not None]
-    if len(found) < len(numbers) or found[1] == 0:
+    if None in numbers or numbers[1] == 0:
         raise wrong_usage()
-    return found
+    return [number for number in numbers if number is not None]
 
 
 def wrong_usage() -> NoReport:
     return NoReport(2, "usage: svnhist DUMP QUERIES BLOCK WORKERS")
 
 
-def parts_of_bundle(data: bytes) -> Input:
+def parts_of_bundle(data: bytes) -> tuple[Lines, bytes]:
     """The queries and the dump of a bundle."""
     head, _, rest = data.partition(b"\n")
     fields = head.split(b" ")
@@ -677,10 +608,10 @@ def parts_of_bundle(data: bytes) -> Input:
     pieces = rest.split(b"\n", count)
     if len(pieces) <= count:
         raise wrong_usage()
-    return Input(pieces[:-1], pieces[-1])
+    return pieces[:-1], pieces[-1]
 
 
-def parts_of_files(words: list[str]) -> Input:
+def parts_of_files(words: list[str]) -> tuple[Lines, bytes]:
     """The queries and the dump of two files."""
     if len(words) != 4:
         raise wrong_usage()
@@ -691,18 +622,17 @@ def parts_of_files(words: list[str]) -> Input:
             lines.pop()
         if len(lines) > MOST_QUERIES:
             raise NoReport(1, f"more than {MOST_QUERIES} queries")
-        return Input(lines, dump.read())
+        return lines, dump.read()
 
 
-def answers_of(queries: Lines, dump: bytes) -> list[Answer]:
+def answers_of(queries: Lines, dump: bytes) -> list[Lines]:
     history = history_of(dump)
-    return [Answer(line, answer_of(history, line)) for line in queries]
+    return [answer_of(history, line) for line in queries]
 
 
-def report_of(answers: list[Answer]) -> bytes:
-    return b"".join(
-        b"#%d " % number + b"".join(line + b"\n" for line in answer.lines) for number, answer in enumerate(answers, 1)
-    )
+def report_of(answers: list[Lines], first: int = 1) -> bytes:
+    """The answers, numbered from a first number on."""
+    return b"".join(b"#%d %s\n" % (number, b"\n".join(lines)) for number, lines in enumerate(answers, first))
 
 
 def main() -> int:

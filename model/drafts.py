@@ -6,40 +6,16 @@ or deltas that do not fit; in some a block or a few bytes of the dump are change
 from __future__ import annotations
 
 import random
-from collections.abc import Callable, Iterable
+from collections.abc import Iterable
 from dataclasses import dataclass
-from typing import NamedTuple
 
-from dev.dumps import MERGEINFO
+from dev.dumps import END, MERGEINFO
 from model import odd_parts as odd
+from model.definitions import Path, Place, is_below
 from model.odd_parts import PROP_DELTA, TEXT_DELTA
 
-# The components of a path, and the kind of each path of a revision.
-Path = tuple[bytes, ...]
+# The kind of each path of a revision.
 Tree = dict[Path, bytes]
-
-# How many paths a tree has at most after a copy.
-MOST_PATHS = 50
-
-
-class Place(NamedTuple):
-    """A path in a revision."""
-
-    path: Path
-    rev: int
-
-
-class Copy(NamedTuple):
-    path: Path
-    source: Path
-
-
-class Merge(NamedTuple):
-    """Mergeinfo that a path was given in a revision, with one of its source paths."""
-
-    path: Path
-    source: Path
-    rev: int
 
 
 @dataclass
@@ -48,10 +24,6 @@ class Block:
 
     lines: list[bytes]
     body: bytes
-
-
-def is_below(path: Path, above: Path) -> bool:
-    return path[: len(above)] == above
 
 
 def has_line(lines: Iterable[bytes], name: bytes) -> bool:
@@ -78,8 +50,10 @@ class Draft:
         self.trees: list[Tree] = [{(): b"dir"}]
         self.blocks: list[Block] = []
         self.named: list[Place] = []
-        self.copies: list[Copy] = []
-        self.merges: list[Merge] = []
+        # The paths of copies, each with that of its source.
+        self.copies: list[tuple[Path, Path]] = []
+        # Paths that were given mergeinfo, each with one of its source paths, and with the revision.
+        self.merges: list[tuple[Path, Path, int]] = []
         # The share of the queries that have a source and a target.
         self.pairs = lot.choice((0.3, 0.3, 0.3, 0.8))
         self.draw_format()
@@ -104,9 +78,8 @@ class Draft:
         self.no_deltas: float = lot.choice((0, 0, 0.3, 1))
         if self.format == 2 and self.chance(0.97):
             self.prop_deltas = self.text_deltas = 0
-        self.odd_sections = 0.0
-        if self.chance(0.04):
-            self.odd_sections = 0.3
+        self.odd_sections = 0.3 if self.chance(0.04) else 0
+        if self.odd_sections:
             self.sections = (0.6, 0.6)
 
     def chance(self, share: float) -> bool:
@@ -142,8 +115,8 @@ class Draft:
         lines = [b"Node-path: " + self.spelled(path), b"Node-action: " + action]
         self.named.append(Place(path, len(self.trees) - 1))
         if source is not None:
-            self.copies.append(Copy(path, source.path))
-            rev = len(self.trees) - self.lot.randrange(2) if self.chance(0.002) else source.rev
+            self.copies.append((path, source.path))
+            rev = len(self.trees) - self.lot.randrange(2) if self.chance(0.002) else source.revision
             lines += [b"Node-copyfrom-path: " + self.spelled(source.path), b"Node-copyfrom-rev: %d" % rev]
         if kind is not None:
             lines.insert(1, b"Node-kind: " + kind)
@@ -181,13 +154,11 @@ class Draft:
             entries.insert(lot.randrange(len(entries) + 1), self.entry(lot.choice(odd.OTHER_NAMES), value))
         if self.chance(self.odd_sections):
             entries.insert(lot.randrange(len(entries) + 1), lot.choice(odd.ENTRIES))
-        return b"".join(entries) + b"PROPS-END\n"
+        return b"".join(entries) + END
 
     def entry(self, name: bytes, value: bytes | None) -> bytes:
         """A property that is set, or one that is deleted if the value is None."""
-        if value is None:
-            return self.piece(b"D", name)
-        return self.piece(b"K", name) + self.piece(b"V", value)
+        return self.piece(b"D", name) if value is None else self.piece(b"K", name) + self.piece(b"V", value)
 
     def piece(self, letter: bytes, text: bytes) -> bytes:
         return b"%s %s%d\n%s\n" % (letter, b"0" if self.chance(0.02) else b"", len(text), text)
@@ -206,10 +177,10 @@ class Draft:
         if self.chance(0.6):
             source = self.related_to(path)
         else:
-            source = self.some_path(self.lot.choice(self.trees))
+            source = self.some_old_path()
             if self.chance(0.3):
                 source += (self.lot.choice(self.names),)
-        self.merges.append(Merge(path, source, len(self.trees) - 1))
+        self.merges.append((path, source, len(self.trees) - 1))
         elements = [b"%s%s" % (b"0" if self.chance(0.03) else b"", each) for each in self.elements(source)]
         if self.chance(0.3):
             self.lot.shuffle(elements)
@@ -244,14 +215,15 @@ class Draft:
     def some_path(self, tree: Tree) -> Path:
         return self.lot.choice(list(tree))
 
+    def some_old_path(self) -> Path:
+        """A path of any revision."""
+        return self.some_path(self.lot.choice(self.trees))
+
     def new_path(self) -> Path | None:
         """A path that is not in the tree but in one of its directories, often one of an earlier tree; or None."""
         tree = self.trees[-1]
         for _ in range(6):
-            if self.chance(0.3):
-                path = self.some_path(self.lot.choice(self.trees))
-            else:
-                path = self.some_path(tree) + (self.lot.choice(self.names),)
+            path = self.some_old_path() if self.chance(0.3) else self.some_path(tree) + (self.lot.choice(self.names),)
             if path not in tree and tree.get(path[:-1]) == b"dir":
                 return path
         return None
@@ -276,24 +248,24 @@ class Draft:
                 found.append(copy + path[len(source) :])
         return self.lot.choice(found)
 
-    def merge(self) -> Merge:
-        """A target and a source: mergeinfo was given to the target or to a path above it, and named the source or the
-        path above it. With both, the revision."""
+    def merge(self) -> tuple[Path, Path, int]:
+        """A target, a source and a revision in which mergeinfo was given to the target or to a path above it, and named
+        the source or the path above it."""
         lot = self.lot
         above, source, rev = lot.choice(self.merges)
         rests = [path[len(above) :] for path in self.trees[rev] if is_below(path, above) and path != above]
         rests = [rest for rest in rests if self.revisions_with(source + rest, 0)]
         rest = lot.choice(rests) if rests and self.chance(0.5) else ()
-        return Merge(above + rest, source + rest, rev)
+        return above + rest, source + rest, rev
 
     def source_and_target(self) -> tuple[Place, Place]:
         """Two paths that are mostly related, each with a revision in which it mostly is."""
         lot = self.lot
         for _ in range(8):
-            source = target = self.some_path(lot.choice(self.trees))
+            source = target = self.some_old_path()
             rev = 0
             if self.chance(0.15):
-                source = self.some_path(lot.choice(self.trees))
+                source = self.some_old_path()
             elif self.merges and self.chance(0.85):
                 target, source, rev = self.merge()
             source = source if self.chance(0.6) else self.related_to(source)
@@ -323,10 +295,10 @@ class Draft:
         source = self.some_source()
         if self.chance(0.1) and path[:-1] in self.trees[-2]:
             source = Place(path[:-1], len(self.trees) - 2)
-        tree, top = self.trees[source.rev], source.path
-        copied = {path + each[len(top) :]: kind for each, kind in tree.items() if is_below(each, top)}
+        top, rev = source
+        copied = {path + each[len(top) :]: kind for each, kind in self.trees[rev].items() if is_below(each, top)}
         self.clear(path)
-        if self.chance(0.45) or len(copied) + len(self.trees[-1]) > MOST_PATHS:
+        if self.chance(0.45) or len(copied) + len(self.trees[-1]) > 50:
             kind = self.lot.choice((b"dir", b"dir", b"file"))
             self.trees[-1][path] = kind
             self.record(action, path, kind)
@@ -365,18 +337,15 @@ class Draft:
             above = lot.choice(files + [new or (b"q",)])
             self.record(b"add", above + (lot.choice(self.names),), b"file", lot.choice((None, source)))
         elif fault == "source" and (new or old):
-            actions = [b"add"] * bool(new) + [b"replace"] * bool(old)
-            action = lot.choice(actions)
-            path = (new if action == b"add" else old) or ()
-            self.record(action, path, None, Place(source.path + (b"none",), source.rev))
+            found = [(action, path) for action, path in ((b"add", new), (b"replace", old)) if path]
+            self.record(*lot.choice(found), None, Place(source.path + (b"none",), source.revision))
 
     def revision(self, is_faulty: bool) -> None:
         """Adds a revision with a few records, one of them faulty if that is wanted."""
         lot = self.lot
         rev = len(self.trees)
-        self.block([b"Revision-number: %d" % rev], lot.choice((None, b"PROPS-END\n", b"log\n\n")))
+        self.block([b"Revision-number: %d" % rev], lot.choice((None, END, b"log\n\n")))
         self.trees.append(dict(self.trees[-1]))
-        steps: list[Callable[[], None]]
         if rev == 1:
             steps = [self.add] * lot.randint(2, 5)
         else:

@@ -8,24 +8,21 @@ early.
 """
 from __future__ import annotations
 
+import contextlib
+import itertools
 import random
 import re
-from collections.abc import Callable, Iterator
-from typing import NamedTuple
+from collections.abc import Callable
+from typing import NamedTuple, Optional
 
 from dev import pieces
 from model import bundles, definitions, drafts
 from model import odd_parts as odd
 from model.definitions import Block
 
-# The share of the dumps whose blocks are moved, so that they are longer than one read of the program.
-MOVED = 0.08
-# The shares of the lines that are nearly one before a piece, of those that were asked before, and of those others whose
-# pegs are revisions that exist.
-NEARLY = 0.05
-AGAIN = 0.3
-FITTING = 0.9
 PEG = re.compile(rb"@([0-9]{1,9})(?![^\t])")
+
+
 # fmt: off
 # Lines that are queries, although they are nearly lines before pieces.
 NEAR_PIECES = [b"piece", b"piece ", b"piece x", b"piece  3", b" piece 3", b"piece 3 ", b"piece 3\r", b"piece\t3",
@@ -47,29 +44,12 @@ FRONTS = [b"x", b"x\n", b":", b":\n", b"UUID: 1\nUUID: 2", b"UUID: 1\nUUID: 2\n"
           b"Revision-number: 99\n", b"Revision-number: 99\n\n", b"Revision-number: 99\nContent-length: 1\n\n",
           b"Revision-number: 99\nContent-length: 1\n\n\n", b"Node-path: none/none\nNode-action: delete\n\n", b"\n"]
 # fmt: on
-GREATEST = 9223372036854775807
-CUTS = (0, 1, 1, 2, 2, 3, 4, 6, 12)
-# How many lines stand before a piece, after the last one, and rarely.
-LINES = (0, 0, 1, 1, 2, 3, 5, 8, 12)
-LAST_LINES = (0, 5, 10, 20)
-MANY_LINES = 300
-WORKERS = (1, 1, 2, 2, 3, 4, 8, 64)
-
-
 class DrawnTalk(NamedTuple):
     """The dump of a talk, its number of workers and its input."""
 
     dump: bytes
     workers: int
     given: bytes
-
-
-class Place(NamedTuple):
-    """Where a block ends and the next one begins, and how many revisions there are up to there."""
-
-    end: int
-    following: int
-    revisions: int
 
 
 class Part(NamedTuple):
@@ -85,29 +65,17 @@ class Part(NamedTuple):
 # Parts of a dump
 
 
-def blocks_of(dump: bytes) -> Iterator[Block]:
-    """The blocks up to the first one that does not have its form."""
-    try:
+def places_of(dump: bytes) -> list[tuple[int, int, int]]:
+    """The ends of blocks at which a dump may be cut, from the first revision on, each with the begin of the next block
+    and the youngest revision up to there; up to the first block that does not have its form."""
+    blocks: list[Block] = []
+    with contextlib.suppress(definitions.NoReport):
         definitions.format_of(dump)
-        yield from definitions.blocks_of(dump)
-    except definitions.NoReport:
-        return
-
-
-def places_of(dump: bytes) -> list[Place]:
-    """The ends of blocks at which a dump may be cut, from the first revision on."""
-    found: list[Place] = []
-    revisions = 0
-    for block in blocks_of(dump):
-        if found:
-            found[-1] = found[-1]._replace(following=block.at)
-        revisions += b"Revision-number" in block.headers
-        found.append(Place(block.end, block.end, revisions))
-    return [place for place in found if place.revisions > 0]
-
-
-def cut_at(lot: random.Random, place: Place) -> int:
-    return lot.choice((place.end, place.following, lot.randint(place.end, place.following)))
+        for block in definitions.blocks_of(dump):
+            blocks.append(block)
+    following = [block.at for block in blocks[1:]] + [block.end for block in blocks[-1:]]
+    counts = itertools.accumulate(b"Revision-number" in block.headers for block in blocks)
+    return [(block.end, at, count - 1) for block, at, count in zip(blocks, following, counts) if count > 0]
 
 
 def parts_of(lot: random.Random, dump: bytes) -> list[Part]:
@@ -115,121 +83,101 @@ def parts_of(lot: random.Random, dump: bytes) -> list[Part]:
     places = places_of(dump)
     if not places:
         return [Part(dump, 0)]
-    chosen = sorted(lot.choice(places) for _ in range(lot.choice(CUTS)))
-    cuts = sorted(cut_at(lot, place) for place in chosen) + [len(dump)]
-    youngest = [place.revisions - 1 for place in chosen + places[-1:]]
+    chosen = sorted(lot.choice(places) for _ in range(lot.choice((0, 1, 1, 2, 2, 3, 4, 6, 12))))
+    cuts = [*sorted(lot.choice((end, at, lot.randint(end, at))) for end, at, _ in chosen), len(dump)]
+    youngest = [rev for _, _, rev in chosen + places[-1:]]
     return [Part(dump[low:high], rev) for low, high, rev in zip([0] + cuts, cuts, youngest)]
 
 
-# What is wrong
+# What is done with the parts
 
 
-def cut_within(lot: random.Random, parts: list[Part]) -> list[Part]:
+def cut_within(lot: random.Random, parts: list[Part]) -> None:
     """One of the cuts, or a further one, is at any byte."""
     at = lot.randrange(len(parts))
     text, youngest = parts[at].text, parts[at].youngest
     if len(parts) > at + 1:
         text += parts.pop(at + 1).text
-    cut = lot.randint(0, len(text))
-    parts[at : at + 1] = [Part(text[:cut], youngest), Part(text[cut:], youngest)]
-    return parts
+    size = lot.randint(0, len(text))
+    parts[at : at + 1] = [Part(text[:size], youngest), Part(text[size:], youngest)]
 
 
-def with_another_byte(lot: random.Random, parts: list[Part]) -> list[Part]:
+def change_a_byte(lot: random.Random, parts: list[Part]) -> None:
     at = lot.randrange(len(parts))
     parts[at] = parts[at]._replace(text=drafts.changed(lot, parts[at].text))
-    return parts
 
 
-def with_one_left_out(lot: random.Random, parts: list[Part]) -> list[Part]:
+def leave_one_out(lot: random.Random, parts: list[Part]) -> None:
     del parts[lot.randrange(len(parts))]
-    return parts or [Part(b"", 0)]
+    if not parts:
+        parts.append(Part(b"", 0))
 
 
-def with_one_twice(lot: random.Random, parts: list[Part]) -> list[Part]:
+def repeat_one(lot: random.Random, parts: list[Part]) -> None:
     at = lot.randrange(len(parts))
     parts.insert(lot.randint(at, len(parts)), parts[at])
-    return parts
 
 
-def with_more_at_its_end(lot: random.Random, parts: list[Part]) -> list[Part]:
+def add_to_the_last(lot: random.Random, parts: list[Part]) -> None:
     """The last piece has a block or the front of one, which is refused or not whole."""
     more = lot.choice(odd.BODIES + odd.ENTRIES + [b"Node-path: a\n", b"Revision-number: 1000\n\n"])
     parts[-1] = parts[-1]._replace(text=parts[-1].text + more)
-    return parts
 
 
-def with_wrong_size(lot: random.Random, parts: list[Part]) -> list[Part]:
+def give_a_wrong_size(lot: random.Random, parts: list[Part]) -> None:
     at = lot.randrange(len(parts))
     size = len(parts[at].text)
-    wrong = lot.choice((0, size - 1, size + 1, size + 2, lot.randint(0, size), size + lot.randint(1, 100), GREATEST))
+    near = (0, size - 1, size + 1, size + 2)
+    wrong = lot.choice((*near, lot.randint(0, size), size + lot.randint(1, 100), definitions.GREATEST_LENGTH))
     parts[at] = parts[at]._replace(wrong_size=max(wrong, 0))
-    return parts
 
 
-def with_one_cut(lot: random.Random, parts: list[Part]) -> list[Part]:
+def cut_one_off(lot: random.Random, parts: list[Part]) -> None:
     """The input ends within a block of a piece."""
     if len(parts) == 1:
         parts.append(Part(b"", parts[0].youngest))
     at = lot.randrange(1, len(parts))
     text = parts[at].text + lot.choice(FRONTS)
     parts[at] = Part(text, parts[at].youngest, len(text) + lot.choice((1, 2, 100)), True)
-    return parts
 
 
-def with_empty_one(lot: random.Random, parts: list[Part]) -> list[Part]:
+def add_an_empty_one(lot: random.Random, parts: list[Part]) -> None:
     """This is not wrong."""
     at = lot.randint(1, len(parts))
     parts.insert(at, Part(b"", parts[at - 1].youngest))
-    return parts
 
 
-def unchanged(_: random.Random, parts: list[Part]) -> list[Part]:
-    return parts
-
-
-# What is done with the parts of a dump, and how often of a hundred.
-CHANGES: dict[Callable[[random.Random, list[Part]], list[Part]], int] = {
-    unchanged: 65,
-    with_empty_one: 10,
+# What is done, and how often of a hundred.
+CHANGES: dict[Optional[Callable[[random.Random, list[Part]], None]], int] = {
+    None: 65,
+    add_an_empty_one: 10,
     cut_within: 5,
-    with_another_byte: 3,
-    with_one_left_out: 2,
-    with_one_twice: 2,
-    with_more_at_its_end: 3,
-    with_wrong_size: 5,
-    with_one_cut: 5,
+    change_a_byte: 3,
+    leave_one_out: 2,
+    repeat_one: 2,
+    add_to_the_last: 3,
+    give_a_wrong_size: 5,
+    cut_one_off: 5,
 }
-ENDING_EARLY = 0.08
 
 
 # Turns
 
 
-def fits(line: bytes, youngest: int) -> bool:
-    """Whether a line has pegs, and all are revisions that exist."""
-    pegs = PEG.findall(line)
-    return bool(pegs) and all(int(peg) <= youngest for peg in pegs)
-
-
 def drawn_line(lot: random.Random, queries: list[bytes], youngest: int) -> bytes:
     """A query, mostly one about revisions that exist, or a line that is nearly one before a piece."""
-    if lot.random() < NEARLY:
+    if lot.random() < 0.05:
         return lot.choice(NEAR_PIECES)
-    fitting = [line for line in queries if fits(line, youngest)]
-    return lot.choice(fitting if fitting and lot.random() < FITTING else queries)
+    fitting = [line for line in queries if max(map(int, PEG.findall(line)), default=youngest + 1) <= youngest]
+    return lot.choice(fitting if fitting and lot.random() < 0.9 else queries)
 
 
-def drawn_count(lot: random.Random, is_last: bool) -> int:
-    """How many lines stand after a part of the dump."""
-    return lot.randint(1, MANY_LINES) if lot.random() < 0.02 else lot.choice(LAST_LINES if is_last else LINES)
-
-
-def drawn_lines(lot: random.Random, queries: list[bytes], asked: list[bytes], youngest: int, count: int) -> list[bytes]:
-    """Lines after a part of the dump, some of which were asked before."""
+def drawn_lines(lot: random.Random, queries: list[bytes], asked: list[bytes], youngest: int, last: bool) -> list[bytes]:
+    """Lines after a part of the dump, or after the last one, some of which were asked before."""
+    few = (0, 5, 10, 20) if last else (0, 0, 1, 1, 2, 3, 5, 8, 12)
     found: list[bytes] = []
-    for _ in range(count):
-        if asked + found and lot.random() < AGAIN:
+    for _ in range(lot.randint(1, 300) if lot.random() < 0.02 else lot.choice(few)):
+        if asked + found and lot.random() < 0.3:
             found.append(lot.choice(asked + found))
         else:
             found.append(drawn_line(lot, queries, youngest))
@@ -252,7 +200,7 @@ def input_of(lot: random.Random, queries: list[bytes], parts: list[Part]) -> byt
             given += piece_turn(lot, part)
         if part.is_cut:
             break
-        lines = drawn_lines(lot, queries, asked, part.youngest, drawn_count(lot, number == len(parts) - 1))
+        lines = drawn_lines(lot, queries, asked, part.youngest, number == len(parts) - 1)
         given += b"".join(line + b"\n" for line in lines)
         asked += lines
     return given
@@ -260,12 +208,15 @@ def input_of(lot: random.Random, queries: list[bytes], parts: list[Part]) -> byt
 
 def talk_of(seed: int) -> DrawnTalk:
     lot = random.Random("talk of %d" % seed)
-    _, queries, dump = bundles.parts_of(random.Random(seed), seed)
-    if lot.random() < MOVED:
+    queries, dump = bundles.parts_of(random.Random(seed), seed)
+    if lot.random() < 0.08:
+        # So it is longer than one read of the program.
         dump, _ = pieces.moved(lot, dump)
     change = lot.choices(list(CHANGES), list(CHANGES.values()))[0]
-    parts = change(lot, parts_of(lot, dump))
+    parts = parts_of(lot, dump)
+    if change:
+        change(lot, parts)
     given = input_of(lot, queries, parts)
-    if given and lot.random() < ENDING_EARLY:
+    if given and lot.random() < 0.08:
         given = given[: lot.randrange(len(given))]
-    return DrawnTalk(parts[0].text, lot.choice(WORKERS), given)
+    return DrawnTalk(parts[0].text, lot.choice((1, 1, 2, 2, 3, 4, 8, 64)), given)

@@ -3,11 +3,10 @@ from __future__ import annotations
 
 import random
 
+from model.definitions import GREATEST_REVISION
+
 # The verbs whose queries may have a range, and the number of fields between.
 RANGED = {b"log": 1, b"merged": 2, b"eligible": 2}
-GREATEST_REVISION = 2147483647
-# How many queries of a bundle have a range, at least and at most.
-COUNTS = (3, 8)
 # Fields that are no ranges. Some would be if their numbers were kept in 32 or 64 bits.
 # fmt: off
 ODD_RANGES = [b"", b":", b"::", b"1:", b":2", b":1:2", b"1:2:", b"1:2:3", b"1::2", b"1", b"12", b"1-2", b"1,2", b"1..2",
@@ -72,16 +71,9 @@ FORMS = {good_range: 72, backward_range: 7, odd_range: 14, changed_range: 7}
 def misplaced(lot: random.Random, fields: list[bytes], field: bytes) -> list[bytes]:
     """The fields of a query with a range before a peg, in place of one, twice, or before an empty field."""
     at = lot.randrange(1, len(fields))
-    before, after = fields[:at], fields[at + 1 :]
-    return lot.choice(
-        (
-            before + [field] + fields[at:],
-            before + [field] + after,
-            before + [field] + after + [field],
-            fields + [field, field],
-            fields + [field, b""],
-        )
-    )
+    before, after = fields[:at] + [field], fields[at + 1 :]
+    twice = fields + [field, field]
+    return lot.choice((before + fields[at:], before + after, before + after + [field], twice, fields + [field, b""]))
 
 
 def ranged(lot: random.Random, youngest: int, lines: list[bytes]) -> bytes:
@@ -101,6 +93,6 @@ def ranged(lot: random.Random, youngest: int, lines: list[bytes]) -> bytes:
 def with_ranges(lot: random.Random, youngest: int, lines: list[bytes]) -> list[bytes]:
     """The lines, and among them some more with a range."""
     found = list(lines)
-    for _ in range(lot.randint(*COUNTS)):
+    for _ in range(lot.randint(3, 8)):
         found.insert(lot.randint(0, len(found)), ranged(lot, youngest, lines))
     return found

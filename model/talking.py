@@ -6,6 +6,7 @@ has replied to all turns that came, or has ended where what came decides that.
 """
 from __future__ import annotations
 
+import itertools
 import random
 import re
 import sys
@@ -16,24 +17,16 @@ from pathlib import Path
 
 from dev import dialogue, pieces
 from dev.dialogue import Step
-from dev.running import Outcome
+from dev.running import SECONDS, Outcome
 from dev.tree import programs
 from model import comparing, drawn_talks, turns
-from model.comparing import RUNS, Comparison, Counted, Judged
+from model.comparing import RUNS, Comparison, Counted, Found, Run
 from model.drawn_talks import DrawnTalk
 from model.turns import Talk
 
-SECONDS = 60
-# At so many cuts at drawn places a reply is waited for, at most.
-MOST_WAITS = 6
-# In a piece that is refused the input is cut at so many places more.
-CUTS_OF_A_REFUSED_PIECE = 3
-# A longer input doesn't come byte by byte.
-MOST_BYTES = 5000
 WAYS = {"at once": 15, "turn by turn": 35, "byte by byte": 5, "cut": 15, "cut, with waits": 30}
 REASON = re.compile(r"dump refused: ([0-9]+ [A-Za-z]+) at (?:byte|record) [0-9]+")
 STATUS = re.compile(rb"#[0-9]+ (\S+)\n")
-READY = b"ready "
 # How most talks end.
 WHOLE = "talk to the end of the input"
 
@@ -46,17 +39,12 @@ def by_model(drawn: DrawnTalk) -> Talk:
         return Talk([], -1, traceback.format_exc())
 
 
-def outcome_of(talk: Talk) -> Outcome:
-    line = b"svnhist: %s\n" % talk.line.encode() if talk.line else b""
-    return Outcome(talk.status, b"".join(each.text for each in talk.said), line)
-
-
 # How the input comes
 
 
 def drawn_way(lot: random.Random, drawn: DrawnTalk) -> str:
     way = lot.choices(list(WAYS), list(WAYS.values()))[0]
-    return "cut" if way == "byte by byte" and len(drawn.given) > MOST_BYTES else way
+    return "cut" if way == "byte by byte" and len(drawn.given) > 5000 else way
 
 
 def cuts_of(lot: random.Random, way: str, drawn: DrawnTalk, talk: Talk) -> list[int]:
@@ -68,32 +56,17 @@ def cuts_of(lot: random.Random, way: str, drawn: DrawnTalk, talk: Talk) -> list[
         return list(range(1, size + 1))
     if way == "turn by turn":
         ends = [each.at for each in talk.said]
-        return ends + cuts_after(lot, talk, ends, size) + [size]
-    cuts = [0]
-    for piece in pieces.cut(lot, drawn.given):
-        cuts.append(cuts[-1] + len(piece))
-    return cuts
-
-
-def cuts_after(lot: random.Random, talk: Talk, ends: list[int], size: int) -> list[int]:
-    """Cuts of what comes after the last reply, where something in it is refused."""
-    if not ends or talk.status == 0:
-        return []
-    return sorted(lot.randint(ends[-1], size) for _ in range(CUTS_OF_A_REFUSED_PIECE))
+        # In a piece that is refused the input is cut more often.
+        count = 3 if ends and talk.status != 0 else 0
+        return ends + sorted(lot.randint(ends[-1], size) for _ in range(count)) + [size]
+    return list(itertools.accumulate(map(len, pieces.cut(lot, drawn.given)), initial=0))
 
 
 def waits_of(lot: random.Random, way: str, cuts: list[int]) -> list[int]:
     """At which of the cuts replies are waited for."""
     if way == "turn by turn":
         return cuts
-    count = MOST_WAITS if way == "cut, with waits" else 0
-    return lot.sample(cuts, min(len(cuts), count))
-
-
-def is_over(drawn: DrawnTalk, talk: Talk, at: int) -> bool:
-    """Whether the talk has ended when so many bytes of its input have come."""
-    was_last = not talk.said or talk.said[-1].at <= at
-    return talk.status != 0 and was_last and turns.is_over(drawn.dump, drawn.given[:at])
+    return lot.sample(cuts, min(len(cuts), 6)) if way == "cut, with waits" else []
 
 
 def steps_at(drawn: DrawnTalk, talk: Talk, cuts: list[int], waits: list[int]) -> Iterator[Step]:
@@ -104,7 +77,8 @@ def steps_at(drawn: DrawnTalk, talk: Talk, cuts: list[int], waits: list[int]) ->
         if at not in waits:
             yield Step(text)
             continue
-        has_ended = is_over(drawn, talk, at)
+        was_last = not talk.said or talk.said[-1].at <= at
+        has_ended = talk.status != 0 and was_last and turns.is_over(drawn.dump, drawn.given[:at])
         yield Step(text, sum(len(each.text) for each in talk.said if each.at <= at), has_ended)
         if has_ended:
             break
@@ -115,28 +89,26 @@ def steps_at(drawn: DrawnTalk, talk: Talk, cuts: list[int], waits: list[int]) ->
 
 def ending_of(talk: Talk) -> str:
     """How a talk ended, in words: with its input, or with a reason against its dump or a piece."""
-    if talk.status == 0:
-        return WHOLE
     reason = REASON.fullmatch(talk.line)
     if not reason:
-        return talk.line
+        return talk.line or WHOLE
     return ("a piece: " if talk.said else "the dump: ") + reason[1]
 
 
 def counted(way: str, talk: Talk) -> Iterator[Counted]:
-    """What is counted of a talk: its ending, the way in which its input came, its pieces and its answers."""
-    yield Counted(RUNS, ending_of(talk))
-    yield Counted("(ways in which the input came)", way)
+    """The ending of a talk, the way in which its input came, its pieces and its answers."""
+    yield RUNS, ending_of(talk)
+    yield "(ways in which the input came)", way
     if talk.said:
-        pieces_taken = sum(each.text.startswith(READY) for each in talk.said) - 1
-        yield Counted("(pieces that were taken)", str(pieces_taken) if pieces_taken < 5 else "5 or more")
+        count = sum(each.text.startswith(b"ready ") for each in talk.said) - 1
+        yield "(pieces that were taken)", str(count) if count < 5 else "5 or more"
     for each in talk.said:
         status = STATUS.match(each.text)
         if status:
-            yield Counted("(answers)", status[1].decode())
+            yield "(answers)", status[1].decode()
 
 
-def judge(program: Path, folder: Path, seed: int) -> Judged:
+def judge(program: Path, folder: Path, seed: int) -> Found:
     """The difference in the talk of a seed, if there is one, and what is counted of it."""
     lot = random.Random("cuts of %d" % seed)
     drawn = drawn_talks.talk_of(seed)
@@ -148,8 +120,10 @@ def judge(program: Path, folder: Path, seed: int) -> Judged:
     with tempfile.TemporaryDirectory(prefix="svnhist-talks-") as own:
         paths = comparing.keep(Path(own), seed, files)
         found = dialogue.run([program, paths["dump"], str(drawn.workers)], steps, SECONDS)
-    words = f"{drawn.workers} workers, the input {way}"
-    return Judged(comparing.difference(folder, seed, files, words, outcome_of(talk), found), list(counted(way, talk)))
+    line = b"svnhist: %s\n" % talk.line.encode() if talk.line else b""
+    wanted = Outcome(talk.status, b"".join(each.text for each in talk.said), line)
+    run = Run(f"{drawn.workers} workers, the input {way}", files, wanted, found)
+    return comparing.found_of(folder, seed, [run], counted(way, talk))
 
 
 COMPARISON = Comparison("talks", "Compares svnhist-live with the model in a talk drawn for each seed.", judge, WHOLE)

@@ -43,11 +43,6 @@ def ready(history: History) -> bytes:
     return b"ready %d\n\n" % (len(history.trees) - 1)
 
 
-def answer(history: History, number: int, line: bytes) -> bytes:
-    status, *lines = definitions.answer_of(history, line)
-    return b"#%d %s\n" % (number, status) + b"".join(each + b"\n" for each in lines) + b"\n"
-
-
 def may_change(front: bytes, number: int, at: int) -> bool:
     """Whether a reason against these bytes may be none, or another one, if more of the dump follows them."""
     if number == 1:
@@ -68,12 +63,6 @@ def raise_decided(front: bytes) -> None:
             raise
 
 
-def read_cut(dump: bytes) -> None:
-    """Raises why a talk ends whose input ends within a piece; the bytes are those of the dump up to there."""
-    raise_decided(dump)
-    raise NoReport(1, CUT)
-
-
 def replies(dump: bytes, given: bytes) -> Iterator[Said]:
     """What is said, one after another, until there is a reason to end."""
     history = definitions.history_of(dump)
@@ -87,13 +76,15 @@ def replies(dump: bytes, given: bytes) -> Iterator[Said]:
         size = piece_size(line)
         if size is None:
             count += 1
-            yield Said(at, answer(history, count, line))
+            answer = definitions.answer_of(history, line)
+            yield Said(at, definitions.report_of([answer], count) + b"\n")
         else:
             piece = given[at : at + size]
             dump += piece
             at += len(piece)
             if len(piece) < size:
-                read_cut(dump)
+                raise_decided(dump)
+                raise NoReport(1, CUT)
             history = definitions.history_of(dump)
             yield Said(at, ready(history))
 
