@@ -10,9 +10,9 @@ from __future__ import annotations
 import random
 from typing import NamedTuple
 
-from bench.histories import MIXES, RELEASES, SIZES, generate, make_faulty, remove
+from bench.histories import MIXES, RELEASES, SIZES, generate, make_faulty
 from bench.measure import REFUSED, Timed, check_same, run_in_turns, words_of
-from bench.parts import Cell, Measurements, Part, Row, Setup, most, table
+from bench.parts import Cell, Measurements, Part, Row, Setup, Table, most
 from bench.questions import TEN, VERBS, drawn_line, drawn_lines, later_half, pegs_at_ends, records_of, written
 from dev.running import peak_of
 
@@ -62,7 +62,6 @@ def made_rows(history: History) -> list[Row]:
     reading = Timed(words_of(history.setup.program, faulty), REFUSED)
     found = {kind: history.timed("none", [], kind) for kind in MADE_KINDS}
     run_in_turns([reading, *found.values()], history.setup.times)
-    faulty.unlink()
     seconds = {kind: each.wall - reading.wall for kind, each in found.items()}
     ratios: dict[Kind, Cell] = {kind: each / seconds[ONE] for kind, each in seconds.items()}
     if history.name == "additions":
@@ -132,18 +131,17 @@ def times_rows(name: str, found: dict[str, Answers]) -> list[Row]:
 def run(setup: Setup) -> Measurements:
     histories = [History(setup, name) for name in HISTORIES]
     heading = "history | workers | BLOCK:, | index, map and check, s:.3f | relative to one block and one worker:.2f"
-    yield table("blocks-made", heading, [row for history in histories for row in made_rows(history)])
+    yield Table("blocks-made", heading, [row for history in histories for row in made_rows(history)])
     runs = [run_rows(history) for history in histories]
     yield "Whole runs with four workers, and with one:"
-    yield table("blocks-runs", RUNS, [row for each in runs for row in each[4]])
-    yield table("blocks-runs-of-one-worker", RUNS, [row for each in runs for row in each[1]])
+    yield Table("blocks-runs", RUNS, [row for each in runs for row in each[4]])
+    yield Table("blocks-runs-of-one-worker", RUNS, [row for each in runs for row in each[1]])
     answers = {history.name: answers_by_verb(history) for history in histories}
     yield f"The answers from four blocks relative to those from one, {MOST_OF_ANSWERS}:"
     verbs = "".join(f" | `{verb}`:.2f" for verb in VERBS)
-    yield table("blocks-answers", "history" + verbs, [ratios_row(*each) for each in answers.items()])
+    yield Table("blocks-answers", "history" + verbs, [ratios_row(*each) for each in answers.items()])
     heading = "history | verb | questions:, | ms per question, one block:.5f | ms, four blocks:.5f"
-    yield table("blocks-answers-times", heading, [row for each in answers.items() for row in times_rows(*each)])
-    remove(*(history.dump for history in histories))
+    yield Table("blocks-answers-times", heading, [row for each in answers.items() for row in times_rows(*each)])
 
 
 PART = Part(__name__, __doc__, run, [MOST_OF_MADE, MOST_OF_RUN, MOST_OF_MEMORY, MOST_OF_ANSWERS])

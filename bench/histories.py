@@ -2,15 +2,14 @@
 from __future__ import annotations
 
 import itertools
+import shutil
 import subprocess
 from collections.abc import Iterable, Iterator, Sequence
 from pathlib import Path
-from typing import NamedTuple
 
 from bench.generator import FAULTY_BLOCK
-from bench.measure import REFUSED
 from bench.parts import Setup
-from bench.questions import TEN, drawn_lines, pegs_at_ends, records_of, written
+from bench.questions import drawn_lines, pegs_at_ends, records_of, written
 from dev.dumps import DIR, Node, Revision, added, changed, first_lines, mergeinfo
 from dev.running import Words
 from dev.tree import ROOT
@@ -33,25 +32,8 @@ SHORT = ["--records", "2", "--width", "4", "--copy-depth", "6", "--body", "0:100
 SHORT_REVISIONS, QUICK_SHORT_REVISIONS = 2000, 500
 
 
-class Read(NamedTuple):
-    """A dump that is read: the options, the revisions, and whether it ends with a block that every reader refuses, so
-    that nothing is built of it."""
-
-    options: list[str]
-    revisions: int
-    is_faulty: bool = True
-
-    @property
-    def status(self) -> int:
-        return REFUSED if self.is_faulty else 0
-
-
-LARGE_TEXTS = ["--records", "1", "--width", "3", "--body", "0:4194304", "--no-checksums"]
-READ = {
-    "small records": Read(["--records", "24", "--body", "0:650"], 20000),
-    "mergeinfo": Read(RELEASES, SIZES[-1]),
-    "large texts": Read(LARGE_TEXTS, 2600, is_faulty=False),
-}
+# A history of small records.
+SMALL, SMALL_REVISIONS = ["--records", "24", "--body", "0:650"], 20000
 
 
 def generate(path: Path, options: Sequence[str], revisions: int, start: bytes = b"") -> Path:
@@ -70,14 +52,13 @@ def short_history(setup: Setup, name: str) -> Path:
 
 def ten_queries(path: Path, dump: Path) -> Path:
     """A file of the ten queries of whole runs about a dump."""
-    return written(path, drawn_lines(pegs_at_ends(records_of(dump)), TEN))
+    return written(path, drawn_lines(pegs_at_ends(records_of(dump))))
 
 
 def make_faulty(dump: Path, path: Path) -> Path:
     """A copy of a dump with a last block that every reader refuses."""
-    with open(dump, "rb") as source, open(path, "wb") as file:
-        while piece := source.read(PIECE):
-            file.write(piece)
+    shutil.copyfile(dump, path)
+    with open(path, "ab") as file:
         file.write(FAULTY_BLOCK)
     return path
 
@@ -87,11 +68,6 @@ def load_into_cache(*paths: Path) -> None:
         with open(path, "rb") as file:
             while file.read(PIECE):
                 pass
-
-
-def remove(*paths: Path) -> None:
-    for path in paths:
-        path.unlink()
 
 
 def revisions_of(dump: Path) -> Iterator[bytes]:

@@ -17,20 +17,19 @@ fixed seed stands beside them, to show that they do collide there.
 """
 from __future__ import annotations
 
-import math
 import signal
 from collections.abc import Iterator
 from dataclasses import dataclass
 from pathlib import Path
-from typing import Any, Callable
+from typing import Callable, TypeVar
 
 from bench import hostile_dumps as dumps
 from bench.colliding import Finder
-from bench.histories import remove
+from bench.histories import PIECE
 from bench.hostile_dumps import MOST_WORKERS, Maker, Pieces
 from bench.measure import NOTHING, REFUSED, words_of
-from bench.parts import Cell, Limit, Measurements, Part, Row, Setup, most, table
-from dev.running import Failed, Limits, Measured, Words, started
+from bench.parts import Cell, Limit, Measurements, Part, Row, Setup, Table, most
+from dev.running import Failed, Limits, Measured, Outcome, Words, started
 
 # What a run may take, also one of a dump that claims a length, and the seconds from which on it is not repeated.
 MOST_SECONDS = 120
@@ -75,10 +74,6 @@ class Shape:
         return ", ".join(names + blocks + [f"{self.workers} workers"] * (self.workers > 1))
 
 
-def of_example(asked: Maker, size: int, answer: str, workers: int = 1) -> Shape:
-    return Shape(dumps.example, size, asked, answer, workers=workers)
-
-
 SHAPES = [
     Shape(dumps.header_of_many_lines, 1000000),
     Shape(dumps.long_header_line, 50000000),
@@ -106,11 +101,11 @@ SHAPES = [
     Shape(dumps.mergeinfo_lines_that_clash, 500000, dumps.mergeinfo_of_the_file),
     Shape(dumps.mergeinfo_lines_of_one_path, 500000, dumps.mergeinfo_of_the_file),
     Shape(dumps.short_mergeinfo_lines, 200000, dumps.mergeinfo_of_the_file),
-    of_example(dumps.long_path_in_a_query, 10000000, "no-such-path"),
-    of_example(dumps.many_components_in_a_query, 5000000, "no-such-path"),
-    of_example(dumps.line_of_tabs, 200000000, "bad-query"),
-    of_example(dumps.many_merged, 500000, "ok", MOST_WORKERS),
-    of_example(dumps.many_empty_lines, 500000, "bad-query", MOST_WORKERS),
+    Shape(dumps.example, 10000000, dumps.long_path_in_a_query, "no-such-path"),
+    Shape(dumps.example, 5000000, dumps.many_components_in_a_query, "no-such-path"),
+    Shape(dumps.example, 200000000, dumps.line_of_tabs, "bad-query"),
+    Shape(dumps.example, 500000, dumps.many_merged, "ok", workers=MOST_WORKERS),
+    Shape(dumps.example, 500000, dumps.many_empty_lines, "bad-query", workers=MOST_WORKERS),
     Shape(dumps.short_mergeinfo_lines, 50000, dumps.merged_for_each_worker, workers=MOST_WORKERS),
     # What is asked takes the product of the queries and the history, and so may the report.
     Shape(dumps.mergeinfo_above_a_long_name, 2500, dumps.mergeinfo_below),
@@ -121,110 +116,97 @@ SHAPES = [
     Shape(dumps.nested_copies_of_the_root, 2000, dumps.segments_of_the_nested_path),
 ]
 KEYS = 100000
-Keys = Callable[[int], Any]
+Key = TypeVar("Key")
 
 
-def colliding_shapes(finder: Finder) -> Iterator[tuple[Shape, Shape]]:
-    """Keys that collide, and as many that do not."""
+def shape_of(name: str, maker: Callable[[Key], Pieces], keys: Callable[[int], Key]) -> Shape:
+    """The shape that is made of keys, by their number."""
 
-    def pair(name: str, maker: Callable[[Any], Pieces], colliding: Keys, others: Keys) -> tuple[Shape, Shape]:
-        one, other = (lambda count: maker(colliding(count)), lambda count: maker(others(count)))
-        return Shape(one, KEYS, name=name), Shape(other, KEYS, name=f"other {name}")
+    def make(count: int) -> Pieces:
+        return maker(keys(count))
 
-    yield pair("names", dumps.new_names, finder.names, range)
-    yield pair("mergeinfo", dumps.new_values, finder.names, range)
-    yield pair("nodes of the index", dumps.new_nodes, finder.pairs, dumps.ordinary_pairs)
+    return Shape(make, KEYS, name=name)
 
 
 class Input:
-    """A shape in one size, the best time and the greatest memory of its runs so far, and the size of its report."""
+    """A shape in one size, and its runs so far, of which the first one shows whether it ends as it must. The files are
+    those of the shape before, written anew."""
 
-    def __init__(self, setup: Setup, shape: Shape, size: int) -> None:
+    def __init__(self, setup: Setup, shape: Shape, size: int, name: str) -> None:
         self.shape = shape
         self.title = shape.title()
         self.size = size
-        kinds = ("dump", "queries", "report")
-        self.dump, self.queries, self.report = (setup.folder / f"hostile-{size}.{kind}" for kind in kinds)
-        for path, make in ((self.dump, shape.dump), (self.queries, shape.asked)):
-            with open(path, "wb") as file:
+        dump, self.queries, self.report = (
+            setup.folder / f"hostile-{name}.{kind}" for kind in ("dump", "queries", "report")
+        )
+        for path, make in ((dump, shape.dump), (self.queries, shape.asked)):
+            with open(path, "wb", PIECE) as file:
                 file.writelines(make(size))
-        self.bytes = self.dump.stat().st_size + self.queries.stat().st_size
-        self.command = words_of(setup.program, self.dump, self.queries, shape.block, shape.workers)
-        self.wall = self.fixed = math.inf
-        self.peak = self.reported = 0
-        self.status: int | None = None
-        self.is_ended = False
-        self.is_repeated = False
+        self.bytes = dump.stat().st_size + self.queries.stat().st_size
+        self.command = words_of(setup.program, dump, self.queries, shape.block, shape.workers)
+        self.runs: list[Measured] = []
+        self.reported = 0
 
-    def run(self, report: Path, before: Words = ()) -> Measured:
+    def run(self, report: Path = NOTHING, before: Words = ()) -> Measured:
         """Runs the program once, after these words."""
-        taken = started([*before, *self.command], report=report, limits=Limits(MOST_SECONDS, self.shape.room))
-        self.peak = max(self.peak, taken.peak)
-        return taken
+        limits = Limits(MOST_SECONDS, self.shape.room)
+        return started([*before, *self.command], report=report, limits=limits)
 
     def run_first(self) -> None:
-        """The run whose report is checked. Its time counts if it was long."""
-        taken = self.run(self.report)
-        self.status = taken.outcome.status
-        self.is_ended = self.status in (-signal.SIGALRM, OUT_OF_MEMORY)
+        """The run whose report is checked."""
+        self.runs.append(self.run(self.report))
         if not self.is_ended:
-            self.check(taken)
-        self.is_repeated = not self.is_ended and taken.wall < LONG
-        if not self.is_repeated:
-            self.wall = taken.wall
+            self.check(self.runs[0].outcome)
         self.reported = self.report.stat().st_size
-        self.report.unlink()
 
     def run_again(self) -> None:
-        if self.is_repeated:
-            taken = self.run(NOTHING)
-            if taken.outcome.status != self.status:
-                raise Failed(f"{self.title} ended before with {self.status}, and now with {taken.outcome.shown()}")
-            self.wall = min(self.wall, taken.wall)
+        if self.is_ended or self.runs[0].wall >= LONG:
+            return
+        self.runs.append(self.run())
+        status, outcome = self.runs[0].outcome.status, self.runs[-1].outcome
+        if outcome.status != status:
+            raise Failed(f"{self.title} ended before with {status}, and now with {outcome.shown()}")
 
-    def run_fixed(self, entropy: Path) -> None:
-        """A run under the fixed seed, since the object that is loaded gives no random bytes."""
-        self.fixed = self.run(NOTHING, ["/usr/bin/env", f"LD_PRELOAD={entropy}"]).wall
+    @property
+    def is_ended(self) -> bool:
+        """Whether it was not run, or the run had to be ended."""
+        return not self.runs or self.runs[0].outcome.status in (-signal.SIGALRM, OUT_OF_MEMORY)
 
-    def check(self, taken: Measured) -> None:
-        errors = taken.outcome.errors.decode("utf-8", "replace").strip()
+    @property
+    def wall(self) -> float:
+        """The best time. That of the first run counts if no other follows."""
+        return min(each.wall for each in self.runs[1:] or self.runs)
+
+    @property
+    def peak(self) -> int:
+        return max(each.peak for each in self.runs)
+
+    def check(self, outcome: Outcome) -> None:
         if self.shape.refusal is None:
-            is_right = self.status == 0 and self.answered() == [self.shape.answer] * self.asked()
+            with open(self.report, "rb") as report, open(self.queries, "rb") as queries:
+                answered = [line.split()[1].decode() for line in report if line.startswith(b"#")]
+                is_right = outcome.status == 0 and answered == [self.shape.answer] * sum(1 for _ in queries)
         else:
-            is_right = self.status == REFUSED and errors.startswith("svnhist: dump refused: " + self.shape.refusal)
+            refusal = f"svnhist: dump refused: {self.shape.refusal}".encode()
+            is_right = outcome.status == REFUSED and outcome.errors.startswith(refusal)
         if not is_right:
-            raise Failed(f"{self.title} has other answers than it must have, or ended with {taken.outcome.shown()}")
-
-    def answered(self) -> list[str]:
-        """The status of each answer."""
-        with open(self.report, "rb") as file:
-            return [line.split()[1].decode() for line in file if line.startswith(b"#")]
-
-    def asked(self) -> int:
-        with open(self.queries, "rb") as file:
-            return sum(1 for _ in file)
+            raise Failed(f"{self.title} has other answers than it must have, or ended with {outcome.shown()}")
 
     def shown_wall(self) -> Cell:
-        if self.wall == math.inf:
+        if not self.runs:
             return "not run"
         return f"ended, {self.wall:.0f}" if self.is_ended else self.wall
 
 
-def measured(setup: Setup, shape: Shape, entropy: Path | None = None) -> tuple[Input, Input]:
-    """The measured inputs of a shape, in its size and in twice that; also under the fixed seed, given what to load."""
+def measured(setup: Setup, shape: Shape) -> tuple[Input, Input]:
+    """The measured inputs of a shape, in its size and in twice that."""
     size = setup.scaled(shape.size)
-    once, twice = Input(setup, shape, size), Input(setup, shape, 2 * size)
+    once, twice = Input(setup, shape, size, "once"), Input(setup, shape, 2 * size, "twice")
     once.run_first()
-    if once.is_ended:
-        twice.is_ended = True
-    else:
+    if not once.is_ended:
         twice.run_first()
     for each in (once, twice) * setup.times:
         each.run_again()
-    for each in (once, twice):
-        if entropy is not None:
-            each.run_fixed(entropy)
-        remove(each.dump, each.queries)
     return once, twice
 
 
@@ -251,23 +233,31 @@ def shape_row(setup: Setup, shape: Shape, spared: int) -> Row:
     return [once.title, once.bytes, once.reported / 1e6, once.shown_wall(), once.peak / 1e6, *found]
 
 
-def colliding_rows(setup: Setup, finder: Finder, colliding: Shape, others: Shape) -> list[Row]:
-    def row(one: Input, other: Input) -> Row:
-        ratio = None if one.is_ended else one.wall / other.wall
-        return [one.title, one.size, one.shown_wall(), other.shown_wall(), MOST_OF_OTHERS.of(ratio), one.fixed]
-
-    return [row(one, other) for one, other in zip(measured(setup, colliding, finder.path), measured(setup, others))]
+def colliding_rows(setup: Setup, colliding: Shape, others: Shape, entropy: Path) -> Iterator[Row]:
+    """The keys that collide also under the fixed seed, since the object that is loaded gives no random bytes."""
+    inputs = measured(setup, colliding)
+    fixed = [each.run(before=["/usr/bin/env", f"LD_PRELOAD={entropy}"]).wall for each in inputs]
+    for one, other, seconds in zip(inputs, measured(setup, others), fixed):
+        ratio = None if one.is_ended or other.is_ended else one.wall / other.wall
+        yield [one.title, one.size, one.shown_wall(), other.shown_wall(), MOST_OF_OTHERS.of(ratio), seconds]
 
 
 def run(setup: Setup) -> Measurements:
-    base = Input(setup, Shape(dumps.without_records, 0), 0)
+    base = Input(setup, Shape(dumps.without_records, 0), 0, "once")
     base.run_first()
-    remove(base.dump, base.queries)
     yield f"A run on a dump without records takes {base.peak / 1e6:.1f} MB."
-    yield table("hostile-input", SHAPES_HEADING, [shape_row(setup, shape, base.peak + DIFFERENCE) for shape in SHAPES])
+    yield Table("hostile-input", SHAPES_HEADING, [shape_row(setup, shape, base.peak + DIFFERENCE) for shape in SHAPES])
     finder = Finder(setup.folder)
-    rows = [row for pair in colliding_shapes(finder) for row in colliding_rows(setup, finder, *pair)]
-    yield table("colliding-keys", KEYS_HEADING, rows)
+    pairs = [
+        (shape_of("names", dumps.new_names, finder.names), shape_of("other names", dumps.new_names, range)),
+        (shape_of("mergeinfo", dumps.new_values, finder.names), shape_of("other mergeinfo", dumps.new_values, range)),
+        (
+            shape_of("nodes of the index", dumps.new_nodes, finder.pairs),
+            shape_of("other nodes of the index", dumps.new_nodes, dumps.ordinary_pairs),
+        ),
+    ]
+    rows = [row for pair in pairs for row in colliding_rows(setup, *pair, finder.path)]
+    yield Table("colliding-keys", KEYS_HEADING, rows)
 
 
 LIMITS = [MOST_FOR_TWICE, MOST_MEMORY_FOR_TWICE, MOST_PER_BYTE, MOST_PER_BYTE_OF_DEEP_PATHS, MOST_OF_OTHERS]

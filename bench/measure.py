@@ -111,27 +111,19 @@ class Timed:
     bytes, lines and answers it has."""
 
     def __init__(self, words: Words, status: int = 0) -> None:
-        self.command = Command(words, status=status)
+        self.words = words
+        self.run = Command(words, status=status).run
         self.wall = math.inf
         self.checksum: bytes | None = None
         self.size = self.lines = self.answered = 0
 
-    @property
-    def words(self) -> Words:
-        return self.command.words
-
     def keep_output(self) -> None:
-        output = self.command.run().outcome.output
+        output = self.run().outcome.output
         checksum = hashlib.sha256(output).digest()
         if checksum != (self.checksum or checksum):
             raise Failed(f"the output of {in_words(self.words)} differs from run to run")
         self.checksum = checksum
-        self.size = len(output)
-        self.lines = output.count(b"\n")
-        self.answered = output.count(b" ok\n")
-
-    def run_once(self) -> None:
-        self.wall = min(self.wall, self.command.run(is_kept=False).wall)
+        self.size, self.lines, self.answered = len(output), output.count(b"\n"), output.count(b" ok\n")
 
 
 def check_same(found: Iterable[Timed], answered: int, subject: str) -> None:
@@ -145,8 +137,7 @@ def run_in_turns(commands: Iterable[Timed], times: int) -> None:
     commands = list(commands)
     for command in commands:
         command.keep_output()
-    for _ in range(times):
-        for command in commands:
-            command.run_once()
+    for command in commands * times:
+        command.wall = min(command.wall, command.run(is_kept=False).wall)
     for command in commands:
         command.keep_output()

@@ -6,18 +6,19 @@ without, divided by their number. The other readers measure themselves (`value_r
 """
 from __future__ import annotations
 
+import math
 import subprocess
 import sys
 from functools import partial
-from typing import Callable, NamedTuple
+from typing import Callable, NamedTuple, Union
 
 from bench.histories import BENCH, revision, write_dump
 from bench.measure import Command, best_in_turns
-from bench.parts import Judged, Measurements, Part, Row, Setup, limits_table, most, table
+from bench.parts import ABSENT, Cell, Judged, Measurements, Part, Row, Setup, Table, limits_table, most
 from bench.questions import Asked, Peg, line
 from bench.subversion import BINDINGS
 from dev.dumps import DIR, FILE, added, mergeinfo
-from dev.running import Failed, Measured, Words, peak_of
+from dev.running import Failed, Measured, Words, measure, peak_of
 
 QUERIES = 10
 SMALL_QUERIES = 500000
@@ -29,7 +30,7 @@ WIDE = "/a:1-2147483647"
 
 # What the other readers are run by. Debian's bindings are built for Debian's own Python.
 PLAIN, OF_BINDINGS, OF_LIBRARY = "plain", "bindings", "library"
-READERS = {OF_BINDINGS: str(BINDINGS), OF_LIBRARY: str(BINDINGS), PLAIN: sys.executable}
+READERS = {PLAIN: sys.executable, OF_BINDINGS: str(BINDINGS), OF_LIBRARY: str(BINDINGS)}
 
 MOST_OF_BINDINGS = most(0.2, "time relative to the bindings")
 MOST_OF_TWICE = most(2.4, "time for twice the value")
@@ -38,7 +39,10 @@ HEADING = (
     "value | bytes:, | ms per query:.1f | ms, plain Python:.1f | ms, bindings:.1f | ms, C library:.1f | "
     f"what Subversion reads | relative to the bindings, {MOST_OF_BINDINGS}:.3f"
 )
-Runs = dict[object, Callable[[], Measured]]
+# What is measured: a value with so many queries, or another reader of a value.
+Key = tuple[object, Union[int, str]]
+Runs = dict[Key, Callable[[], Measured]]
+Best = dict[Key, Measured]
 
 
 class Form(NamedTuple):
@@ -77,7 +81,7 @@ class Value:
         """A run without queries, and one with so many."""
         return {(self, count): partial(self.asked.ask, [QUERY] * count) for count in (0, queries)}
 
-    def seconds(self, best: dict[object, Measured], queries: int) -> float:
+    def seconds(self, best: Best, queries: int) -> float:
         """The time of one query."""
         return (best[self, queries].wall - best[self, 0].wall) / queries
 
@@ -92,9 +96,10 @@ class Formed:
         self.setup = setup
         self.form = form
         self.count = setup.scaled(form.parts)
+        self.title = form.titled(self.count)
         self.value, self.twice = (self.value_of(times) for times in (1, 2))
         self.readers = {reader: self.command_of(reader) for reader in readers}
-        self.seconds: dict[str, float] = {}
+        self.milliseconds: dict[str, float] = {}
 
     def value_of(self, times: int) -> Value:
         """A value so many times as large."""
@@ -115,51 +120,43 @@ class Formed:
         seconds, _, lines = taken.outcome.output.partition(b"\n")
         if reader == PLAIN and self.value.asked.ask([QUERY]).outcome.output != b"#1 ok\n" + lines:
             raise Failed("plain Python and the program print different lines")
-        self.seconds[reader] = min(float(seconds), self.seconds.get(reader, float("inf")))
+        self.milliseconds[reader] = min(float(seconds) * 1e3, self.milliseconds.get(reader, math.inf))
         return taken
 
-    def row(self, best: dict[object, Measured]) -> Row:
-        ours = self.value.seconds(best, QUERIES)
-        others = [self.seconds.get(reader) for reader in (PLAIN, OF_BINDINGS, OF_LIBRARY)]
+    def row(self, best: Best) -> Row:
+        ours = self.value.seconds(best, QUERIES) * 1e3
+        others: list[Cell] = [self.milliseconds.get(reader, ABSENT) for reader in READERS]
         share = "all" if self.form.share == 1 else f"1/{self.form.share}"
-        bindings = self.seconds.get(OF_BINDINGS)
-        ratio = bindings and MOST_OF_BINDINGS.of(ours / bindings)
-        seconds = [each and each * 1e3 for each in (ours, *others)]
-        return [self.form.titled(self.count), self.value.size, *seconds, share, ratio]
+        bindings = self.milliseconds.get(OF_BINDINGS)
+        ratio: Cell = MOST_OF_BINDINGS.of(ours / bindings) if bindings else ABSENT
+        return [self.title, self.value.size, ours, *others, share, ratio]
 
-    def growth(self, best: dict[object, Measured]) -> Judged:
+    def growth(self, best: Best) -> Judged:
         """The time for twice the value relative to that for the value; the size is not exactly twice the other."""
         ratio = self.twice.seconds(best, QUERIES) / self.value.seconds(best, QUERIES)
-        return MOST_OF_TWICE.of(2 * ratio * self.value.size / self.twice.size, self.form.titled(self.count))
+        return MOST_OF_TWICE.of(2 * ratio * self.value.size / self.twice.size, self.title)
 
     def memory_row(self) -> Row:
         value = self.value_of(LARGER)
-        row: Row = [self.form.titled(self.count * LARGER), value.size / 1e6, value.peak(0), value.peak(1)]
-        value.asked.dump.unlink()
-        return row
+        return [self.form.titled(self.count * LARGER), value.size / 1e6, value.peak(0), value.peak(1)]
 
 
 def installed_readers() -> list[str]:
     """The readers that this machine has; plain Python always is one."""
-    try:
-        subprocess.run([BINDINGS, "-c", "import svn.core"], stderr=subprocess.DEVNULL, check=True)
-    except (OSError, subprocess.CalledProcessError):
-        return [PLAIN]
-    return list(READERS)
+    has_bindings = BINDINGS.exists() and measure([BINDINGS, "-c", "import svn.core"]).outcome.status == 0
+    return list(READERS) if has_bindings else [PLAIN]
 
 
 def run(setup: Setup) -> Measurements:
     readers = installed_readers()
-    if len(readers) == 1:
-        yield f"{BINDINGS} has no bindings of Subversion, so these are left out."
     forms = [Formed(setup, form, readers) for form in FORMS]
     small, wide = (Value(setup, f"small-{len(text)}", text.encode()) for text in (SMALL, WIDE))
     queries = setup.scaled(SMALL_QUERIES)
     runs: Runs = {key: run for form in forms for key, run in form.runs().items()}
     best = best_in_turns({**runs, **small.runs(queries), **wide.runs(queries)}, setup.times)
-    yield table("mergeinfo-values", HEADING, [form.row(best) for form in forms])
+    yield Table("mergeinfo-values", HEADING, [form.row(best) for form in forms])
     heading = "value | MB:.1f | peak MB without queries:.1f | peak MB with one:.1f"
-    yield table("mergeinfo-values-memory", heading, [form.memory_row() for form in forms])
+    yield Table("mergeinfo-values-memory", heading, [form.memory_row() for form in forms])
     one, other = small.seconds(best, queries), wide.seconds(best, queries)
     yield f"A query takes {one * 1e6:.2f} microseconds for `{SMALL}` and {other * 1e6:.2f} for `{WIDE}`."
     limits = [*(form.growth(best) for form in forms), MOST_OF_WIDE.of(other / one)]

@@ -16,9 +16,9 @@ from typing import NamedTuple, Optional
 
 from bench.histories import revision, write_dump
 from bench.measure import Command, Timed, in_words, run_in_turns, words_of
-from bench.parts import Measurements, Part, Row, Setup, most, table
+from bench.parts import Measurements, Part, Row, Setup, Table, most
 from bench.questions import Asked, Peg, line, written
-from bench.subversion import folder_in_memory, load
+from bench.subversion import Repository, beside, loaded
 from dev.dumps import FILE, added, changed, copied, mergeinfo
 from dev.running import Failed, best_of
 
@@ -116,7 +116,7 @@ def seconds_of_subversion(words: list[str], times: int, lines: list[str]) -> flo
     return best.wall
 
 
-def rows_of(asked: Asked, verb: str, last: int, url: str | None) -> Iterator[Row]:
+def rows_of(asked: Asked, verb: str, last: int, repository: Repository | None) -> Iterator[Row]:
     queries = queries_of(verb, last)
     whole = asked.answers([queries[0].line()])[0].lines
     runs = [run_of(asked, query, whole) for query in queries]
@@ -126,9 +126,11 @@ def rows_of(asked: Asked, verb: str, last: int, url: str | None) -> Iterator[Row
     for query, asking, each in zip(queries, runs, seconds):
         ratio = MOST_OF_WHOLE.of(each / seconds[0]) if query.bounds else None
         cells: Row = [f"`{verb}`", query.name, asking.asked, len(asking.lines), each * 1e3, ratio]
-        times = asked.setup.times if query.bounds else 1
-        other = seconds_of_subversion(query.to_subversion(url), times, asking.lines) if url else None
-        yield [*cells, other and other * 1e3, other and other / each]
+        other = None
+        if repository:
+            times = asked.setup.times if query.bounds else 1
+            other = seconds_of_subversion(query.to_subversion(repository.url), times, asking.lines)
+        yield [*cells, *beside(other, each)]
 
 
 def run(setup: Setup) -> Measurements:
@@ -136,9 +138,8 @@ def run(setup: Setup) -> Measurements:
     last = operative + 2
     asked = Asked(setup, write_dump(setup.folder / "ranges.dump", revisions_of(last)))
     yield f"{operative:,} operative revisions, and ranges of {RANGE}."
-    with folder_in_memory(setup.folder) as above:
-        url = load(asked.dump, above / "ranges")
-        yield table("ranges", HEADING, [row for verb in VERBS for row in rows_of(asked, verb, last, url)])
+    with loaded(setup, asked.dump) as repository:
+        yield Table("ranges", HEADING, [row for verb in VERBS for row in rows_of(asked, verb, last, repository)])
 
 
 PART = Part(__name__, __doc__, run, [MOST_OF_WHOLE])

@@ -17,7 +17,7 @@ from typing import Callable
 
 from bench.histories import BENCH, generate, load_into_cache
 from bench.measure import NOTHING, Command, best_in_turns
-from bench.parts import Measurements, Part, Row, Setup, limits_table, most, table
+from bench.parts import Measurements, Part, Row, Setup, Table, limits_table, most
 from bench.questions import Peg, line, written
 from dev.running import Measured, Words, measure, peak_of
 from dev.tree import EXAMPLES, ROOT, SVNASK
@@ -100,7 +100,7 @@ def run(setup: Setup) -> Measurements:
     best = {name: taken for pair in pairs for name, taken in best_in_turns(pair, setup.times, cost).items()}
     grep, first, alone, later, many, read = (taken.processor for taken in best.values())
     rows: list[Row] = [[name, taken.processor, taken.peak / 1e6] for name, taken in best.items()]
-    yield table("svnask", "what runs | processor s:.3f | peak MB:.0f", rows)
+    yield Table("svnask", "what runs | processor s:.3f | peak MB:.0f", rows)
     yield f"Lines of the many logs: {best['the module, the same'].outcome.output.decode().strip()}."
     limits = [MOST_OF_GREP.of(first / grep), MOST_MEGABYTES.of(peak_of(asked.first_words()) / 1e6)]
     limits += [MOST_OF_PROGRAM.of((later - MORE) / alone), MOST_OF_LINES.of(read / many)]

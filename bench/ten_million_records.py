@@ -8,7 +8,7 @@ from pathlib import Path
 
 from bench.histories import MIXES, RECORDS, SIZES, generate, ten_queries
 from bench.measure import Command, SameReport, in_words, words_of
-from bench.parts import Measurements, Part, Row, Setup, table
+from bench.parts import Measurements, Part, Row, Setup, Table
 from bench.questions import TEN
 from dev.running import Words, best_of, peak_of
 
@@ -29,7 +29,6 @@ def program_row(setup: Setup, dump: Path, queries: Path, workers: int) -> Row:
 def run(setup: Setup) -> Measurements:
     first = generate(setup.folder / "first.dump", MIXES["changes"], SIZES[0])
     queries = ten_queries(setup.folder / "longest.queries", first)
-    first.unlink()
     revisions = setup.scaled(REVISIONS)
     dump = generate(setup.folder / "longest.dump", MIXES["changes"], revisions)
     yield (
@@ -38,8 +37,7 @@ def run(setup: Setup) -> Measurements:
     )
     rows = [program_row(setup, dump, queries, workers) for workers in WORKERS]
     rows += [[f"`{in_words(words)}`", best_of(TIMES, Command(words, ["cat", dump]).run).wall, None] for words in BESIDE]
-    yield table("ten-million-records", "command | seconds:.1f | peak MB:.0f", rows)
-    dump.unlink()
+    yield Table("ten-million-records", "command | seconds:.1f | peak MB:.0f", rows)
 
 
 PART = Part(__name__, __doc__, run)

@@ -15,7 +15,7 @@ from typing import NamedTuple
 
 from bench.histories import revision, write_dump
 from bench.measure import Command, SameReport, best_of_groups, words_of
-from bench.parts import Limit, Measurements, Part, Row, Setup, most, table
+from bench.parts import Limit, Measurements, Part, Row, Setup, Table, most
 from bench.questions import Asked, Peg, line, written
 from dev.dumps import FILE, Node, added, changed, copied, mergeinfo
 from dev.running import peak_of
@@ -116,8 +116,8 @@ def copies_row(setup: Setup) -> Row:
 
 
 def run(setup: Setup) -> Measurements:
-    yield table("wide-directories", HEADING, [tags_row(setup, kind) for kind in KINDS])
-    yield table("copies-in-copies", COPIES_HEADING, [copies_row(setup)])
+    yield Table("wide-directories", HEADING, [tags_row(setup, kind) for kind in KINDS])
+    yield Table("copies-in-copies", COPIES_HEADING, [copies_row(setup)])
 
 
 PART = Part(__name__, __doc__, run, [MOST_MEMORY, *(kind.limit for kind in KINDS)])

@@ -14,7 +14,7 @@ from pathlib import Path
 
 from bench.histories import short_history, write_source
 from bench.measure import Build, check_same, run_in_turns
-from bench.parts import Limit, Measurements, Part, Row, Setup, most, table
+from bench.parts import Limit, Measurements, Part, Row, Setup, Table, most
 from bench.questions import Peg, drawn_line, later_half, line, pegs_of, records_of, written
 
 # The number of queries of each verb, 200,000 in all; the answers to `log` and `eligible` are long.
@@ -117,7 +117,7 @@ def run(setup: Setup) -> Measurements:
         Work(setup, "few long", uneven, few_long_queries(setup), builds),
     ]
     heading = "work | workers | queries:, | report, MB:.1f | seconds:.3f | relative to one:.3f | at most:g"
-    yield table("workers", heading, [work.row(build) for work in works for build in work.asked])
+    yield Table("workers", heading, [work.row(build) for work in works for build in work.asked])
     long, short = of_each(setup, uneven, few), of_each(setup, uneven, many)
     first = f"In the uneven work {len(few):,} queries take {long * 1e3:.4f} ms each"
     yield f"{first}, and then {len(many):,} take {short * 1e3:.5f} ms each: {long / short:.0f} times as long."
