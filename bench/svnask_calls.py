@@ -16,10 +16,10 @@ from pathlib import Path
 from typing import Callable
 
 from bench.histories import BENCH, generate, load_into_cache
-from bench.measure import NOTHING, Command, best_in_turns
+from bench.measure import Command, best_in_turns, words_of
 from bench.parts import Measurements, Part, Row, Setup, Table, limits_table, most
 from bench.questions import Peg, line, written
-from dev.running import Measured, Words, measure, peak_of
+from dev.running import Measured, Words, peak_of
 from dev.tree import EXAMPLES, ROOT, SVNASK
 
 GENERATED = ["--mix", "releases", "--records", "24", "--no-checksums", "--body", "0:200"]
@@ -41,14 +41,9 @@ class Asked:
     """A dump, the same without texts, and the commands about them."""
 
     def __init__(self, setup: Setup) -> None:
-        self.program = setup.program
-        self.dump = setup.folder / "asked"
-        self.stripped = setup.folder / "asked-stripped"
-        self.cache = setup.folder / "cache"
-        self.compiled = setup.folder / "compiled"
-        self.queries = setup.folder / "asked-queries"
-        self.workers = min(len(os.sched_getaffinity(0)), 64)
+        self.setup = setup
         self.rev = setup.scaled(REVISIONS)
+        self.dump, self.stripped, self.cache = (setup.folder / name for name in ("asked", "asked-stripped", "cache"))
         generate(self.dump, [*GENERATED, "--values", str(int(self.rev * VALUES))], self.rev)
         with open(self.dump, "rb") as dump, open(self.stripped, "wb") as stripped:
             subprocess.run([EXAMPLES / "strip-texts"], stdin=dump, stdout=stripped, check=True)
@@ -56,8 +51,8 @@ class Asked:
 
     def python(self, *words: str | Path) -> Words:
         """A script in Python with the program and the cache of this benchmark, and compiled once, as when installed."""
-        python = [f"PYTHONPYCACHEPREFIX={self.compiled}", f"PYTHONPATH={ROOT / 'ask'}"]
-        own = [f"SVNHIST={self.program}", f"XDG_CACHE_HOME={self.cache}"]
+        python = [f"PYTHONPYCACHEPREFIX={self.setup.folder / 'compiled'}", f"PYTHONPATH={ROOT / 'ask'}"]
+        own = [f"SVNHIST={self.setup.program}", f"XDG_CACHE_HOME={self.cache}"]
         return ["/usr/bin/env", "-u", "PYTHONDONTWRITEBYTECODE", *python, *own, sys.executable, *words]
 
     def grep(self) -> Measured:
@@ -76,9 +71,9 @@ class Asked:
 
     def alone(self, count: int) -> Measured:
         """The program about the dump without texts, with so many queries of the log of the trunk."""
-        written(self.queries, [line("log", Peg("trunk", self.rev))] * count)
-        words: Words = [self.program, self.stripped, self.queries, "0", str(self.workers)]
-        return measure(words, file=NOTHING, is_kept=False).expect()
+        queries = written(self.setup.folder / "asked-queries", [line("log", Peg("trunk", self.rev))] * count)
+        workers = min(len(os.sched_getaffinity(0)), 64)
+        return Command(words_of(self.setup.program, self.stripped, queries, workers=workers)).run(is_kept=False)
 
     def read(self, count: int) -> Measured:
         """All answers to so many queries, read by the module."""

@@ -85,7 +85,7 @@ def revisions_of(kind: Kind, copies: int, tags: int, changes: int) -> Iterator[b
 
 
 def command_of(setup: Setup, kind: Kind, copies: int, tags: int, changes: int) -> Command:
-    """A run on a dump of so many copies and tags, with the log of the tag that changed last."""
+    """A run on such a dump, with the log of the tag that changed last."""
     dump = write_dump(setup.folder / f"tags-{tags}.dump", revisions_of(kind, copies, tags, changes))
     last = Peg(tag_of((changes - 1) * STEP, tags).decode(), copies + 1 + changes)
     queries = written(setup.folder / f"tags-{tags}.queries", [line("log", last)])
@@ -104,15 +104,14 @@ def tags_row(setup: Setup, kind: Kind) -> Row:
 
 
 def copies_row(setup: Setup) -> Row:
-    empty = Asked(setup, write_dump(setup.folder / "empty.dump", ()))
+    empty = Asked(setup, write_dump(setup.folder / "empty.dump", ())).base.wall
     revisions = (revision(rev, copied(b"n%d" % rev, b"", rev - 1)) for rev in range(1, COPIES + 1))
     asked = Asked(setup, write_dump(setup.folder / "copies.dump", revisions))
     path = "/".join(f"n{number}" for number in range(COPIES, 0, -1))
     lines = [line("locate", Peg(path, COPIES), 0)]
-    runs = (empty.best([]), asked.best([]), asked.best(lines), asked.best(lines * LOCATED))
-    alone, without, one, many = (taken.wall * 1e3 for taken in runs)
+    one, each = asked.best(lines).wall, asked.cost(lines * LOCATED).seconds
     peak = peak_of(asked.command(lines * LOCATED).words)
-    return [COPIES, one, one - alone, (many - without) / LOCATED, peak / 1e6]
+    return [COPIES, one * 1e3, (one - empty) * 1e3, each * 1e3, peak / 1e6]
 
 
 def run(setup: Setup) -> Measurements:
