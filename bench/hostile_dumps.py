@@ -32,12 +32,17 @@ ONE_FILE = BEGIN + revision(1, added(b"a", FILE))
 # ---- pieces of a dump
 
 
-def repeated(block: bytes, count: int, before: bytes = b"", after: bytes = b"") -> Pieces:
-    """A block so often, in large pieces, between other bytes."""
-    each = max(1, PIECE // len(block))
-    yield before
-    yield from repeat(block * each, count // each)
-    yield block * (count % each) + after
+def repeated(name: str, before: bytes, block: bytes = b"", after: bytes = b"") -> Maker:
+    """What makes a block so often, in large pieces, between other bytes."""
+
+    def make(count: int) -> Pieces:
+        each = PIECE // max(1, len(block))
+        yield before
+        yield from repeat(block * each, count // each)
+        yield block * (count % each) + after
+
+    make.__name__ = name
+    return make
 
 
 def numbered(form: bytes, count: int) -> Pieces:
@@ -75,46 +80,46 @@ def nested_path(first: int, last: int) -> bytes:
     return b"/".join(b"n%d" % number for number in range(last, first - 1, -1))
 
 
+# ---- what is repeated between other bytes
+
+CLAIMED_TEXT = ONE_FILE + CHANGED % b"a" + b"Content-length: %d\n\n" % GREATEST_LENGTH
+CLAIMED_PROPERTIES = ONE_FILE + changed_section(GREATEST_LENGTH) + b"K %d\n" % (GREATEST_LENGTH // 2)
+NUMBER = ONE_FILE + CHANGED % b"a" + b"Content-length: "
+
+NOTHING, WITHOUT_RECORDS = repeated("", b""), repeated("", BEGIN)
+LONG_HEADER_LINE = repeated("long header line", BEGIN + b"\nRevision-number: 1\nX: ", b"x", b"\n\n")
+LONG_NUMBER = repeated("long number in a header", NUMBER, b"0", b"\n\n")
+NEWLINES = repeated("many newlines", BEGIN, b"\n")
+TEXT_OF_CLAIMED_LENGTH = repeated("text of claimed length", CLAIMED_TEXT, b"x")
+PROPERTIES_OF_CLAIMED_LENGTH = repeated("properties of claimed length", CLAIMED_PROPERTIES, b"x")
+DELETES = repeated("deletes of one path", ONE_FILE, bytes(deleted(b"a")))
+ADDS_AND_DELETES = repeated("adds and deletes of one path", FIRST, NEW_FILE % b"a" + bytes(deleted(b"a")))
+# Queries about the example, and about the file of a dump.
+EXAMPLE = repeated("", (EXAMPLES / "branch.dump").read_bytes())
+LONG_PATH = repeated("long path in a query", b"log\t", b"a", b"@7\n")
+MANY_COMPONENTS = repeated("many components in a query", b"log\t", b"a/", b"@7\n")
+TABS = repeated("line of tabs", b"", b"\t", b"\n")
+MANY_MERGED = repeated("many merged", b"", b"merged\ttrunk@5\tbranches/fix@7\n")
+EMPTY_LINES = repeated("many empty lines", b"", b"\n")
+MERGEINFO_OF_THE_FILE = repeated("mergeinfo of the file", b"mergeinfo\ta@1\n")
+MERGED_FOR_EACH_WORKER = repeated("merged for each worker", b"merged\ta@1\ta@1\n" * MOST_WORKERS)
+
+
 # ---- dumps of few records
-
-
-def without_records(_: int) -> Pieces:
-    return [BEGIN]
 
 
 def header_of_many_lines(count: int) -> Pieces:
     return chain([BEGIN + b"\nRevision-number: 1\n"], numbered(b"X-%d: y\n", count), [b"\n"])
 
 
-def long_header_line(size: int) -> Pieces:
-    return repeated(b"x", size, BEGIN + b"\nRevision-number: 1\nX: ", b"\n\n")
-
-
-def long_number_in_a_header(size: int) -> Pieces:
-    return repeated(b"0", size, ONE_FILE + CHANGED % b"a" + b"Content-length: ", b"\n\n")
-
-
-def many_newlines(size: int) -> Pieces:
-    return repeated(b"\n", size, BEGIN)
-
-
 def long_property(size: int) -> Pieces:
-    before, end = b"K 1\na\nV %d\n" % size, b"\n" + END
-    return repeated(b"x", size, ONE_FILE + changed_section(len(before) + size + len(end)) + before, end)
+    before, after = b"K 1\na\nV %d\n" % size, b"\n" + END
+    return [ONE_FILE, changed_section(len(before) + size + len(after)), before, b"x" * size, after]
 
 
 def many_properties_in_one_section(count: int) -> Pieces:
     lines = b"K 1\na\nV 1\nb\n"
-    return repeated(lines, count, ONE_FILE + changed_section(len(lines) * count + len(END)), END)
-
-
-def text_of_claimed_length(size: int) -> Pieces:
-    return repeated(b"x", size, ONE_FILE + CHANGED % b"a" + b"Content-length: %d\n\n" % GREATEST_LENGTH)
-
-
-def properties_of_claimed_length(size: int) -> Pieces:
-    claimed = changed_section(GREATEST_LENGTH) + b"K %d\n" % (GREATEST_LENGTH // 2)
-    return repeated(b"x", size, ONE_FILE + claimed)
+    return [ONE_FILE, changed_section(len(lines) * count + len(END)), lines * count, END]
 
 
 # ---- dumps of many records
@@ -122,14 +127,6 @@ def properties_of_claimed_length(size: int) -> Pieces:
 
 def many_revisions_without_records(count: int) -> Pieces:
     return chain([BEGIN], map(revision, range(1, count + 1)))
-
-
-def deletes_of_one_path(count: int) -> Pieces:
-    return repeated(bytes(deleted(b"a")), count, ONE_FILE)
-
-
-def adds_and_deletes_of_one_path(count: int) -> Pieces:
-    return repeated(NEW_FILE % b"a" + bytes(deleted(b"a")), count, FIRST)
 
 
 def entries_of_one_directory(count: int) -> Pieces:
@@ -239,14 +236,6 @@ def merges_of_all_revisions(count: int) -> Pieces:
 # ---- queries about these dumps
 
 
-def mergeinfo_of_the_file(_: int) -> Pieces:
-    return [b"mergeinfo\ta@1\n"]
-
-
-def merged_for_each_worker(_: int) -> Pieces:
-    return [b"merged\ta@1\ta@1\n"] * MOST_WORKERS
-
-
 def mergeinfo_below(count: int) -> Pieces:
     return [b"mergeinfo\t%s@1\n" % long_path(count)]
 
@@ -273,33 +262,6 @@ def origin_of_the_nested_path(count: int) -> Pieces:
 
 def segments_of_the_nested_path(count: int) -> Pieces:
     return [b"segments\t%s@%d\n" % (nested_path(1, count), count)]
-
-
-# ---- queries about the example
-
-
-def example(_: int) -> Pieces:
-    return [(EXAMPLES / "branch.dump").read_bytes()]
-
-
-def long_path_in_a_query(size: int) -> Pieces:
-    return repeated(b"a", size, b"log\t", b"@7\n")
-
-
-def many_components_in_a_query(count: int) -> Pieces:
-    return repeated(b"a/", count, b"log\t", b"@7\n")
-
-
-def line_of_tabs(size: int) -> Pieces:
-    return repeated(b"\t", size, after=b"\n")
-
-
-def many_merged(count: int) -> Pieces:
-    return [b"merged\ttrunk@5\tbranches/fix@7\n"] * count
-
-
-def many_empty_lines(count: int) -> Pieces:
-    return [b"\n"] * count
 
 
 # ---- keys that collide

@@ -1,15 +1,14 @@
 """Input that somebody makes to do harm: the time and the memory that it takes, and those of twice as much.
 
-Each shape is made in a size and in twice that size, and both are measured in turns. Twice the input may take 2.4 times
-the time and 2.1 times the memory. The input is the dump and the queries together. For each of its bytes the memory may
-be 20 bytes, or 60 in two shapes, more than a run on a dump without records takes, which is mostly the memory of the
-process that starts the program, and 1 MB, since runs differ. The first run of each input shows whether it ends as it
-must: with a report in which all answers have one status, or with a refusal. If it was long, it is measured and no other
-follows.
+Each shape is made in a size and in twice that size, and both are measured in turns. The input is the dump and the
+queries together. For each of its bytes the memory is what it is more than that of a run on a dump without records, which
+is mostly the memory of the process that starts the program, and 1 MB, since runs differ. The first run of each input
+shows whether it ends as it must: with a report in which all answers have one status, or with a refusal. If it was long,
+it is measured and no other follows.
 
 A run is ended after two minutes, or where it would take 12 GB. It counts as not met, and twice its input is not run. A
-shape is a function that makes a dump in large pieces, one that makes queries, or both. Their names are the title of a
-row. Queries alone are about the example.
+shape has what makes a dump, and what makes queries, whose names are the title of a row. Queries alone are about the
+example.
 
 Keys that collide are names, texts of mergeinfo, and pairs of a directory and a file in it, which `colliding.c` finds for
 the fixed seed of the hashes. A run takes a random seed, so as many others must take as long. What they take under the
@@ -46,10 +45,6 @@ DIFFERENCE = 1000000
 OUT_OF_MEMORY = 4
 
 
-def nothing(_: int) -> Pieces:
-    return iter(())
-
-
 @dataclass(frozen=True)
 class Shape:
     """What makes the dump and the queries, the size that both are made for, the status of all answers or why the dump is
@@ -57,35 +52,33 @@ class Shape:
 
     dump: Maker
     size: int
-    asked: Maker = nothing
+    asked: Maker = dumps.NOTHING
     answer: str = "ok"
     refusal: str | None = None
     block: int = 0
     workers: int = 1
     room: int = MOST_ROOM
     most_per_byte: Limit = MOST_PER_BYTE
-    name: str = ""
 
     def title(self) -> str:
         """The names of what makes the dump and the queries, and how the program is run."""
-        makers = [each for each in (self.dump, self.asked) if each not in (dumps.example, nothing)]
-        names = [self.name] if self.name else [each.__name__.replace("_", " ") for each in makers]
+        names = [maker.__name__.replace("_", " ") for maker in (self.dump, self.asked) if maker.__name__]
         blocks = [f"BLOCK {self.block}"] * (self.block > 0)
         return ", ".join(names + blocks + [f"{self.workers} workers"] * (self.workers > 1))
 
 
 SHAPES = [
     Shape(dumps.header_of_many_lines, 1000000),
-    Shape(dumps.long_header_line, 50000000),
-    Shape(dumps.long_number_in_a_header, 50000000),
-    Shape(dumps.many_newlines, 200000000),
+    Shape(dumps.LONG_HEADER_LINE, 50000000),
+    Shape(dumps.LONG_NUMBER, 50000000),
+    Shape(dumps.NEWLINES, 200000000),
     Shape(dumps.long_property, 100000000),
     Shape(dumps.many_properties_in_one_section, 500000),
-    Shape(dumps.text_of_claimed_length, 50000000, refusal="5 Truncated", room=SMALL_ROOM),
-    Shape(dumps.properties_of_claimed_length, 50000000, refusal="5 Truncated", room=SMALL_ROOM),
+    Shape(dumps.TEXT_OF_CLAIMED_LENGTH, 50000000, refusal="5 Truncated", room=SMALL_ROOM),
+    Shape(dumps.PROPERTIES_OF_CLAIMED_LENGTH, 50000000, refusal="5 Truncated", room=SMALL_ROOM),
     Shape(dumps.many_revisions_without_records, 2000000),
-    Shape(dumps.deletes_of_one_path, 1000000, refusal="18 Missing at record 3"),
-    Shape(dumps.adds_and_deletes_of_one_path, 500000),
+    Shape(dumps.DELETES, 1000000, refusal="18 Missing at record 3"),
+    Shape(dumps.ADDS_AND_DELETES, 500000),
     Shape(dumps.entries_of_one_directory, 500000),
     Shape(dumps.files_below_many_directories, 20000),
     Shape(dumps.files_below_many_directories_in_revisions, 20000),
@@ -97,16 +90,16 @@ SHAPES = [
     Shape(dumps.copies_of_a_wide_directory, 2000, dumps.an_entry_of_each_copy),
     Shape(dumps.changes_in_revisions, 20000, block=1, workers=MOST_WORKERS),
     Shape(dumps.distinct_mergeinfo_values, 500000),
-    Shape(dumps.mergeinfo_malformed_in_its_last_line, 49000000, dumps.mergeinfo_of_the_file, "malformed-mergeinfo"),
-    Shape(dumps.mergeinfo_lines_that_clash, 500000, dumps.mergeinfo_of_the_file),
-    Shape(dumps.mergeinfo_lines_of_one_path, 500000, dumps.mergeinfo_of_the_file),
-    Shape(dumps.short_mergeinfo_lines, 200000, dumps.mergeinfo_of_the_file),
-    Shape(dumps.example, 10000000, dumps.long_path_in_a_query, "no-such-path"),
-    Shape(dumps.example, 5000000, dumps.many_components_in_a_query, "no-such-path"),
-    Shape(dumps.example, 200000000, dumps.line_of_tabs, "bad-query"),
-    Shape(dumps.example, 500000, dumps.many_merged, "ok", workers=MOST_WORKERS),
-    Shape(dumps.example, 500000, dumps.many_empty_lines, "bad-query", workers=MOST_WORKERS),
-    Shape(dumps.short_mergeinfo_lines, 50000, dumps.merged_for_each_worker, workers=MOST_WORKERS),
+    Shape(dumps.mergeinfo_malformed_in_its_last_line, 49000000, dumps.MERGEINFO_OF_THE_FILE, "malformed-mergeinfo"),
+    Shape(dumps.mergeinfo_lines_that_clash, 500000, dumps.MERGEINFO_OF_THE_FILE),
+    Shape(dumps.mergeinfo_lines_of_one_path, 500000, dumps.MERGEINFO_OF_THE_FILE),
+    Shape(dumps.short_mergeinfo_lines, 200000, dumps.MERGEINFO_OF_THE_FILE),
+    Shape(dumps.EXAMPLE, 10000000, dumps.LONG_PATH, "no-such-path"),
+    Shape(dumps.EXAMPLE, 5000000, dumps.MANY_COMPONENTS, "no-such-path"),
+    Shape(dumps.EXAMPLE, 200000000, dumps.TABS, "bad-query"),
+    Shape(dumps.EXAMPLE, 500000, dumps.MANY_MERGED, "ok", workers=MOST_WORKERS),
+    Shape(dumps.EXAMPLE, 500000, dumps.EMPTY_LINES, "bad-query", workers=MOST_WORKERS),
+    Shape(dumps.short_mergeinfo_lines, 50000, dumps.MERGED_FOR_EACH_WORKER, workers=MOST_WORKERS),
     # What is asked takes the product of the queries and the history, and so may the report.
     Shape(dumps.mergeinfo_above_a_long_name, 2500, dumps.mergeinfo_below),
     Shape(dumps.merges_of_all_revisions, 5000, dumps.eligible_for_each_revision),
@@ -125,7 +118,8 @@ def shape_of(name: str, maker: Callable[[Key], Pieces], keys: Callable[[int], Ke
     def make(count: int) -> Pieces:
         return maker(keys(count))
 
-    return Shape(make, KEYS, name=name)
+    make.__name__ = name
+    return Shape(make, KEYS)
 
 
 class Input:
@@ -243,7 +237,7 @@ def colliding_rows(setup: Setup, colliding: Shape, others: Shape, entropy: Path)
 
 
 def run(setup: Setup) -> Measurements:
-    base = Input(setup, Shape(dumps.without_records, 0), 0, "once")
+    base = Input(setup, Shape(dumps.WITHOUT_RECORDS, 0), 0, "once")
     base.run_first()
     yield f"A run on a dump without records takes {base.peak / 1e6:.1f} MB."
     yield Table("hostile-input", SHAPES_HEADING, [shape_row(setup, shape, base.peak + DIFFERENCE) for shape in SHAPES])
