@@ -29,11 +29,6 @@ HEADING = (
 Pairs = list[tuple[Peg, Peg]]
 
 
-def any_pairs(pegs: Sequence[Peg], lot: random.Random) -> Pairs:
-    """A source and a target that need not have to do with one another."""
-    return [(lot.choice(pegs), lot.choice(pegs)) for _ in range(ASKED)]
-
-
 def merging_pairs(asked: Asked, pegs: Sequence[Peg], lot: random.Random) -> Pairs:
     """Targets, each with a source that is in their mergeinfo and exists in the same revision."""
     targets = [lot.choice(pegs) for _ in range(ASKED)]
@@ -78,7 +73,9 @@ class Growth:
 def run(setup: Setup) -> Measurements:
     asked = Asked(setup, short_history(setup, "dump-of-merges"))
     lot, pegs = random.Random(2), later_half(pegs_of(records_of(asked.dump)))
-    kinds = {"any": any_pairs(pegs, lot), "merging": merging_pairs(asked, pegs, lot)}
+    # In those of the first kind a source and a target need not have to do with one another.
+    any_pairs = [(lot.choice(pegs), lot.choice(pegs)) for _ in range(ASKED)]
+    kinds = {"any": any_pairs, "merging": merging_pairs(asked, pegs, lot)}
     with loaded(setup, asked.dump) as repository:
         rows = [row(asked, repository, kind, verb, pairs) for kind, pairs in kinds.items() for verb in MERGES]
     yield Table("merged-and-eligible", HEADING, rows)

@@ -57,9 +57,6 @@ def printed(path: Path | None) -> bytes:
     return b"-" if path is None else b"/" + b"/".join(path)
 
 
-# Trees
-
-
 def nodes_to(tree: Node, path: Path) -> list[Node]:
     """The nodes from the root to a path, as many as there are."""
     nodes = [tree]
@@ -92,9 +89,6 @@ def with_node(tree: Node, path: Path, node: Node | None) -> Node:
     return node
 
 
-# Dumps
-
-
 def blocks_of(data: bytes) -> Iterator[tuple[dict[bytes, bytes], bytes]]:
     """The headers and the property section of each block."""
     at = NEWLINES.match(data, data.index(b"\n")).end()
@@ -103,8 +97,7 @@ def blocks_of(data: bytes) -> Iterator[tuple[dict[bytes, bytes], bytes]]:
         headers = dict(HEADER.findall(data, at, end + 1))
         start = end + 2
         section = int(headers.get(b"Prop-content-length", 0))
-        length = headers.get(b"Content-length")
-        body = section + int(headers.get(b"Text-content-length", 0)) if length is None else int(length)
+        body = int(headers.get(b"Content-length", 0)) or section + int(headers.get(b"Text-content-length", 0))
         yield headers, data[start : start + section]
         at = NEWLINES.match(data, start + body).end()
 
@@ -215,9 +208,6 @@ class History:
             yield from ((each, place) for each in reversed(found))
 
 
-# Mergeinfo
-
-
 def run_of(element: bytes) -> Run:
     """The first and the last revision of an element, and whether they are inheritable."""
     form = ELEMENT.fullmatch(element)
@@ -294,9 +284,6 @@ def kind_in(runs: Sequence[Run], rev: int) -> bool | None:
     """Whether a revision is inheritable, or None if it is in none of these runs."""
     place = bisect_right(runs, (rev, GREATEST_REVISION, True)) - 1
     return runs[place][2] if place >= 0 and rev <= runs[place][1] else None
-
-
-# Answers
 
 
 def place_in(spans: Iterator[Span] | Sequence[Span], rev: int) -> Path | None:

@@ -57,8 +57,7 @@ def line(verb: str, *fields: object) -> str:
 
 
 def written(path: Path, lines: Iterable[str]) -> Path:
-    with open(path, "w", encoding="utf-8") as file:
-        file.writelines(lines)
+    path.write_text("".join(lines), encoding="utf-8")
     return path
 
 

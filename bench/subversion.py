@@ -11,14 +11,15 @@ from contextlib import contextmanager
 from pathlib import Path
 from typing import IO, Iterator, NamedTuple
 
-from bench.histories import BENCH, revisions_of
+from bench.histories import revisions_of
 from bench.parts import ABSENT, Cell, Limit, Setup
 from bench.questions import Question
-from dev.running import Failed, Words, measure
+from dev.running import Failed, Limits, measure, run
+from dev.tree import ROOT
 
 # Debian's bindings are built for Debian's own Python.
 BINDINGS = Path("/usr/bin/python3")
-READER = BENCH / "bindings_reader.py"
+READER = "bench.bindings_reader"
 MEMORY = Path("/dev/shm")
 LOADING_SECONDS = 600
 ASKED_OF_COMMAND = 20
@@ -75,13 +76,12 @@ def ask_bindings(repository: Repository | None, lines: Sequence[str]) -> OfBindi
     """What the bindings answer to queries of one verb, or None without a repository or bindings."""
     if repository is None or not BINDINGS.exists():
         return None
-    words: Words = [BINDINGS, READER, repository.url]
-    done = subprocess.run(words, input="".join(lines).encode(), capture_output=True, check=False)
-    if done.returncode != 0:
-        if b"No module named" in done.stderr:
-            return None
-        raise Failed(f"{READER.name}: {done.stderr.decode('utf-8', 'replace').strip()}")
-    seconds, _, report = done.stdout.decode().partition("\n")
+    done = run([BINDINGS, "-m", READER, repository.url], "".join(lines).encode(), folder=ROOT, limits=Limits(3600))
+    if done.status != 0:
+        raise Failed(f"{READER} ended with {done.shown()}")
+    if not done.output:
+        return None
+    seconds, _, report = done.output.decode().partition("\n")
     answers = [answer.split("\n")[1:] for answer in ("\n" + report.rstrip("\n")).split("\n#")[1:]]
     return OfBindings(float(seconds) / len(lines), answers)
 
