@@ -21,22 +21,20 @@ import argparse
 import hashlib
 import random
 import sys
-from collections.abc import Mapping
 from typing import Callable, NamedTuple, Optional, Union
 
 from dev import dumps
-from dev.dumps import MERGEINFO, Revision, first_lines, section
-
+from dev.dumps import DIR, FILE, Revision, Source, added, deleted, first_lines, header, mergeinfo, section
 
 # The node of a file is its kind. A directory is a dict that is never changed, so that trees can share it.
-FILE = "file"
 Directory = dict[str, "Node"]
-Node = Union[str, Directory]
+Node = Union[bytes, Directory]
 Path = tuple[str, ...]
 Text = memoryview
 
 # What every reader refuses.
-FAULTY_BLOCK = bytes(dumps.Node(b"trunk", b"none", dumps.DIR)) + b"\n"
+FAULTY_BLOCK = bytes(dumps.Node(b"trunk", b"none", DIR)) + b"\n"
+NO_PROPERTIES = section({})
 UUID = b"6b1d3f52-0c5e-4a07-9d5c-3a2b7f8e9c10"
 PIECE = 1 << 20
 MOST_LINES = 8
@@ -62,7 +60,7 @@ WORDS = (
 def node_at(tree: Node, path: Path) -> Node | None:
     """The node at a path, or None."""
     for name in path:
-        node = None if isinstance(tree, str) else tree.get(name)
+        node = None if isinstance(tree, bytes) else tree.get(name)
         if node is None:
             return None
         tree = node
@@ -84,10 +82,7 @@ def with_node(tree: Directory, path: Path, node: Node | None) -> Directory:
 
 
 class Writer:
-    """Writes blocks of a format through a buffer, with or without the checksums of texts.
-
-    It has lines of its own for records, since long histories have millions of them, and no large text may be copied.
-    """
+    """Writes blocks of a format through a buffer, with or without the checksums of texts. No large text is copied."""
 
     def __init__(self, form: int, checksums: bool) -> None:
         # What is larger than its buffer is written as it is.
@@ -104,36 +99,18 @@ class Writer:
             properties = {b"svn:author": author, b"svn:date": date, b"svn:log": b"Revision %d" % number}
         self.output.write(bytes(Revision(number, properties=properties)))
 
-    def record(
-        self,
-        path: Path,
-        action: str,
-        kind: str | None = None,
-        source: tuple[Path, int] | None = None,
-        values: Mapping[bytes, bytes] | None = None,
-        text: Text | None = None,
-    ) -> None:
-        """A record, with the path and the revision of a copy, a property section and a text if they are given."""
-        lines = [f"Node-path: {'/'.join(path)}\n"]
-        if kind is not None:
-            lines.append(f"Node-kind: {kind}\n")
-        lines.append(f"Node-action: {action}\n")
-        if source is not None:
-            lines.append(f"Node-copyfrom-rev: {source[1]}\nNode-copyfrom-path: {'/'.join(source[0])}\n")
+    def record(self, node: dumps.Node) -> None:
+        lines, properties, text = node.lines(), node.properties, node.text
         if self.has_deltas:
-            lines += ["Prop-delta: true\n"] * (values is not None) + ["Text-delta: true\n"] * (text is not None)
+            lines += [b"Prop-delta: true"] * (properties is not None) + [b"Text-delta: true"] * (text is not None)
         if text is not None and self.checksums:
-            lines.append(f"Text-content-md5: {hashlib.md5(text).hexdigest()}\n")
-            lines.append(f"Text-content-sha1: {hashlib.sha1(text).hexdigest()}\n")
-        properties = b"" if values is None else section(values)
-        body: bytes | Text = b"" if text is None else text
-        if values is not None:
-            lines.append(f"Prop-content-length: {len(properties)}\n")
-        if text is not None:
-            lines.append(f"Text-content-length: {len(text)}\n")
-        if values is not None or text is not None:
-            lines.append(f"Content-length: {len(properties) + len(body)}\n")
-        self.output.writelines(["".join(lines).encode() + b"\n" + properties, body, b"\n\n"])
+            lines.append(b"Text-content-md5: " + hashlib.md5(text).hexdigest().encode())
+            lines.append(b"Text-content-sha1: " + hashlib.sha1(text).hexdigest().encode())
+        self.output.writelines([header(lines, properties, text), properties or b"", text or b"", b"\n\n"])
+
+
+def joined(path: Path) -> bytes:
+    return "/".join(path).encode()
 
 
 def element(first: int, last: int) -> str:
@@ -190,23 +167,23 @@ class History:
         return node_at(self.tree, path) is not None
 
     def add_directory(self, path: Path) -> None:
-        self.writer.record(path, "add", "dir", values={})
+        self.writer.record(added(joined(path), DIR, NO_PROPERTIES))
         self.tree = with_node(self.tree, path, {})
 
-    def put_file(self, path: Path, action: str) -> None:
-        self.writer.record(path, action, FILE, values={}, text=self.draw_text())
+    def put_file(self, path: Path, action: bytes) -> None:
+        self.writer.record(dumps.Node(joined(path), action, FILE, None, NO_PROPERTIES, self.draw_text()))
         self.tree = with_node(self.tree, path, FILE)
         self.remember(path)
 
     def change_file(self, path: Path) -> None:
-        self.writer.record(path, "change", FILE, text=self.draw_text())
+        self.writer.record(dumps.Node(joined(path), b"change", FILE, text=self.draw_text()))
 
     def delete(self, path: Path) -> None:
-        self.writer.record(path, "delete")
+        self.writer.record(deleted(joined(path)))
         self.tree = with_node(self.tree, path, None)
 
     def copy(self, path: Path, source: Path, rev: int, node: Node | None) -> None:
-        self.writer.record(path, "add", FILE if node == FILE else "dir", source=(source, rev))
+        self.writer.record(dumps.Node(joined(path), b"add", FILE if node == FILE else DIR, Source(joined(source), rev)))
         self.tree = with_node(self.tree, path, node)
 
     def remember(self, path: Path) -> None:
@@ -243,7 +220,7 @@ class History:
         self.change_mergeinfo(path, f"/{'/'.join(other)}:{element(first, last)}")
 
     def change_mergeinfo(self, path: Path, value: str) -> None:
-        self.writer.record(path, "change", "dir", values={MERGEINFO: value.encode()})
+        self.writer.record(dumps.Node(joined(path), b"change", DIR, properties=mergeinfo(value.encode())))
 
     def recent_file(self) -> Path | None:
         """A file that was added or replaced recently and still exists, or None."""
@@ -259,7 +236,7 @@ class History:
         if drawn < 0.05:
             self.delete(path)
         elif drawn < 0.08:
-            self.put_file(path, "replace")
+            self.put_file(path, b"replace")
         else:
             self.change_file(path)
         return True
@@ -297,7 +274,7 @@ class History:
         if self.is_there(path):
             self.change_file(path)
         else:
-            self.put_file(path, "add")
+            self.put_file(path, b"add")
 
     def delete_due(self) -> bool:
         """The deletion of a path that an earlier record left to be deleted."""
@@ -366,9 +343,9 @@ class Additions(History):
         paths = [path[:deep] for path in tried for deep in range(len(path) - 2, len(path) + 1)]
         path = next((path for path in paths if not self.is_there(path)), None)
         if path is None:
-            self.put_file(tried[0], "replace")
+            self.put_file(tried[0], b"replace")
         elif path in tried:
-            self.put_file(path, "add")
+            self.put_file(path, b"add")
         else:
             self.add_directory(path)
 
@@ -378,7 +355,7 @@ class Additions(History):
         if path is None:
             return False
         if is_replaced:
-            self.put_file(path, "replace")
+            self.put_file(path, b"replace")
         else:
             self.delete(path[:-1] if self.lot.random() < 0.15 else path)
         return True
