@@ -12,9 +12,9 @@ from collections.abc import Iterable, Iterator
 from typing import NamedTuple
 
 from bench.histories import MIXES, RELEASES, SIZES, generate, make_faulty
-from bench.measure import REFUSED, Timed, check_same, run_in_turns, words_of
+from bench.measure import REFUSED, Timed, check_same, run_in_turns, words_of, written
 from bench.parts import Measurements, Part, Row, Setup, Table, most
-from bench.questions import TEN, VERBS, drawn_line, drawn_lines, later_half, pegs_at_ends, records_of, written
+from bench.questions import TEN, VERBS, drawn_line, drawn_lines, later_half, pegs_at_ends, records_of
 from dev.running import peak_of
 
 HISTORIES = {"additions": MIXES["additions"], "changes": MIXES["changes"], "releases": RELEASES}
@@ -86,15 +86,8 @@ def run_rows(history: History) -> dict[Kind, Row]:
 RUNS = f"history | BLOCK:, | seconds:.3f | relative, {MOST_OF_RUN}:.2f | peak MB:.1f | relative, {MOST_OF_MEMORY}:.2f"
 
 
-class Answers(NamedTuple):
+def answers_of(history: History, lot: random.Random, verb: str) -> tuple[int, float, float]:
     """How often questions of a verb are asked, and the seconds of one with one block and with four."""
-
-    asked: int
-    one: float
-    four: float
-
-
-def answers_of(history: History, lot: random.Random, verb: str) -> Answers:
     later = later_half(history.pegs)
     lines = [drawn_line(lot, later, verb) for _ in range(ASKED)]
     once = history.timed(verb, lines, FOUR_WORKERS)
@@ -105,7 +98,8 @@ def answers_of(history: History, lot: random.Random, verb: str) -> Answers:
     asked = [history.timed(verb, many, kind) for kind in (FOUR_WORKERS, FOUR_BLOCKS)]
     run_in_turns(bases + asked, history.setup.times)
     check_same(asked, len(many), verb)
-    return Answers(len(many), *((each.wall - base.wall) / len(many) for each, base in zip(asked, bases)))
+    one, four = ((each.wall - base.wall) / len(many) for each, base in zip(asked, bases))
+    return len(many), one, four
 
 
 def answers_tables(histories: Iterable[History]) -> Iterator[Table]:
@@ -115,7 +109,7 @@ def answers_tables(histories: Iterable[History]) -> Iterator[Table]:
     for history in histories:
         lot = random.Random(6)
         found = {verb: answers_of(history, lot, verb) for verb in VERBS}
-        ratios.append([history.name, *(MOST_OF_ANSWERS.of(each.four / each.one) for each in found.values())])
+        ratios.append([history.name, *(MOST_OF_ANSWERS.of(four / one) for _, one, four in found.values())])
         for verb, (asked, one, four) in found.items():
             times.append([history.name, f"`{verb}`", asked, one * 1e3, four * 1e3])
     yield Table("blocks-answers", "history" + "".join(f" | `{verb}`:.2f" for verb in VERBS), ratios)

@@ -1,16 +1,13 @@
 """Writes the dump of a long synthetic history to standard output, the same one for the same options.
 
 The history has a trunk and branches with directories of limited width, files that are added, changed, replaced, renamed
-and deleted, copies of copies, copies of older revisions, and merges that change mergeinfo. Each record is chosen at
-random with a fixed seed and written at once: only the present tree and some of the past ones are kept, and they share
-their common parts. The dump is valid, unless an option asks for a last block that every reader refuses.
+and deleted, copies of copies and of older revisions, and merges that change mergeinfo. Each record is chosen at random
+with a fixed seed and written at once: only the present tree and some of the past ones are kept.
 
 The mix `ordinary` has six to eight changes of texts in ten records, by the width of the directories. The mix `changes`
 has nine, and the mix `additions` none: its records add and delete files and directories, so that trees grow slowly. The
 mix `releases` has the changes and release branches beside them, into which revisions of the trunk are merged: each
 merge gives a branch a value of `svn:mergeinfo` that is longer than the one before.
-
-A large text is written from a buffer that all texts share. Without its checksums it takes hardly any time.
 
 In format 3 the history is the same: each property section is said to be of changes and each text to be a difference, as
 `svnrdump` writes them. The bytes of the texts are no differences; no reader of the benchmarks looks at them.
@@ -30,6 +27,7 @@ from dev.dumps import DIR, FILE, Revision, Source, added, deleted, first_lines, 
 Directory = dict[str, "Node"]
 Node = Union[bytes, Directory]
 Path = tuple[str, ...]
+TRUNK = ("trunk",)
 Text = memoryview
 
 # What every reader refuses.
@@ -135,7 +133,7 @@ class History:
         self.tree: Directory = {}
         self.trees = [(0, self.tree)]
         self.rev = 0
-        self.lines: list[Line] = []
+        self.lines = [Line(TRUNK, 0)]
         self.branches = 0
         self.recent: list[Path] = []
         self.due: list[Path] = []
@@ -301,19 +299,14 @@ class History:
         if not (self.delete_due() or self.draw_change(is_first)):
             self.add()
 
-    def begin(self) -> int:
-        """The first revision: the trunk and the place for branches."""
-        self.add_directory(("trunk",))
-        self.add_directory(("branches",))
-        self.lines.append(Line(("trunk",), 0))
-        return 2
-
     def write(self) -> None:
         self.writer.revision(0, None)
         for self.rev in range(1, self.given.revisions + 1):
             self.writer.revision(self.rev, b"author-%d" % self.lot.randrange(20))
-            begun = self.begin() if self.rev == 1 else 0
-            for number in range(begun, self.given.records):
+            begun = [TRUNK, ("branches",)] if self.rev == 1 else []
+            for path in begun:
+                self.add_directory(path)
+            for number in range(len(begun), self.given.records):
                 self.draw_record(number == 0)
             if len(self.trees) == MOST_TREES:
                 del self.trees[self.lot.randrange(MOST_TREES - 1)]
@@ -437,7 +430,7 @@ class Releases(Changes):
         rev, tree = self.trees[max(1, len(self.trees) - FIRST_MERGE)]
         release = Release(self.made, rev)
         self.made += 1
-        self.copy(release.path, ("trunk",), rev, node_at(tree, ("trunk",)))
+        self.copy(release.path, TRUNK, rev, node_at(tree, TRUNK))
         return release
 
     def picked(self, release: Release) -> list[str]:

@@ -8,8 +8,9 @@ from collections.abc import Iterable, Iterator, Sequence
 from pathlib import Path
 
 from bench.generator import FAULTY_BLOCK
+from bench.measure import written
 from bench.parts import Setup
-from bench.questions import drawn_lines, pegs_at_ends, records_of, written
+from bench.questions import drawn_lines, pegs_at_ends, records_of
 from dev.dumps import DIR, Node, Revision, added, changed, first_lines, mergeinfo
 from dev.running import Words
 from dev.tree import ROOT

@@ -29,9 +29,6 @@ FIRST = BEGIN + revision(1)
 ONE_FILE = BEGIN + revision(1, added(b"a", FILE))
 
 
-# ---- pieces of a dump
-
-
 def repeated(name: str, before: bytes, block: bytes = b"", after: bytes = b"") -> Maker:
     """What makes a block so often, in large pieces, between other bytes."""
 
@@ -80,8 +77,6 @@ def nested_path(first: int, last: int) -> bytes:
     return b"/".join(b"n%d" % number for number in range(last, first - 1, -1))
 
 
-# ---- what is repeated between other bytes
-
 CLAIMED_TEXT = ONE_FILE + CHANGED % b"a" + b"Content-length: %d\n\n" % GREATEST_LENGTH
 CLAIMED_PROPERTIES = ONE_FILE + changed_section(GREATEST_LENGTH) + b"K %d\n" % (GREATEST_LENGTH // 2)
 NUMBER = ONE_FILE + CHANGED % b"a" + b"Content-length: "
@@ -105,9 +100,6 @@ MERGEINFO_OF_THE_FILE = repeated("mergeinfo of the file", b"mergeinfo\ta@1\n")
 MERGED_FOR_EACH_WORKER = repeated("merged for each worker", b"merged\ta@1\ta@1\n" * MOST_WORKERS)
 
 
-# ---- dumps of few records
-
-
 def header_of_many_lines(count: int) -> Pieces:
     return chain([BEGIN + b"\nRevision-number: 1\n"], numbered(b"X-%d: y\n", count), [b"\n"])
 
@@ -120,9 +112,6 @@ def long_property(size: int) -> Pieces:
 def many_properties_in_one_section(count: int) -> Pieces:
     lines = b"K 1\na\nV 1\nb\n"
     return [ONE_FILE, changed_section(len(lines) * count + len(END)), lines * count, END]
-
-
-# ---- dumps of many records
 
 
 def many_revisions_without_records(count: int) -> Pieces:
@@ -194,9 +183,6 @@ def moves_of_one_file(count: int) -> Pieces:
         for rev in range(2, count + 1)
     )
     return chain([FIRST + NEW_FILE % b"m1"], moves)
-
-
-# ---- mergeinfo
 
 
 def distinct_mergeinfo_values(count: int) -> Pieces:

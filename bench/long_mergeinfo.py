@@ -18,13 +18,12 @@ import random
 import subprocess
 from collections import defaultdict
 from collections.abc import Iterable, Mapping
-from pathlib import Path
 from typing import NamedTuple
 
 from bench.histories import RELEASES, SIZES, generate
-from bench.measure import Build, Timed, check_same, compiled, run_in_turns
+from bench.measure import Build, Timed, Work, compiled, run_in_turns
 from bench.parts import ABSENT, Cell, Measurements, Part, Row, Setup, Table, most
-from bench.questions import MERGES, VERBS, Asked, Peg, drawn_lines, line, pegs_at_ends, records_of, written
+from bench.questions import MERGES, VERBS, Asked, Peg, drawn_lines, line, pegs_at_ends, pegs_of, records_of
 from dev.running import Failed, peak_of
 
 # The short history has more values, and shorter ones, so that several branches have long ones there too.
@@ -144,45 +143,29 @@ def lists_of(targets: Targets, lot: random.Random, pairs: list[Pair], mixed: int
         "mergeinfo": [line("mergeinfo", target) for _, target in pairs],
         "mixed, about the targets": about_targets,
         "mixed, about any path": drawn_lines(pegs_at_ends(targets.records), VERBS * each),
-        "merged, each value once": [
-            line("merged", pairs[0].source, Peg(path, rev)) for path, rev, *_ in targets.values
-        ],
+        "merged, each value once": [line("merged", pairs[0].source, peg) for peg in pegs_of(targets.values)],
     }
 
 
 ONE, FOUR, OLD = Build(False, 1), Build(False, 4), Build(True, 1)
 
 
-class Work:
-    """A list of queries, and the runs with it beside those without queries."""
+def megabytes(work: Work, build: Build) -> float:
+    return (peak_of(work.runs[build].words) - peak_of(work.bases[build].words)) / 1e6
 
-    def __init__(self, setup: Setup, name: str, lines: list[str], dump: Path, bases: Mapping[Build, Timed]) -> None:
-        self.name = name
-        self.lines = lines
-        # The older build is asked each query once.
-        self.bases = {each: base for each, base in bases.items() if not (each.is_before and name.endswith(TEN_TIMES))}
-        queries = written(setup.folder / f"memo-{name.replace(' ', '-')}.queries", lines)
-        self.runs = {build: build.timed(setup, dump, queries) for build in self.bases}
-        run_in_turns([*self.bases.values(), *self.runs.values()], setup.times)
-        check_same(self.runs.values(), len(lines), name)
 
-    def seconds(self, build: Build) -> float:
-        return self.runs[build].wall - self.bases[build].wall
+def row(work: Work) -> Row:
+    one, four, count = work.seconds(ONE), work.seconds(FOUR), len(work.lines)
+    report, limit = work.runs[ONE], MOST_OF_ONE.get(work.name)
+    ratio: Cell = limit.of(four / one) if limit else four / one
+    return [work.name, count, report.lines - count, report.size / 1e6, one, four, ratio]
 
-    def megabytes(self, build: Build) -> float:
-        return (peak_of(self.runs[build].words) - peak_of(self.bases[build].words)) / 1e6
 
-    def row(self) -> Row:
-        one, four, count = self.seconds(ONE), self.seconds(FOUR), len(self.lines)
-        report, limit = self.runs[ONE], MOST_OF_ONE.get(self.name)
-        ratio: Cell = limit.of(four / one) if limit else four / one
-        return [self.name, count, report.lines - count, report.size / 1e6, one, four, ratio]
-
-    def before_row(self) -> Row:
-        one, before = self.seconds(ONE), self.seconds(OLD)
-        limit = MOST_OF_BEFORE.get(self.name)
-        ratio: list[Cell] = [limit.of(one / before), limit.bound] if limit else [one / before, None]
-        return [self.name, one, before, *ratio]
+def before_row(work: Work) -> Row:
+    one, before = work.seconds(ONE), work.seconds(OLD)
+    limit = MOST_OF_BEFORE.get(work.name)
+    ratio: list[Cell] = [limit.of(one / before), limit.bound] if limit else [one / before, None]
+    return [work.name, one, before, *ratio]
 
 
 HEADING = (
@@ -218,15 +201,20 @@ def run(setup: Setup) -> Measurements:
     pairs = targets.pairs(lot, setup.scaled(ASKED))
     yield targets.described(pairs)
     lists = lists_of(targets, lot, pairs, setup.scaled(MIXED))
-    works = {name: Work(setup, name, lines, dump, bases) for name, lines in lists.items()}
-    yield Table("long-mergeinfo", HEADING, [work.row() for work in works.values()])
+    # The older build is asked each query once.
+    now = {build: base for build, base in bases.items() if not build.is_before}
+    asked = {name: now if name.endswith(TEN_TIMES) else bases for name in lists}
+    works = {name: Work(setup, name, lines, dump, asked[name]) for name, lines in lists.items()}
+    yield Table("long-mergeinfo", HEADING, [row(work) for work in works.values()])
     whole = [work for work in works.values() if len(work.runs) == len(builds)]
     if setup.before:
-        yield Table("long-mergeinfo-before", BEFORE, [work.before_row() for work in whole])
+        yield Table("long-mergeinfo-before", BEFORE, [before_row(work) for work in whole])
     heading = f"mergeinfo, printed by a C program | seconds:.3f | queries relative to it, {MOST_OF_PRINTING}:.2f"
     yield Table("long-mergeinfo-printing", heading, printing_rows(setup, works["mergeinfo"]))
     heading = "queries" + "".join(f" | more MB, workers {build}:.1f" for build in builds)
-    yield Table("long-mergeinfo-memory", heading, [[work.name, *map(work.megabytes, builds)] for work in whole])
+    yield Table(
+        "long-mergeinfo-memory", heading, [[work.name, *(megabytes(work, build) for build in builds)] for work in whole]
+    )
 
 
 PART = Part(__name__, __doc__, run, [*MOST_OF_BEFORE.values(), *MOST_OF_ONE.values(), MOST_OF_PRINTING])

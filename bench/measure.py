@@ -59,6 +59,11 @@ class Command:
         return taken
 
 
+def written(path: Path, lines: Iterable[str]) -> Path:
+    path.write_text("".join(lines), encoding="utf-8")
+    return path
+
+
 def words_of(program: Path, dump: Path, queries: Path = NOTHING, block: int = 0, workers: int = 1) -> Words:
     """The program about a dump."""
     return [program, dump, queries, str(block), str(workers)]
@@ -141,3 +146,21 @@ def run_in_turns(commands: Iterable[Timed], times: int) -> None:
         command.wall = min(command.wall, command.run(is_kept=False).wall)
     for command in commands:
         command.keep_output()
+
+
+class Work:
+    """Queries about a dump, and the runs of some builds with them, each in turns with one that answers nothing."""
+
+    def __init__(self, setup: Setup, name: str, lines: Sequence[str], dump: Path, bases: Mapping[Build, Timed]) -> None:
+        self.name = name
+        self.lines = lines
+        self.bases = bases
+        queries = written(setup.folder / f"{name}.queries", lines)
+        self.runs = {build: build.timed(setup, dump, queries) for build in bases}
+        run_in_turns([*bases.values(), *self.runs.values()], setup.times)
+        check_same(bases.values(), 0, name)
+        check_same(self.runs.values(), len(lines), name)
+
+    def seconds(self, build: Build) -> float:
+        """The time of the answers."""
+        return self.runs[build].wall - self.bases[build].wall

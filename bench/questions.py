@@ -8,7 +8,7 @@ from functools import cached_property
 from pathlib import Path
 from typing import NamedTuple
 
-from bench.measure import Command, words_of
+from bench.measure import Command, words_of, written
 from bench.parts import Setup
 from dev.running import Failed, Measured, best_of
 
@@ -54,11 +54,6 @@ class Cost(NamedTuple):
 
 def line(verb: str, *fields: object) -> str:
     return "\t".join([verb, *map(str, fields)]) + "\n"
-
-
-def written(path: Path, lines: Iterable[str]) -> Path:
-    path.write_text("".join(lines), encoding="utf-8")
-    return path
 
 
 def records_of(dump: Path) -> list[Record]:

@@ -15,9 +15,9 @@ import re
 from collections.abc import Iterator
 
 from bench.histories import revision, write_dump
-from bench.measure import Command, Timed, in_words, run_in_turns, words_of
+from bench.measure import Command, Timed, in_words, run_in_turns, words_of, written
 from bench.parts import Measurements, Part, Row, Setup, Table, most
-from bench.questions import Asked, Peg, line, written
+from bench.questions import Asked, Peg, line
 from bench.subversion import Repository, beside, loaded
 from dev.dumps import FILE, added, changed, copied, mergeinfo
 from dev.running import Failed, best_of

@@ -16,9 +16,9 @@ from pathlib import Path
 from typing import Callable
 
 from bench.histories import BENCH, generate, load_into_cache
-from bench.measure import Command, best_in_turns, words_of
+from bench.measure import Command, best_in_turns, words_of, written
 from bench.parts import Measurements, Part, Row, Setup, Table, limits_table, most
-from bench.questions import Peg, line, written
+from bench.questions import Peg, line
 from dev.running import Measured, Words, peak_of
 from dev.tree import EXAMPLES, ROOT, SVNASK
 

@@ -22,7 +22,7 @@ from contextlib import contextmanager
 from pathlib import Path
 
 from bench.histories import MIXES, generate, revisions_of
-from bench.parts import Judged, Measurements, Part, Row, Setup, Table, limits_table, most
+from bench.parts import Measurements, Part, Row, Setup, Table, limits_table, most
 from bench.questions import Question, drawn_question, later_half, pegs_at_ends, records_of
 from bench.subversion import ASKED_OF_COMMAND, LOADING_SECONDS, Repository, ask_command, loaded
 from dev.running import Failed, Words
@@ -35,7 +35,7 @@ TEN = 10
 TIMED = 200
 VERBS = ("log", "mergeinfo", "segments")
 READ = 1 << 16
-MOST_MILLISECONDS = {name: most(20, f"a piece, {name} of the first {TIMED}, ms") for name in ("median", "worst")}
+MOST_OF_MEDIAN, MOST_OF_WORST = (most(20, f"a piece, {name} of the first {TIMED}, ms") for name in ("median", "worst"))
 MOST_OF_AT_ONCE = {verb: most(1.5, f"`{verb}` after all pieces, relative to the same read at once") for verb in VERBS}
 
 
@@ -141,14 +141,6 @@ def beside_subversion(talks: Sequence[Talk], history: History, repository: Repos
     )
 
 
-def judged(pieces: Sequence[float], questions: dict[str, list[float]]) -> Iterator[Judged]:
-    """The limits, of the first pieces and of questions after all of them."""
-    yield MOST_MILLISECONDS["median"].of(statistics.median(pieces[:TIMED]))
-    yield MOST_MILLISECONDS["worst"].of(max(pieces[:TIMED]))
-    for verb, (after, at_once) in questions.items():
-        yield MOST_OF_AT_ONCE[verb].of(after / at_once)
-
-
 def measured(setup: Setup, history: History, repository: Repository | None) -> Measurements:
     questions = history.questions(history.last, TIMED)
     with talk_about(setup.live, history.front) as after, talk_about(setup.live, history.whole) as at_once:
@@ -166,7 +158,10 @@ def measured(setup: Setup, history: History, repository: Repository | None) -> M
             rows.append([f"`{verb}` after all pieces", one, None])
             rows.append([f"`{verb}` on the same history, read at once", other, None])
         yield Table("svnhist-live", "what is replied to | median, ms:.3f | worst, ms:.3f", rows)
-        yield limits_table("svnhist-live-limits", judged(pieces, found))
+        first = pieces[:TIMED]
+        limits = [MOST_OF_MEDIAN.of(statistics.median(first)), MOST_OF_WORST.of(max(first))]
+        limits += [MOST_OF_AT_ONCE[verb].of(one / other) for verb, (one, other) in found.items()]
+        yield limits_table("svnhist-live-limits", limits)
         yield beside_subversion((after, at_once), history, repository, setup.times)
 
 
@@ -181,4 +176,4 @@ def run(setup: Setup) -> Measurements:
         yield from measured(setup, history, repository)
 
 
-PART = Part(__name__, __doc__, run, [*MOST_MILLISECONDS.values(), *MOST_OF_AT_ONCE.values()])
+PART = Part(__name__, __doc__, run, [MOST_OF_MEDIAN, MOST_OF_WORST, *MOST_OF_AT_ONCE.values()])

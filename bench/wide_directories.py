@@ -14,9 +14,9 @@ from collections.abc import Iterator
 from typing import NamedTuple
 
 from bench.histories import revision, write_dump
-from bench.measure import Command, SameReport, best_of_groups, words_of
+from bench.measure import Command, SameReport, best_of_groups, words_of, written
 from bench.parts import Limit, Measurements, Part, Row, Setup, Table, most
-from bench.questions import Asked, Peg, line, written
+from bench.questions import Asked, Peg, line
 from dev.dumps import FILE, Node, added, changed, copied, mergeinfo
 from dev.running import peak_of
 

@@ -13,9 +13,9 @@ from collections.abc import Sequence
 from pathlib import Path
 
 from bench.histories import short_history, write_source
-from bench.measure import Build, check_same, run_in_turns
+from bench.measure import Build, Work, written
 from bench.parts import Measurements, Part, Row, Setup, Table, most
-from bench.questions import Peg, drawn_line, later_half, line, pegs_of, records_of, written
+from bench.questions import Peg, drawn_line, later_half, line, pegs_of, records_of
 
 # The number of queries of each verb, 200,000 in all; the answers to `log` and `eligible` are long.
 ASKED = {"locate": 60000, "segments": 58500, "log": 10500, "mergeinfo": 40000, "merged": 25000, "eligible": 6000}
@@ -52,29 +52,18 @@ def few_long_queries(short: list[str]) -> list[str]:
 ONE, FOUR, OLD = Build(False, 1), Build(False, 4), Build(True, 1)
 
 
-class Work:
-    """A dump and queries about it, and the runs with them and with lines that are no queries."""
+def work_of(setup: Setup, name: str, dump: Path, lines: list[str], builds: Sequence[Build]) -> Work:
+    """Queries about a dump, beside lines of the same lengths that are no queries."""
+    refused = written(setup.folder / f"{name}-refused.queries", ("-" + each[1:] for each in lines))
+    return Work(setup, name, lines, dump, {build: build.timed(setup, dump, refused) for build in builds})
 
-    def __init__(self, setup: Setup, name: str, dump: Path, lines: list[str], builds: Sequence[Build]) -> None:
-        self.name = name
-        self.lines = lines
-        asked = written(setup.folder / f"{name}-asked.queries", lines)
-        refused = written(setup.folder / f"{name}-refused.queries", ("-" + each[1:] for each in lines))
-        self.asked = {build: build.timed(setup, dump, asked) for build in builds}
-        self.refused = {build: build.timed(setup, dump, refused) for build in builds}
-        run_in_turns([runs[build] for build in builds for runs in (self.refused, self.asked)], setup.times)
-        check_same(self.refused.values(), 0, name)
-        check_same(self.asked.values(), len(lines), name)
 
-    def seconds(self, build: Build) -> float:
-        return self.asked[build].wall - self.refused[build].wall
-
-    def row(self, build: Build) -> Row:
-        """The time is relative to one worker of the same build, but of one worker of this build to the older one."""
-        seconds, limit = self.seconds(build), {OLD: MOST_OF_BEFORE, FOUR: MOST_OF_ONE[self.name]}.get(build)
-        ratio = (self.seconds(ONE) if build == OLD else seconds) / self.seconds(build._replace(workers=1))
-        found: Row = [limit.of(ratio), limit.bound] if limit else [ratio, None]
-        return [self.name, str(build), len(self.lines), self.asked[build].size / 1e6, seconds, *found]
+def row(work: Work, build: Build) -> Row:
+    """The time is relative to one worker of the same build, but of one worker of this build to the older one."""
+    seconds, limit = work.seconds(build), {OLD: MOST_OF_BEFORE, FOUR: MOST_OF_ONE[work.name]}.get(build)
+    ratio = work.seconds(ONE if build == OLD else build) / work.seconds(build._replace(workers=1))
+    found: Row = [limit.of(ratio), limit.bound] if limit else [ratio, None]
+    return [work.name, str(build), len(work.lines), work.runs[build].size / 1e6, seconds, *found]
 
 
 def run(setup: Setup) -> Measurements:
@@ -88,14 +77,14 @@ def run(setup: Setup) -> Measurements:
     many = [line("locate", SOURCE, SOURCE_REVISIONS // 2)] * setup.scaled(SHORT)
     few = [line("eligible", SOURCE, TARGET)] * setup.scaled(LONG)
     works = [
-        Work(setup, "even", even, even_queries(setup, even), builds),
-        Work(setup, "uneven", uneven, few + many, builds),
-        Work(setup, "few long", uneven, few_long_queries(many), builds),
+        work_of(setup, "even", even, even_queries(setup, even), builds),
+        work_of(setup, "uneven", uneven, few + many, builds),
+        work_of(setup, "few long", uneven, few_long_queries(many), builds),
     ]
     heading = "work | workers | queries:, | report, MB:.1f | seconds:.3f | relative to one:.3f | at most:g"
-    yield Table("workers", heading, [work.row(build) for work in works for build in builds])
+    yield Table("workers", heading, [row(work, build) for work in works for build in builds])
     # The seconds of each query of both kinds with one worker.
-    long, short = (Work(setup, "uneven", uneven, each, [ONE]).seconds(ONE) / len(each) for each in (few, many))
+    long, short = (work_of(setup, "uneven", uneven, each, [ONE]).seconds(ONE) / len(each) for each in (few, many))
     first = f"In the uneven work {len(few):,} queries take {long * 1e3:.4f} ms each"
     yield f"{first}, and then {len(many):,} take {short * 1e3:.5f} ms each: {long / short:.0f} times as long."
 
