@@ -401,9 +401,6 @@ class Release:
         self.value = "".join(sorted(features)) + "/trunk:"
         self.last = last
 
-    def add(self, elements: list[str]) -> None:
-        self.value += ("" if self.value.endswith(":") else ",") + ",".join(elements)
-
 
 class Releases(Changes):
     """A history of changes with release branches, a few at a time. All mergeinfo is theirs.
@@ -456,7 +453,7 @@ class Releases(Changes):
         if not elements:
             release = self.new_release()
             elements = self.picked(release)
-        release.add(elements)
+        release.value += ("" if release.value.endswith(":") else ",") + ",".join(elements)
         self.releases[place] = release
         self.merged += 1
         self.change_mergeinfo(release.path, release.value)

@@ -143,9 +143,8 @@ def files_below_directories_of_distant_names(count: int) -> Pieces:
     """Files below directories that have, beside the next one, names whose numbers differ from its number in one bit."""
     names = [b"t", b"d"] + [b"%x-" % number for number in range(2, (1 << BITS) + 2)]
     paths = [b"/".join([b"d"] * depth) for depth in range(2, MOST_COMPONENTS)]
-    begin = (
-        FIRST + b"".join(NEW_DIRECTORY % name for name in names[:2]) + b"".join(NEW_FILE % name for name in names[2:])
-    )
+    begin = FIRST + b"".join(NEW_DIRECTORY % name for name in names[:2])
+    begin += b"".join(NEW_FILE % name for name in names[2:])
     below = b"".join(NEW_FILE % (b"t/" + names[1 + (1 << bit)]) for bit in range(1, BITS))
     copies = revision(3, *(copied(path, b"t", 2) for path in paths))
     return chain([begin + revision(2) + below + copies], numbered(NEW_FILE % (paths[-1] + b"/%x"), count))

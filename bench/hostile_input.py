@@ -110,11 +110,11 @@ SHAPES = [
 ]
 KEYS = 100000
 Key = TypeVar("Key")
+# What makes so many keys.
+Keys = Callable[[int], Key]
 
 
-def shape_of(name: str, maker: Callable[[Key], Pieces], keys: Callable[[int], Key]) -> Shape:
-    """The shape that is made of keys, by their number."""
-
+def shape_of(name: str, maker: Callable[[Key], Pieces], keys: Keys[Key]) -> Shape:
     def make(count: int) -> Pieces:
         return maker(keys(count))
 
@@ -130,9 +130,8 @@ class Input:
         self.shape = shape
         self.title = shape.title()
         self.size = size
-        dump, self.queries, self.report = (
-            setup.folder / f"hostile-{name}.{kind}" for kind in ("dump", "queries", "report")
-        )
+        kinds = ("dump", "queries", "report")
+        dump, self.queries, self.report = (setup.folder / f"hostile-{name}.{kind}" for kind in kinds)
         for path, make in ((dump, shape.dump), (self.queries, shape.asked)):
             with open(path, "wb", PIECE) as file:
                 file.writelines(make(size))
@@ -227,11 +226,13 @@ def shape_row(setup: Setup, shape: Shape, spared: int) -> Row:
     return [once.title, once.bytes, once.reported / 1e6, once.shown_wall(), once.peak / 1e6, *found]
 
 
-def colliding_rows(setup: Setup, colliding: Shape, others: Shape, entropy: Path) -> Iterator[Row]:
+def colliding_rows(
+    setup: Setup, entropy: Path, name: str, maker: Callable[[Key], Pieces], colliding: Keys[Key], others: Keys[Key]
+) -> Iterator[Row]:
     """The keys that collide also under the fixed seed, since the object that is loaded gives no random bytes."""
-    inputs = measured(setup, colliding)
+    inputs = measured(setup, shape_of(name, maker, colliding))
     fixed = [each.run(before=["/usr/bin/env", f"LD_PRELOAD={entropy}"]).wall for each in inputs]
-    for one, other, seconds in zip(inputs, measured(setup, others), fixed):
+    for one, other, seconds in zip(inputs, measured(setup, shape_of(f"other {name}", maker, others)), fixed):
         ratio = None if one.is_ended or other.is_ended else one.wall / other.wall
         yield [one.title, one.size, one.shown_wall(), other.shown_wall(), MOST_OF_OTHERS.of(ratio), seconds]
 
@@ -242,15 +243,11 @@ def run(setup: Setup) -> Measurements:
     yield f"A run on a dump without records takes {base.peak / 1e6:.1f} MB."
     yield Table("hostile-input", SHAPES_HEADING, [shape_row(setup, shape, base.peak + DIFFERENCE) for shape in SHAPES])
     finder = Finder(setup.folder)
-    pairs = [
-        (shape_of("names", dumps.new_names, finder.names), shape_of("other names", dumps.new_names, range)),
-        (shape_of("mergeinfo", dumps.new_values, finder.names), shape_of("other mergeinfo", dumps.new_values, range)),
-        (
-            shape_of("nodes of the index", dumps.new_nodes, finder.pairs),
-            shape_of("other nodes of the index", dumps.new_nodes, dumps.ordinary_pairs),
-        ),
+    rows = [
+        *colliding_rows(setup, finder.path, "names", dumps.new_names, finder.names, range),
+        *colliding_rows(setup, finder.path, "mergeinfo", dumps.new_values, finder.names, range),
+        *colliding_rows(setup, finder.path, "nodes of the index", dumps.new_nodes, finder.pairs, dumps.ordinary_pairs),
     ]
-    rows = [row for pair in pairs for row in colliding_rows(setup, *pair, finder.path)]
     yield Table("colliding-keys", KEYS_HEADING, rows)
 
 

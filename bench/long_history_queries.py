@@ -36,9 +36,7 @@ HEADING = (
     f"revisions:, | verb | queries:, | ms per query:.5f | growth, {MOST_GROWTH}:.2f | "
     f"ms per query, Subversion on {LOADED:,} revisions:.3f | ratio, {LEAST_OF_SUBVERSION}:.0f"
 )
-ROOT_HEADING = (
-    f"revisions:, | ms per `log` of the root:.2f | ms to print the lines, C:.2f | ratio, {MOST_OF_PRINTING}:.2f"
-)
+ROOT = f"revisions:, | ms per `log` of the root:.2f | ms to print the lines, C:.2f | ratio, {MOST_OF_PRINTING}:.2f"
 # The verbs, and their limits relative to Subversion.
 VERBS = {"locate": None, "segments": LEAST_OF_SUBVERSION, "log": LEAST_OF_SUBVERSION}
 
@@ -106,7 +104,7 @@ def run(setup: Setup) -> Measurements:
     rows = [row for sized, before in zip(found, [None, *found]) for row in sized.rows(before, others)]
     yield Table("long-history-queries", HEADING, rows)
     printer = compiled("log_printer", setup.folder)
-    yield Table("log-of-the-root", ROOT_HEADING, [root_row(sized, printer, setup.times) for sized in found])
+    yield Table("log-of-the-root", ROOT, [root_row(sized, printer, setup.times) for sized in found])
 
 
 PART = Part(__name__, __doc__, run, [MOST_GROWTH, MOST_OF_PRINTING, LEAST_OF_SUBVERSION])

@@ -6,9 +6,7 @@ that has it. A time is that of a run with the queries less that of a run without
 `--before` names. The memory is the difference of the peaks.
 
 Four workers are compared with one on the `mergeinfo` of these targets, and on `merged` and `eligible` of them ten times
-over, since otherwise their answers take no longer than runs differ.
-
-What printing takes is that of a C program that holds the report (`line_printer.c`).
+over, since otherwise their answers take no longer than runs differ. `line_printer.c` prints a report that it holds.
 """
 from __future__ import annotations
 

@@ -15,7 +15,7 @@ from typing import Callable, NamedTuple, TypeVar
 from bench.parts import Setup
 from dev.running import Failed, Measured, Words, measure
 
-NOTHING = Path(os.devnull)
+NOTHING, PIPE = Path(os.devnull), Path("/dev/stdin")
 # The exit status of the program for a dump that it refuses.
 REFUSED = 1
 Key = TypeVar("Key")

@@ -33,11 +33,8 @@ def merging_pairs(asked: Asked, pegs: Sequence[Peg], lot: random.Random) -> Pair
     """Targets, each with a source that is in their mergeinfo and exists in the same revision."""
     targets = [lot.choice(pegs) for _ in range(ASKED)]
     values = asked.answers(line("mergeinfo", target) for target in targets)
-    pairs = [
-        (Peg(lot.choice(lines).rpartition(":")[0][1:], target.rev), target)
-        for target, (_, lines) in zip(targets, values)
-        if lines
-    ]
+    merging = [(target, lines) for target, (_, lines) in zip(targets, values) if lines]
+    pairs = [(Peg(lot.choice(lines).rpartition(":")[0][1:], target.rev), target) for target, lines in merging]
     found = asked.answers(line("locate", source, 0) for source, _ in pairs)
     return [pair for pair, (status, _) in zip(pairs, found) if status == "ok"]
 

@@ -13,7 +13,6 @@ from bench.parts import Measurements, Part, Row, Setup, Table, least
 from bench.questions import TEN
 from dev.running import Words, peak_of
 
-READER = BENCH / "plain_reader.py"
 LEAST_TIMES = least(15, "time of plain Python relative to that of the program")
 HEADING = (
     "history | revisions:, | seconds:.3f | seconds, Python:.2f | peak MB:.0f | peak MB, Python:.0f | "
@@ -25,7 +24,10 @@ def row(setup: Setup, mix: str, revisions: int) -> Row:
     dump = generate(setup.folder / "plain.dump", MIXES[mix], revisions)
     queries = ten_queries(setup.folder / "plain.queries", dump)
     same = SameReport(mix, len(TEN))
-    both: list[Words] = [words_of(setup.program, dump, queries), [sys.executable, READER, dump, queries]]
+    both: list[Words] = [
+        words_of(setup.program, dump, queries),
+        [sys.executable, BENCH / "plain_reader.py", dump, queries],
+    ]
     [best] = best_of_groups([{place: Command(words, report=same) for place, words in enumerate(both)}], setup.times)
     peaks = [peak_of(words) / 1e6 for words in both]
     ours, plain = best[0].wall, best[1].wall

@@ -329,20 +329,13 @@ def of_source(history: History, source: Peg, target: Peg) -> list[tuple[int, Pat
 
 
 def merged(history: History, source: Peg, target: Peg) -> list[bytes]:
-    return [
-        b"r%d%s" % (rev, b"" if kind else b"*")
-        for rev, _, kind in of_source(history, source, target)
-        if kind is not None
-    ]
+    found = of_source(history, source, target)
+    return [b"r%d%s" % (rev, b"" if kind else b"*") for rev, _, kind in found if kind is not None]
 
 
 def eligible(history: History, source: Peg, target: Peg) -> list[bytes]:
-    spans = list(history.spans(*target))
-    return [
-        b"r%d" % rev
-        for rev, place, kind in of_source(history, source, target)
-        if kind is None and place_in(spans, rev) != place
-    ]
+    spans, found = list(history.spans(*target)), of_source(history, source, target)
+    return [b"r%d" % rev for rev, place, kind in found if kind is None and place_in(spans, rev) != place]
 
 
 def peg_of(field: bytes) -> Peg | None:

@@ -19,14 +19,13 @@ from typing import NamedTuple
 
 from bench.functions import shares_of
 from bench.histories import MIXES, RELEASES, SIZES, SMALL, SMALL_REVISIONS, generate, load_into_cache, ten_queries
-from bench.measure import REFUSED, Command, SameReport, best_in_turns, best_of_groups, in_words, words_of
+from bench.measure import PIPE, REFUSED, Command, SameReport, best_in_turns, best_of_groups, in_words, words_of
 from bench.parts import QUICK, Limit, Measurements, Part, Row, Setup, Table, limits_table, most
 from bench.questions import TEN
 from dev.running import Measured, Words, peak_of
 
 GREP = ["grep", "-c", "^Node-path"]
 COUNT = ["wc", "-c"]
-PIPE = Path("/dev/stdin")
 
 
 class Read(NamedTuple):
@@ -75,26 +74,26 @@ class Pair(NamedTuple):
     """The program beside another reader of a dump, and the limit of the time relative to that."""
 
     title: str
-    size: int
+    dump: Path
     commands: dict[str, Command]
     limit: Limit
 
     def row(self, best: dict[str, Measured]) -> Row:
         (_, ours), (name, other) = best.items()
-        ratio = self.limit.of(ours.wall / other.wall)
-        return [self.title, self.size / 1e6, ours.wall, name, other.wall, ratio, self.limit.bound]
+        size, ratio = self.dump.stat().st_size / 1e6, self.limit.of(ours.wall / other.wall)
+        return [self.title, size, ours.wall, name, other.wall, ratio, self.limit.bound]
 
 
 def pairs_of(setup: Setup, paths: dict[str, Path]) -> Iterator[Pair]:
     if setup.before:
         name, programs = "small records", {"": setup.program, "the program before": setup.before}
         both = {title: Command(words_of(each, paths[name]), status=REFUSED) for title, each in programs.items()}
-        yield Pair(f"{name} from a file", paths[name].stat().st_size, both, MOST_OF_BEFORE)
+        yield Pair(f"{name} from a file", paths[name], both, MOST_OF_BEFORE)
     for name, path in paths.items():
         read = READ[name]
         ours = Command(words_of(setup.program, PIPE), ["cat", path], status=read.status)
         both = {"": ours, f"`{in_words(read.beside)}`": Command(read.beside, ["cat", path])}
-        yield Pair(f"{name} from a pipe", path.stat().st_size, both, read.limit)
+        yield Pair(f"{name} from a pipe", path, both, read.limit)
 
 
 def formats_row(setup: Setup, name: str) -> Row:

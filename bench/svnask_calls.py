@@ -27,7 +27,6 @@ REVISIONS = 20000
 # How many of the revisions change mergeinfo, and how many lines of answers are read.
 VALUES = 0.6
 LINES = 14000000
-GREP = ["grep", "-c", "-a", "^Node-path"]
 # What a later call takes more than the program, for which its limit has room.
 MORE = 0.2
 
@@ -55,9 +54,6 @@ class Asked:
         own = [f"SVNHIST={self.setup.program}", f"XDG_CACHE_HOME={self.cache}"]
         return ["/usr/bin/env", "-u", "PYTHONDONTWRITEBYTECODE", *python, *own, sys.executable, *words]
 
-    def grep(self) -> Measured:
-        return Command([*GREP, self.dump]).run()
-
     def first_words(self) -> Words:
         """The first call, with an empty cache. Its question is one that the program isn't asked."""
         shutil.rmtree(self.cache, ignore_errors=True)
@@ -83,11 +79,12 @@ class Asked:
 def run(setup: Setup) -> Measurements:
     asked = Asked(setup)
     dump, stripped = (path.stat().st_size / 1e6 for path in (asked.dump, asked.stripped))
-    records = int(asked.grep().outcome.output)
+    grepped = Command(["grep", "-c", "-a", "^Node-path", asked.dump])
+    records = int(grepped.run().outcome.output)
     yield f"A dump of {dump:.1f} MB, {stripped:.1f} MB without texts, {records} records."
     count = setup.scaled(LINES) // asked.later().outcome.output.count(b"\nr")
     pairs: list[dict[str, Callable[[], Measured]]] = [
-        {"`grep -c ^Node-path`": asked.grep, "svnask, the first question": asked.first},
+        {"`grep -c ^Node-path`": grepped.run, "svnask, the first question": asked.first},
         {"svnhist, the log of the trunk": partial(asked.alone, 1), "svnask, the same as a later question": asked.later},
         {"svnhist, many logs": partial(asked.alone, count), "the module, the same": partial(asked.read, count)},
     ]

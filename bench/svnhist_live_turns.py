@@ -146,19 +146,17 @@ def measured(setup: Setup, history: History, repository: Repository | None) -> M
     with talk_about(setup.live, history.front) as after, talk_about(setup.live, history.whole) as at_once:
         pieces = grown(after, history)
         found = {verb: asked((after, at_once), verb, questions, setup.times) for verb in VERBS}
-        kinds = {
-            f"the first {TIMED}": pieces[:TIMED],
-            f"the last {TIMED}": pieces[-TIMED:],
-            f"all {len(pieces):,}": pieces,
-        }
-        rows: list[Row] = [
-            [f"one of {name} pieces", statistics.median(taken), max(taken)] for name, taken in kinds.items()
+        first = pieces[:TIMED]
+        kinds = [
+            (f"the first {TIMED}", first),
+            (f"the last {TIMED}", pieces[-TIMED:]),
+            (f"all {len(pieces):,}", pieces),
         ]
+        rows: list[Row] = [[f"one of {name} pieces", statistics.median(each), max(each)] for name, each in kinds]
         for verb, (one, other) in found.items():
             rows.append([f"`{verb}` after all pieces", one, None])
             rows.append([f"`{verb}` on the same history, read at once", other, None])
         yield Table("svnhist-live", "what is replied to | median, ms:.3f | worst, ms:.3f", rows)
-        first = pieces[:TIMED]
         limits = [MOST_OF_MEDIAN.of(statistics.median(first)), MOST_OF_WORST.of(max(first))]
         limits += [MOST_OF_AT_ONCE[verb].of(one / other) for verb, (one, other) in found.items()]
         yield limits_table("svnhist-live-limits", limits)

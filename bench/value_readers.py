@@ -21,7 +21,6 @@ Reader = Callable[[], Any]
 Run = tuple[int, int]
 # The rest of the path that inherits.
 BELOW = b"/file"
-LIBRARY = "libsvn_subr-1.so.1"
 
 
 def bindings_reader(text: bytes) -> Reader:
@@ -32,7 +31,7 @@ def bindings_reader(text: bytes) -> Reader:
 
 def library_reader(text: bytes) -> Reader:
     """The same function of Subversion's C library alone."""
-    library = ctypes.CDLL(LIBRARY)
+    library = ctypes.CDLL("libsvn_subr-1.so.1")
     library.apr_initialize()
     library.svn_pool_create_ex.restype = ctypes.c_void_p
     library.svn_pool_create_ex.argtypes = [ctypes.c_void_p] * 2

@@ -25,12 +25,8 @@ class Kind(NamedTuple):
 
 
 ALONE = Kind(1, 0)
-KINDS = {
-    "one worker": ALONE,
-    "four workers": Kind(4, 0),
-    "four, BLOCK 100": Kind(4, 100),
-    "four, BLOCK 1,000": Kind(4, 1000),
-}
+KINDS = {"one worker": ALONE, "four workers": Kind(4, 0)}
+KINDS.update({f"four, BLOCK {block:,}": Kind(4, block) for block in (100, 1000)})
 GREP, READING = "`grep`", "reading"
 # The time of one worker and of four is relative to `grep` for changes, and to reading for additions.
 COMPARED = {"changes": GREP, "additions": READING}
