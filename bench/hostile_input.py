@@ -142,8 +142,7 @@ class Input:
 
     def run(self, report: Path = NOTHING, before: Words = ()) -> Measured:
         """Runs the program once, after these words."""
-        limits = Limits(MOST_SECONDS, self.shape.room)
-        return started([*before, *self.command], report=report, limits=limits)
+        return started([*before, *self.command], report=report, limits=Limits(MOST_SECONDS, self.shape.room))
 
     def run_first(self) -> None:
         """The run whose report is checked."""

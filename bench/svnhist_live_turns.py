@@ -104,10 +104,10 @@ class History:
 def grown(talk: Talk, history: History) -> list[float]:
     """The milliseconds of each piece."""
     found = []
-    for last, turn in enumerate(history.pieces(), 1):
+    for number, turn in enumerate(history.pieces(), 1):
         seconds, reply = talk.turn(turn)
-        if reply != b"ready %d\n\n" % (history.first + TEN * last):
-            raise Failed(f"the reply to piece {last} is {reply!r}")
+        if reply != b"ready %d\n\n" % (history.first + TEN * number):
+            raise Failed(f"the reply to piece {number} is {reply!r}")
         found.append(seconds * 1e3)
     return found
 

@@ -2,8 +2,7 @@
 
 A directory gets 100,000 tags, each a copy of the trunk and in a revision of its own. Beside it stands the same history
 with ten tags, where each later copy replaces one of them. Then come changes below single tags, one in each revision:
-additions of files and changes of texts, 10,000 of each, or 100,000 changes of `svn:mergeinfo`. The limits are about the
-wide directory relative to the ten tags.
+additions of files and changes of texts, 10,000 of each, or 100,000 changes of `svn:mergeinfo`.
 
 The copies in copies are 1,000 copies of the root into the root, each of the revision before. One query locates the path
 through all of them, in the revision without any.
