@@ -4,8 +4,8 @@ usage: python3 -m bench.bindings_reader URL < QUERIES
 
 Each query is a line of the program's form, and all have the same verb. The first line of the output is the seconds that
 all answers took, without the start of Python. Then come the answers as in the program's report, but those to `log` have
-revisions alone. Revisions that are not inheritable are left out of `eligible`, as the program does. Without the bindings
-there is no output.
+revisions alone. Revisions that are not inheritable are left out of `eligible`, as the program does. Without the
+bindings there is no output.
 """
 from __future__ import annotations
 

@@ -54,7 +54,7 @@ class History:
 
 
 def made_rows(history: History) -> Iterator[Row]:
-    """The time of the index, the map and its check, with one worker and one block and with as many blocks as workers."""
+    """The time of the index, the map and its check, for one worker and one block and for as many blocks as workers."""
     faulty = make_faulty(history.dump, history.setup.folder / "blocks-faulty.dump")
     reading = Timed(words_of(history.setup.program, faulty), REFUSED)
     found = {kind: history.timed("none", [], kind) for kind in MADE_KINDS}

@@ -32,7 +32,7 @@ def numbers(count: int) -> ctypes.Array[ctypes.c_uint32]:
 
 
 class Finder:
-    """The object that is made of `colliding.c`. It finds numbers whose names collide, and pairs of a node and a name."""
+    """The object made of `colliding.c`. It finds numbers whose names collide, and pairs of a node and a name."""
 
     def __init__(self, folder: Path) -> None:
         self.path = folder / "colliding.so"

@@ -26,7 +26,7 @@ MIXES = {
     "changes": ["--mix", "changes", "--records", str(RECORDS), *WIDTH, "--body", "0:600"],
     "additions": ["--mix", "additions", "--records", str(RECORDS), *WIDTH, "--body", "0:900"],
 }
-# A history that is half mergeinfo, in 10,000 distinct values of up to 20 KB where it has as many revisions as the longest.
+# A history that is half mergeinfo: with as many revisions as the longest, 10,000 distinct values of up to 20 KB.
 RELEASES = ["--mix", "releases", "--records", "1", *WIDTH, "--body", "0:100"]
 # A short history, in trees that fit into memory.
 SHORT = ["--records", "2", "--width", "4", "--copy-depth", "6", "--body", "0:100"]
@@ -84,7 +84,7 @@ def revisions_of(dump: Path) -> Iterator[bytes]:
 
 
 BEGIN = first_lines() + bytes(Revision(0))
-# Written by hand, since histories have up to millions of these, for each of which the builder takes eight times as long.
+# Written by hand, since histories have up to millions of these, and the builder takes eight times as long.
 REVISION = b"\nRevision-number: %d\n\n"
 
 

@@ -1,8 +1,8 @@
 """Input that somebody makes to do harm: the time and the memory that it takes, and those of twice as much.
 
 Each shape is made in a size and in twice that size, and both are measured in turns. The input is the dump and the
-queries together. For each of its bytes the memory is what it is more than that of a run on a dump without records, which
-is mostly the memory of the process that starts the program, and 1 MB, since runs differ. The first run of each input
+queries together. The memory for a byte of it is without that of a run on a dump without records, which is mostly the
+memory of the process that starts the program, and without 1 MB more, since runs differ. The first run of each input
 shows whether it ends as it must: with a report in which all answers have one status, or with a refusal. If it was long,
 it is measured and no other follows.
 
@@ -10,9 +10,9 @@ A run is ended after two minutes, or where it would take 12 GB. It counts as not
 shape has what makes a dump, and what makes queries, whose names are the title of a row. Queries alone are about the
 example.
 
-Keys that collide are names, texts of mergeinfo, and pairs of a directory and a file in it, which `colliding.c` finds for
-the fixed seed of the hashes. A run takes a random seed, so as many others must take as long. What they take under the
-fixed seed stands beside them, to show that they do collide there.
+Keys that collide are names, texts of mergeinfo, and pairs of a directory and a file in it, which `colliding.c` finds
+for the fixed seed of the hashes. A run takes a random seed, so as many others must take as long. What they take under
+the fixed seed stands beside them, to show that they do collide there.
 """
 from __future__ import annotations
 
@@ -47,8 +47,8 @@ OUT_OF_MEMORY = 4
 
 @dataclass(frozen=True)
 class Shape:
-    """What makes the dump and the queries, the size that both are made for, the status of all answers or why the dump is
-    refused, and how the program is run."""
+    """What makes the dump and the queries, the size that both are made for, the status of all answers or why the dump
+    is refused, and how the program is run."""
 
     dump: Maker
     size: int

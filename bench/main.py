@@ -77,7 +77,7 @@ def measured(part: Part, setup: Setup) -> list[Item]:
 
 
 def measure_all(parts: Iterable[Part], setup: Setup, file: Path | None = None) -> int:
-    """Runs parts, and writes what was measured to the file after each. Returns the exit status, 1 if a limit is missed."""
+    """Runs parts, and writes what was measured to a file after each. Returns the exit status, 1 for a missed limit."""
     given = {"program": str(setup.program), "is_quick": setup.is_quick, "times": setup.times}
     report: dict[str, Any] = {"date": datetime.date.today().isoformat(), "machine": machine(), **given, "parts": []}
     status = 0

@@ -111,9 +111,9 @@ class Build(NamedTuple):
 
 
 class Timed:
-    """A command with its best time so far. A run that is timed prints to /dev/null, since storing the output is the work
-    of the system. The output is kept once before and compared with that of a further run after: a checksum, and how many
-    bytes, lines and answers it has."""
+    """A command with its best time so far. A run that is timed prints to /dev/null, since storing the output is the
+    work of the system. The output is kept once before and compared with that of a further run after: a checksum, and
+    how many bytes, lines and answers it has."""
 
     def __init__(self, words: Words, status: int = 0) -> None:
         self.words = words

@@ -1,8 +1,8 @@
 """Values of `svn:mergeinfo` of about 1 MB, beside Subversion's own reader and plain Python.
 
-Each value is that of a directory, and all queries ask which mergeinfo a file in it inherits. A run reads the value once,
-and each query makes it inherited and prints it. So the time of a value is that of a run with queries less that of a run
-without, divided by their number. The other readers measure themselves (`value_readers.py`).
+Each value is that of a directory, and all queries ask which mergeinfo a file in it inherits. A run reads the value
+once, and each query makes it inherited and prints it. So the time of a value is that of a run with queries less that of
+a run without, divided by their number. The other readers measure themselves (`value_readers.py`).
 """
 from __future__ import annotations
 

@@ -71,7 +71,7 @@ def shown(cell: Cell, form: str) -> str:
 
 @dataclass(frozen=True)
 class Table:
-    """Rows of figures below a heading as in Markdown, in which the form of the numbers stands after each title. No other
+    """Rows of figures below a heading as in Markdown, in which the form of numbers stands after each title. No other
     table of any part has its name."""
 
     name: str
@@ -94,8 +94,8 @@ def limits_table(name: str, judged: Iterable[Judged], absent: Iterable[Limit] = 
 
 @dataclass(frozen=True)
 class Setup:
-    """What a part measures with: the programs, of which one may be an older build, a folder for its files, and how often
-    it measures."""
+    """What a part measures with: the programs, of which one may be an older build, a folder for its files, and how
+    often it measures."""
 
     program: Path
     live: Path

@@ -2,9 +2,9 @@
 
 usage: plain_reader.py DUMP QUERIES
 
-Prints the same report for a dump that is lawful, which it does not check. The tree of a revision is a node for the root.
-A node is a pair: its children by name, or None for a file, and its mergeinfo, or None. It is never changed, so trees
-share what they have in common. The history of a path is found from the records that name it or a path above or below.
+Prints the same report for a dump that is lawful, which it does not check. The tree of a revision is a node for the
+root. A node is a pair: its children by name, or None for a file, and its mergeinfo, or None. It is never changed, so
+trees share what they have in common. The history of a path is in the records that name it or a path above or below.
 """
 from __future__ import annotations
 

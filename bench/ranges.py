@@ -47,7 +47,7 @@ def revisions_of(last: int) -> Iterator[bytes]:
 
 
 class Query:
-    """A query of a verb, with the bounds of a range or without, its answer, and a run in which it is asked many times."""
+    """A query of a verb, with the bounds of a range or without, its answer, and a run that asks it many times."""
 
     def __init__(self, asked: Asked, verb: str, name: str, bounds: tuple[int, int] | None, last: int) -> None:
         self.verb, self.name, self.bounds = verb, name, bounds

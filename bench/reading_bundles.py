@@ -94,7 +94,7 @@ class Reading:
         return MOST_KEPT.of((self.best[PROGRAM].peak - self.best[LOADING].peak) / self.records, self.kind.title)
 
     def growth(self, half: Reading) -> Judged:
-        """The time for twice the dump relative to that for the dump; the full size is not exactly twice the half size."""
+        """The time for twice the dump relative to that for the dump; the full size is not exactly twice the half."""
         ratio = 2 * self.best[PROGRAM].wall / half.best[PROGRAM].wall * half.size / self.size
         return MOST_OF_TWICE.of(ratio, self.kind.title)
 

@@ -87,7 +87,7 @@ def ask_bindings(repository: Repository | None, lines: Sequence[str]) -> OfBindi
 
 
 def ask_command(repository: Repository, questions: Sequence[Question], verb: str) -> float | None:
-    """The seconds that a command of Subversion takes for a query, with its start. None without a command for the verb."""
+    """The seconds of a command of Subversion for a query, with its start. None without a command for the verb."""
     asked = [question.to_subversion(verb, repository.url) for question in questions[:ASKED_OF_COMMAND]]
     commands = [words for words in asked if words is not None]
     # If the path did not exist, svn reports that and ends with status 1.

@@ -1,9 +1,9 @@
 """Whole runs on long histories of changes and of additions: how long they take, and how much memory.
 
 A run is reading, the index, the map, its check and a report on ten queries. It is measured beside two other readers of
-the same bytes: `grep -c ^Node-path` through a pipe, and the program on the dump with a faulty block at its end, which it
-reads and refuses. The three lengths of a history are measured in turns. A change of a text adds nothing to the map, and
-an addition adds a node for each component of its path and one for the root.
+the same bytes: `grep -c ^Node-path` through a pipe, and the program on the dump with a faulty block at its end, which
+it refuses. The three lengths of a history are measured in turns. A change of a text adds nothing to the map, and an
+addition adds a node for each component of its path and one for the root.
 """
 from __future__ import annotations
 

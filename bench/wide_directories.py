@@ -27,8 +27,8 @@ FILES = 3
 COPIES = 1000
 LOCATED = 1000
 HEADING = (
-    f"changes below tags | tags:, | changes:, | seconds:.3f | seconds, {FEW_TAGS} tags:.3f | relative:.2f | at most:g | "
-    f"peak MB:.1f | peak MB, {FEW_TAGS} tags:.1f | relative, {MOST_MEMORY}:.2f"
+    f"changes below tags | tags:, | changes:, | seconds:.3f | seconds, {FEW_TAGS} tags:.3f | relative:.2f | "
+    f"at most:g | peak MB:.1f | peak MB, {FEW_TAGS} tags:.1f | relative, {MOST_MEMORY}:.2f"
 )
 COPIES_HEADING = (
     "copies:, | ms with one query:.2f | more than an empty dump, ms:.2f | ms of a query:.4f | "
