@@ -22,54 +22,35 @@ def compiler() -> list[str | Path]:
     """The system's compiler, or else the kit's, with what it needs beside it."""
     if shutil.which("cc"):
         return ["cc"]
-    command = Path(shutil.which("rt") or "/opt/rattle/bin/rt")
-    kit = command.resolve().parent.parent / "toolchain"
-    return [
-        kit / "bin" / "clang",
-        f"--sysroot={kit}",
-        "--no-default-config",
-        "-nostdlib",
-        "-fuse-ld=lld",
-        kit / "lib" / "libc.so.6",
-    ]
+    kit = Path(shutil.which("rt") or "/opt/rattle/bin/rt").resolve().parent.parent / "toolchain"
+    options = [f"--sysroot={kit}", "--no-default-config", "-nostdlib", "-fuse-ld=lld"]
+    return [kit / "bin" / "clang", *options, kit / "lib" / "libc.so.6"]
 
 
-def make_object(folder: Path) -> Path:
-    """The object that is made of `colliding.c`."""
-    path = folder / "colliding.so"
-    source = Path(__file__).with_suffix(".c")
-    options = ["-O2", "-std=c11", "-Wall", "-Wextra", "-fPIC", "-shared"]
-    subprocess.run([*compiler(), *options, source, "-o", path], check=True)
-    return path
+def numbers(count: int) -> ctypes.Array[ctypes.c_uint32]:
+    return (ctypes.c_uint32 * count)()
 
 
 class Finder:
-    """What finds keys: numbers whose names collide, and pairs of a node and a name."""
+    """The object made of `colliding.c`. It finds numbers whose names collide, and pairs of a node and a name."""
 
     def __init__(self, folder: Path) -> None:
-        self.path = make_object(folder)
+        self.path = folder / "colliding.so"
+        options = ["-O2", "-std=c11", "-Wall", "-Wextra", "-fPIC", "-shared"]
+        subprocess.run([*compiler(), *options, Path(__file__).with_suffix(".c"), "-o", self.path], check=True)
         self.library = ctypes.CDLL(str(self.path))
         self.library.find_nodes.restype = ctypes.c_size_t
 
     def names(self, count: int) -> list[int]:
-        numbers = (ctypes.c_uint32 * count)()
-        self.library.find_names(ctypes.c_size_t(count), ctypes.c_uint32(MASK), numbers)
-        return list(numbers)
+        found = numbers(count)
+        self.library.find_names(ctypes.c_size_t(count), ctypes.c_uint32(MASK), found)
+        return list(found)
 
     def pairs(self, count: int) -> list[tuple[int, int]]:
         """Pairs of a directory and a file, each by its number among `side(count)` of them."""
-        directories, files = (ctypes.c_uint32 * count)(), (ctypes.c_uint32 * count)()
-        many = side(count)
-        found = self.library.find_nodes(
-            ctypes.c_size_t(count),
-            ctypes.c_uint32(MASK),
-            ctypes.c_uint32(1),
-            ctypes.c_uint32(many),
-            ctypes.c_uint32(many),
-            ctypes.c_uint32(many),
-            directories,
-            files,
-        )
+        directories, files, many = numbers(count), numbers(count), side(count)
+        ranges = map(ctypes.c_uint32, (MASK, 1, many, many, many))
+        found = self.library.find_nodes(ctypes.c_size_t(count), *ranges, directories, files)
         if found < count:
             raise ValueError(f"{found} of {count} pairs were found")
         return list(zip(directories, files))

@@ -3,45 +3,33 @@ from __future__ import annotations
 
 import re
 import shutil
-import subprocess
-from collections.abc import Sequence
 from pathlib import Path
 
 from bench.measure import Command
 from dev.running import Words
 
-# The share of each function by its name.
-Shares = dict[str, float]
-# A line of `callgrind_annotate` and one of `perf report`.
+
 COUNTED = re.compile(r"^ *([0-9,]+) \([ 0-9.]+%\) +[^ :]*:(.*?)(?: \[[^ ]*\])?$", re.MULTILINE)
 SAMPLED = re.compile(r"^ *([0-9.]+)% +\[.\] +(.*?) *$", re.MULTILINE)
+COUNT = "valgrind --tool=callgrind --callgrind-out-file=FILE"
+SAMPLE = "perf record -e cpu-clock -F 5000 -o FILE --"
+# What runs a command, what then prints what stands in a file, and the form of a line of that.
+TOOLS = {
+    "valgrind": (COUNT, "callgrind_annotate --threshold=100 FILE", COUNTED),
+    "perf": (SAMPLE, "perf report --stdio --fields=overhead,sym -i FILE", SAMPLED),
+}
 
 
-def lines_of(words: Words, form: re.Pattern[str]) -> Sequence[tuple[str, str]]:
-    done = subprocess.run(words, stdout=subprocess.PIPE, stderr=subprocess.DEVNULL, check=True)
-    return form.findall(done.stdout.decode("utf-8", "replace"))
-
-
-def counted(words: Words, status: int, file: Path) -> Sequence[tuple[str, str]]:
-    Command(["valgrind", "--tool=callgrind", f"--callgrind-out-file={file}", *words], status=status).run()
-    return lines_of(["callgrind_annotate", "--threshold=100", file], COUNTED)
-
-
-def sampled(words: Words, status: int, file: Path) -> Sequence[tuple[str, str]]:
-    Command(["perf", "record", "-e", "cpu-clock", "-F", "5000", "-o", file, "--", *words], status=status).run()
-    return lines_of(["perf", "report", "--stdio", "--fields=overhead,sym", "-i", file], SAMPLED)
-
-
-TOOLS = {"valgrind": counted, "perf": sampled}
-
-
-def shares_of(words: Words, status: int, folder: Path) -> tuple[str | None, Shares]:
-    """A tool and the share of each function; no tool and no shares if there is none."""
-    tool = next(filter(shutil.which, TOOLS), None)
-    if tool is None:
+def shares_of(words: Words, status: int, folder: Path) -> tuple[str | None, dict[str, float]]:
+    """A tool and the share of each function by its name; no tool and no shares if there is none."""
+    name = next(filter(shutil.which, TOOLS), None)
+    if name is None:
         return None, {}
-    shares: Shares = {}
-    for count, name in TOOLS[tool](words, status, folder / "functions"):
-        shares[name] = shares.get(name, 0) + float(count.replace(",", ""))
+    file = str(folder / "functions")
+    running, printing = ([word.replace("FILE", file) for word in command.split()] for command in TOOLS[name][:2])
+    Command([*running, *words], status=status).run()
+    shares: dict[str, float] = {}
+    for count, function in TOOLS[name][2].findall(Command(printing).run().outcome.output.decode("utf-8", "replace")):
+        shares[function] = shares.get(function, 0) + float(count.replace(",", ""))
     total = sum(shares.values())
-    return tool, {name: count / total for name, count in shares.items()}
+    return name, {function: count / total for function, count in shares.items()}

@@ -1,16 +1,13 @@
 """Writes the dump of a long synthetic history to standard output, the same one for the same options.
 
 The history has a trunk and branches with directories of limited width, files that are added, changed, replaced, renamed
-and deleted, copies of copies, copies of older revisions, and merges that change mergeinfo. Each record is chosen at
-random with a fixed seed and written at once: only the present tree and some of the past ones are kept, and they share
-their common parts. The dump is valid, unless an option asks for a last block that every reader refuses.
+and deleted, copies of copies and of older revisions, and merges that change mergeinfo. Each record is chosen at random
+with a fixed seed and written at once: only the present tree and some of the past ones are kept.
 
 The mix `ordinary` has six to eight changes of texts in ten records, by the width of the directories. The mix `changes`
 has nine, and the mix `additions` none: its records add and delete files and directories, so that trees grow slowly. The
 mix `releases` has the changes and release branches beside them, into which revisions of the trunk are merged: each
 merge gives a branch a value of `svn:mergeinfo` that is longer than the one before.
-
-A large text is written from a buffer that all texts share. Without its checksums it takes hardly any time.
 
 In format 3 the history is the same: each property section is said to be of changes and each text to be a difference, as
 `svnrdump` writes them. The bytes of the texts are no differences; no reader of the benchmarks looks at them.
@@ -21,27 +18,21 @@ import argparse
 import hashlib
 import random
 import sys
-from collections.abc import Mapping
-from enum import Enum
-from typing import IO, Callable, Final, NamedTuple, Optional, Union
+from typing import Callable, NamedTuple, Optional, Union
 
 from dev import dumps
-from dev.dumps import MERGEINFO, Revision, first_lines, section
+from dev.dumps import DIR, FILE, Revision, Source, added, deleted, first_lines, header, mergeinfo, section
 
-
-class Kind(Enum):
-    FILE = "file"
-
-
-# A directory is a dict that is never changed, so that trees can share it. A path that does not exist has None.
-FILE: Final = Kind.FILE
+# The node of a file is its kind. A directory is a dict that is never changed, so that trees can share it.
 Directory = dict[str, "Node"]
-Node = Union[Kind, Directory]
+Node = Union[bytes, Directory]
 Path = tuple[str, ...]
+TRUNK = ("trunk",)
 Text = memoryview
 
 # What every reader refuses.
-FAULTY_BLOCK = bytes(dumps.Node(b"trunk", b"none", dumps.DIR)) + b"\n"
+FAULTY_BLOCK = bytes(dumps.Node(b"trunk", b"none", DIR)) + b"\n"
+NO_PROPERTIES = section({})
 UUID = b"6b1d3f52-0c5e-4a07-9d5c-3a2b7f8e9c10"
 PIECE = 1 << 20
 MOST_LINES = 8
@@ -65,8 +56,9 @@ WORDS = (
 
 
 def node_at(tree: Node, path: Path) -> Node | None:
+    """The node at a path, or None."""
     for name in path:
-        node = None if tree is FILE else tree.get(name)
+        node = None if isinstance(tree, bytes) else tree.get(name)
         if node is None:
             return None
         tree = node
@@ -78,7 +70,7 @@ def with_node(tree: Directory, path: Path, node: Node | None) -> Directory:
     changed = dict(tree)
     if len(path) > 1:
         below = tree[path[0]]
-        assert below is not FILE
+        assert isinstance(below, dict)
         changed[path[0]] = with_node(below, path[1:], node)
     elif node is None:
         del changed[path[0]]
@@ -87,93 +79,36 @@ def with_node(tree: Directory, path: Path, node: Node | None) -> Directory:
     return changed
 
 
-class Source(NamedTuple):
-    """What a copy is one of."""
-
-    path: Path
-    rev: int
-
-
 class Writer:
-    """Writes blocks of a format through a buffer, with or without the checksums of texts.
+    """Writes blocks of a format through a buffer, with or without the checksums of texts. No large text is copied."""
 
-    It has lines of its own for records, since long histories have millions of them, and no large text may be copied.
-    """
-
-    def __init__(self, output: IO[bytes], form: int, checksums: bool) -> None:
-        self.output = output
+    def __init__(self, form: int, checksums: bool) -> None:
+        # What is larger than its buffer is written as it is.
+        self.output = open(sys.stdout.fileno(), "wb", PIECE, closefd=False)
         self.has_deltas = form == 3
         self.checksums = checksums
-        self.pieces: list[bytes | Text] = []
-        self.held = 0
-        self.write(first_lines(form, UUID))
-
-    def write(self, *pieces: bytes | Text) -> None:
-        for piece in pieces:
-            if len(piece) >= PIECE:
-                self.flush()
-                self.output.write(piece)
-            else:
-                self.pieces.append(piece)
-                self.held += len(piece)
-        if self.held >= PIECE:
-            self.flush()
-
-    def flush(self) -> None:
-        self.output.write(b"".join(self.pieces))
-        self.output.flush()
-        self.pieces = []
-        self.held = 0
+        self.output.write(first_lines(form, UUID))
 
     def revision(self, number: int, author: bytes | None) -> None:
-        second = number * 60
-        date = b"20%02d-01-%02dT%02d:%02d:00.000000Z" % (
-            second // 2419200 % 100,
-            second // 86400 % 28 + 1,
-            second // 3600 % 24,
-            second // 60 % 60,
-        )
-        named = {} if author is None else {b"svn:author": author}
-        logged = {} if author is None else {b"svn:log": b"Revision %d" % number}
-        self.write(bytes(Revision(number, properties={**named, b"svn:date": date, **logged})))
+        days, hour, minute = number // 1440, number // 60 % 24, number % 60
+        date = b"20%02d-01-%02dT%02d:%02d:00.000000Z" % (days // 28 % 100, days % 28 + 1, hour, minute)
+        properties = {b"svn:date": date}
+        if author is not None:
+            properties = {b"svn:author": author, b"svn:date": date, b"svn:log": b"Revision %d" % number}
+        self.output.write(bytes(Revision(number, properties=properties)))
 
-    def record(
-        self,
-        path: Path,
-        action: str,
-        kind: str | None = None,
-        source: Source | None = None,
-        values: Mapping[bytes, bytes] | None = None,
-        text: Text | None = None,
-    ) -> None:
-        """A record, with a copy source, a property section and a text if they are given."""
-        lines = [f"Node-path: {'/'.join(path)}\n"]
-        if kind is not None:
-            lines.append(f"Node-kind: {kind}\n")
-        lines.append(f"Node-action: {action}\n")
-        if source is not None:
-            lines.append(f"Node-copyfrom-rev: {source.rev}\nNode-copyfrom-path: {'/'.join(source.path)}\n")
-        if self.has_deltas and values is not None:
-            lines.append("Prop-delta: true\n")
-        if self.has_deltas and text is not None:
-            lines.append("Text-delta: true\n")
-        properties = b"" if values is None else section(values)
-        body: bytes | Text = b"" if text is None else text
+    def record(self, node: dumps.Node) -> None:
+        lines, properties, text = node.lines(), node.properties, node.text
+        if self.has_deltas:
+            lines += [b"Prop-delta: true"] * (properties is not None) + [b"Text-delta: true"] * (text is not None)
         if text is not None and self.checksums:
-            lines.append(
-                f"Text-content-md5: {hashlib.md5(text).hexdigest()}\n"
-                f"Text-content-sha1: {hashlib.sha1(text).hexdigest()}\n"
-            )
-        if values is not None:
-            lines.append(f"Prop-content-length: {len(properties)}\n")
-        if text is not None:
-            lines.append(f"Text-content-length: {len(text)}\n")
-        if values is not None or text is not None:
-            lines.append(f"Content-length: {len(properties) + len(body)}\n")
-        self.write("".join(lines).encode(), b"\n", properties, body, b"\n\n")
+            lines.append(b"Text-content-md5: " + hashlib.md5(text).hexdigest().encode())
+            lines.append(b"Text-content-sha1: " + hashlib.sha1(text).hexdigest().encode())
+        self.output.writelines([header(lines, properties, text), properties or b"", text or b"", b"\n\n"])
 
-    def faulty_end(self) -> None:
-        self.write(FAULTY_BLOCK)
+
+def joined(path: Path) -> bytes:
+    return "/".join(path).encode()
 
 
 def element(first: int, last: int) -> str:
@@ -198,19 +133,15 @@ class History:
         self.tree: Directory = {}
         self.trees = [(0, self.tree)]
         self.rev = 0
-        self.lines: list[Line] = []
+        self.lines = [Line(TRUNK, 0)]
         self.branches = 0
         self.recent: list[Path] = []
         self.due: list[Path] = []
 
     def text_pool(self) -> Text:
-        lines = []
-        size = 0
-        while size < 1 << 18:
-            line = " ".join(self.lot.choice(WORDS) for _ in range(self.lot.randint(1, 14))) + "\n"
-            lines.append(line)
-            size += len(line)
-        once = "".join(lines).encode()
+        once = bytearray()
+        while len(once) < 1 << 18:
+            once += " ".join(self.lot.choice(WORDS) for _ in range(self.lot.randint(1, 14))).encode() + b"\n"
         return memoryview(once * (2 + self.given.body[1] // len(once)))
 
     def draw_text(self) -> Text:
@@ -233,26 +164,24 @@ class History:
     def is_there(self, path: Path) -> bool:
         return node_at(self.tree, path) is not None
 
-    # -- records
-
     def add_directory(self, path: Path) -> None:
-        self.writer.record(path, "add", "dir", values={})
+        self.writer.record(added(joined(path), DIR, NO_PROPERTIES))
         self.tree = with_node(self.tree, path, {})
 
-    def put_file(self, path: Path, action: str) -> None:
-        self.writer.record(path, action, FILE.value, values={}, text=self.draw_text())
+    def put_file(self, path: Path, action: bytes) -> None:
+        self.writer.record(dumps.Node(joined(path), action, FILE, None, NO_PROPERTIES, self.draw_text()))
         self.tree = with_node(self.tree, path, FILE)
         self.remember(path)
 
     def change_file(self, path: Path) -> None:
-        self.writer.record(path, "change", FILE.value, text=self.draw_text())
+        self.writer.record(dumps.Node(joined(path), b"change", FILE, text=self.draw_text()))
 
     def delete(self, path: Path) -> None:
-        self.writer.record(path, "delete")
+        self.writer.record(deleted(joined(path)))
         self.tree = with_node(self.tree, path, None)
 
     def copy(self, path: Path, source: Path, rev: int, node: Node | None) -> None:
-        self.writer.record(path, "add", FILE.value if node is FILE else "dir", source=Source(source, rev))
+        self.writer.record(dumps.Node(joined(path), b"add", FILE if node == FILE else DIR, Source(joined(source), rev)))
         self.tree = with_node(self.tree, path, node)
 
     def remember(self, path: Path) -> None:
@@ -261,18 +190,14 @@ class History:
         else:
             self.recent[self.lot.randrange(MOST_RECENT)] = path
 
-    # -- random changes
-
     def past(self) -> tuple[int, Directory]:
         """An earlier revision and its tree, most often the latest."""
         return self.trees[-1] if self.lot.random() < 0.7 else self.lot.choice(self.trees)
 
     def branch(self) -> bool:
         """A copy of a line not too many copies away from the trunk; if there are many, the oldest is deleted."""
-        rev, tree = self.past()
-        sources = [
-            line for line in self.lines if line.depth < self.given.copy_depth and node_at(tree, line.path) is not None
-        ]
+        (rev, tree), most = self.past(), self.given.copy_depth
+        sources = [line for line in self.lines if line.depth < most and node_at(tree, line.path) is not None]
         if not sources:
             return False
         # the deeper of two, so that chains of copies reach their limit
@@ -293,12 +218,12 @@ class History:
         self.change_mergeinfo(path, f"/{'/'.join(other)}:{element(first, last)}")
 
     def change_mergeinfo(self, path: Path, value: str) -> None:
-        self.writer.record(path, "change", "dir", values={MERGEINFO: value.encode()})
+        self.writer.record(dumps.Node(joined(path), b"change", DIR, properties=mergeinfo(value.encode())))
 
     def recent_file(self) -> Path | None:
         """A file that was added or replaced recently and still exists, or None."""
         tried = [self.lot.choice(self.recent) for _ in range(4)] if self.recent else []
-        return next((path for path in tried if node_at(self.tree, path) is FILE), None)
+        return next((path for path in tried if node_at(self.tree, path) == FILE), None)
 
     def change(self) -> bool:
         """A change, a deletion or a replacement of a recently changed file."""
@@ -309,7 +234,7 @@ class History:
         if drawn < 0.05:
             self.delete(path)
         elif drawn < 0.08:
-            self.put_file(path, "replace")
+            self.put_file(path, b"replace")
         else:
             self.change_file(path)
         return True
@@ -326,10 +251,10 @@ class History:
             source = self.lot.choice(self.recent)
         node = node_at(tree, source)
         parent = node_at(self.tree, path[:-1])
-        if node is None or parent is None or parent is FILE or self.is_there(path):
+        if node is None or not isinstance(parent, dict) or self.is_there(path):
             return False
         self.copy(path, source, rev, node)
-        if node is FILE:
+        if node == FILE:
             self.remember(path)
             if self.is_there(source):
                 self.due.append(source)
@@ -347,7 +272,7 @@ class History:
         if self.is_there(path):
             self.change_file(path)
         else:
-            self.put_file(path, "add")
+            self.put_file(path, b"add")
 
     def delete_due(self) -> bool:
         """The deletion of a path that an earlier record left to be deleted."""
@@ -358,44 +283,37 @@ class History:
                 return True
         return False
 
-    def draw_record(self, is_first: bool) -> None:
-        if self.delete_due():
-            return
+    def draw_change(self, is_first: bool) -> bool:
+        """A record that adds no new file, unless there is nothing that it could be about."""
         drawn = self.lot.random()
         if is_first and drawn < 0.1:
-            if self.branch():
-                return
-        elif drawn < 0.7:
-            if self.change():
-                return
-        elif drawn < 0.73:
+            return self.branch()
+        if drawn < 0.7:
+            return self.change()
+        if drawn < 0.73:
             self.merge()
-            return
-        elif drawn < 0.8:
-            if self.copy_inside():
-                return
-        self.add()
+            return True
+        return drawn < 0.8 and self.copy_inside()
 
-    def begin(self) -> int:
-        """The first revision: the trunk and the place for branches."""
-        self.add_directory(("trunk",))
-        self.add_directory(("branches",))
-        self.lines.append(Line(("trunk",), 0))
-        return 2
+    def draw_record(self, is_first: bool) -> None:
+        if not (self.delete_due() or self.draw_change(is_first)):
+            self.add()
 
     def write(self) -> None:
         self.writer.revision(0, None)
         for self.rev in range(1, self.given.revisions + 1):
             self.writer.revision(self.rev, b"author-%d" % self.lot.randrange(20))
-            begun = self.begin() if self.rev == 1 else 0
-            for number in range(begun, self.given.records):
+            begun = [TRUNK, ("branches",)] if self.rev == 1 else []
+            for path in begun:
+                self.add_directory(path)
+            for number in range(len(begun), self.given.records):
                 self.draw_record(number == 0)
             if len(self.trees) == MOST_TREES:
                 del self.trees[self.lot.randrange(MOST_TREES - 1)]
             self.trees.append((self.rev, self.tree))
         if self.given.faulty_end:
-            self.writer.faulty_end()
-        self.writer.flush()
+            self.writer.output.write(FAULTY_BLOCK)
+        self.writer.output.flush()
 
 
 class Additions(History):
@@ -406,51 +324,42 @@ class Additions(History):
         while self.recent:
             place = self.lot.randrange(len(self.recent))
             path = self.recent[place]
-            if node_at(self.tree, path) is FILE:
+            if node_at(self.tree, path) == FILE:
                 return path
             self.recent[place] = self.recent[-1]
             self.recent.pop()
         return None
 
-    def add_missing(self) -> None:
+    def add(self) -> None:
         """The first missing directory above a new file, or the file; a replacement if each place drawn has a file."""
         tried = [self.draw_line().path + self.draw_place() for _ in range(4)]
         paths = [path[:deep] for path in tried for deep in range(len(path) - 2, len(path) + 1)]
         path = next((path for path in paths if not self.is_there(path)), None)
         if path is None:
-            self.put_file(tried[0], "replace")
+            self.put_file(tried[0], b"replace")
         elif path in tried:
-            self.put_file(path, "add")
+            self.put_file(path, b"add")
         else:
             self.add_directory(path)
 
-    def remove(self) -> bool:
-        """The deletion of a recent file, or of the directory in which it is."""
+    def lose(self, is_replaced: bool) -> bool:
+        """The replacement of a recent file, or the deletion of it or of the directory in which it is."""
         path = self.recent_file()
-        if path is not None:
-            self.delete(path[:-1] if self.lot.random() < 0.15 else path)
-        return path is not None
-
-    def replace(self) -> bool:
-        path = self.recent_file()
-        if path is not None:
-            self.put_file(path, "replace")
-        return path is not None
-
-    def draw_record(self, is_first: bool) -> None:
-        if self.delete_due():
-            return
-        drawn = self.lot.random()
-        if drawn < 0.3:
-            done = self.remove()
-        elif drawn < 0.33:
-            done = self.replace()
-        elif drawn < 0.4:
-            done = self.copy_inside()
+        if path is None:
+            return False
+        if is_replaced:
+            self.put_file(path, b"replace")
         else:
-            done = is_first and drawn < 0.5 and self.branch()
-        if not done:
-            self.add_missing()
+            self.delete(path[:-1] if self.lot.random() < 0.15 else path)
+        return True
+
+    def draw_change(self, is_first: bool) -> bool:
+        drawn = self.lot.random()
+        if drawn < 0.33:
+            return self.lose(drawn >= 0.3)
+        if drawn < 0.4:
+            return self.copy_inside()
+        return is_first and drawn < 0.5 and self.branch()
 
 
 class Changes(Additions):
@@ -461,7 +370,7 @@ class Changes(Additions):
         path = self.recent_file()
         if path is None or self.lot.random() < 0.5:
             drawn = self.draw_line().path + self.draw_place()
-            path = drawn if node_at(self.tree, drawn) is FILE else path
+            path = drawn if node_at(self.tree, drawn) == FILE else path
         if path is not None:
             self.change_file(path)
         return path is not None
@@ -484,16 +393,13 @@ class Release:
 
     def __init__(self, number: int, last: int) -> None:
         self.path = "branches", f"release-{number}"
-        self.value = "".join(sorted(self.feature(number, each, last) for each in range(FEATURES))) + "/trunk:"
+        features = []
+        for each in range(FEATURES):
+            begun = max(1, last - FEATURE_LENGTH * (each + 1))
+            runs = element(begun, max(begun, last - each))
+            features.append(f"/branches/feature-{number * FEATURES + each}:{runs}\n")
+        self.value = "".join(sorted(features)) + "/trunk:"
         self.last = last
-
-    @staticmethod
-    def feature(number: int, each: int, last: int) -> str:
-        begun = max(1, last - FEATURE_LENGTH * (each + 1))
-        return f"/branches/feature-{number * FEATURES + each}:{element(begun, max(begun, last - each))}\n"
-
-    def add(self, elements: list[str]) -> None:
-        self.value += ("" if self.value.endswith(":") else ",") + ",".join(elements)
 
 
 class Releases(Changes):
@@ -521,7 +427,7 @@ class Releases(Changes):
         rev, tree = self.trees[max(1, len(self.trees) - FIRST_MERGE)]
         release = Release(self.made, rev)
         self.made += 1
-        self.copy(release.path, ("trunk",), rev, node_at(tree, ("trunk",)))
+        self.copy(release.path, TRUNK, rev, node_at(tree, TRUNK))
         return release
 
     def picked(self, release: Release) -> list[str]:
@@ -547,13 +453,13 @@ class Releases(Changes):
         if not elements:
             release = self.new_release()
             elements = self.picked(release)
-        release.add(elements)
+        release.value += ("" if release.value.endswith(":") else ",") + ",".join(elements)
         self.releases[place] = release
         self.merged += 1
         self.change_mergeinfo(release.path, release.value)
 
     def merge(self) -> None:
-        self.add_missing()
+        self.add()
 
     def draw_record(self, is_first: bool) -> None:
         if is_first and self.is_merge_due():
@@ -612,7 +518,7 @@ def main() -> None:
         given.values = given.revisions // 12
     if given.values > max(0, given.revisions - FIRST_MERGE):
         words.error(f"at most one value for each revision after the first {FIRST_MERGE}")
-    MIXES[given.mix](given, Writer(sys.stdout.buffer, given.format, given.checksums)).write()
+    MIXES[given.mix](given, Writer(given.format, given.checksums)).write()
 
 
 if __name__ == "__main__":

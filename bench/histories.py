@@ -2,15 +2,15 @@
 from __future__ import annotations
 
 import itertools
+import shutil
 import subprocess
 from collections.abc import Iterable, Iterator, Sequence
 from pathlib import Path
-from typing import NamedTuple
 
 from bench.generator import FAULTY_BLOCK
-from bench.measure import REFUSED
+from bench.measure import written
 from bench.parts import Setup
-from bench.questions import TEN, drawn_lines, pegs_at_ends, records_of, written
+from bench.questions import drawn_lines, pegs_at_ends, records_of
 from dev.dumps import DIR, Node, Revision, added, changed, first_lines, mergeinfo
 from dev.running import Words
 from dev.tree import ROOT
@@ -26,32 +26,15 @@ MIXES = {
     "changes": ["--mix", "changes", "--records", str(RECORDS), *WIDTH, "--body", "0:600"],
     "additions": ["--mix", "additions", "--records", str(RECORDS), *WIDTH, "--body", "0:900"],
 }
-# A history that is half mergeinfo, in 10,000 distinct values of up to 20 KB where it has as many revisions as the longest.
+# A history that is half mergeinfo: with as many revisions as the longest, 10,000 distinct values of up to 20 KB.
 RELEASES = ["--mix", "releases", "--records", "1", *WIDTH, "--body", "0:100"]
 # A short history, in trees that fit into memory.
 SHORT = ["--records", "2", "--width", "4", "--copy-depth", "6", "--body", "0:100"]
 SHORT_REVISIONS, QUICK_SHORT_REVISIONS = 2000, 500
 
 
-class Read(NamedTuple):
-    """A dump that is read: the options, the revisions, and whether it ends with a block that every reader refuses, so
-    that nothing is built of it."""
-
-    options: list[str]
-    revisions: int
-    is_faulty: bool = True
-
-    @property
-    def status(self) -> int:
-        return REFUSED if self.is_faulty else 0
-
-
-LARGE_TEXTS = ["--records", "1", "--width", "3", "--body", "0:4194304", "--no-checksums"]
-READ = {
-    "small records": Read(["--records", "24", "--body", "0:650"], 20000),
-    "mergeinfo": Read(RELEASES, SIZES[-1]),
-    "large texts": Read(LARGE_TEXTS, 2600, is_faulty=False),
-}
+# A history of small records.
+SMALL, SMALL_REVISIONS = ["--records", "24", "--body", "0:650"], 20000
 
 
 def generate(path: Path, options: Sequence[str], revisions: int, start: bytes = b"") -> Path:
@@ -70,14 +53,13 @@ def short_history(setup: Setup, name: str) -> Path:
 
 def ten_queries(path: Path, dump: Path) -> Path:
     """A file of the ten queries of whole runs about a dump."""
-    return written(path, drawn_lines(pegs_at_ends(records_of(dump)), TEN))
+    return written(path, drawn_lines(pegs_at_ends(records_of(dump))))
 
 
 def make_faulty(dump: Path, path: Path) -> Path:
     """A copy of a dump with a last block that every reader refuses."""
-    with open(dump, "rb") as source, open(path, "wb") as file:
-        while piece := source.read(PIECE):
-            file.write(piece)
+    shutil.copyfile(dump, path)
+    with open(path, "ab") as file:
         file.write(FAULTY_BLOCK)
     return path
 
@@ -87,11 +69,6 @@ def load_into_cache(*paths: Path) -> None:
         with open(path, "rb") as file:
             while file.read(PIECE):
                 pass
-
-
-def remove(*paths: Path) -> None:
-    for path in paths:
-        path.unlink()
 
 
 def revisions_of(dump: Path) -> Iterator[bytes]:
@@ -107,7 +84,7 @@ def revisions_of(dump: Path) -> Iterator[bytes]:
 
 
 BEGIN = first_lines() + bytes(Revision(0))
-# Written by hand, since histories have up to millions of these, for each of which the builder takes eight times as long.
+# Written by hand, since histories have up to millions of these, and the builder takes eight times as long.
 REVISION = b"\nRevision-number: %d\n\n"
 
 

@@ -1,36 +1,34 @@
 """Input that somebody makes to do harm: the time and the memory that it takes, and those of twice as much.
 
-Each shape is made in a size and in twice that size, and both are measured in turns. Twice the input may take 2.4 times
-the time and 2.1 times the memory. The input is the dump and the queries together. For each of its bytes the memory may
-be 20 bytes, or 60 in two shapes, more than a run on a dump without records takes, which is mostly the memory of the
-process that starts the program, and 1 MB, since runs differ. The first run of each input shows whether it ends as it
-must: with a report in which all answers have one status, or with a refusal. If it was long, it is measured and no other
-follows.
+Each shape is made in a size and in twice that size, and both are measured in turns. The input is the dump and the
+queries together. The memory for a byte of it is without that of a run on a dump without records, which is mostly the
+memory of the process that starts the program, and without 1 MB more, since runs differ. The first run of each input
+shows whether it ends as it must: with a report in which all answers have one status, or with a refusal. If it was long,
+it is measured and no other follows.
 
 A run is ended after two minutes, or where it would take 12 GB. It counts as not met, and twice its input is not run. A
-shape is a function that makes a dump in large pieces, one that makes queries, or both. Their names are the title of a
-row. Queries alone are about the example.
+shape has what makes a dump, and what makes queries, whose names are the title of a row. Queries alone are about the
+example.
 
-Keys that collide are names, texts of mergeinfo, and pairs of a directory and a file in it, which `colliding.c` finds for
-the fixed seed of the hashes. A run takes a random seed, so as many others must take as long. What they take under the
-fixed seed stands beside them, to show that they do collide there.
+Keys that collide are names, texts of mergeinfo, and pairs of a directory and a file in it, which `colliding.c` finds
+for the fixed seed of the hashes. A run takes a random seed, so as many others must take as long. What they take under
+the fixed seed stands beside them, to show that they do collide there.
 """
 from __future__ import annotations
 
-import math
 import signal
 from collections.abc import Iterator
 from dataclasses import dataclass
 from pathlib import Path
-from typing import Any, Callable
+from typing import Callable, TypeVar
 
 from bench import hostile_dumps as dumps
 from bench.colliding import Finder
-from bench.histories import remove
+from bench.histories import PIECE
 from bench.hostile_dumps import MOST_WORKERS, Maker, Pieces
 from bench.measure import NOTHING, REFUSED, words_of
-from bench.parts import Cell, Limit, Measurements, Part, Row, Setup, most, table
-from dev.running import Failed, Limits, Measured, Words, started
+from bench.parts import Cell, Limit, Measurements, Part, Row, Setup, Table, most
+from dev.running import Failed, Limits, Measured, Outcome, Words, started
 
 # What a run may take, also one of a dump that claims a length, and the seconds from which on it is not repeated.
 MOST_SECONDS = 120
@@ -47,50 +45,40 @@ DIFFERENCE = 1000000
 OUT_OF_MEMORY = 4
 
 
-def nothing(_: int) -> Pieces:
-    return iter(())
-
-
 @dataclass(frozen=True)
 class Shape:
-    """What makes the dump and the queries, the size that both are made for, the status of all answers or why the dump is
-    refused, and how the program is run."""
+    """What makes the dump and the queries, the size that both are made for, the status of all answers or why the dump
+    is refused, and how the program is run."""
 
     dump: Maker
     size: int
-    asked: Maker = nothing
+    asked: Maker = dumps.NOTHING
     answer: str = "ok"
     refusal: str | None = None
     block: int = 0
     workers: int = 1
     room: int = MOST_ROOM
     most_per_byte: Limit = MOST_PER_BYTE
-    name: str = ""
 
     def title(self) -> str:
         """The names of what makes the dump and the queries, and how the program is run."""
-        makers = [each for each in (self.dump, self.asked) if each not in (dumps.example, nothing)]
-        names = [self.name] if self.name else [each.__name__.replace("_", " ") for each in makers]
+        names = [maker.__name__.replace("_", " ") for maker in (self.dump, self.asked) if maker.__name__]
         blocks = [f"BLOCK {self.block}"] * (self.block > 0)
         return ", ".join(names + blocks + [f"{self.workers} workers"] * (self.workers > 1))
 
 
-def of_example(asked: Maker, size: int, answer: str, workers: int = 1) -> Shape:
-    return Shape(dumps.example, size, asked, answer, workers=workers)
-
-
 SHAPES = [
     Shape(dumps.header_of_many_lines, 1000000),
-    Shape(dumps.long_header_line, 50000000),
-    Shape(dumps.long_number_in_a_header, 50000000),
-    Shape(dumps.many_newlines, 200000000),
+    Shape(dumps.LONG_HEADER_LINE, 50000000),
+    Shape(dumps.LONG_NUMBER, 50000000),
+    Shape(dumps.NEWLINES, 200000000),
     Shape(dumps.long_property, 100000000),
     Shape(dumps.many_properties_in_one_section, 500000),
-    Shape(dumps.text_of_claimed_length, 50000000, refusal="5 Truncated", room=SMALL_ROOM),
-    Shape(dumps.properties_of_claimed_length, 50000000, refusal="5 Truncated", room=SMALL_ROOM),
+    Shape(dumps.TEXT_OF_CLAIMED_LENGTH, 50000000, refusal="5 Truncated", room=SMALL_ROOM),
+    Shape(dumps.PROPERTIES_OF_CLAIMED_LENGTH, 50000000, refusal="5 Truncated", room=SMALL_ROOM),
     Shape(dumps.many_revisions_without_records, 2000000),
-    Shape(dumps.deletes_of_one_path, 1000000, refusal="18 Missing at record 3"),
-    Shape(dumps.adds_and_deletes_of_one_path, 500000),
+    Shape(dumps.DELETES, 1000000, refusal="18 Missing at record 3"),
+    Shape(dumps.ADDS_AND_DELETES, 500000),
     Shape(dumps.entries_of_one_directory, 500000),
     Shape(dumps.files_below_many_directories, 20000),
     Shape(dumps.files_below_many_directories_in_revisions, 20000),
@@ -102,16 +90,16 @@ SHAPES = [
     Shape(dumps.copies_of_a_wide_directory, 2000, dumps.an_entry_of_each_copy),
     Shape(dumps.changes_in_revisions, 20000, block=1, workers=MOST_WORKERS),
     Shape(dumps.distinct_mergeinfo_values, 500000),
-    Shape(dumps.mergeinfo_malformed_in_its_last_line, 49000000, dumps.mergeinfo_of_the_file, "malformed-mergeinfo"),
-    Shape(dumps.mergeinfo_lines_that_clash, 500000, dumps.mergeinfo_of_the_file),
-    Shape(dumps.mergeinfo_lines_of_one_path, 500000, dumps.mergeinfo_of_the_file),
-    Shape(dumps.short_mergeinfo_lines, 200000, dumps.mergeinfo_of_the_file),
-    of_example(dumps.long_path_in_a_query, 10000000, "no-such-path"),
-    of_example(dumps.many_components_in_a_query, 5000000, "no-such-path"),
-    of_example(dumps.line_of_tabs, 200000000, "bad-query"),
-    of_example(dumps.many_merged, 500000, "ok", MOST_WORKERS),
-    of_example(dumps.many_empty_lines, 500000, "bad-query", MOST_WORKERS),
-    Shape(dumps.short_mergeinfo_lines, 50000, dumps.merged_for_each_worker, workers=MOST_WORKERS),
+    Shape(dumps.mergeinfo_malformed_in_its_last_line, 49000000, dumps.MERGEINFO_OF_THE_FILE, "malformed-mergeinfo"),
+    Shape(dumps.mergeinfo_lines_that_clash, 500000, dumps.MERGEINFO_OF_THE_FILE),
+    Shape(dumps.mergeinfo_lines_of_one_path, 500000, dumps.MERGEINFO_OF_THE_FILE),
+    Shape(dumps.short_mergeinfo_lines, 200000, dumps.MERGEINFO_OF_THE_FILE),
+    Shape(dumps.EXAMPLE, 10000000, dumps.LONG_PATH, "no-such-path"),
+    Shape(dumps.EXAMPLE, 5000000, dumps.MANY_COMPONENTS, "no-such-path"),
+    Shape(dumps.EXAMPLE, 200000000, dumps.TABS, "bad-query"),
+    Shape(dumps.EXAMPLE, 500000, dumps.MANY_MERGED, "ok", workers=MOST_WORKERS),
+    Shape(dumps.EXAMPLE, 500000, dumps.EMPTY_LINES, "bad-query", workers=MOST_WORKERS),
+    Shape(dumps.short_mergeinfo_lines, 50000, dumps.MERGED_FOR_EACH_WORKER, workers=MOST_WORKERS),
     # What is asked takes the product of the queries and the history, and so may the report.
     Shape(dumps.mergeinfo_above_a_long_name, 2500, dumps.mergeinfo_below),
     Shape(dumps.merges_of_all_revisions, 5000, dumps.eligible_for_each_revision),
@@ -121,110 +109,96 @@ SHAPES = [
     Shape(dumps.nested_copies_of_the_root, 2000, dumps.segments_of_the_nested_path),
 ]
 KEYS = 100000
-Keys = Callable[[int], Any]
+Key = TypeVar("Key")
+# What makes so many keys.
+Keys = Callable[[int], Key]
 
 
-def colliding_shapes(finder: Finder) -> Iterator[tuple[Shape, Shape]]:
-    """Keys that collide, and as many that do not."""
+def shape_of(name: str, maker: Callable[[Key], Pieces], keys: Keys[Key]) -> Shape:
+    def make(count: int) -> Pieces:
+        return maker(keys(count))
 
-    def pair(name: str, maker: Callable[[Any], Pieces], colliding: Keys, others: Keys) -> tuple[Shape, Shape]:
-        one, other = (lambda count: maker(colliding(count)), lambda count: maker(others(count)))
-        return Shape(one, KEYS, name=name), Shape(other, KEYS, name=f"other {name}")
-
-    yield pair("names", dumps.new_names, finder.names, range)
-    yield pair("mergeinfo", dumps.new_values, finder.names, range)
-    yield pair("nodes of the index", dumps.new_nodes, finder.pairs, dumps.ordinary_pairs)
+    make.__name__ = name
+    return Shape(make, KEYS)
 
 
 class Input:
-    """A shape in one size, the best time and the greatest memory of its runs so far, and the size of its report."""
+    """A shape in one size, and its runs so far, of which the first one shows whether it ends as it must. The files are
+    those of the shape before, written anew."""
 
-    def __init__(self, setup: Setup, shape: Shape, size: int) -> None:
+    def __init__(self, setup: Setup, shape: Shape, size: int, name: str) -> None:
         self.shape = shape
         self.title = shape.title()
         self.size = size
         kinds = ("dump", "queries", "report")
-        self.dump, self.queries, self.report = (setup.folder / f"hostile-{size}.{kind}" for kind in kinds)
-        for path, make in ((self.dump, shape.dump), (self.queries, shape.asked)):
-            with open(path, "wb") as file:
+        dump, self.queries, self.report = (setup.folder / f"hostile-{name}.{kind}" for kind in kinds)
+        for path, make in ((dump, shape.dump), (self.queries, shape.asked)):
+            with open(path, "wb", PIECE) as file:
                 file.writelines(make(size))
-        self.bytes = self.dump.stat().st_size + self.queries.stat().st_size
-        self.command = words_of(setup.program, self.dump, self.queries, shape.block, shape.workers)
-        self.wall = self.fixed = math.inf
-        self.peak = self.reported = 0
-        self.status: int | None = None
-        self.is_ended = False
-        self.is_repeated = False
+        self.bytes = dump.stat().st_size + self.queries.stat().st_size
+        self.command = words_of(setup.program, dump, self.queries, shape.block, shape.workers)
+        self.runs: list[Measured] = []
+        self.reported = 0
 
-    def run(self, report: Path, before: Words = ()) -> Measured:
+    def run(self, report: Path = NOTHING, before: Words = ()) -> Measured:
         """Runs the program once, after these words."""
-        taken = started([*before, *self.command], report=report, limits=Limits(MOST_SECONDS, self.shape.room))
-        self.peak = max(self.peak, taken.peak)
-        return taken
+        return started([*before, *self.command], report=report, limits=Limits(MOST_SECONDS, self.shape.room))
 
     def run_first(self) -> None:
-        """The run whose report is checked. Its time counts if it was long."""
-        taken = self.run(self.report)
-        self.status = taken.outcome.status
-        self.is_ended = self.status in (-signal.SIGALRM, OUT_OF_MEMORY)
+        """The run whose report is checked."""
+        self.runs.append(self.run(self.report))
         if not self.is_ended:
-            self.check(taken)
-        self.is_repeated = not self.is_ended and taken.wall < LONG
-        if not self.is_repeated:
-            self.wall = taken.wall
+            self.check(self.runs[0].outcome)
         self.reported = self.report.stat().st_size
-        self.report.unlink()
 
     def run_again(self) -> None:
-        if self.is_repeated:
-            taken = self.run(NOTHING)
-            if taken.outcome.status != self.status:
-                raise Failed(f"{self.title} ended before with {self.status}, and now with {taken.outcome.shown()}")
-            self.wall = min(self.wall, taken.wall)
+        if self.is_ended or self.runs[0].wall >= LONG:
+            return
+        self.runs.append(self.run())
+        status, outcome = self.runs[0].outcome.status, self.runs[-1].outcome
+        if outcome.status != status:
+            raise Failed(f"{self.title} ended before with {status}, and now with {outcome.shown()}")
 
-    def run_fixed(self, entropy: Path) -> None:
-        """A run under the fixed seed, since the object that is loaded gives no random bytes."""
-        self.fixed = self.run(NOTHING, ["/usr/bin/env", f"LD_PRELOAD={entropy}"]).wall
+    @property
+    def is_ended(self) -> bool:
+        """Whether it was not run, or the run had to be ended."""
+        return not self.runs or self.runs[0].outcome.status in (-signal.SIGALRM, OUT_OF_MEMORY)
 
-    def check(self, taken: Measured) -> None:
-        errors = taken.outcome.errors.decode("utf-8", "replace").strip()
+    @property
+    def wall(self) -> float:
+        """The best time. That of the first run counts if no other follows."""
+        return min(each.wall for each in self.runs[1:] or self.runs)
+
+    @property
+    def peak(self) -> int:
+        return max(each.peak for each in self.runs)
+
+    def check(self, outcome: Outcome) -> None:
         if self.shape.refusal is None:
-            is_right = self.status == 0 and self.answered() == [self.shape.answer] * self.asked()
+            with open(self.report, "rb") as report, open(self.queries, "rb") as queries:
+                answered = [line.split()[1].decode() for line in report if line.startswith(b"#")]
+                is_right = outcome.status == 0 and answered == [self.shape.answer] * sum(1 for _ in queries)
         else:
-            is_right = self.status == REFUSED and errors.startswith("svnhist: dump refused: " + self.shape.refusal)
+            refusal = f"svnhist: dump refused: {self.shape.refusal}".encode()
+            is_right = outcome.status == REFUSED and outcome.errors.startswith(refusal)
         if not is_right:
-            raise Failed(f"{self.title} has other answers than it must have, or ended with {taken.outcome.shown()}")
-
-    def answered(self) -> list[str]:
-        """The status of each answer."""
-        with open(self.report, "rb") as file:
-            return [line.split()[1].decode() for line in file if line.startswith(b"#")]
-
-    def asked(self) -> int:
-        with open(self.queries, "rb") as file:
-            return sum(1 for _ in file)
+            raise Failed(f"{self.title} has other answers than it must have, or ended with {outcome.shown()}")
 
     def shown_wall(self) -> Cell:
-        if self.wall == math.inf:
+        if not self.runs:
             return "not run"
         return f"ended, {self.wall:.0f}" if self.is_ended else self.wall
 
 
-def measured(setup: Setup, shape: Shape, entropy: Path | None = None) -> tuple[Input, Input]:
-    """The measured inputs of a shape, in its size and in twice that; also under the fixed seed, given what to load."""
+def measured(setup: Setup, shape: Shape) -> tuple[Input, Input]:
+    """The measured inputs of a shape, in its size and in twice that."""
     size = setup.scaled(shape.size)
-    once, twice = Input(setup, shape, size), Input(setup, shape, 2 * size)
+    once, twice = Input(setup, shape, size, "once"), Input(setup, shape, 2 * size, "twice")
     once.run_first()
-    if once.is_ended:
-        twice.is_ended = True
-    else:
+    if not once.is_ended:
         twice.run_first()
     for each in (once, twice) * setup.times:
         each.run_again()
-    for each in (once, twice):
-        if entropy is not None:
-            each.run_fixed(entropy)
-        remove(each.dump, each.queries)
     return once, twice
 
 
@@ -251,23 +225,29 @@ def shape_row(setup: Setup, shape: Shape, spared: int) -> Row:
     return [once.title, once.bytes, once.reported / 1e6, once.shown_wall(), once.peak / 1e6, *found]
 
 
-def colliding_rows(setup: Setup, finder: Finder, colliding: Shape, others: Shape) -> list[Row]:
-    def row(one: Input, other: Input) -> Row:
-        ratio = None if one.is_ended else one.wall / other.wall
-        return [one.title, one.size, one.shown_wall(), other.shown_wall(), MOST_OF_OTHERS.of(ratio), one.fixed]
-
-    return [row(one, other) for one, other in zip(measured(setup, colliding, finder.path), measured(setup, others))]
+def colliding_rows(
+    setup: Setup, entropy: Path, name: str, maker: Callable[[Key], Pieces], colliding: Keys[Key], others: Keys[Key]
+) -> Iterator[Row]:
+    """The keys that collide also under the fixed seed, since the object that is loaded gives no random bytes."""
+    inputs = measured(setup, shape_of(name, maker, colliding))
+    fixed = [each.run(before=["/usr/bin/env", f"LD_PRELOAD={entropy}"]).wall for each in inputs]
+    for one, other, seconds in zip(inputs, measured(setup, shape_of(f"other {name}", maker, others)), fixed):
+        ratio = None if one.is_ended or other.is_ended else one.wall / other.wall
+        yield [one.title, one.size, one.shown_wall(), other.shown_wall(), MOST_OF_OTHERS.of(ratio), seconds]
 
 
 def run(setup: Setup) -> Measurements:
-    base = Input(setup, Shape(dumps.without_records, 0), 0)
+    base = Input(setup, Shape(dumps.WITHOUT_RECORDS, 0), 0, "once")
     base.run_first()
-    remove(base.dump, base.queries)
     yield f"A run on a dump without records takes {base.peak / 1e6:.1f} MB."
-    yield table("hostile-input", SHAPES_HEADING, [shape_row(setup, shape, base.peak + DIFFERENCE) for shape in SHAPES])
+    yield Table("hostile-input", SHAPES_HEADING, [shape_row(setup, shape, base.peak + DIFFERENCE) for shape in SHAPES])
     finder = Finder(setup.folder)
-    rows = [row for pair in colliding_shapes(finder) for row in colliding_rows(setup, finder, *pair)]
-    yield table("colliding-keys", KEYS_HEADING, rows)
+    rows = [
+        *colliding_rows(setup, finder.path, "names", dumps.new_names, finder.names, range),
+        *colliding_rows(setup, finder.path, "mergeinfo", dumps.new_values, finder.names, range),
+        *colliding_rows(setup, finder.path, "nodes of the index", dumps.new_nodes, finder.pairs, dumps.ordinary_pairs),
+    ]
+    yield Table("colliding-keys", KEYS_HEADING, rows)
 
 
 LIMITS = [MOST_FOR_TWICE, MOST_MEMORY_FOR_TWICE, MOST_PER_BYTE, MOST_PER_BYTE_OF_DEEP_PATHS, MOST_OF_OTHERS]

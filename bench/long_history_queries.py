@@ -12,11 +12,11 @@ from pathlib import Path
 
 from bench.histories import revision, write_dump
 from bench.measure import Command, compiled
-from bench.parts import Cell, Measurements, Part, Row, Setup, least, most, table
-from bench.questions import Asked, Peg, line
-from bench.subversion import ask_bindings, load
+from bench.parts import ABSENT, Measurements, Part, Row, Setup, Table, least, most
+from bench.questions import Asked, Peg, Question, line
+from bench.subversion import ASKED_OF_COMMAND, ask_bindings, ask_command, beside, loaded
 from dev.dumps import FILE, Node, Source, added
-from dev.running import Measured, best_of, measure
+from dev.running import best_of
 
 SIZES = (30000, 60000, 120000)
 LOADED = 3000
@@ -29,7 +29,6 @@ LAST = (NAME % len(COPIES)).decode()
 ASKED = 1000000
 ASKED_OF_ROOT = 50
 ASKED_OF_BINDINGS = 200
-ASKED_OF_COMMAND = 20
 MOST_GROWTH = most(1.3, "time of a query relative to that on the history before")
 MOST_OF_PRINTING = most(3, "`log` of the root relative to printing it")
 LEAST_OF_SUBVERSION = least(100, "time of Subversion relative to that of the program")
@@ -37,8 +36,9 @@ HEADING = (
     f"revisions:, | verb | queries:, | ms per query:.5f | growth, {MOST_GROWTH}:.2f | "
     f"ms per query, Subversion on {LOADED:,} revisions:.3f | ratio, {LEAST_OF_SUBVERSION}:.0f"
 )
-# The verbs, and whether the limit relative to Subversion is about them.
-VERBS = {"locate": False, "segments": True, "log": True}
+ROOT = f"revisions:, | ms per `log` of the root:.2f | ms to print the lines, C:.2f | ratio, {MOST_OF_PRINTING}:.2f"
+# The verbs, and their limits relative to Subversion.
+VERBS = {"locate": None, "segments": LEAST_OF_SUBVERSION, "log": LEAST_OF_SUBVERSION}
 
 
 def nodes_of(rev: int) -> list[Node]:
@@ -60,17 +60,16 @@ def query(verb: str, last: int) -> str:
     return line(verb, Peg(LAST, last), *([50] if verb == "locate" else []))
 
 
-def of_subversion(folder: Path) -> dict[str, float]:
-    """The seconds of a query of each verb, on a shorter history; nothing without the bindings."""
-    url = load(write_dump(folder / "short.dump", revisions_of(LOADED)), folder / "short")
-    found = {}
-    for verb in ("locate", "segments"):
-        answered = ask_bindings(url, [query(verb, LOADED)] * ASKED_OF_BINDINGS)
-        if answered is None:
-            return {}
-        found[verb] = answered.seconds
-    log = ["svn", "log", "-q", f"{url}/{Peg(LAST, LOADED)}"]
-    found["log"] = sum(measure(log).wall for _ in range(ASKED_OF_COMMAND)) / ASKED_OF_COMMAND
+def of_subversion(setup: Setup) -> dict[str, float]:
+    """The seconds of a query of each verb, on a shorter history; nothing of what is not installed."""
+    found: dict[str, float] = {}
+    with loaded(setup, write_dump(setup.folder / "short.dump", revisions_of(LOADED))) as repository:
+        for verb in ("locate", "segments"):
+            if answered := ask_bindings(repository, [query(verb, LOADED)] * ASKED_OF_BINDINGS):
+                found[verb] = answered.seconds
+        question = Question(Peg(LAST, LOADED), 0)
+        if repository and (log := ask_command(repository, [question] * ASKED_OF_COMMAND, "log")):
+            found["log"] = log
     return found
 
 
@@ -79,45 +78,33 @@ class Sized:
 
     def __init__(self, setup: Setup, revisions: int) -> None:
         self.revisions = revisions
-        asked = Asked(setup, write_dump(setup.folder / "searches.dump", revisions_of(revisions)))
-        self.base = asked.best([])
         self.count = setup.scaled(ASKED)
-        self.seconds = {verb: self.of_each(asked, [query(verb, revisions)] * self.count) for verb in VERBS}
-        self.root = self.of_each(asked, [line("log", Peg("", revisions))] * ASKED_OF_ROOT)
+        asked = Asked(setup, write_dump(setup.folder / "searches.dump", revisions_of(revisions)))
+        self.seconds = {verb: asked.cost([query(verb, revisions)] * self.count).seconds for verb in VERBS}
+        self.root = asked.cost([line("log", Peg("", revisions))] * ASKED_OF_ROOT).seconds
 
-    def of_each(self, asked: Asked, lines: list[str]) -> float:
-        return (asked.best(lines).wall - self.base.wall) / len(lines)
-
-    def rows(self, before: Sized | None, others: dict[str, float]) -> list[Row]:
-        return [self.row(verb, before.seconds[verb] if before else None, others.get(verb)) for verb in VERBS]
-
-    def row(self, verb: str, before: float | None, other: float | None) -> Row:
-        each = self.seconds[verb]
-        growth = MOST_GROWTH.of(each / before) if before else None
-        ratio: Cell = None
-        if other is not None:
-            ratio = LEAST_OF_SUBVERSION.of(other / each) if VERBS[verb] else other / each
-        return [self.revisions, f"`{verb}`", self.count, each * 1e3, growth, other and other * 1e3, ratio]
+    def rows(self, before: Sized | None, others: dict[str, float]) -> Iterator[Row]:
+        for verb, each in self.seconds.items():
+            growth = MOST_GROWTH.of(each / before.seconds[verb]) if before else None
+            other = beside(others.get(verb), each, VERBS[verb])
+            yield [self.revisions, f"`{verb}`", self.count, each * 1e3, growth, *other]
 
 
 def root_row(sized: Sized, printer: Path | None, times: int) -> Row:
-    cells: list[Cell] = [sized.revisions, sized.root * 1e3]
+    cells = [sized.revisions, sized.root * 1e3]
     if printer is None:
-        return [*cells, None, None]
-    printed: Measured = best_of(times, Command([printer, str(sized.revisions), str(ASKED_OF_ROOT)]).run)
-    return [*cells, printed.wall / ASKED_OF_ROOT * 1e3, MOST_OF_PRINTING.of(sized.root * ASKED_OF_ROOT / printed.wall)]
+        return [*cells, ABSENT, ABSENT]
+    each = best_of(times, Command([printer, str(sized.revisions), str(ASKED_OF_ROOT)]).run).wall / ASKED_OF_ROOT
+    return [*cells, each * 1e3, MOST_OF_PRINTING.of(sized.root / each)]
 
 
 def run(setup: Setup) -> Measurements:
-    others = of_subversion(setup.folder)
+    others = of_subversion(setup)
     found = [Sized(setup, setup.scaled(revisions)) for revisions in SIZES]
     rows = [row for sized, before in zip(found, [None, *found]) for row in sized.rows(before, others)]
-    yield table("long-history-queries", HEADING, rows)
+    yield Table("long-history-queries", HEADING, rows)
     printer = compiled("log_printer", setup.folder)
-    heading = (
-        f"revisions:, | ms per `log` of the root:.2f | ms to print the lines, C:.2f | ratio, {MOST_OF_PRINTING}:.2f"
-    )
-    yield table("log-of-the-root", heading, [root_row(sized, printer, setup.times) for sized in found])
+    yield Table("log-of-the-root", ROOT, [root_row(sized, printer, setup.times) for sized in found])
 
 
 PART = Part(__name__, __doc__, run, [MOST_GROWTH, MOST_OF_PRINTING, LEAST_OF_SUBVERSION])

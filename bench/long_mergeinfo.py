@@ -6,23 +6,22 @@ that has it. A time is that of a run with the queries less that of a run without
 `--before` names. The memory is the difference of the peaks.
 
 Four workers are compared with one on the `mergeinfo` of these targets, and on `merged` and `eligible` of them ten times
-over, since otherwise their answers take no longer than runs differ.
-
-What printing takes is that of a C program that holds the report (`line_printer.c`).
+over, since otherwise their answers take no longer than runs differ. `line_printer.c` prints a report that it holds.
 """
 from __future__ import annotations
 
 import bisect
+import itertools
 import random
 import subprocess
+from collections import defaultdict
 from collections.abc import Iterable, Mapping
-from pathlib import Path
 from typing import NamedTuple
 
 from bench.histories import RELEASES, SIZES, generate
-from bench.measure import Build, Timed, check_same, compiled, run_in_turns
-from bench.parts import Cell, Limit, Measurements, Part, Row, Setup, most, table
-from bench.questions import MERGES, VERBS, Asked, Peg, drawn_lines, line, pegs_at_ends, records_of, written
+from bench.measure import Build, Timed, Work, compiled, run_in_turns
+from bench.parts import ABSENT, Cell, Measurements, Part, Row, Setup, Table, most
+from bench.questions import MERGES, VERBS, Asked, Peg, drawn_lines, line, pegs_at_ends, pegs_of, records_of
 from dev.running import Failed, peak_of
 
 # The short history has more values, and shorter ones, so that several branches have long ones there too.
@@ -31,7 +30,6 @@ ASKED = 10000
 MIXED = 3000
 # The share of the largest value that a long one has at least.
 LEAST_SHARE = 0.9
-TRUNK = "trunk"
 # What the names of files begin with.
 FILE = "/unit-"
 # How many pairs are drawn for each that is asked about, since a few do not exist.
@@ -46,31 +44,9 @@ MOST_OF_ONE = {name: most(0.35, f"{name}, time of four workers relative to one")
 MOST_OF_PRINTING = most(2, "time of mergeinfo relative to printing it")
 
 
-class Value(NamedTuple):
-    """A value of mergeinfo of a path from a revision on, by its size."""
-
-    path: str
-    rev: int
-    size: int
-
-
 class Pair(NamedTuple):
     source: Peg
     target: Peg
-
-
-def values_of(dump: Path) -> list[Value]:
-    found = []
-    path, rev = "", 0
-    with open(dump, "rb") as file:
-        for each in file:
-            if each.startswith(b"Revision-number: "):
-                rev = int(each[17:])
-            elif each.startswith(b"Node-path: "):
-                path = each[11:-1].decode()
-            elif each == b"svn:mergeinfo\n":
-                found.append(Value(path, rev, int(next(file)[2:])))
-    return found
 
 
 def branch_of(path: str) -> str:
@@ -78,8 +54,7 @@ def branch_of(path: str) -> str:
 
 
 def with_parents(path: str) -> Iterable[str]:
-    names = path.split("/")
-    return ("/".join(names[:upto]) for upto in range(1, len(names) + 1))
+    return itertools.accumulate(path.split("/"), "{}/{}".format)
 
 
 class Targets:
@@ -87,40 +62,35 @@ class Targets:
 
     def __init__(self, asked: Asked) -> None:
         self.asked = asked
-        self.values = values_of(asked.dump)
         self.records = records_of(asked.dump)
+        self.values = [record for record in self.records if record.size]
         self.last = self.records[-1].rev
         self.most = max(value.size for value in self.values)
         self.least = int(LEAST_SHARE * self.most)
         # The revision of each branch in which its value becomes a long one, and its files with their last pegs.
-        long = {path: rev for path, rev, size in reversed(self.values) if size >= self.least}
+        long = {value.path: value.rev for value in reversed(self.values) if value.size >= self.least}
         self.files = self.files_of(long)
         self.long = {path: rev for path, rev in long.items() if self.files[path]}
-        self.merges = {path: [value.rev for value in self.values if value.path == path] for path in self.long}
-
-    def deletions(self) -> dict[str, list[int]]:
-        """The revisions that deleted a path."""
-        gone: dict[str, list[int]] = {}
-        for path, rev, action in self.records:
-            if action == "delete":
-                gone.setdefault(path, []).append(rev)
-        return gone
 
     def files_of(self, branches: Mapping[str, int]) -> dict[str, list[Peg]]:
         """The files of each branch that the trunk had too when it was made, with the last revision that has them."""
-        files = sorted({path for path, _, _ in self.records if path.startswith(TRUNK + "/") and FILE in path})
-        made = {path: rev for path, rev, _ in reversed(self.records) if path in branches}
-        pairs = [
-            Pair(Peg(source, rev), Peg(branch + source[len(TRUNK) :], rev))
-            for branch, rev in made.items()
-            for source in files
-        ]
-        gone = self.deletions()
+        files = sorted({path for path, *_ in self.records if path.startswith("trunk/") and FILE in path})
+        made = {path: rev for path, rev, *_ in reversed(self.records) if path in branches}
+        pairs = [self.pair_of(branch, Peg(source, rev), rev) for branch, rev in made.items() for source in files]
+        deletions: dict[str, list[int]] = defaultdict(list)
+        for record in self.records:
+            if record.action == "delete":
+                deletions[record.path].append(record.rev)
         found: dict[str, list[Peg]] = {path: [] for path in made}
         for (source, rev), target in self.existing(pairs):
-            ends = [end - 1 for path in with_parents(source) for end in gone.get(path, ()) if end > rev]
+            ends = [end - 1 for path in with_parents(source) for end in deletions.get(path, ()) if end > rev]
             found[branch_of(target.path)].append(Peg(source, min(ends, default=self.last)))
         return found
+
+    @staticmethod
+    def pair_of(branch: str, source: Peg, rev: int) -> Pair:
+        """A file of the trunk, and the same file of a branch in a revision."""
+        return Pair(source, Peg(branch + source.path[len("trunk") :], rev))
 
     def existing(self, pairs: list[Pair]) -> list[Pair]:
         """The pairs that exist."""
@@ -132,7 +102,7 @@ class Targets:
         rev = lot.randint(max(self.last // 2, min(self.long.values())), self.last)
         branch = lot.choice([path for path, first in self.long.items() if first <= rev])
         source, end = lot.choice(self.files[branch])
-        return Pair(Peg(source, min(end, rev)), Peg(branch + source[len(TRUNK) :], rev))
+        return self.pair_of(branch, Peg(source, min(end, rev)), rev)
 
     def pairs(self, lot: random.Random, count: int) -> list[Pair]:
         found = self.existing([self.draw(lot) for _ in range(DRAWN * count)])[:count]
@@ -140,14 +110,15 @@ class Targets:
             raise Failed(f"only {len(found)} of {count} pairs exist")
         return found
 
-    def value_at(self, target: Peg) -> Peg:
-        """The branch and the revision from which a target has its value."""
-        branch = branch_of(target.path)
-        return Peg(branch, self.merges[branch][bisect.bisect(self.merges[branch], target.rev) - 1])
-
-    def each_value(self, source: Peg) -> list[str]:
-        """A query about each value."""
-        return [line("merged", source, Peg(branch, rev)) for branch, rev, _ in self.values]
+    def described(self, pairs: list[Pair]) -> str:
+        """How many targets there are, and how many values they have, by the merges of their branches."""
+        merges: dict[str, list[int]] = defaultdict(list)
+        for value in self.values:
+            merges[value.path].append(value.rev)
+        targets = [(branch_of(target.path), target.rev) for _, target in pairs]
+        values = {(branch, bisect.bisect(merges[branch], rev)) for branch, rev in targets}
+        sizes = f"{self.least:,} to {self.most:,} bytes, of {len(self.values):,} in the history"
+        return f"{len(pairs):,} targets with {len(values):,} distinct values of {sizes}."
 
 
 def mixed_line(lot: random.Random, verb: str, pair: Pair) -> str:
@@ -156,63 +127,43 @@ def mixed_line(lot: random.Random, verb: str, pair: Pair) -> str:
     return line(verb, pair.target, *([lot.randrange(pair.target.rev)] if verb == "locate" else []))
 
 
-def mixed_lines(pairs: list[Pair], lot: random.Random, count: int) -> list[str]:
-    """As many queries of each verb about targets."""
-    lines = [mixed_line(lot, verb, pair) for verb in VERBS for pair in pairs[: count // len(VERBS)]]
-    lot.shuffle(lines)
-    return lines
-
-
 def lists_of(targets: Targets, lot: random.Random, pairs: list[Pair], mixed: int) -> dict[str, list[str]]:
     """The lists of queries by their names."""
     merged, eligible = ([line(verb, *pair) for pair in pairs] for verb in MERGES)
+    each = mixed // len(VERBS)
+    about_targets = [mixed_line(lot, verb, pair) for verb in VERBS for pair in pairs[:each]]
+    lot.shuffle(about_targets)
     return {
         "merged": merged,
         "eligible": eligible,
         "merged" + TEN_TIMES: OFTEN * merged,
         "eligible" + TEN_TIMES: OFTEN * eligible,
         "mergeinfo": [line("mergeinfo", target) for _, target in pairs],
-        "mixed, about the targets": mixed_lines(pairs, lot, mixed),
-        "mixed, about any path": drawn_lines(pegs_at_ends(targets.records), VERBS * (mixed // len(VERBS))),
-        "merged, each value once": targets.each_value(pairs[0].source),
+        "mixed, about the targets": about_targets,
+        "mixed, about any path": drawn_lines(pegs_at_ends(targets.records), VERBS * each),
+        "merged, each value once": [line("merged", pairs[0].source, peg) for peg in pegs_of(targets.values)],
     }
 
 
 ONE, FOUR, OLD = Build(False, 1), Build(False, 4), Build(True, 1)
 
 
-def judged(limits: Mapping[str, Limit], name: str, value: float) -> Cell:
-    return limits[name].of(value) if name in limits else value
+def megabytes(work: Work, build: Build) -> float:
+    return (peak_of(work.runs[build].words) - peak_of(work.bases[build].words)) / 1e6
 
 
-class Work:
-    """A list of queries, and the runs with it beside those without queries."""
+def row(work: Work) -> Row:
+    one, four, count = work.seconds(ONE), work.seconds(FOUR), len(work.lines)
+    report, limit = work.runs[ONE], MOST_OF_ONE.get(work.name)
+    ratio: Cell = limit.of(four / one) if limit else four / one
+    return [work.name, count, report.lines - count, report.size / 1e6, one, four, ratio]
 
-    def __init__(self, setup: Setup, name: str, lines: list[str], dump: Path, bases: Mapping[Build, Timed]) -> None:
-        self.name = name
-        self.lines = lines
-        # The older build is asked each query once.
-        self.bases = {each: base for each, base in bases.items() if not (each.is_before and name.endswith(TEN_TIMES))}
-        queries = written(setup.folder / f"memo-{name.replace(' ', '-')}.queries", lines)
-        self.runs = {build: build.timed(setup, dump, queries) for build in self.bases}
-        run_in_turns([*self.bases.values(), *self.runs.values()], setup.times)
-        check_same(self.runs.values(), len(lines), name)
 
-    def seconds(self, build: Build) -> float:
-        return self.runs[build].wall - self.bases[build].wall
-
-    def megabytes(self, build: Build) -> float:
-        return (peak_of(self.runs[build].words) - peak_of(self.bases[build].words)) / 1e6
-
-    def row(self) -> Row:
-        one, four, count = self.seconds(ONE), self.seconds(FOUR), len(self.lines)
-        report, ratio = self.runs[ONE], judged(MOST_OF_ONE, self.name, four / one)
-        return [self.name, count, report.lines - count, report.size / 1e6, one, four, ratio]
-
-    def before_row(self) -> Row:
-        one, before = self.seconds(ONE), self.seconds(OLD)
-        limit = MOST_OF_BEFORE.get(self.name)
-        return [self.name, one, before, judged(MOST_OF_BEFORE, self.name, one / before), limit.bound if limit else None]
+def before_row(work: Work) -> Row:
+    one, before = work.seconds(ONE), work.seconds(OLD)
+    limit = MOST_OF_BEFORE.get(work.name)
+    ratio: list[Cell] = [limit.of(one / before), limit.bound] if limit else [one / before, None]
+    return [work.name, one, before, *ratio]
 
 
 HEADING = (
@@ -223,11 +174,10 @@ BEFORE = "queries | seconds:.3f | seconds, older build:.3f | relative:.3f | at m
 
 
 def printing_rows(setup: Setup, work: Work) -> list[Row]:
-    """The seconds that a C program takes to print the report, line by line and number by number; none without a
-    compiler."""
+    """The seconds that a C program takes to print the report, line by line and number by number."""
     printer = compiled("line_printer", setup.folder)
     if printer is None:
-        return []
+        return [[f"by {how}", ABSENT, ABSENT] for how in ("lines", "numbers")]
     report = setup.folder / "memo.report"
     with open(report, "wb") as file:
         subprocess.run(work.runs[ONE].words, stdout=file, check=True)
@@ -239,12 +189,6 @@ def printing_rows(setup: Setup, work: Work) -> list[Row]:
     return [[f"by {how}", each, MOST_OF_PRINTING.of(work.seconds(ONE) / each)] for how, each in seconds.items()]
 
 
-def described(targets: Targets, pairs: list[Pair]) -> str:
-    values = {targets.value_at(target) for _, target in pairs}
-    sizes = f"{targets.least:,} to {targets.most:,} bytes, of {len(targets.values):,} in the history"
-    return f"{len(pairs):,} targets with {len(values):,} distinct values of {sizes}."
-
-
 def run(setup: Setup) -> Measurements:
     options = RELEASES + (QUICK_OPTIONS if setup.is_quick else [])
     dump = generate(setup.folder / "memo.dump", options, setup.scaled(SIZES[-1]))
@@ -253,17 +197,22 @@ def run(setup: Setup) -> Measurements:
     lot = random.Random(7)
     targets = Targets(Asked(setup, dump))
     pairs = targets.pairs(lot, setup.scaled(ASKED))
-    yield described(targets, pairs)
+    yield targets.described(pairs)
     lists = lists_of(targets, lot, pairs, setup.scaled(MIXED))
-    works = {name: Work(setup, name, lines, dump, bases) for name, lines in lists.items()}
-    yield table("long-mergeinfo", HEADING, [work.row() for work in works.values()])
+    # The older build is asked each query once.
+    now = {build: base for build, base in bases.items() if not build.is_before}
+    asked = {name: now if name.endswith(TEN_TIMES) else bases for name in lists}
+    works = {name: Work(setup, name, lines, dump, asked[name]) for name, lines in lists.items()}
+    yield Table("long-mergeinfo", HEADING, [row(work) for work in works.values()])
     whole = [work for work in works.values() if len(work.runs) == len(builds)]
     if setup.before:
-        yield table("long-mergeinfo-before", BEFORE, [work.before_row() for work in whole])
+        yield Table("long-mergeinfo-before", BEFORE, [before_row(work) for work in whole])
     heading = f"mergeinfo, printed by a C program | seconds:.3f | queries relative to it, {MOST_OF_PRINTING}:.2f"
-    yield table("long-mergeinfo-printing", heading, printing_rows(setup, works["mergeinfo"]))
+    yield Table("long-mergeinfo-printing", heading, printing_rows(setup, works["mergeinfo"]))
     heading = "queries" + "".join(f" | more MB, workers {build}:.1f" for build in builds)
-    yield table("long-mergeinfo-memory", heading, [[work.name, *map(work.megabytes, builds)] for work in whole])
+    yield Table(
+        "long-mergeinfo-memory", heading, [[work.name, *(megabytes(work, build) for build in builds)] for work in whole]
+    )
 
 
 PART = Part(__name__, __doc__, run, [*MOST_OF_BEFORE.values(), *MOST_OF_ONE.values(), MOST_OF_PRINTING])

@@ -15,7 +15,7 @@ from typing import Callable, NamedTuple, TypeVar
 from bench.parts import Setup
 from dev.running import Failed, Measured, Words, measure
 
-NOTHING = Path(os.devnull)
+NOTHING, PIPE = Path(os.devnull), Path("/dev/stdin")
 # The exit status of the program for a dump that it refuses.
 REFUSED = 1
 Key = TypeVar("Key")
@@ -57,6 +57,11 @@ class Command:
         if self.report is not None:
             self.report.check(taken.outcome.output)
         return taken
+
+
+def written(path: Path, lines: Iterable[str]) -> Path:
+    path.write_text("".join(lines), encoding="utf-8")
+    return path
 
 
 def words_of(program: Path, dump: Path, queries: Path = NOTHING, block: int = 0, workers: int = 1) -> Words:
@@ -106,32 +111,24 @@ class Build(NamedTuple):
 
 
 class Timed:
-    """A command with its best time so far. A run that is timed prints to /dev/null, since storing the output is the work
-    of the system. The output is kept once before and compared with that of a further run after: a checksum, and how many
-    bytes, lines and answers it has."""
+    """A command with its best time so far. A run that is timed prints to /dev/null, since storing the output is the
+    work of the system. The output is kept once before and compared with that of a further run after: a checksum, and
+    how many bytes, lines and answers it has."""
 
     def __init__(self, words: Words, status: int = 0) -> None:
-        self.command = Command(words, status=status)
+        self.words = words
+        self.run = Command(words, status=status).run
         self.wall = math.inf
         self.checksum: bytes | None = None
         self.size = self.lines = self.answered = 0
 
-    @property
-    def words(self) -> Words:
-        return self.command.words
-
     def keep_output(self) -> None:
-        output = self.command.run().outcome.output
+        output = self.run().outcome.output
         checksum = hashlib.sha256(output).digest()
         if checksum != (self.checksum or checksum):
             raise Failed(f"the output of {in_words(self.words)} differs from run to run")
         self.checksum = checksum
-        self.size = len(output)
-        self.lines = output.count(b"\n")
-        self.answered = output.count(b" ok\n")
-
-    def run_once(self) -> None:
-        self.wall = min(self.wall, self.command.run(is_kept=False).wall)
+        self.size, self.lines, self.answered = len(output), output.count(b"\n"), output.count(b" ok\n")
 
 
 def check_same(found: Iterable[Timed], answered: int, subject: str) -> None:
@@ -145,8 +142,25 @@ def run_in_turns(commands: Iterable[Timed], times: int) -> None:
     commands = list(commands)
     for command in commands:
         command.keep_output()
-    for _ in range(times):
-        for command in commands:
-            command.run_once()
+    for command in commands * times:
+        command.wall = min(command.wall, command.run(is_kept=False).wall)
     for command in commands:
         command.keep_output()
+
+
+class Work:
+    """Queries about a dump, and the runs of some builds with them, each in turns with one that answers nothing."""
+
+    def __init__(self, setup: Setup, name: str, lines: Sequence[str], dump: Path, bases: Mapping[Build, Timed]) -> None:
+        self.name = name
+        self.lines = lines
+        self.bases = bases
+        queries = written(setup.folder / f"{name}.queries", lines)
+        self.runs = {build: build.timed(setup, dump, queries) for build in bases}
+        run_in_turns([*bases.values(), *self.runs.values()], setup.times)
+        check_same(bases.values(), 0, name)
+        check_same(self.runs.values(), len(lines), name)
+
+    def seconds(self, build: Build) -> float:
+        """The time of the answers."""
+        return self.runs[build].wall - self.bases[build].wall

@@ -10,10 +10,9 @@ import random
 from collections.abc import Sequence
 
 from bench.histories import short_history, write_source
-from bench.parts import Cell, Measurements, Part, Row, Setup, least, table
+from bench.parts import Cell, Measurements, Part, Row, Setup, Table, least
 from bench.questions import MERGES, Asked, Peg, later_half, line, pegs_of, records_of
-from bench.subversion import ask_bindings, load
-from dev.running import Measured
+from bench.subversion import Repository, ask_bindings, beside, loaded
 
 ASKED = 20000
 # The program answers its queries again until there are so many, since it is timed as the difference of two runs.
@@ -30,72 +29,57 @@ HEADING = (
 Pairs = list[tuple[Peg, Peg]]
 
 
-def any_pairs(pegs: Sequence[Peg], lot: random.Random) -> Pairs:
-    """A source and a target that need not have to do with one another."""
-    return [(lot.choice(pegs), lot.choice(pegs)) for _ in range(ASKED)]
-
-
 def merging_pairs(asked: Asked, pegs: Sequence[Peg], lot: random.Random) -> Pairs:
     """Targets, each with a source that is in their mergeinfo and exists in the same revision."""
     targets = [lot.choice(pegs) for _ in range(ASKED)]
     values = asked.answers(line("mergeinfo", target) for target in targets)
-    pairs = [
-        (Peg(lot.choice(lines).rpartition(":")[0][1:], target.rev), target)
-        for target, (_, lines) in zip(targets, values)
-        if lines
-    ]
+    merging = [(target, lines) for target, (_, lines) in zip(targets, values) if lines]
+    pairs = [(Peg(lot.choice(lines).rpartition(":")[0][1:], target.rev), target) for target, lines in merging]
     found = asked.answers(line("locate", source, 0) for source, _ in pairs)
     return [pair for pair, (status, _) in zip(pairs, found) if status == "ok"]
 
 
-def row(asked: Asked, url: str | None, base: Measured, kind: str, verb: str, pairs: Pairs) -> Row:
+def row(asked: Asked, repository: Repository | None, kind: str, verb: str, pairs: Pairs) -> Row:
     lines = [line(verb, *pair) for pair in pairs]
     many = lines * -(-LEAST_ASKED // len(lines))
-    taken = asked.best(many)
-    each = (taken.wall - base.wall) / len(many)
-    other = ask_bindings(url, lines[:: len(lines) // ASKED_OF_BINDINGS])
-    answered = taken.outcome.output.count(b"\n") - len(many)
-    cells: Row = [f"`{verb}`", kind, len(many), answered, each * 1e3]
-    return [*cells, other and other.seconds * 1e3, other and LEAST_OF_BINDINGS.of(other.seconds / each)]
+    cost = asked.cost(many)
+    found = ask_bindings(repository, lines[:: len(lines) // ASKED_OF_BINDINGS])
+    others = beside(found and found.seconds, cost.seconds, LEAST_OF_BINDINGS)
+    return [f"`{verb}`", kind, len(many), cost.lines, cost.seconds * 1e3, *others]
 
 
 class Growth:
-    """A history with so many revisions of the source and runs of the target, with lines and seconds of each query."""
+    """A history with so many revisions of the source and runs of the target, and the cost of each query."""
 
     def __init__(self, setup: Setup, revisions: int, runs: int) -> None:
         self.revisions, self.runs = setup.scaled(revisions), setup.scaled(runs)
         step = self.revisions // self.runs
         value = b"/source:" + b",".join(b"%d" % (first * step + 2) for first in range(self.runs))
         asked = Asked(setup, write_source(setup.folder / "growth", self.revisions, value))
-        base = asked.best([])
-        self.lines, self.seconds = {}, {}
-        for verb in MERGES:
-            query = line(verb, Peg("source", self.revisions), Peg("target", self.revisions))
-            taken = asked.best([query] * GROWTH_QUERIES)
-            self.lines[verb] = taken.outcome.output.count(b"\n") // GROWTH_QUERIES - 1
-            self.seconds[verb] = (taken.wall - base.wall) / GROWTH_QUERIES
+        pegs = [Peg(path, self.revisions) for path in ("source", "target")]
+        self.costs = {verb: asked.cost([line(verb, *pegs)] * GROWTH_QUERIES) for verb in MERGES}
 
     def row(self, before: Growth | None) -> Row:
         cells: list[Cell] = [self.revisions, self.runs]
-        for verb in MERGES:
-            seconds = self.seconds[verb]
-            cells += [seconds * 1e3, self.lines[verb], seconds / before.seconds[verb] if before else None]
+        for verb, (seconds, lines) in self.costs.items():
+            growth = seconds / before.costs[verb].seconds if before else None
+            cells += [seconds * 1e3, lines // GROWTH_QUERIES, growth]
         return cells
 
 
 def run(setup: Setup) -> Measurements:
-    dump = short_history(setup, "dump-of-merges")
-    url = load(dump, setup.folder / "merged")
-    asked = Asked(setup, dump)
-    base = asked.best([])
-    lot, pegs = random.Random(2), later_half(pegs_of(records_of(dump)))
-    kinds = {"any": any_pairs(pegs, lot), "merging": merging_pairs(asked, pegs, lot)}
-    rows = [row(asked, url, base, kind, verb, pairs) for kind, pairs in kinds.items() for verb in MERGES]
-    yield table("merged-and-eligible", HEADING, rows)
+    asked = Asked(setup, short_history(setup, "dump-of-merges"))
+    lot, pegs = random.Random(2), later_half(pegs_of(records_of(asked.dump)))
+    # In those of the first kind a source and a target need not have to do with one another.
+    any_pairs = [(lot.choice(pegs), lot.choice(pegs)) for _ in range(ASKED)]
+    kinds = {"any": any_pairs, "merging": merging_pairs(asked, pegs, lot)}
+    with loaded(setup, asked.dump) as repository:
+        rows = [row(asked, repository, kind, verb, pairs) for kind, pairs in kinds.items() for verb in MERGES]
+    yield Table("merged-and-eligible", HEADING, rows)
     found = [Growth(setup, *size) for size in SIZES]
     verbs = "".join(f" | ms per `{verb}`:.2f | lines:, | growth:.2f" for verb in MERGES)
     rows = [each.row(before) for each, before in zip(found, [None, *found])]
-    yield table("merged-and-eligible-growth", "revisions of the source:, | runs of the target:," + verbs, rows)
+    yield Table("merged-and-eligible-growth", "revisions of the source:, | runs of the target:," + verbs, rows)
 
 
 PART = Part(__name__, __doc__, run, [LEAST_OF_BINDINGS])

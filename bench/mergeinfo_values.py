@@ -1,23 +1,23 @@
 """Values of `svn:mergeinfo` of about 1 MB, beside Subversion's own reader and plain Python.
 
-Each value is that of a directory, and all queries ask which mergeinfo a file in it inherits. A run reads the value once,
-and each query makes it inherited and prints it. So the time of a value is that of a run with queries less that of a run
-without, divided by their number. The other readers measure themselves (`value_readers.py`).
+Each value is that of a directory, and all queries ask which mergeinfo a file in it inherits. A run reads the value
+once, and each query makes it inherited and prints it. So the time of a value is that of a run with queries less that of
+a run without, divided by their number. The other readers measure themselves (`value_readers.py`).
 """
 from __future__ import annotations
 
+import math
 import subprocess
 import sys
-from functools import partial
-from typing import Callable, NamedTuple
+from typing import NamedTuple
 
 from bench.histories import BENCH, revision, write_dump
-from bench.measure import Command, best_in_turns
-from bench.parts import Judged, Measurements, Part, Row, Setup, limits_table, most, table
+from bench.measure import Command
+from bench.parts import ABSENT, Cell, Judged, Measurements, Part, Row, Setup, Table, limits_table, most
 from bench.questions import Asked, Peg, line
 from bench.subversion import BINDINGS
 from dev.dumps import DIR, FILE, added, mergeinfo
-from dev.running import Failed, Measured, Words, peak_of
+from dev.running import Failed, Words, measure, peak_of
 
 QUERIES = 10
 SMALL_QUERIES = 500000
@@ -29,7 +29,7 @@ WIDE = "/a:1-2147483647"
 
 # What the other readers are run by. Debian's bindings are built for Debian's own Python.
 PLAIN, OF_BINDINGS, OF_LIBRARY = "plain", "bindings", "library"
-READERS = {OF_BINDINGS: str(BINDINGS), OF_LIBRARY: str(BINDINGS), PLAIN: sys.executable}
+READERS = {PLAIN: sys.executable, OF_BINDINGS: str(BINDINGS), OF_LIBRARY: str(BINDINGS)}
 
 MOST_OF_BINDINGS = most(0.2, "time relative to the bindings")
 MOST_OF_TWICE = most(2.4, "time for twice the value")
@@ -38,7 +38,6 @@ HEADING = (
     "value | bytes:, | ms per query:.1f | ms, plain Python:.1f | ms, bindings:.1f | ms, C library:.1f | "
     f"what Subversion reads | relative to the bindings, {MOST_OF_BINDINGS}:.3f"
 )
-Runs = dict[object, Callable[[], Measured]]
 
 
 class Form(NamedTuple):
@@ -66,20 +65,23 @@ FORMS = [
 
 
 class Value:
-    """A directory that has a value, and a file in it."""
+    """A directory that has a value, and a file in it, which is asked about so often."""
 
-    def __init__(self, setup: Setup, name: str, text: bytes) -> None:
+    def __init__(self, setup: Setup, name: str, text: bytes, queries: int = QUERIES) -> None:
         self.size = len(text)
         nodes = added(b"dir", DIR, mergeinfo(text)), added(b"dir/file", FILE)
         self.asked = Asked(setup, write_dump(setup.folder / name, [revision(1, *nodes)]))
+        self.queries = queries
+        # The best time without queries, and with them.
+        self.walls = {0: math.inf, queries: math.inf}
 
-    def runs(self, queries: int) -> Runs:
-        """A run without queries, and one with so many."""
-        return {(self, count): partial(self.asked.ask, [QUERY] * count) for count in (0, queries)}
+    def measure(self) -> None:
+        for count, wall in self.walls.items():
+            self.walls[count] = min(wall, self.asked.ask([QUERY] * count).wall)
 
-    def seconds(self, best: dict[object, Measured], queries: int) -> float:
+    def seconds(self) -> float:
         """The time of one query."""
-        return (best[self, queries].wall - best[self, 0].wall) / queries
+        return (self.walls[self.queries] - self.walls[0]) / self.queries
 
     def peak(self, queries: int) -> float:
         return peak_of(self.asked.command([QUERY] * queries).words) / 1e6
@@ -92,9 +94,10 @@ class Formed:
         self.setup = setup
         self.form = form
         self.count = setup.scaled(form.parts)
+        self.title = form.titled(self.count)
         self.value, self.twice = (self.value_of(times) for times in (1, 2))
         self.readers = {reader: self.command_of(reader) for reader in readers}
-        self.seconds: dict[str, float] = {}
+        self.milliseconds = dict.fromkeys(readers, math.inf)
 
     def value_of(self, times: int) -> Value:
         """A value so many times as large."""
@@ -105,64 +108,57 @@ class Formed:
         path.write_bytes(self.form.text(self.count // (1 if reader == PLAIN else self.form.share)))
         return Command([READERS[reader], BENCH / "value_readers.py", reader, path])
 
-    def runs(self) -> Runs:
-        readers: Runs = {(self, reader): partial(self.read, reader) for reader in self.readers}
-        return {**self.value.runs(QUERIES), **self.twice.runs(QUERIES), **readers}
+    def measure(self) -> None:
+        self.value.measure()
+        self.twice.measure()
+        for reader, command in self.readers.items():
+            self.read(reader, command)
 
-    def read(self, reader: str) -> Measured:
+    def read(self, reader: str, command: Command) -> None:
         """A run of another reader, which prints its seconds. Plain Python prints what the program does as well."""
-        taken = self.readers[reader].run()
-        seconds, _, lines = taken.outcome.output.partition(b"\n")
+        seconds, _, lines = command.run().outcome.output.partition(b"\n")
         if reader == PLAIN and self.value.asked.ask([QUERY]).outcome.output != b"#1 ok\n" + lines:
             raise Failed("plain Python and the program print different lines")
-        self.seconds[reader] = min(float(seconds), self.seconds.get(reader, float("inf")))
-        return taken
+        self.milliseconds[reader] = min(float(seconds) * 1e3, self.milliseconds[reader])
 
-    def row(self, best: dict[object, Measured]) -> Row:
-        ours = self.value.seconds(best, QUERIES)
-        others = [self.seconds.get(reader) for reader in (PLAIN, OF_BINDINGS, OF_LIBRARY)]
+    def row(self) -> Row:
+        ours = self.value.seconds() * 1e3
+        others: list[Cell] = [self.milliseconds.get(reader, ABSENT) for reader in READERS]
         share = "all" if self.form.share == 1 else f"1/{self.form.share}"
-        bindings = self.seconds.get(OF_BINDINGS)
-        ratio = bindings and MOST_OF_BINDINGS.of(ours / bindings)
-        seconds = [each and each * 1e3 for each in (ours, *others)]
-        return [self.form.titled(self.count), self.value.size, *seconds, share, ratio]
+        bindings = self.milliseconds.get(OF_BINDINGS)
+        ratio: Cell = MOST_OF_BINDINGS.of(ours / bindings) if bindings else ABSENT
+        return [self.title, self.value.size, ours, *others, share, ratio]
 
-    def growth(self, best: dict[object, Measured]) -> Judged:
+    def growth(self) -> Judged:
         """The time for twice the value relative to that for the value; the size is not exactly twice the other."""
-        ratio = self.twice.seconds(best, QUERIES) / self.value.seconds(best, QUERIES)
-        return MOST_OF_TWICE.of(2 * ratio * self.value.size / self.twice.size, self.form.titled(self.count))
+        ratio = 2 * self.twice.seconds() / self.value.seconds() * self.value.size / self.twice.size
+        return MOST_OF_TWICE.of(ratio, self.title)
 
     def memory_row(self) -> Row:
         value = self.value_of(LARGER)
-        row: Row = [self.form.titled(self.count * LARGER), value.size / 1e6, value.peak(0), value.peak(1)]
-        value.asked.dump.unlink()
-        return row
+        return [self.form.titled(self.count * LARGER), value.size / 1e6, value.peak(0), value.peak(1)]
 
 
 def installed_readers() -> list[str]:
     """The readers that this machine has; plain Python always is one."""
-    try:
-        subprocess.run([BINDINGS, "-c", "import svn.core"], stderr=subprocess.DEVNULL, check=True)
-    except (OSError, subprocess.CalledProcessError):
-        return [PLAIN]
-    return list(READERS)
+    has_bindings = BINDINGS.exists() and measure([BINDINGS, "-c", "import svn.core"]).outcome.status == 0
+    return list(READERS) if has_bindings else [PLAIN]
 
 
 def run(setup: Setup) -> Measurements:
     readers = installed_readers()
-    if len(readers) == 1:
-        yield f"{BINDINGS} has no bindings of Subversion, so these are left out."
     forms = [Formed(setup, form, readers) for form in FORMS]
-    small, wide = (Value(setup, f"small-{len(text)}", text.encode()) for text in (SMALL, WIDE))
     queries = setup.scaled(SMALL_QUERIES)
-    runs: Runs = {key: run for form in forms for key, run in form.runs().items()}
-    best = best_in_turns({**runs, **small.runs(queries), **wide.runs(queries)}, setup.times)
-    yield table("mergeinfo-values", HEADING, [form.row(best) for form in forms])
+    small, wide = (Value(setup, f"small-{len(text)}", text.encode(), queries) for text in (SMALL, WIDE))
+    measured: list[Formed | Value] = [*forms, small, wide]
+    for each in measured * setup.times:
+        each.measure()
+    yield Table("mergeinfo-values", HEADING, [form.row() for form in forms])
     heading = "value | MB:.1f | peak MB without queries:.1f | peak MB with one:.1f"
-    yield table("mergeinfo-values-memory", heading, [form.memory_row() for form in forms])
-    one, other = small.seconds(best, queries), wide.seconds(best, queries)
+    yield Table("mergeinfo-values-memory", heading, [form.memory_row() for form in forms])
+    one, other = small.seconds(), wide.seconds()
     yield f"A query takes {one * 1e6:.2f} microseconds for `{SMALL}` and {other * 1e6:.2f} for `{WIDE}`."
-    limits = [*(form.growth(best) for form in forms), MOST_OF_WIDE.of(other / one)]
+    limits = [*(form.growth() for form in forms), MOST_OF_WIDE.of(other / one)]
     yield limits_table("mergeinfo-values-limits", limits)
 
 

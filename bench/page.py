@@ -3,6 +3,7 @@
 usage: bench/tables FILE PAGE
 
 A table stands between `<!-- table: NAME -->` and `<!-- end -->`. Those that the file has are written; all else stays.
+What a quick run measured is refused.
 """
 from __future__ import annotations
 
@@ -12,46 +13,45 @@ import sys
 from pathlib import Path
 from typing import Any
 
-from bench.parts import Table, table_from_json
-
 TABLE = re.compile(r"^(<!-- table: ([\w-]+) -->\n)(.*?)(?=^<!-- |\Z)(<!-- end -->)?", re.MULTILINE | re.DOTALL)
 
 
-class Unended(Exception):
-    """The name of a table after which no end stands."""
+class Refused(Exception):
+    """Why no table is written, in words."""
 
 
-def tables_of(report: dict[str, Any]) -> dict[str, Table]:
-    """The tables of what was measured, by their names."""
-    tables = [table_from_json(data) for part in report["parts"] for data in part["tables"]]
-    return {table.name: table for table in tables}
+def tables_of(report: Any) -> dict[str, str]:
+    """The tables of what was measured in full size, by their names."""
+    try:
+        if report["is_quick"]:
+            raise Refused("these are figures of a quick run, which no page may have")
+        return {table["name"]: str(table["text"]) for part in report["parts"] for table in part["tables"]}
+    except (KeyError, TypeError):
+        raise Refused("this is not what `bench/run --json` wrote") from None
 
 
-def with_tables(page: str, tables: dict[str, Table]) -> str:
+def with_tables(page: str, tables: dict[str, str]) -> str:
     """The page with these tables in place of those of their names."""
 
     def replaced(found: re.Match[str]) -> str:
         head, name, _, end = found.groups()
         if end is None:
-            raise Unended(name)
+            raise Refused(f"no end stands after the table {name}")
         return f"{head}{tables[name]}{end}" if name in tables else found[0]
 
     return TABLE.sub(replaced, page)
 
 
-def main() -> int:
+def main() -> None:
     if len(sys.argv) != 3:
         sys.exit("usage: bench/tables FILE PAGE")
-    report, path = map(Path, sys.argv[1:])
+    report, page = map(Path, sys.argv[1:])
     try:
         tables = tables_of(json.loads(report.read_text(encoding="utf-8")))
-        path.write_text(with_tables(path.read_text(encoding="utf-8"), tables), encoding="utf-8")
-    except (OSError, ValueError) as error:
+        page.write_text(with_tables(page.read_text(encoding="utf-8"), tables), encoding="utf-8")
+    except (OSError, ValueError, Refused) as error:
         sys.exit(f"tables: {error}")
-    except Unended as unended:
-        sys.exit(f"tables: no end stands after the table {unended}")
-    return 0
 
 
 if __name__ == "__main__":
-    sys.exit(main())
+    main()

@@ -56,56 +56,46 @@ class Judged:
 
 Cell = Union[str, int, float, None, Judged]
 Row = Sequence[Cell]
+# A cell in place of a figure for which Subversion, or another tool, would have to be installed.
+ABSENT = "not installed"
 
 
-@dataclass(frozen=True)
-class Column:
-    """The title of a column, and the form of its numbers, as of `format`."""
-
-    title: str
-    form: str = ""
-
-    def shown(self, cell: Cell) -> str:
-        if isinstance(cell, Judged):
-            return f"{self.shown(cell.value)} {'met' if cell.is_met else '**not met**'}".strip()
-        if cell is None:
-            return ""
-        return cell if isinstance(cell, str) else format(cell, self.form)
+def shown(cell: Cell, form: str) -> str:
+    """A cell as words, its number in a form as of `format`."""
+    if isinstance(cell, Judged):
+        return f"{shown(cell.value, form)} {'met' if cell.is_met else '**not met**'}".strip()
+    if cell is None:
+        return ""
+    return cell if isinstance(cell, str) else format(cell, form)
 
 
 @dataclass(frozen=True)
 class Table:
-    """Rows of figures. No other table of any part has its name."""
+    """Rows of figures below a heading as in Markdown, in which the form of numbers stands after each title. No other
+    table of any part has its name."""
 
     name: str
-    columns: Sequence[Column]
+    heading: str
     rows: Sequence[Row]
-
-    def judged(self) -> list[Judged]:
-        return [cell for row in self.rows for cell in row if isinstance(cell, Judged)]
 
     def __str__(self) -> str:
         """The table in Markdown."""
-        cells = [[column.shown(cell) for column, cell in zip(self.columns, row)] for row in self.rows]
-        head, *rows = [f"| {' | '.join(line)} |\n" for line in [[column.title for column in self.columns], *cells]]
-        return head + "|" + "---|" * len(self.columns) + "\n" + "".join(rows)
+        titles, _, forms = zip(*(title.partition(":") for title in self.heading.split(" | ")))
+        head, *rows = [f"| {' | '.join(line)} |\n" for line in [titles, *(map(shown, row, forms) for row in self.rows)]]
+        return head + "|" + "---|" * len(titles) + "\n" + "".join(rows)
 
 
-def table(name: str, heading: str, rows: Iterable[Row]) -> Table:
-    """A table with a heading as in Markdown, in which the form of numbers stands after a colon."""
-    columns = [Column(title, form) for title, _, form in (each.partition(":") for each in heading.split(" | "))]
-    return Table(name, columns, [list(row) for row in rows])
-
-
-def limits_table(name: str, judged: Iterable[Judged]) -> Table:
-    """A table of figures that stand in no other one."""
-    return table(name, "limit | bound | measured:.2f", [(each.text, str(each.limit), each) for each in judged])
+def limits_table(name: str, judged: Iterable[Judged], absent: Iterable[Limit] = ()) -> Table:
+    """A table of figures that stand in no other one, and of limits whose figures need what is not installed."""
+    rows: list[Row] = [[each.text, str(each.limit), each] for each in judged]
+    rows += [[limit.text, str(limit), ABSENT] for limit in absent]
+    return Table(name, "limit | bound | measured:.2f", rows)
 
 
 @dataclass(frozen=True)
 class Setup:
-    """What a part measures with: the programs, of which one may be an older build, a folder for its files, and how often
-    it measures."""
+    """What a part measures with: the programs, of which one may be an older build, a folder for its files, and how
+    often it measures."""
 
     program: Path
     live: Path
@@ -142,27 +132,22 @@ class Part:
         return " ".join((self.about or "").split()).partition(". ")[0].rstrip(".")
 
 
-def cell_from_json(data: Any) -> Cell:
-    if not isinstance(data, dict):
-        cell: Cell = data
-        return cell
-    return Judged(Limit(**data["limit"]), data["value"], data["subject"])
-
-
-def table_from_json(data: dict[str, Any]) -> Table:
-    columns = [Column(**column) for column in data["columns"]]
-    return Table(data["name"], columns, [list(map(cell_from_json, row)) for row in data["rows"]])
-
-
-def limit_to_json(row: Row, judged: Judged) -> dict[str, Any]:
-    """A figure that has a limit, beside the words of its row."""
-    return {"row": [cell for cell in row if isinstance(cell, str)], **asdict(judged), "is_met": judged.is_met}
+def judged_rows(items: Iterable[Item]) -> Iterator[tuple[Row, Judged]]:
+    """Each figure that has a limit, after its row."""
+    tables = (item for item in items if isinstance(item, Table))
+    return ((row, cell) for each in tables for row in each.rows for cell in row if isinstance(cell, Judged))
 
 
 def part_to_json(part: Part, items: Sequence[Item]) -> dict[str, Any]:
-    """What was measured: tables, sentences, and each figure that has a limit."""
-    tables = [item for item in items if isinstance(item, Table)]
-    rows = [row for each in tables for row in each.rows]
-    limits = [limit_to_json(row, cell) for row in rows for cell in row if isinstance(cell, Judged)]
-    sentences = [item for item in items if isinstance(item, str)]
-    return {"name": part.name, "tables": list(map(asdict, tables)), "sentences": sentences, "limits": limits}
+    """What was measured: tables, with their Markdown, sentences, and each figure that has a limit, beside the words of
+    its row."""
+    limits = [
+        {"row": [word for word in row if isinstance(word, str)], **asdict(judged), "is_met": judged.is_met}
+        for row, judged in judged_rows(items)
+    ]
+    return {
+        "name": part.name,
+        "tables": [{**asdict(item), "text": str(item)} for item in items if isinstance(item, Table)],
+        "sentences": [item for item in items if isinstance(item, str)],
+        "limits": limits,
+    }

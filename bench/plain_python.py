@@ -9,11 +9,10 @@ import sys
 
 from bench.histories import BENCH, MIXES, SIZES, generate, ten_queries
 from bench.measure import Command, SameReport, best_of_groups, words_of
-from bench.parts import Measurements, Part, Row, Setup, least, table
+from bench.parts import Measurements, Part, Row, Setup, Table, least
 from bench.questions import TEN
 from dev.running import Words, peak_of
 
-READER = BENCH / "plain_reader.py"
 LEAST_TIMES = least(15, "time of plain Python relative to that of the program")
 HEADING = (
     "history | revisions:, | seconds:.3f | seconds, Python:.2f | peak MB:.0f | peak MB, Python:.0f | "
@@ -25,16 +24,18 @@ def row(setup: Setup, mix: str, revisions: int) -> Row:
     dump = generate(setup.folder / "plain.dump", MIXES[mix], revisions)
     queries = ten_queries(setup.folder / "plain.queries", dump)
     same = SameReport(mix, len(TEN))
-    both: list[Words] = [words_of(setup.program, dump, queries), [sys.executable, READER, dump, queries]]
+    both: list[Words] = [
+        words_of(setup.program, dump, queries),
+        [sys.executable, BENCH / "plain_reader.py", dump, queries],
+    ]
     [best] = best_of_groups([{place: Command(words, report=same) for place, words in enumerate(both)}], setup.times)
     peaks = [peak_of(words) / 1e6 for words in both]
-    dump.unlink()
     ours, plain = best[0].wall, best[1].wall
     return [mix, revisions, ours, plain, *peaks, LEAST_TIMES.of(plain / ours)]
 
 
 def run(setup: Setup) -> Measurements:
-    yield table("plain-python", HEADING, [row(setup, mix, setup.scaled(SIZES[-1])) for mix in MIXES])
+    yield Table("plain-python", HEADING, [row(setup, mix, setup.scaled(SIZES[-1])) for mix in MIXES])
 
 
 PART = Part(__name__, __doc__, run, [LEAST_TIMES])

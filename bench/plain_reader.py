@@ -2,9 +2,9 @@
 
 usage: plain_reader.py DUMP QUERIES
 
-Prints the same report for a dump that is lawful, which it does not check. The tree of a revision is a node for the root.
-A node is a pair: its children by name, or None for a file, and its mergeinfo, or None. It is never changed, so trees
-share what they have in common. The history of a path is found from the records that name it or a path above or below.
+Prints the same report for a dump that is lawful, which it does not check. The tree of a revision is a node for the
+root. A node is a pair: its children by name, or None for a file, and its mergeinfo, or None. It is never changed, so
+trees share what they have in common. The history of a path is in the records that name it or a path above or below.
 """
 from __future__ import annotations
 
@@ -57,9 +57,6 @@ def printed(path: Path | None) -> bytes:
     return b"-" if path is None else b"/" + b"/".join(path)
 
 
-# Trees
-
-
 def nodes_to(tree: Node, path: Path) -> list[Node]:
     """The nodes from the root to a path, as many as there are."""
     nodes = [tree]
@@ -92,9 +89,6 @@ def with_node(tree: Node, path: Path, node: Node | None) -> Node:
     return node
 
 
-# Dumps
-
-
 def blocks_of(data: bytes) -> Iterator[tuple[dict[bytes, bytes], bytes]]:
     """The headers and the property section of each block."""
     at = NEWLINES.match(data, data.index(b"\n")).end()
@@ -103,8 +97,7 @@ def blocks_of(data: bytes) -> Iterator[tuple[dict[bytes, bytes], bytes]]:
         headers = dict(HEADER.findall(data, at, end + 1))
         start = end + 2
         section = int(headers.get(b"Prop-content-length", 0))
-        length = headers.get(b"Content-length")
-        body = section + int(headers.get(b"Text-content-length", 0)) if length is None else int(length)
+        body = int(headers.get(b"Content-length", 0)) or section + int(headers.get(b"Text-content-length", 0))
         yield headers, data[start : start + section]
         at = NEWLINES.match(data, start + body).end()
 
@@ -215,9 +208,6 @@ class History:
             yield from ((each, place) for each in reversed(found))
 
 
-# Mergeinfo
-
-
 def run_of(element: bytes) -> Run:
     """The first and the last revision of an element, and whether they are inheritable."""
     form = ELEMENT.fullmatch(element)
@@ -296,9 +286,6 @@ def kind_in(runs: Sequence[Run], rev: int) -> bool | None:
     return runs[place][2] if place >= 0 and rev <= runs[place][1] else None
 
 
-# Answers
-
-
 def place_in(spans: Iterator[Span] | Sequence[Span], rev: int) -> Path | None:
     """The place in a revision, or None."""
     return next((place for first, last, place, _ in spans if first <= rev <= last), None)
@@ -342,20 +329,13 @@ def of_source(history: History, source: Peg, target: Peg) -> list[tuple[int, Pat
 
 
 def merged(history: History, source: Peg, target: Peg) -> list[bytes]:
-    return [
-        b"r%d%s" % (rev, b"" if kind else b"*")
-        for rev, _, kind in of_source(history, source, target)
-        if kind is not None
-    ]
+    found = of_source(history, source, target)
+    return [b"r%d%s" % (rev, b"" if kind else b"*") for rev, _, kind in found if kind is not None]
 
 
 def eligible(history: History, source: Peg, target: Peg) -> list[bytes]:
-    spans = list(history.spans(*target))
-    return [
-        b"r%d" % rev
-        for rev, place, kind in of_source(history, source, target)
-        if kind is None and place_in(spans, rev) != place
-    ]
+    spans, found = list(history.spans(*target)), of_source(history, source, target)
+    return [b"r%d" % rev for rev, place, kind in found if kind is None and place_in(spans, rev) != place]
 
 
 def peg_of(field: bytes) -> Peg | None:

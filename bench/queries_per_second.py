@@ -9,13 +9,11 @@ from __future__ import annotations
 
 import random
 from collections.abc import Sequence
-from dataclasses import dataclass
 
 from bench.histories import MIXES, SIZES, generate
-from bench.parts import Cell, Measurements, Part, Row, Setup, least, table
+from bench.parts import ABSENT, Cell, Measurements, Part, Row, Setup, Table, least
 from bench.questions import Answer, Asked, drawn_line, later_half, pegs_at_ends, records_of
-from bench.subversion import LOADING_SECONDS, ask_bindings, folder_in_memory, load_part
-from dev.running import Measured
+from bench.subversion import LOADING_SECONDS, Repository, ask_bindings, loaded
 
 ASKED = 3000
 # For each verb, how many of the queries the bindings get.
@@ -30,18 +28,10 @@ HEADING = (
 )
 
 
-@dataclass(frozen=True)
-class Whole:
-    """The program on the whole dump, and a run without queries."""
-
-    asked: Asked
-    base: Measured
-
-    def seconds(self, lines: list[str]) -> float:
-        """The time of a query, by so many that it can be measured."""
-        size = len(self.asked.ask(lines).outcome.output)
-        many = lines * max(1, min(LEAST_ASKED // len(lines), MOST_REPORT // size))
-        return (self.asked.best(many).wall - self.base.wall) / len(many)
+def seconds_of(asked: Asked, lines: list[str]) -> float:
+    """The time of a query, by so many that it can be measured."""
+    size = len(asked.ask(lines).outcome.output)
+    return asked.cost(lines * max(1, min(LEAST_ASKED // len(lines), MOST_REPORT // size))).seconds
 
 
 def same_answers(verb: str, ours: Sequence[Answer], others: Sequence[list[str]]) -> int:
@@ -50,15 +40,15 @@ def same_answers(verb: str, ours: Sequence[Answer], others: Sequence[list[str]])
     return sum(lines == other for lines, other in zip(found, others))
 
 
-def row(whole: Whole, url: str | None, verb: str, lines: list[str]) -> Row:
-    each = whole.seconds(lines)
+def row(asked: Asked, repository: Repository | None, verb: str, lines: list[str]) -> Row:
+    each = seconds_of(asked, lines)
     cells: list[Cell] = [f"`{verb}`", len(lines), each * 1e3, 1 / each]
     given = lines[:: len(lines) // ASKED_OF_BINDINGS[verb]]
-    other = ask_bindings(url, given)
+    other = ask_bindings(repository, given)
     if other is None:
-        return cells + [None] * 5
-    ours = each if len(given) == len(lines) else whole.seconds(given)
-    same = same_answers(verb, whole.asked.answers(given), other.answers)
+        return cells + [ABSENT] * 5
+    ours = each if len(given) == len(lines) else seconds_of(asked, given)
+    same = same_answers(verb, asked.answers(given), other.answers)
     return [*cells, len(given), other.seconds * 1e3, ours * 1e3, same, LEAST_OF_BINDINGS.of(other.seconds / ours)]
 
 
@@ -66,16 +56,13 @@ def run(setup: Setup) -> Measurements:
     revisions = setup.scaled(SIZES[-1])
     dump = generate(setup.folder / "verbs.dump", MIXES["changes"], revisions)
     asked = Asked(setup, dump)
-    whole = Whole(asked, asked.best([]))
-    with folder_in_memory(setup.folder) as above:
-        loaded = load_part(dump, above / "verbs", setup.scaled(LOADING_SECONDS))
-        if loaded:
-            yield f"Subversion loaded {loaded.last:,} of {revisions:,} revisions."
-        last = loaded.last if loaded else revisions
+    with loaded(setup, dump, setup.scaled(LOADING_SECONDS)) as repository:
+        if repository:
+            yield f"Subversion loaded {repository.last:,} of {revisions:,} revisions."
+        last = repository.last if repository else revisions
         lot, pegs = random.Random(5), later_half([peg for peg in pegs_at_ends(records_of(dump)) if peg.rev <= last])
-        asked_lines = {verb: [drawn_line(lot, pegs, verb) for _ in range(ASKED)] for verb in ASKED_OF_BINDINGS}
-        url = loaded.url if loaded else None
-        yield table("queries-per-second", HEADING, [row(whole, url, *each) for each in asked_lines.items()])
+        lines = {verb: [drawn_line(lot, pegs, verb) for _ in range(ASKED)] for verb in ASKED_OF_BINDINGS}
+        yield Table("queries-per-second", HEADING, [row(asked, repository, *each) for each in lines.items()])
 
 
 PART = Part(__name__, __doc__, run, [LEAST_OF_BINDINGS])

@@ -4,10 +4,11 @@ from __future__ import annotations
 import random
 from collections.abc import Iterable, Sequence
 from dataclasses import dataclass
+from functools import cached_property
 from pathlib import Path
 from typing import NamedTuple
 
-from bench.measure import Command, words_of
+from bench.measure import Command, words_of, written
 from bench.parts import Setup
 from dev.running import Failed, Measured, best_of
 
@@ -19,9 +20,12 @@ TEN = ("log", "log", "segments", "segments", "locate", "locate", "mergeinfo", "m
 
 
 class Record(NamedTuple):
+    """What a revision did to a path, and the size of the mergeinfo that it gave it, if any."""
+
     path: str
     rev: int
     action: str
+    size: int = 0
 
 
 class Peg(NamedTuple):
@@ -41,20 +45,20 @@ class Answer(NamedTuple):
     lines: list[str]
 
 
+class Cost(NamedTuple):
+    """The seconds of one query, and the result lines of all."""
+
+    seconds: float
+    lines: int
+
+
 def line(verb: str, *fields: object) -> str:
     return "\t".join([verb, *map(str, fields)]) + "\n"
 
 
-def written(path: Path, lines: Iterable[str]) -> Path:
-    with open(path, "w", encoding="utf-8") as file:
-        file.writelines(lines)
-    return path
-
-
 def records_of(dump: Path) -> list[Record]:
-    found = []
-    rev = 0
-    path = ""
+    found: list[Record] = []
+    path, rev = "", 0
     with open(dump, "rb") as file:
         for each in file:
             if each.startswith(b"Revision-number: "):
@@ -63,21 +67,19 @@ def records_of(dump: Path) -> list[Record]:
                 path = each[11:-1].decode()
             elif each.startswith(b"Node-action: "):
                 found.append(Record(path, rev, each[13:-1].decode()))
+            elif each == b"svn:mergeinfo\n":
+                found[-1] = found[-1]._replace(size=int(next(file)[2:]))
     return found
 
 
 def pegs_of(records: Sequence[Record]) -> list[Peg]:
     """The records that are no deletions."""
-    return [Peg(path, rev) for path, rev, action in records if action != "delete"]
+    return [Peg(record.path, record.rev) for record in records if record.action != "delete"]
 
 
 def pegs_at_ends(records: Sequence[Record]) -> list[Peg]:
     """The last record of each revision, unless it is a deletion. Its path exists at the end of the revision."""
-    return [
-        Peg(path, rev)
-        for (path, rev, action), (_, following, _) in zip(records, records[1:])
-        if following > rev and action != "delete"
-    ]
+    return pegs_of([record for record, following in zip(records, records[1:]) if following.rev > record.rev])
 
 
 def later_half(pegs: Sequence[Peg]) -> Sequence[Peg]:
@@ -90,11 +92,6 @@ class Question(NamedTuple):
     peg: Peg
     earlier: int
 
-    @classmethod
-    def drawn(cls, lot: random.Random, pegs: Sequence[Peg]) -> Question:
-        peg = lot.choice(pegs)
-        return cls(peg, lot.randrange(peg.rev))
-
     def line(self, verb: str) -> str:
         return line(verb, self.peg, *([self.earlier] if verb == "locate" else []))
 
@@ -104,11 +101,16 @@ class Question(NamedTuple):
         return {"locate": ["svn", "info", "-r", str(self.earlier), peg], "log": ["svn", "log", "-q", peg]}.get(verb)
 
 
+def drawn_question(lot: random.Random, pegs: Sequence[Peg]) -> Question:
+    peg = lot.choice(pegs)
+    return Question(peg, lot.randrange(peg.rev))
+
+
 def drawn_line(lot: random.Random, pegs: Sequence[Peg], verb: str) -> str:
     """A query of a verb about some of these pegs."""
     if verb in MERGES:
         return line(verb, lot.choice(pegs), lot.choice(pegs))
-    return Question.drawn(lot, pegs).line(verb)
+    return drawn_question(lot, pegs).line(verb)
 
 
 def drawn_lines(pegs: Sequence[Peg], verbs: Iterable[str] = TEN) -> list[str]:
@@ -137,6 +139,16 @@ class Asked:
 
     def best(self, lines: Sequence[str]) -> Measured:
         return best_of(self.setup.times, lambda: self.ask(lines))
+
+    @cached_property
+    def base(self) -> Measured:
+        """The best run without queries."""
+        return self.best([])
+
+    def cost(self, lines: Sequence[str]) -> Cost:
+        """Of a run with these queries, less one without any."""
+        base, taken = self.base, self.best(lines)
+        return Cost((taken.wall - base.wall) / len(lines), taken.outcome.output.count(b"\n") - len(lines))
 
     def answers(self, lines: Iterable[str]) -> list[Answer]:
         found: list[Answer] = []

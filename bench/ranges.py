@@ -10,15 +10,15 @@ with `-r`, whose time includes their start. Without a range each is run once, as
 """
 from __future__ import annotations
 
+import math
 import re
 from collections.abc import Iterator
-from typing import NamedTuple, Optional
 
 from bench.histories import revision, write_dump
-from bench.measure import Command, Timed, in_words, run_in_turns, words_of
-from bench.parts import Measurements, Part, Row, Setup, most, table
-from bench.questions import Asked, Peg, line, written
-from bench.subversion import folder_in_memory, load
+from bench.measure import Command, Timed, in_words, run_in_turns, words_of, written
+from bench.parts import Measurements, Part, Row, Setup, Table, most
+from bench.questions import Asked, Peg, line
+from bench.subversion import Repository, beside, loaded
 from dev.dumps import FILE, added, changed, copied, mergeinfo
 from dev.running import Failed, best_of
 
@@ -35,48 +35,6 @@ HEADING = (
 )
 
 
-class Bounds(NamedTuple):
-    first: int
-    last: int
-
-    def __str__(self) -> str:
-        return f"{self.first}:{self.last}"
-
-
-class Query(NamedTuple):
-    """A query by its verb, the name of its range, its bounds, if any, and the youngest revision."""
-
-    verb: str
-    name: str
-    bounds: Optional[Bounds]
-    last: int
-
-    def pegs(self) -> list[Peg]:
-        """The trunk, and the branch where there is a target."""
-        return [Peg(path, self.last) for path in ("trunk", "branch")[: 1 if self.verb == "log" else 2]]
-
-    def line(self) -> str:
-        return line(self.verb, *self.pegs(), *([self.bounds] if self.bounds else []))
-
-    def lines_of(self, whole: list[str]) -> list[str]:
-        """The lines of an answer without a range that are in the range."""
-        low, high = self.bounds or (0, self.last)
-        return [each for each in whole if low <= int(each.split(" ")[0].strip("r*")) <= high]
-
-    def to_subversion(self, url: str) -> list[str]:
-        command = ["svn", "log", "-q"] if self.verb == "log" else ["svn", "mergeinfo", "--show-revs", self.verb]
-        if self.bounds:
-            command += ["-r", str(Bounds(*reversed(self.bounds)) if self.verb == "log" else self.bounds)]
-        return command + [f"{url}/{peg}" for peg in self.pegs()]
-
-
-def queries_of(verb: str, last: int) -> list[Query]:
-    """The query of a verb without a range and with each."""
-    firsts = {"first": 3, "middle": last // 2, "last": last - RANGE}
-    ranges = {name: Bounds(first, first + RANGE - 1) for name, first in firsts.items()}
-    return [Query(verb, "none", None, last), *(Query(verb, *each, last) for each in ranges.items())]
-
-
 def revisions_of(last: int) -> Iterator[bytes]:
     """The trunk is operative in the first revision, and from the third on in all but the last one, in which the branch
     gets its mergeinfo."""
@@ -88,47 +46,55 @@ def revisions_of(last: int) -> Iterator[bytes]:
     yield revision(last, changed(b"branch", mergeinfo(value)))
 
 
-class Run(NamedTuple):
-    """A run in which a query is asked many times, and its answer."""
+class Query:
+    """A query of a verb, with the bounds of a range or without, its answer, and a run that asks it many times."""
 
-    asked: int
-    timed: Timed
-    lines: list[str]
+    def __init__(self, asked: Asked, verb: str, name: str, bounds: tuple[int, int] | None, last: int) -> None:
+        self.verb, self.name, self.bounds = verb, name, bounds
+        self.pegs = [Peg(path, last) for path in ("trunk", "branch")[: 1 if verb == "log" else 2]]
+        query = line(verb, *self.pegs, *(["%d:%d" % bounds] if bounds else []))
+        [(status, self.lines)] = asked.answers([query])
+        if status != "ok":
+            raise Failed(f"the answer to {query.strip()} is {status}")
+        self.count = min(MOST_ASKED, MOST_REPORT // max(1, sum(len(each) + 1 for each in self.lines)))
+        queries = written(asked.setup.folder / f"ranges-{verb}-{name}.queries", [query] * self.count)
+        self.timed = Timed(words_of(asked.setup.program, asked.dump, queries))
+
+    def revisions(self) -> list[str]:
+        return [each.split(" ")[0] for each in self.lines]
+
+    def check(self, whole: Query) -> None:
+        """The lines must be those of the answer without a range that are in this one."""
+        low, high = self.bounds or (0, math.inf)
+        wanted = [each for each, rev in zip(whole.lines, whole.revisions()) if low <= int(rev.strip("r*")) <= high]
+        if self.lines != wanted:
+            raise Failed(f"the answer to {self.verb} in the {self.name} range has other lines")
+
+    def seconds_of_subversion(self, repository: Repository, times: int) -> float:
+        """The best time of the same command of Subversion, whose revisions must be the same."""
+        words = ["svn", "log", "-q"] if self.verb == "log" else ["svn", "mergeinfo", "--show-revs", self.verb]
+        if self.bounds:
+            words += ["-r", "%d:%d" % (self.bounds[::-1] if self.verb == "log" else self.bounds)]
+        words += [f"{repository.url}/{peg}" for peg in self.pegs]
+        best = best_of(times if self.bounds else 1, Command(words).run)
+        if re.findall(r"^r[0-9]+\*?", best.outcome.output.decode(), re.MULTILINE) != self.revisions():
+            raise Failed(f"{in_words(words)} has another answer than the program")
+        return best.wall
 
 
-def run_of(asked: Asked, query: Query, whole: list[str]) -> Run:
-    """The answer must have those of the lines of the whole answer that are in the range."""
-    answer = asked.answers([query.line()])[0]
-    if answer.status != "ok" or query.bounds and answer.lines != query.lines_of(whole):
-        raise Failed(f"the answer to {query.line().strip()} is {answer.status}, or has other lines")
-    count = min(MOST_ASKED, MOST_REPORT // max(1, sum(len(each) + 1 for each in answer.lines)))
-    path = asked.setup.folder / f"ranges-{query.verb}-{query.name}.queries"
-    words = words_of(asked.setup.program, asked.dump, written(path, [query.line()] * count))
-    return Run(count, Timed(words), answer.lines)
-
-
-def seconds_of_subversion(words: list[str], times: int, lines: list[str]) -> float:
-    """The best time of a command of Subversion, whose revisions must be those of these lines."""
-    best = best_of(times, Command(words).run)
-    found = re.findall(r"^r[0-9]+\*?", best.outcome.output.decode(), re.MULTILINE)
-    if found != [each.split(" ")[0] for each in lines]:
-        raise Failed(f"{in_words(words)} has another answer than the program")
-    return best.wall
-
-
-def rows_of(asked: Asked, verb: str, last: int, url: str | None) -> Iterator[Row]:
-    queries = queries_of(verb, last)
-    whole = asked.answers([queries[0].line()])[0].lines
-    runs = [run_of(asked, query, whole) for query in queries]
-    base = Timed(words_of(asked.setup.program, asked.dump))
-    run_in_turns([base, *(each.timed for each in runs)], asked.setup.times)
-    seconds = [(each.timed.wall - base.wall) / each.asked for each in runs]
-    for query, asking, each in zip(queries, runs, seconds):
-        ratio = MOST_OF_WHOLE.of(each / seconds[0]) if query.bounds else None
-        cells: Row = [f"`{verb}`", query.name, asking.asked, len(asking.lines), each * 1e3, ratio]
-        times = asked.setup.times if query.bounds else 1
-        other = seconds_of_subversion(query.to_subversion(url), times, asking.lines) if url else None
-        yield [*cells, other and other * 1e3, other and other / each]
+def rows_of(asked: Asked, verb: str, last: int, repository: Repository | None) -> Iterator[Row]:
+    firsts = {"first": 3, "middle": last // 2, "last": last - RANGE}
+    whole = Query(asked, verb, "none", None, last)
+    others = [Query(asked, verb, name, (first, first + RANGE - 1), last) for name, first in firsts.items()]
+    base, times = Timed(words_of(asked.setup.program, asked.dump)), asked.setup.times
+    run_in_turns([base, whole.timed, *(query.timed for query in others)], times)
+    of_whole = (whole.timed.wall - base.wall) / whole.count
+    for query in (whole, *others):
+        query.check(whole)
+        each = (query.timed.wall - base.wall) / query.count
+        ratio = MOST_OF_WHOLE.of(each / of_whole) if query.bounds else None
+        other = query.seconds_of_subversion(repository, times) if repository else None
+        yield [f"`{verb}`", query.name, query.count, len(query.lines), each * 1e3, ratio, *beside(other, each)]
 
 
 def run(setup: Setup) -> Measurements:
@@ -136,9 +102,8 @@ def run(setup: Setup) -> Measurements:
     last = operative + 2
     asked = Asked(setup, write_dump(setup.folder / "ranges.dump", revisions_of(last)))
     yield f"{operative:,} operative revisions, and ranges of {RANGE}."
-    with folder_in_memory(setup.folder) as above:
-        url = load(asked.dump, above / "ranges")
-        yield table("ranges", HEADING, [row for verb in VERBS for row in rows_of(asked, verb, last, url)])
+    with loaded(setup, asked.dump) as repository:
+        yield Table("ranges", HEADING, [row for verb in VERBS for row in rows_of(asked, verb, last, repository)])
 
 
 PART = Part(__name__, __doc__, run, [MOST_OF_WHOLE])

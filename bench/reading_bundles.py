@@ -10,9 +10,10 @@ import sys
 from pathlib import Path
 from typing import NamedTuple
 
-from bench.histories import generate, load_into_cache, remove
+from bench.histories import SMALL, SMALL_REVISIONS, generate, load_into_cache
 from bench.measure import REFUSED, Command, best_of_groups
-from bench.parts import Judged, Limit, Measurements, Part, Row, Setup, limits_table, most, table
+from bench.parts import Judged, Limit, Measurements, Part, Row, Setup, Table, limits_table, most
+from bench.questions import records_of
 from bench.subversion import loading
 from dev.running import Measured, Words
 
@@ -36,20 +37,19 @@ class Kind(NamedTuple):
     beside: str
     limit: Limit
 
+    def make(self, path: Path, revisions: int) -> Path:
+        """A bundle without queries around a faulty generated dump."""
+        return generate(path, [*self.options, "--faulty-end"], revisions, BUNDLE)
+
 
 LARGE_OPTIONS = ["--records", "1", "--width", "3", "--body", "0:1048576"]
-SMALL = Kind("small records", ["--records", "24", "--body", "0:650"], 20000, GREP, MOST_OF_GREP)
-LARGE = Kind("large bodies", LARGE_OPTIONS, 2600, COUNT, MOST_OF_LOADING[COUNT])
+SMALL_RECORDS = Kind("small records", SMALL, SMALL_REVISIONS, GREP, MOST_OF_GREP)
+LARGE_BODIES = Kind("large bodies", LARGE_OPTIONS, 2600, COUNT, MOST_OF_LOADING[COUNT])
 HEADING = "what is read | MB:.0f | seconds:.3f | beside it | seconds:.3f | relative:.2f | at most:g | peak MB:.0f"
 READERS_HEADING = (
     "what is read | reader | seconds:.3f | processor s:.3f | MB/s:.0f | relative to wc -c:.2f | relative to grep:.2f | "
     "peak MB:.1f"
 )
-
-
-def make(path: Path, kind: Kind, revisions: int) -> Path:
-    """A bundle without queries around a faulty generated dump."""
-    return generate(path, [*kind.options, "--faulty-end"], revisions, BUNDLE)
 
 
 def commands(program: Path, path: Path) -> dict[str, Command]:
@@ -68,99 +68,87 @@ def commands(program: Path, path: Path) -> dict[str, Command]:
     }
 
 
-def names_in(path: Path) -> str:
+def names_in(dump: Path) -> str:
     """The distinct components in the paths of a dump, in words."""
-    names: set[bytes] = set()
-    with open(path, "rb") as file:
-        for line in file:
-            if line.startswith(b"Node-path: "):
-                names.update(line[11:-1].split(b"/"))
+    names = {name for record in records_of(dump) for name in record.path.split("/")}
     return f"{len(names)} distinct names with {sum(map(len, names))} bytes in total"
 
 
 class Reading:
     """The best measurements on one file."""
 
-    def __init__(self, title: str, path: Path, best: dict[str, Measured]) -> None:
+    def __init__(self, kind: Kind, title: str, path: Path, best: dict[str, Measured]) -> None:
+        self.kind = kind
         self.title = title
+        self.path = path
         self.size = path.stat().st_size
         # grep counts the faulty block at the end as well
         self.records = int(best[GREP].outcome.output) - 1
         self.best = best
 
-    def wall(self, name: str) -> float:
-        return self.best[name].wall
-
     def ratio(self, name: str) -> float:
-        return self.wall(PROGRAM) / self.wall(name)
+        return self.best[PROGRAM].wall / self.best[name].wall
 
-    def kept(self) -> float:
+    def kept(self) -> Judged:
         """The bytes of memory per record, without those of the bundle itself."""
-        return (self.best[PROGRAM].peak - self.best[LOADING].peak) / self.records
+        return MOST_KEPT.of((self.best[PROGRAM].peak - self.best[LOADING].peak) / self.records, self.kind.title)
+
+    def growth(self, half: Reading) -> Judged:
+        """The time for twice the dump relative to that for the dump; the full size is not exactly twice the half."""
+        ratio = 2 * self.best[PROGRAM].wall / half.best[PROGRAM].wall * half.size / self.size
+        return MOST_OF_TWICE.of(ratio, self.kind.title)
 
     def reader_row(self, name: str) -> Row:
-        wall, taken = self.wall(name), self.best[name]
-        relative = [wall / self.wall(other) for other in (COUNT, GREP)]
-        return [self.title, name, wall, taken.processor, self.size / wall / 1e6, *relative, taken.peak / 1e6]
+        taken = self.best[name]
+        relative = [taken.wall / self.best[other].wall for other in (COUNT, GREP)]
+        speed = self.size / taken.wall / 1e6
+        return [self.title, name, taken.wall, taken.processor, speed, *relative, taken.peak / 1e6]
 
-    def row(self, kind: Kind) -> Row:
-        ours, other = self.best[PROGRAM], self.wall(kind.beside)
-        ratio = kind.limit.of(self.ratio(kind.beside))
-        return [kind.title, self.size / 1e6, ours.wall, kind.beside, other, ratio, kind.limit.bound, ours.peak / 1e6]
+    def row(self) -> Row:
+        ours, (title, _, _, beside, limit) = self.best[PROGRAM], self.kind
+        ratio, other = limit.of(self.ratio(beside)), self.best[beside].wall
+        return [title, self.size / 1e6, ours.wall, beside, other, ratio, limit.bound, ours.peak / 1e6]
 
     def __str__(self) -> str:
         each = self.size / self.records
         return f"{self.title}: {self.size / 1e6:.1f} MB, {self.records} records, {each:.0f} bytes for a record"
 
 
-class Halves:
-    """A kind of dump in half and in full size."""
-
-    def __init__(self, setup: Setup, kind: Kind) -> None:
-        self.kind = kind
-        revisions = setup.scaled(kind.revisions)
-        half = make(setup.folder / "half", kind, revisions // 2)
-        full = make(setup.folder / "full", kind, revisions)
-        load_into_cache(half, full)
-        best = best_of_groups([commands(setup.program, path) for path in (half, full)], setup.times)
-        self.half = Reading(f"{kind.title}, half size", half, best[0])
-        self.full = Reading(f"{kind.title}, full size", full, best[1])
-        self.names = names_in(full)
-        remove(half, full)
-
-    def growth(self) -> Judged:
-        """The time for twice the dump relative to that for the dump; the full size is not exactly twice the half size."""
-        ratio = 2 * self.full.wall(PROGRAM) / self.half.wall(PROGRAM) * self.half.size / self.full.size
-        return MOST_OF_TWICE.of(ratio, self.kind.title)
+def measured(setup: Setup, kind: Kind) -> list[Reading]:
+    """A kind of dump in half and in full size, in turns."""
+    full = setup.scaled(kind.revisions)
+    titles = {f"{kind.title}, half size": full // 2, f"{kind.title}, full size": full}
+    paths = {title: kind.make(setup.folder / title, revisions) for title, revisions in titles.items()}
+    load_into_cache(*paths.values())
+    best = best_of_groups([commands(setup.program, path) for path in paths.values()], setup.times)
+    return [Reading(kind, title, path, each) for (title, path), each in zip(paths.items(), best)]
 
 
 def load_once(setup: Setup) -> str:
     """`svnadmin load` of a valid dump, once, and the program on the same dump with the faulty end, in words."""
-    repository = setup.folder / "repository"
-    revisions = setup.scaled(SMALL.revisions) // 2
-    path = generate(setup.folder / "valid", SMALL.options, revisions)
-    taken = Command(loading(repository), file=path).run()
-    shutil.rmtree(repository)
-    make(path, SMALL, revisions)
+    revisions = setup.scaled(SMALL_REVISIONS) // 2
+    path = generate(setup.folder / "valid", SMALL, revisions)
+    taken = Command(loading(setup.folder / "repository"), file=path).run()
+    SMALL_RECORDS.make(path, revisions)
     beside = Command([setup.program], ["cat", path], status=REFUSED).run()
-    size = path.stat().st_size
-    path.unlink()
-    loads = f"svnadmin load of {size / 1e6:.1f} MB: {taken.wall:.3f} seconds (processor: {taken.processor:.3f})"
+    size = path.stat().st_size / 1e6
+    loads = f"svnadmin load of {size:.1f} MB: {taken.wall:.3f} seconds (processor: {taken.processor:.3f})"
     return f"{loads}; the program reads the same in {beside.wall:.3f} seconds."
 
 
 def run(setup: Setup) -> Measurements:
-    small, large = (Halves(setup, kind) for kind in (SMALL, LARGE))
-    yield table("reading-bundles", HEADING, [each.full.row(each.kind) for each in (small, large)])
-    readings = (small.half, small.full, large.half, large.full)
+    half_small, small = measured(setup, SMALL_RECORDS)
+    half_large, large = measured(setup, LARGE_BODIES)
+    yield Table("reading-bundles", HEADING, [small.row(), large.row()])
+    readings = (half_small, small, half_large, large)
     yield from map(str, readings)
     rows = [reading.reader_row(name) for reading in readings for name in reading.best]
-    yield table("reading-bundles-beside", READERS_HEADING, rows)
-    yield f"The last dump of small records has {small.names}."
+    yield Table("reading-bundles-beside", READERS_HEADING, rows)
+    yield f"The last dump of small records has {names_in(small.path)}."
     if setup.is_quick and shutil.which("svnadmin"):
         yield load_once(setup)
-    limits = [MOST_OF_LOADING[name].of(large.full.ratio(name), LARGE.title) for name in (HOLDING, LOADING)]
-    limits += [MOST_KEPT.of(small.full.kept(), SMALL.title), small.growth(), large.growth()]
+    limits = [MOST_OF_LOADING[name].of(large.ratio(name), large.kind.title) for name in (HOLDING, LOADING)]
+    limits += [small.kept(), small.growth(half_small), large.growth(half_large)]
     yield limits_table("reading-bundles-limits", limits)
 
 

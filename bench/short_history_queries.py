@@ -9,42 +9,34 @@ import random
 from collections.abc import Sequence
 
 from bench.histories import short_history
-from bench.parts import Measurements, Part, Row, Setup, table
-from bench.questions import Asked, Question, later_half, pegs_of, records_of
-from bench.subversion import ask_command, load
-from dev.running import Measured
+from bench.parts import ABSENT, Cell, Measurements, Part, Row, Setup, Table
+from bench.questions import Asked, Question, drawn_question, later_half, pegs_of, records_of
+from bench.subversion import Repository, ask_command, loaded
 
 # The number of queries of each verb; the answers to `log` are long.
 ASKED = {"locate": 200000, "segments": 200000, "log": 20000}
 HEADING = "verb | queries:, | answer lines:, | ms per query:.3f | ms per query, Subversion:.3f"
 
 
-def row(asked: Asked, url: str | None, base: Measured, verb: str, questions: Sequence[Question]) -> Row:
+def row(asked: Asked, repository: Repository | None, verb: str, questions: Sequence[Question]) -> Row:
     lines = [question.line(verb) for question in questions[: ASKED[verb]]]
-    taken = asked.best(lines)
-    other = ask_command(questions, verb, url)
-    return [
-        verb,
-        len(lines),
-        taken.outcome.output.count(b"\n") - len(lines),
-        (taken.wall - base.wall) / len(lines) * 1e3,
-        other and other * 1e3,
-    ]
+    cost = asked.cost(lines)
+    other: Cell = ABSENT
+    if repository:
+        seconds = ask_command(repository, questions, verb)
+        other = seconds and seconds * 1e3
+    return [verb, len(lines), cost.lines, cost.seconds * 1e3, other]
 
 
 def run(setup: Setup) -> Measurements:
-    dump = short_history(setup, "dump")
-    records = records_of(dump)
+    asked = Asked(setup, short_history(setup, "dump"))
+    records = records_of(asked.dump)
     lot, pegs = random.Random(1), later_half(pegs_of(records))
-    questions = [Question.drawn(lot, pegs) for _ in range(max(ASKED.values()))]
-    url = load(dump, setup.folder / "asked")
-    asked = Asked(setup, dump)
-    base = asked.best([])
-    yield (
-        f"{records[-1].rev} revisions, {len(records)} records; without queries {base.wall:.3f} seconds and at most "
-        f"{base.peak / 1e6:.0f} MB."
-    )
-    yield table("short-history-queries", HEADING, [row(asked, url, base, verb, questions) for verb in ASKED])
+    questions = [drawn_question(lot, pegs) for _ in range(max(ASKED.values()))]
+    size = f"{records[-1].rev} revisions, {len(records)} records"
+    yield f"{size}; without queries {asked.base.wall:.3f} seconds and at most {asked.base.peak / 1e6:.0f} MB."
+    with loaded(setup, asked.dump) as repository:
+        yield Table("short-history-queries", HEADING, [row(asked, repository, verb, questions) for verb in ASKED])
 
 
 PART = Part(__name__, __doc__, run)

@@ -1,6 +1,7 @@
 """Subversion beside the program, where it is installed: its commands and its Python bindings."""
 from __future__ import annotations
 
+import math
 import shutil
 import subprocess
 import tempfile
@@ -8,52 +9,33 @@ import time
 from collections.abc import Sequence
 from contextlib import contextmanager
 from pathlib import Path
-from typing import IO, Iterator, NamedTuple, Optional
+from typing import IO, Iterator, NamedTuple
 
-from bench.histories import BENCH, revisions_of
-from bench.measure import Command
+from bench.histories import revisions_of
+from bench.parts import ABSENT, Cell, Limit, Setup
 from bench.questions import Question
-from dev.running import Failed, measure
+from dev.running import Failed, Limits, measure, run
+from dev.tree import ROOT
 
 # Debian's bindings are built for Debian's own Python.
 BINDINGS = Path("/usr/bin/python3")
-READER = BENCH / "bindings_reader.py"
+READER = "bench.bindings_reader"
 MEMORY = Path("/dev/shm")
 LOADING_SECONDS = 600
 ASKED_OF_COMMAND = 20
 
 
-def is_installed() -> bool:
-    return all(map(shutil.which, ("svn", "svnadmin")))
+class Repository(NamedTuple):
+    """A repository into which a dump was loaded, and its youngest revision."""
 
-
-@contextmanager
-def folder_in_memory(folder: Path) -> Iterator[Path]:
-    """A folder for a repository, in memory where that is a folder: loading into one on a disk may take several times as
-    long."""
-    with tempfile.TemporaryDirectory(dir=MEMORY if MEMORY.is_dir() else folder) as above:
-        yield Path(above)
+    url: str
+    last: int
 
 
 def loading(repository: Path) -> list[str | Path]:
     """The command that loads a dump into a new repository."""
     subprocess.run(["svnadmin", "create", repository], check=True)
     return ["svnadmin", "load", "-q", "--no-flush-to-disk", repository]
-
-
-def load(dump: Path, repository: Path) -> str | None:
-    """The URL of a repository into which a dump was loaded, or None without Subversion."""
-    if not is_installed():
-        return None
-    Command(loading(repository), file=dump).run()
-    return f"file://{repository}"
-
-
-class Loaded(NamedTuple):
-    """A repository, and its youngest revision."""
-
-    url: str
-    last: int
 
 
 def feed(taker: IO[bytes], dump: Path, seconds: float) -> int:
@@ -67,17 +49,20 @@ def feed(taker: IO[bytes], dump: Path, seconds: float) -> int:
     return number
 
 
-def load_part(dump: Path, repository: Path, seconds: float) -> Optional[Loaded]:
-    """What can be loaded in some time, or None without Subversion."""
-    if not is_installed():
-        return None
-    child = subprocess.Popen(loading(repository), stdin=subprocess.PIPE)
-    assert child.stdin is not None
-    last = feed(child.stdin, dump, seconds)
-    child.stdin.close()
-    if child.wait() != 0:
-        raise Failed(f"svnadmin load ended with {child.returncode}")
-    return Loaded(f"file://{repository}", last)
+@contextmanager
+def loaded(setup: Setup, dump: Path, seconds: float = math.inf) -> Iterator[Repository | None]:
+    """What can be loaded of a dump in some time, or None without Subversion. It is in memory where that is a folder:
+    loading into a repository on a disk may take several times as long."""
+    if not all(map(shutil.which, ("svn", "svnadmin"))):
+        yield None
+        return
+    with tempfile.TemporaryDirectory(dir=MEMORY if MEMORY.is_dir() else setup.folder) as folder:
+        with subprocess.Popen(loading(Path(folder)), stdin=subprocess.PIPE) as child:
+            assert child.stdin is not None
+            last = feed(child.stdin, dump, seconds)
+        if child.returncode != 0:
+            raise Failed(f"svnadmin load ended with {child.returncode}")
+        yield Repository(f"file://{folder}", last)
 
 
 class OfBindings(NamedTuple):
@@ -87,31 +72,30 @@ class OfBindings(NamedTuple):
     answers: list[list[str]]
 
 
-def ask_bindings(url: str | None, lines: Sequence[str]) -> OfBindings | None:
+def ask_bindings(repository: Repository | None, lines: Sequence[str]) -> OfBindings | None:
     """What the bindings answer to queries of one verb, or None without a repository or bindings."""
-    if url is None:
+    if repository is None or not BINDINGS.exists():
         return None
-    try:
-        done = subprocess.run([BINDINGS, READER, url], input="".join(lines).encode(), capture_output=True, check=False)
-    except OSError:
+    done = run([BINDINGS, "-m", READER, repository.url], "".join(lines).encode(), folder=ROOT, limits=Limits(3600))
+    if done.status != 0:
+        raise Failed(f"{READER} ended with {done.shown()}")
+    if not done.output:
         return None
-    if done.returncode != 0:
-        if b"No module named" in done.stderr:
-            return None
-        raise Failed(f"{READER.name}: {done.stderr.decode('utf-8', 'replace').strip()}")
-    seconds, _, report = done.stdout.decode().partition("\n")
+    seconds, _, report = done.output.decode().partition("\n")
     answers = [answer.split("\n")[1:] for answer in ("\n" + report.rstrip("\n")).split("\n#")[1:]]
     return OfBindings(float(seconds) / len(lines), answers)
 
 
-def ask_command(questions: Sequence[Question], verb: str, url: str | None) -> float | None:
-    """The seconds that a command of Subversion takes for a query, with its start. None without a repository or a command
-    for the verb."""
-    if url is None:
-        return None
-    asked = [question.to_subversion(verb, url) for question in questions[:ASKED_OF_COMMAND]]
+def ask_command(repository: Repository, questions: Sequence[Question], verb: str) -> float | None:
+    """The seconds of a command of Subversion for a query, with its start. None without a command for the verb."""
+    asked = [question.to_subversion(verb, repository.url) for question in questions[:ASKED_OF_COMMAND]]
     commands = [words for words in asked if words is not None]
-    if len(commands) < len(asked):
-        return None
     # If the path did not exist, svn reports that and ends with status 1.
-    return sum(measure(words).wall for words in commands) / len(commands)
+    return sum(measure(words).wall for words in commands) / len(commands) if commands else None
+
+
+def beside(seconds: float | None, ours: float, limit: Limit | None = None) -> list[Cell]:
+    """The milliseconds that Subversion takes, if it is installed, and how many times ours they are."""
+    if seconds is None:
+        return [ABSENT, ABSENT]
+    return [seconds * 1e3, limit.of(seconds / ours) if limit else seconds / ours]

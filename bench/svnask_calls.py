@@ -16,10 +16,10 @@ from pathlib import Path
 from typing import Callable
 
 from bench.histories import BENCH, generate, load_into_cache
-from bench.measure import NOTHING, Command, best_in_turns
-from bench.parts import Measurements, Part, Row, Setup, limits_table, most, table
-from bench.questions import Peg, line, written
-from dev.running import Measured, Words, measure, peak_of
+from bench.measure import Command, best_in_turns, words_of, written
+from bench.parts import Measurements, Part, Row, Setup, Table, limits_table, most
+from bench.questions import Peg, line
+from dev.running import Measured, Words, peak_of
 from dev.tree import EXAMPLES, ROOT, SVNASK
 
 GENERATED = ["--mix", "releases", "--records", "24", "--no-checksums", "--body", "0:200"]
@@ -27,7 +27,6 @@ REVISIONS = 20000
 # How many of the revisions change mergeinfo, and how many lines of answers are read.
 VALUES = 0.6
 LINES = 14000000
-GREP = ["grep", "-c", "-a", "^Node-path"]
 # What a later call takes more than the program, for which its limit has room.
 MORE = 0.2
 
@@ -41,14 +40,9 @@ class Asked:
     """A dump, the same without texts, and the commands about them."""
 
     def __init__(self, setup: Setup) -> None:
-        self.program = setup.program
-        self.dump = setup.folder / "asked"
-        self.stripped = setup.folder / "asked-stripped"
-        self.cache = setup.folder / "cache"
-        self.compiled = setup.folder / "compiled"
-        self.queries = setup.folder / "asked-queries"
-        self.workers = min(len(os.sched_getaffinity(0)), 64)
+        self.setup = setup
         self.rev = setup.scaled(REVISIONS)
+        self.dump, self.stripped, self.cache = (setup.folder / name for name in ("asked", "asked-stripped", "cache"))
         generate(self.dump, [*GENERATED, "--values", str(int(self.rev * VALUES))], self.rev)
         with open(self.dump, "rb") as dump, open(self.stripped, "wb") as stripped:
             subprocess.run([EXAMPLES / "strip-texts"], stdin=dump, stdout=stripped, check=True)
@@ -56,12 +50,9 @@ class Asked:
 
     def python(self, *words: str | Path) -> Words:
         """A script in Python with the program and the cache of this benchmark, and compiled once, as when installed."""
-        python = [f"PYTHONPYCACHEPREFIX={self.compiled}", f"PYTHONPATH={ROOT / 'ask'}"]
-        own = [f"SVNHIST={self.program}", f"XDG_CACHE_HOME={self.cache}"]
+        python = [f"PYTHONPYCACHEPREFIX={self.setup.folder / 'compiled'}", f"PYTHONPATH={ROOT / 'ask'}"]
+        own = [f"SVNHIST={self.setup.program}", f"XDG_CACHE_HOME={self.cache}"]
         return ["/usr/bin/env", "-u", "PYTHONDONTWRITEBYTECODE", *python, *own, sys.executable, *words]
-
-    def grep(self) -> Measured:
-        return Command([*GREP, self.dump]).run()
 
     def first_words(self) -> Words:
         """The first call, with an empty cache. Its question is one that the program isn't asked."""
@@ -76,9 +67,9 @@ class Asked:
 
     def alone(self, count: int) -> Measured:
         """The program about the dump without texts, with so many queries of the log of the trunk."""
-        written(self.queries, [line("log", Peg("trunk", self.rev))] * count)
-        words: Words = [self.program, self.stripped, self.queries, "0", str(self.workers)]
-        return measure(words, file=NOTHING, is_kept=False).expect()
+        queries = written(self.setup.folder / "asked-queries", [line("log", Peg("trunk", self.rev))] * count)
+        workers = min(len(os.sched_getaffinity(0)), 64)
+        return Command(words_of(self.setup.program, self.stripped, queries, workers=workers)).run(is_kept=False)
 
     def read(self, count: int) -> Measured:
         """All answers to so many queries, read by the module."""
@@ -88,11 +79,12 @@ class Asked:
 def run(setup: Setup) -> Measurements:
     asked = Asked(setup)
     dump, stripped = (path.stat().st_size / 1e6 for path in (asked.dump, asked.stripped))
-    records = int(asked.grep().outcome.output)
+    grepped = Command(["grep", "-c", "-a", "^Node-path", asked.dump])
+    records = int(grepped.run().outcome.output)
     yield f"A dump of {dump:.1f} MB, {stripped:.1f} MB without texts, {records} records."
     count = setup.scaled(LINES) // asked.later().outcome.output.count(b"\nr")
     pairs: list[dict[str, Callable[[], Measured]]] = [
-        {"`grep -c ^Node-path`": asked.grep, "svnask, the first question": asked.first},
+        {"`grep -c ^Node-path`": grepped.run, "svnask, the first question": asked.first},
         {"svnhist, the log of the trunk": partial(asked.alone, 1), "svnask, the same as a later question": asked.later},
         {"svnhist, many logs": partial(asked.alone, count), "the module, the same": partial(asked.read, count)},
     ]
@@ -100,7 +92,7 @@ def run(setup: Setup) -> Measurements:
     best = {name: taken for pair in pairs for name, taken in best_in_turns(pair, setup.times, cost).items()}
     grep, first, alone, later, many, read = (taken.processor for taken in best.values())
     rows: list[Row] = [[name, taken.processor, taken.peak / 1e6] for name, taken in best.items()]
-    yield table("svnask", "what runs | processor s:.3f | peak MB:.0f", rows)
+    yield Table("svnask", "what runs | processor s:.3f | peak MB:.0f", rows)
     yield f"Lines of the many logs: {best['the module, the same'].outcome.output.decode().strip()}."
     limits = [MOST_OF_GREP.of(first / grep), MOST_MEGABYTES.of(peak_of(asked.first_words()) / 1e6)]
     limits += [MOST_OF_PROGRAM.of((later - MORE) / alone), MOST_OF_LINES.of(read / many)]

@@ -20,12 +20,11 @@ import time
 from collections.abc import Iterator, Sequence
 from contextlib import contextmanager
 from pathlib import Path
-from typing import NamedTuple
 
-from bench.histories import MIXES, generate, remove, revisions_of
-from bench.parts import Judged, Measurements, Part, Row, Setup, limits_table, most, table
-from bench.questions import Peg, Question, later_half, pegs_at_ends, records_of
-from bench.subversion import ASKED_OF_COMMAND, LOADING_SECONDS, Loaded, ask_command, folder_in_memory, load_part
+from bench.histories import MIXES, generate, revisions_of
+from bench.parts import Measurements, Part, Row, Setup, Table, limits_table, most
+from bench.questions import Question, drawn_question, later_half, pegs_at_ends, records_of
+from bench.subversion import ASKED_OF_COMMAND, LOADING_SECONDS, Repository, ask_command, loaded
 from dev.running import Failed, Words
 
 # The revisions before the first piece, the pieces, and the revisions of each.
@@ -35,9 +34,8 @@ TEN = 10
 # How many pieces are looked at, at the beginning and at the end, and how many questions of each kind.
 TIMED = 200
 VERBS = ("log", "mergeinfo", "segments")
-WORKERS = 1
 READ = 1 << 16
-MOST_MILLISECONDS = {name: most(20, f"a piece, {name} of the first {TIMED}, ms") for name in ("median", "worst")}
+MOST_OF_MEDIAN, MOST_OF_WORST = (most(20, f"a piece, {name} of the first {TIMED}, ms") for name in ("median", "worst"))
 MOST_OF_AT_ONCE = {verb: most(1.5, f"`{verb}` after all pieces, relative to the same read at once") for verb in VERBS}
 
 
@@ -52,15 +50,13 @@ class Talk:
 
     def reply(self) -> bytes:
         """All up to the next empty line, which ends a reply."""
-        pieces: list[bytes] = []
-        end = b""
-        while end != b"\n\n":
+        found = bytearray()
+        while not found.endswith(b"\n\n"):
             piece = os.read(self.output, READ)
             if not piece:
                 raise Failed(f"svnhist-live ended with {self.child.wait()}")
-            pieces.append(piece)
-            end = (end + piece)[-2:]
-        return b"".join(pieces)
+            found += piece
+        return bytes(found)
 
     def turn(self, text: bytes) -> tuple[float, bytes]:
         """The seconds until the reply to a turn, and the reply."""
@@ -73,7 +69,7 @@ class Talk:
 
 @contextmanager
 def talk_about(live: Path, dump: Path) -> Iterator[Talk]:
-    words: Words = [live, dump, str(WORKERS)]
+    words: Words = [live, dump, "1"]
     with subprocess.Popen(words, stdin=subprocess.PIPE, stdout=subprocess.PIPE, bufsize=0) as child:
         try:
             yield Talk(child)
@@ -81,44 +77,34 @@ def talk_about(live: Path, dump: Path) -> Iterator[Talk]:
             child.kill()
 
 
-class Talks(NamedTuple):
-    """The talk to which the pieces come, and that about the same history, read at once."""
+class History:
+    """The dumps of a whole history and of the part before the first piece, and what is asked about it."""
 
-    after: Talk
-    at_once: Talk
+    def __init__(self, setup: Setup) -> None:
+        self.front = setup.folder / "live-front.dump"
+        self.first = setup.scaled(REVISIONS)
+        self.last = self.first + setup.scaled(PIECES) * TEN
+        self.whole = generate(setup.folder / "live.dump", MIXES["changes"], self.last)
+        with open(self.front, "wb") as file:
+            file.writelines(itertools.islice(revisions_of(self.whole), self.first + 2))
+        self.pegs = pegs_at_ends(records_of(self.whole))
 
+    def pieces(self) -> Iterator[bytes]:
+        """The pieces as turns."""
+        revisions = itertools.islice(revisions_of(self.whole), self.first + 2, None)
+        while piece := b"".join(itertools.islice(revisions, TEN)):
+            yield b"piece %d\n" % len(piece) + piece
 
-class History(NamedTuple):
-    """The files of the whole history and of the part before the first piece, the revisions, and the pegs of paths."""
-
-    whole: Path
-    front: Path
-    first: int
-    last: int
-    pegs: list[Peg]
-
-
-def made(setup: Setup) -> History:
-    front = setup.folder / "live-front.dump"
-    first = setup.scaled(REVISIONS)
-    last = first + setup.scaled(PIECES) * TEN
-    whole = generate(setup.folder / "live.dump", MIXES["changes"], last)
-    with open(front, "wb") as file:
-        file.writelines(itertools.islice(revisions_of(whole), first + 2))
-    return History(whole, front, first, last, pegs_at_ends(records_of(whole)))
-
-
-def pieces_of(history: History) -> Iterator[bytes]:
-    """The pieces as turns."""
-    revisions = itertools.islice(revisions_of(history.whole), history.first + 2, None)
-    while piece := b"".join(itertools.islice(revisions, TEN)):
-        yield b"piece %d\n" % len(piece) + piece
+    def questions(self, last: int, count: int) -> list[Question]:
+        """So many questions about the later half of the revisions up to one."""
+        lot, pegs = random.Random(6), later_half([peg for peg in self.pegs if peg.rev <= last])
+        return [drawn_question(lot, pegs) for _ in range(count)]
 
 
 def grown(talk: Talk, history: History) -> list[float]:
     """The milliseconds of each piece."""
     found = []
-    for number, turn in enumerate(pieces_of(history), 1):
+    for number, turn in enumerate(history.pieces(), 1):
         seconds, reply = talk.turn(turn)
         if reply != b"ready %d\n\n" % (history.first + TEN * number):
             raise Failed(f"the reply to piece {number} is {reply!r}")
@@ -126,17 +112,7 @@ def grown(talk: Talk, history: History) -> list[float]:
     return found
 
 
-def pieces_row(title: str, taken: Sequence[float]) -> Row:
-    return [title, statistics.median(taken), max(taken)]
-
-
-def questions_of(history: History, last: int, count: int) -> list[Question]:
-    """So many questions about the later half of the revisions up to one."""
-    lot, pegs = random.Random(6), later_half([peg for peg in history.pegs if peg.rev <= last])
-    return [Question.drawn(lot, pegs) for _ in range(count)]
-
-
-def ask_both(talks: Talks, line: bytes) -> list[float]:
+def ask_both(talks: Sequence[Talk], line: bytes) -> list[float]:
     """The milliseconds of a question in each talk."""
     (after, one), (at_once, other) = (talk.turn(line) for talk in talks)
     if one != other or b" ok\n" not in one:
@@ -144,7 +120,7 @@ def ask_both(talks: Talks, line: bytes) -> list[float]:
     return [after * 1e3, at_once * 1e3]
 
 
-def asked(talks: Talks, verb: str, questions: Sequence[Question], times: int) -> list[float]:
+def asked(talks: Sequence[Talk], verb: str, questions: Sequence[Question], times: int) -> list[float]:
     """The median of the milliseconds of a question in each talk."""
     lines = [question.line(verb).encode() for question in questions]
     best = [[math.inf] * len(talks) for _ in lines]
@@ -153,58 +129,49 @@ def asked(talks: Talks, verb: str, questions: Sequence[Question], times: int) ->
     return [statistics.median(each) for each in zip(*best)]
 
 
-def beside_subversion(talks: Talks, history: History, loaded: Loaded | None, times: int) -> str:
+def beside_subversion(talks: Sequence[Talk], history: History, repository: Repository | None, times: int) -> str:
     """The time of `svn log` beside that of the same questions after all pieces, in words."""
-    if loaded is None:
-        return "There is no `svn`, so no `svn log` stands beside `log`."
-    same = questions_of(history, loaded.last, ASKED_OF_COMMAND)
-    ours, other = asked(talks, "log", same, times)[0], ask_command(same, "log", loaded.url)
-    assert other is not None
+    if repository is None:
+        return "Subversion is not installed, so no `svn log` stands beside `log`."
+    same = history.questions(repository.last, ASKED_OF_COMMAND)
+    ours, other = asked(talks, "log", same, times)[0], (ask_command(repository, same, "log") or 0) * 1e3
     return (
-        f"{len(same)} questions `log` about the {loaded.last:,} revisions that Subversion has loaded take {ours:.3f} ms "
-        f"each. `svn log -q` takes {other * 1e3:.3f} ms, {other * 1e3 / ours:.0f} times as long."
+        f"{len(same)} questions `log` about the {repository.last:,} revisions that Subversion has loaded take "
+        f"{ours:.3f} ms each. `svn log -q` takes {other:.3f} ms, {other / ours:.0f} times as long."
     )
 
 
-def judged(pieces: Sequence[float], questions: dict[str, list[float]]) -> Iterator[Judged]:
-    """The limits, of the first pieces and of questions after all of them."""
-    first = pieces[:TIMED]
-    yield MOST_MILLISECONDS["median"].of(statistics.median(first))
-    yield MOST_MILLISECONDS["worst"].of(max(first))
-    for verb, (after, at_once) in questions.items():
-        yield MOST_OF_AT_ONCE[verb].of(after / at_once)
-
-
-def measured(setup: Setup, history: History, loaded: Loaded | None) -> Measurements:
-    questions = questions_of(history, history.last, TIMED)
+def measured(setup: Setup, history: History, repository: Repository | None) -> Measurements:
+    questions = history.questions(history.last, TIMED)
     with talk_about(setup.live, history.front) as after, talk_about(setup.live, history.whole) as at_once:
-        talks = Talks(after, at_once)
         pieces = grown(after, history)
-        found = {verb: asked(talks, verb, questions, setup.times) for verb in VERBS}
-        rows = [
-            pieces_row(f"one of the first {TIMED} pieces", pieces[:TIMED]),
-            pieces_row(f"one of the last {TIMED} pieces", pieces[-TIMED:]),
-            pieces_row(f"one of all {len(pieces):,} pieces", pieces),
+        found = {verb: asked((after, at_once), verb, questions, setup.times) for verb in VERBS}
+        first = pieces[:TIMED]
+        kinds = [
+            (f"the first {TIMED}", first),
+            (f"the last {TIMED}", pieces[-TIMED:]),
+            (f"all {len(pieces):,}", pieces),
         ]
+        rows: list[Row] = [[f"one of {name} pieces", statistics.median(each), max(each)] for name, each in kinds]
         for verb, (one, other) in found.items():
             rows.append([f"`{verb}` after all pieces", one, None])
             rows.append([f"`{verb}` on the same history, read at once", other, None])
-        yield table("svnhist-live", "what is replied to | median, ms:.3f | worst, ms:.3f", rows)
-        yield limits_table("svnhist-live-limits", list(judged(pieces, found)))
-        yield beside_subversion(talks, history, loaded, setup.times)
+        yield Table("svnhist-live", "what is replied to | median, ms:.3f | worst, ms:.3f", rows)
+        limits = [MOST_OF_MEDIAN.of(statistics.median(first)), MOST_OF_WORST.of(max(first))]
+        limits += [MOST_OF_AT_ONCE[verb].of(one / other) for verb, (one, other) in found.items()]
+        yield limits_table("svnhist-live-limits", limits)
+        yield beside_subversion((after, at_once), history, repository, setup.times)
 
 
 def run(setup: Setup) -> Measurements:
     if not os.access(setup.live, os.X_OK):
         yield f"There is no program {setup.live}, so no talk was measured."
         return
-    history = made(setup)
+    history = History(setup)
     pieces = f"{history.first:,} revisions, then pieces of {TEN} up to {history.last:,}"
     yield f"{pieces}, and {TIMED} questions of each verb."
-    with folder_in_memory(setup.folder) as above:
-        loaded = load_part(history.whole, above / "live", setup.scaled(LOADING_SECONDS))
-        yield from measured(setup, history, loaded)
-    remove(history.whole, history.front)
+    with loaded(setup, history.whole, setup.scaled(LOADING_SECONDS)) as repository:
+        yield from measured(setup, history, repository)
 
 
-PART = Part(__name__, __doc__, run, [*MOST_MILLISECONDS.values(), *MOST_OF_AT_ONCE.values()])
+PART = Part(__name__, __doc__, run, [MOST_OF_MEDIAN, MOST_OF_WORST, *MOST_OF_AT_ONCE.values()])

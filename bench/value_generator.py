@@ -44,9 +44,8 @@ FORMS = {"many-paths": many_paths, "one-line": one_line, "one-path": one_path}
 
 
 def main() -> None:
-    words = argparse.ArgumentParser(
-        prog="generate_value", description="Writes a long value of svn:mergeinfo to standard output."
-    )
+    about = "Writes a long value of svn:mergeinfo to standard output."
+    words = argparse.ArgumentParser(prog="generate_value", description=about)
     words.add_argument("form", choices=FORMS, help="what the value consists of")
     words.add_argument("count", type=int, help="how many paths, elements or lines")
     words.add_argument("--seed", type=int, default=1, help="seed of the random choices (default 1)")

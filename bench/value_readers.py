@@ -10,17 +10,17 @@ from __future__ import annotations
 import ctypes
 import sys
 import time
+from collections import defaultdict
 from collections.abc import Iterable
 from importlib import import_module
 from typing import Any, Callable
 
 # A reader, which may print what it has read.
 Reader = Callable[[], Any]
-# A run: its first and its last revision, and in a value whether it is inheritable.
+# The first and the last revision of a run.
 Run = tuple[int, int]
 # The rest of the path that inherits.
 BELOW = b"/file"
-LIBRARY = "libsvn_subr-1.so.1"
 
 
 def bindings_reader(text: bytes) -> Reader:
@@ -31,7 +31,7 @@ def bindings_reader(text: bytes) -> Reader:
 
 def library_reader(text: bytes) -> Reader:
     """The same function of Subversion's C library alone."""
-    library = ctypes.CDLL(LIBRARY)
+    library = ctypes.CDLL("libsvn_subr-1.so.1")
     library.apr_initialize()
     library.svn_pool_create_ex.restype = ctypes.c_void_p
     library.svn_pool_create_ex.argtypes = [ctypes.c_void_p] * 2
@@ -47,24 +47,20 @@ def library_reader(text: bytes) -> Reader:
     return read
 
 
-def run_of(element: bytes) -> tuple[int, int, bool]:
-    """The first revision of an element, its last one, and whether they are inheritable."""
-    is_inheritable = not element.endswith(b"*")
-    first, _, last = element.rstrip(b"*").partition(b"-")
-    return int(first), int(last or first), is_inheritable
-
-
-def value_of(text: bytes) -> dict[bytes, list[tuple[int, int, bool]]]:
-    """The runs of each path."""
-    value: dict[bytes, list[tuple[int, int, bool]]] = {}
+def value_of(text: bytes) -> dict[bytes, list[Run]]:
+    """The inheritable runs of each path."""
+    value: dict[bytes, list[Run]] = defaultdict(list)
     for line in text.split(b"\n"):
         path, _, elements = line.rpartition(b":")
-        value.setdefault(path, []).extend(run_of(element) for element in elements.split(b","))
+        for element in elements.split(b","):
+            if not element.endswith(b"*"):
+                first, _, last = element.partition(b"-")
+                value[path].append((int(first), int(last or first)))
     return value
 
 
 def united(runs: Iterable[Run]) -> list[Run]:
-    """The first and the last revision of each run that cannot be longer, in rising order."""
+    """The longest runs, in rising order."""
     longest: list[Run] = []
     for first, last in sorted(runs):
         if longest and first <= longest[-1][1] + 1:
@@ -82,12 +78,8 @@ def plain_reader(text: bytes) -> Reader:
     """The whole work in plain Python, for a value that is well-formed and whose paths are as they are printed."""
 
     def read() -> bytes:
-        lines = []
-        for path, runs in value_of(text).items():
-            inherited = united((first, last) for first, last, is_inheritable in runs if is_inheritable)
-            if inherited:
-                lines.append((path + BELOW, inherited))
-        return b"".join(b"%s:%s\n" % (path, printed(runs)) for path, runs in sorted(lines))
+        lines = sorted((path + BELOW, united(runs)) for path, runs in value_of(text).items())
+        return b"".join(b"%s:%s\n" % (path, printed(runs)) for path, runs in lines)
 
     return read
 

@@ -1,20 +1,20 @@
 """Whole runs on long histories of changes and of additions: how long they take, and how much memory.
 
 A run is reading, the index, the map, its check and a report on ten queries. It is measured beside two other readers of
-the same bytes: `grep -c ^Node-path` through a pipe, and the program on the dump with a faulty block at its end, which it
-reads and refuses. The three lengths of a history are measured in turns. A change of a text adds nothing to the map, and
-an addition adds a node for each component of its path and one for the root.
+the same bytes: `grep -c ^Node-path` through a pipe, and the program on the dump with a faulty block at its end, which
+it refuses. The three lengths of a history are measured in turns. A change of a text adds nothing to the map, and an
+addition adds a node for each component of its path and one for the root.
 """
 from __future__ import annotations
 
-from collections.abc import Iterable
+from collections.abc import Iterator
 from typing import NamedTuple
 
-from bench.histories import MIXES, RECORDS, SIZES, generate, make_faulty, remove, ten_queries
+from bench.histories import MIXES, RECORDS, SIZES, generate, make_faulty, ten_queries
 from bench.measure import REFUSED, Command, SameReport, best_of_groups, words_of
-from bench.parts import Judged, Measurements, Part, Row, Setup, limits_table, most, table
+from bench.parts import Judged, Measurements, Part, Row, Setup, Table, limits_table, most
 from bench.questions import TEN
-from dev.running import Measured, peak_of
+from dev.running import peak_of
 
 
 class Kind(NamedTuple):
@@ -45,30 +45,24 @@ LIMITS = (*MOST_TIMES.values(), *MOST_MEGABYTES.values(), MOST_FOR_TWICE, MOST_M
 
 
 class History:
-    """A generated history, with the best run of each kind, of `grep` and of reading."""
+    """A generated history, the commands that are run on it, and the best time of each."""
 
     def __init__(self, setup: Setup, mix: str, revisions: int) -> None:
         self.mix = mix
         self.revisions = revisions
-        self.dump = generate(setup.folder / f"{mix}-{revisions}", MIXES[mix], revisions)
-        self.faulty = make_faulty(self.dump, setup.folder / f"{mix}-{revisions}-faulty")
-        queries = ten_queries(setup.folder / f"{mix}-{revisions}-queries", self.dump)
-        self.size = self.dump.stat().st_size
-        self.commands: dict[Kind | str, Command] = {}
-        same = SameReport(self.dump.name, len(TEN))
-        for kind in KINDS.values():
-            words = words_of(setup.program, self.dump, queries, kind.block, kind.workers)
-            self.commands[kind] = Command(words, report=same)
-        self.commands[GREP] = Command(["grep", "-c", "^Node-path"], ["cat", self.dump])
-        self.commands[READING] = Command(words_of(setup.program, self.faulty, queries), status=REFUSED)
-        self.walls: dict[Kind | str, float] = {}
-        self.peak = 0
-
-    def finish(self, best: dict[Kind | str, Measured]) -> None:
-        """Keeps what was measured, measures the memory, and removes the dumps."""
-        self.walls = {key: taken.wall for key, taken in best.items()}
+        dump = generate(setup.folder / f"{mix}-{revisions}", MIXES[mix], revisions)
+        faulty = make_faulty(dump, setup.folder / f"{mix}-{revisions}-faulty")
+        queries = ten_queries(setup.folder / f"{mix}-{revisions}-queries", dump)
+        self.size = dump.stat().st_size
+        same = SameReport(dump.name, len(TEN))
+        self.commands: dict[Kind | str, Command] = {
+            kind: Command(words_of(setup.program, dump, queries, kind.block, kind.workers), report=same)
+            for kind in KINDS.values()
+        }
+        self.commands[GREP] = Command(["grep", "-c", "^Node-path"], ["cat", dump])
+        self.commands[READING] = Command(words_of(setup.program, faulty, queries), status=REFUSED)
         self.peak = peak_of(self.commands[ALONE].words)
-        remove(self.dump, self.faulty)
+        self.walls: dict[Kind | str, float] = {}
 
     def best_wall(self, workers: int) -> float:
         return min(self.walls[kind] for kind in KINDS.values() if kind.workers == workers)
@@ -78,9 +72,6 @@ class History:
         each = self.peak / (self.revisions * RECORDS)
         return [self.mix, self.revisions, self.size / 1e6, *walls, self.peak / 1e6, each]
 
-    def workers_row(self) -> Row:
-        return [self.mix, self.revisions, *(self.walls[kind] for kind in KINDS.values())]
-
     def relative_row(self, kind: Kind) -> Row:
         return [self.mix, self.revisions, *kind, *(self.walls[kind] / self.walls[other] for other in (GREP, READING))]
 
@@ -89,11 +80,11 @@ def measured(setup: Setup, mix: str) -> list[History]:
     """The measured histories of a mix, the shortest first."""
     found = [History(setup, mix, setup.scaled(size)) for size in SIZES]
     for history, best in zip(found, best_of_groups([history.commands for history in found], setup.times)):
-        history.finish(best)
+        history.walls = {key: taken.wall for key, taken in best.items()}
     return found
 
 
-def judged(mix: str, found: list[History]) -> Iterable[Judged]:
+def judged(mix: str, found: list[History]) -> Iterator[Judged]:
     last = found[-1]
     title = f"{mix}, {last.revisions:,} revisions"
     for workers in (1, 4):
@@ -108,12 +99,13 @@ def judged(mix: str, found: list[History]) -> Iterable[Judged]:
 def run(setup: Setup) -> Measurements:
     found = {mix: measured(setup, mix) for mix in MIXES}
     histories = [history for each in found.values() for history in each]
-    yield table("whole-runs", HEADING, [history.row() for history in histories])
+    yield Table("whole-runs", HEADING, [history.row() for history in histories])
     heading = "history | revisions:," + "".join(f" | {title}:.3f" for title in KINDS)
-    yield table("whole-runs-by-workers", heading, [history.workers_row() for history in histories])
+    rows: list[Row] = [[each.mix, each.revisions, *(each.walls[kind] for kind in KINDS.values())] for each in histories]
+    yield Table("whole-runs-by-workers", heading, rows)
     heading = "history | revisions:, | workers | BLOCK:, | relative to `grep`:.2f | relative to reading:.2f"
     rows = [history.relative_row(kind) for history in histories for kind in KINDS.values()]
-    yield table("whole-runs-relative", heading, rows)
+    yield Table("whole-runs-relative", heading, rows)
     yield limits_table("whole-runs-limits", [each for mix, rows in found.items() for each in judged(mix, rows)])
 
 

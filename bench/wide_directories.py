@@ -2,8 +2,7 @@
 
 A directory gets 100,000 tags, each a copy of the trunk and in a revision of its own. Beside it stands the same history
 with ten tags, where each later copy replaces one of them. Then come changes below single tags, one in each revision:
-additions of files and changes of texts, 10,000 of each, or 100,000 changes of `svn:mergeinfo`. The limits are about the
-wide directory relative to the ten tags.
+additions of files and changes of texts, 10,000 of each, or 100,000 changes of `svn:mergeinfo`.
 
 The copies in copies are 1,000 copies of the root into the root, each of the revision before. One query locates the path
 through all of them, in the revision without any.
@@ -14,9 +13,9 @@ from collections.abc import Iterator
 from typing import NamedTuple
 
 from bench.histories import revision, write_dump
-from bench.measure import Command, SameReport, best_of_groups, words_of
-from bench.parts import Limit, Measurements, Part, Row, Setup, most, table
-from bench.questions import Asked, Peg, line, written
+from bench.measure import Command, SameReport, best_of_groups, words_of, written
+from bench.parts import Limit, Measurements, Part, Row, Setup, Table, most
+from bench.questions import Asked, Peg, line
 from dev.dumps import FILE, Node, added, changed, copied, mergeinfo
 from dev.running import peak_of
 
@@ -28,8 +27,8 @@ FILES = 3
 COPIES = 1000
 LOCATED = 1000
 HEADING = (
-    f"changes below tags | tags:, | changes:, | seconds:.3f | seconds, {FEW_TAGS} tags:.3f | relative:.2f | at most:g | "
-    f"peak MB:.1f | peak MB, {FEW_TAGS} tags:.1f | relative, {MOST_MEMORY}:.2f"
+    f"changes below tags | tags:, | changes:, | seconds:.3f | seconds, {FEW_TAGS} tags:.3f | relative:.2f | "
+    f"at most:g | peak MB:.1f | peak MB, {FEW_TAGS} tags:.1f | relative, {MOST_MEMORY}:.2f"
 )
 COPIES_HEADING = (
     "copies:, | ms with one query:.2f | more than an empty dump, ms:.2f | ms of a query:.4f | "
@@ -85,7 +84,7 @@ def revisions_of(kind: Kind, copies: int, tags: int, changes: int) -> Iterator[b
 
 
 def command_of(setup: Setup, kind: Kind, copies: int, tags: int, changes: int) -> Command:
-    """A run on a dump of so many copies and tags, with the log of the tag that changed last."""
+    """A run on such a dump, with the log of the tag that changed last."""
     dump = write_dump(setup.folder / f"tags-{tags}.dump", revisions_of(kind, copies, tags, changes))
     last = Peg(tag_of((changes - 1) * STEP, tags).decode(), copies + 1 + changes)
     queries = written(setup.folder / f"tags-{tags}.queries", [line("log", last)])
@@ -104,20 +103,19 @@ def tags_row(setup: Setup, kind: Kind) -> Row:
 
 
 def copies_row(setup: Setup) -> Row:
-    empty = Asked(setup, write_dump(setup.folder / "empty.dump", ()))
+    empty = Asked(setup, write_dump(setup.folder / "empty.dump", ())).base.wall
     revisions = (revision(rev, copied(b"n%d" % rev, b"", rev - 1)) for rev in range(1, COPIES + 1))
     asked = Asked(setup, write_dump(setup.folder / "copies.dump", revisions))
     path = "/".join(f"n{number}" for number in range(COPIES, 0, -1))
     lines = [line("locate", Peg(path, COPIES), 0)]
-    runs = (empty.best([]), asked.best([]), asked.best(lines), asked.best(lines * LOCATED))
-    alone, without, one, many = (taken.wall * 1e3 for taken in runs)
+    one, each = asked.best(lines).wall, asked.cost(lines * LOCATED).seconds
     peak = peak_of(asked.command(lines * LOCATED).words)
-    return [COPIES, one, one - alone, (many - without) / LOCATED, peak / 1e6]
+    return [COPIES, one * 1e3, (one - empty) * 1e3, each * 1e3, peak / 1e6]
 
 
 def run(setup: Setup) -> Measurements:
-    yield table("wide-directories", HEADING, [tags_row(setup, kind) for kind in KINDS])
-    yield table("copies-in-copies", COPIES_HEADING, [copies_row(setup)])
+    yield Table("wide-directories", HEADING, [tags_row(setup, kind) for kind in KINDS])
+    yield Table("copies-in-copies", COPIES_HEADING, [copies_row(setup)])
 
 
 PART = Part(__name__, __doc__, run, [MOST_MEMORY, *(kind.limit for kind in KINDS)])

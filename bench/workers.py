@@ -13,9 +13,9 @@ from collections.abc import Sequence
 from pathlib import Path
 
 from bench.histories import short_history, write_source
-from bench.measure import Build, check_same, run_in_turns
-from bench.parts import Limit, Measurements, Part, Row, Setup, most, table
-from bench.questions import Peg, drawn_line, later_half, line, pegs_of, records_of, written
+from bench.measure import Build, Work, written
+from bench.parts import Measurements, Part, Row, Setup, Table, most
+from bench.questions import Peg, drawn_line, later_half, line, pegs_of, records_of
 
 # The number of queries of each verb, 200,000 in all; the answers to `log` and `eligible` are long.
 ASKED = {"locate": 60000, "segments": 58500, "log": 10500, "mergeinfo": 40000, "merged": 25000, "eligible": 6000}
@@ -27,6 +27,7 @@ LONG = 600
 SHORT = 300000
 FEW_LONG = 80
 FEW_SHORT = 10000
+SOURCE, TARGET, ROOT = (Peg(path, SOURCE_REVISIONS) for path in ("source", "target", "/"))
 WORKERS = (1, 2, 4)
 MOST_OF_ONE = {
     name: most(bound, f"{name} work, time of four workers relative to one")
@@ -35,90 +36,55 @@ MOST_OF_ONE = {
 MOST_OF_BEFORE = most(1.03, "time of one worker relative to the older build")
 
 
-def queries_of(setup: Setup, dump: Path) -> list[str]:
+def even_queries(setup: Setup, dump: Path) -> list[str]:
     lot, pegs = random.Random(3), later_half(pegs_of(records_of(dump)))
     lines = [drawn_line(lot, pegs, verb) for verb, count in ASKED.items() for _ in range(setup.scaled(count))]
     lot.shuffle(lines)
     return lines
 
 
-def uneven_history(setup: Setup) -> Path:
-    value = b"/source:2-%d" % (SOURCE_REVISIONS - UNMERGED)
-    return write_source(setup.folder / "workers-uneven.dump", SOURCE_REVISIONS, value)
-
-
-def long_queries(setup: Setup) -> list[str]:
-    return [line("eligible", Peg("source", SOURCE_REVISIONS), Peg("target", SOURCE_REVISIONS))] * setup.scaled(LONG)
-
-
-def short_queries(setup: Setup) -> list[str]:
-    return [line("locate", Peg("source", SOURCE_REVISIONS), SOURCE_REVISIONS // 2)] * setup.scaled(SHORT)
-
-
-def few_long_queries(setup: Setup) -> list[str]:
-    lines = short_queries(setup)[: FEW_SHORT + FEW_LONG]
-    lines[: WORKERS[-1] * FEW_LONG : WORKERS[-1]] = [line("log", Peg("/", SOURCE_REVISIONS))] * FEW_LONG
+def few_long_queries(short: list[str]) -> list[str]:
+    lines = short[: FEW_SHORT + FEW_LONG]
+    lines[: WORKERS[-1] * FEW_LONG : WORKERS[-1]] = [line("log", ROOT)] * FEW_LONG
     return lines
 
 
-ONE, OLD = Build(False, WORKERS[0]), Build(True, WORKERS[0])
+ONE, FOUR, OLD = Build(False, 1), Build(False, 4), Build(True, 1)
 
 
-def builds_of(setup: Setup) -> list[Build]:
-    before = [OLD, Build(True, WORKERS[-1])] if setup.before else []
-    return [Build(False, workers) for workers in WORKERS] + before
+def work_of(setup: Setup, name: str, dump: Path, lines: list[str], builds: Sequence[Build]) -> Work:
+    """Queries about a dump, beside lines of the same lengths that are no queries."""
+    refused = written(setup.folder / f"{name}-refused.queries", ("-" + each[1:] for each in lines))
+    return Work(setup, name, lines, dump, {build: build.timed(setup, dump, refused) for build in builds})
 
 
-class Work:
-    """A dump and queries about it, and the runs with them and with lines that are no queries."""
-
-    def __init__(self, setup: Setup, name: str, dump: Path, lines: list[str], builds: Sequence[Build]) -> None:
-        self.name = name
-        self.lines = lines
-        asked = written(setup.folder / f"{name}-asked.queries", lines)
-        refused = written(setup.folder / f"{name}-refused.queries", ("-" + each[1:] for each in lines))
-        self.asked = {build: build.timed(setup, dump, asked) for build in builds}
-        self.refused = {build: build.timed(setup, dump, refused) for build in builds}
-        run_in_turns([runs[build] for build in builds for runs in (self.refused, self.asked)], setup.times)
-        check_same(self.refused.values(), 0, name)
-        check_same(self.asked.values(), len(lines), name)
-
-    def seconds(self, build: Build) -> float:
-        return self.asked[build].wall - self.refused[build].wall
-
-    def limit_of(self, build: Build) -> Limit | None:
-        if build.is_before:
-            return MOST_OF_BEFORE if build == OLD else None
-        return MOST_OF_ONE[self.name] if build.workers == WORKERS[-1] else None
-
-    def row(self, build: Build) -> Row:
-        """The time is relative to one worker of the same build, but of one worker of this build to the older one."""
-        seconds, limit = self.seconds(build), self.limit_of(build)
-        ratio = (self.seconds(ONE) if build == OLD else seconds) / self.seconds(build._replace(workers=WORKERS[0]))
-        found: Row = [limit.of(ratio), limit.bound] if limit else [ratio, None]
-        return [self.name, str(build), len(self.lines), self.asked[build].size / 1e6, seconds, *found]
-
-
-def of_each(setup: Setup, dump: Path, lines: list[str]) -> float:
-    """The seconds of each of these queries with one worker."""
-    return Work(setup, "uneven", dump, lines, [ONE]).seconds(ONE) / len(lines)
+def row(work: Work, build: Build) -> Row:
+    """The time is relative to one worker of the same build, but of one worker of this build to the older one."""
+    seconds, limit = work.seconds(build), {OLD: MOST_OF_BEFORE, FOUR: MOST_OF_ONE[work.name]}.get(build)
+    ratio = work.seconds(ONE if build == OLD else build) / work.seconds(build._replace(workers=1))
+    found: Row = [limit.of(ratio), limit.bound] if limit else [ratio, None]
+    return [work.name, str(build), len(work.lines), work.runs[build].size / 1e6, seconds, *found]
 
 
 def run(setup: Setup) -> Measurements:
+    builds = [Build(False, workers) for workers in WORKERS]
     if setup.before:
         yield "In the first row of the older build the ratio is that of the program to it."
+        builds += [OLD, Build(True, 4)]
     even = short_history(setup, "workers-even.dump")
-    uneven = uneven_history(setup)
-    many, few = short_queries(setup), long_queries(setup)
-    builds = builds_of(setup)
+    value = b"/source:2-%d" % (SOURCE_REVISIONS - UNMERGED)
+    uneven = write_source(setup.folder / "workers-uneven.dump", SOURCE_REVISIONS, value)
+    many = [line("locate", SOURCE, SOURCE_REVISIONS // 2)] * setup.scaled(SHORT)
+    few = [line("eligible", SOURCE, TARGET)] * setup.scaled(LONG)
     works = [
-        Work(setup, "even", even, queries_of(setup, even), builds),
-        Work(setup, "uneven", uneven, few + many, builds),
-        Work(setup, "few long", uneven, few_long_queries(setup), builds),
+        work_of(setup, "even", even, even_queries(setup, even), builds),
+        work_of(setup, "uneven", uneven, few + many, builds),
+        work_of(setup, "few long", uneven, few_long_queries(many), builds),
     ]
     heading = "work | workers | queries:, | report, MB:.1f | seconds:.3f | relative to one:.3f | at most:g"
-    yield table("workers", heading, [work.row(build) for work in works for build in work.asked])
-    long, short = of_each(setup, uneven, few), of_each(setup, uneven, many)
+    yield Table("workers", heading, [row(work, build) for work in works for build in builds])
+    # The seconds of each query of both kinds with one worker.
+    long, short = (work_of(setup, "uneven", uneven, each, [ONE]).seconds(ONE) / len(each) for each in (few, many))
     first = f"In the uneven work {len(few):,} queries take {long * 1e3:.4f} ms each"
     yield f"{first}, and then {len(many):,} take {short * 1e3:.5f} ms each: {long / short:.0f} times as long."
 

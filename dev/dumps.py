@@ -38,17 +38,22 @@ def revision_properties(message: bytes, author: bytes, date: bytes) -> Propertie
     return {b"svn:log": message, b"svn:author": author, b"svn:date": date}
 
 
-def block(lines: Iterable[bytes], properties: bytes | None = None, text: bytes | None = None) -> bytes:
-    """A block with these header lines, and those that tell the lengths of its property section and its text."""
+def header(lines: Iterable[bytes], properties: bytes | None = None, text: bytes | None = None) -> bytes:
+    """These lines, those that tell the lengths of a property section and a text, and the empty line after them."""
     head = list(lines)
     if properties is not None:
         head.append(b"Prop-content-length: %d" % len(properties))
     if text is not None:
         head.append(b"Text-content-length: %d" % len(text))
-    body = (properties or b"") + (text or b"")
     if properties is not None or text is not None:
-        head.append(b"Content-length: %d" % len(body))
-    return b"\n".join(head) + b"\n\n" + body + b"\n" * bool(body)
+        head.append(b"Content-length: %d" % (len(properties or b"") + len(text or b"")))
+    return b"\n".join(head) + b"\n\n"
+
+
+def block(lines: Iterable[bytes], properties: bytes | None = None, text: bytes | None = None) -> bytes:
+    """A block with these header lines, a property section and a text."""
+    body = (properties or b"") + (text or b"")
+    return header(lines, properties, text) + body + b"\n" * bool(body)
 
 
 def first_lines(form: int = 2, uuid: bytes | None = None) -> bytes:

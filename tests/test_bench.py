@@ -4,22 +4,23 @@ from __future__ import annotations
 import contextlib
 import io
 import json
-import subprocess
 import tempfile
 import unittest
 from collections.abc import Iterator
-from dataclasses import asdict, replace
+from dataclasses import replace
 from pathlib import Path
 
 from bench.main import PARTS, measure_all
-from bench.page import Unended, tables_of, with_tables
-from bench.parts import MOST, Judged, Limit, Measurements, Part, Setup, part_to_json, table, table_from_json
-from dev.running import Failed
+from bench.page import Refused, with_tables
+from bench.parts import ABSENT, MOST, Judged, Limit, Measurements, Part, Setup, Table, limits_table, part_to_json
+from bench.subversion import beside
+from dev import running
+from dev.running import Failed, Outcome
 from dev.tree import DOCS, ROOT
 
 NOTHING = Path("/nonexistent")
-SETUP = Setup(NOTHING, NOTHING, None, NOTHING, times=1, is_quick=True)
-NEW = table("new", "what | figure:.2f", [["a", 1.234], ["b", Limit(MOST, 2, "of b").of(2.5)]])
+SETUP = Setup(NOTHING, NOTHING, None, Path(tempfile.gettempdir()), times=1, is_quick=True)
+NEW = Table("new", "what | figure:.2f", [["a", 1.234], ["b", Limit(MOST, 2, "of b").of(2.5)]])
 LINES = "| what | figure |\n|---|---|\n| a | 1.23 |\n| b | 2.50 **not met** |\n"
 
 
@@ -32,7 +33,7 @@ def measuring(part: Part, judged: Judged) -> Part:
 
     def run(_: Setup) -> Measurements:
         yield "A sentence."
-        yield table("made-up", "figure:.3f", [[judged]])
+        yield Table("made-up", "figure:.3f", [[judged]])
 
     return replace(part, run=run)
 
@@ -75,6 +76,19 @@ class LimitTest(unittest.TestCase):
         with contextlib.redirect_stdout(io.StringIO()):
             self.assertEqual(measure_all(parts, SETUP), 1)
 
+    def test_what_is_not_installed_is_said_and_misses_no_limit(self) -> None:
+        part, limit = next(limits())
+
+        def run(_: Setup) -> Measurements:
+            yield Table("made-up", "ms:.3f | ratio:.3f", [beside(None, 1, limit)])
+            yield limits_table("limits", [], [limit])
+
+        output = io.StringIO()
+        with contextlib.redirect_stdout(output):
+            self.assertEqual(measure_all([replace(part, run=run)], SETUP), 0)
+        self.assertIn(f"| {ABSENT} | {ABSENT} |\n", output.getvalue())
+        self.assertIn(f"| {limit.text} | {limit} | {ABSENT} |\n", output.getvalue())
+
 
 class JsonTest(unittest.TestCase):
     def test_what_is_written(self) -> None:
@@ -91,9 +105,12 @@ class JsonTest(unittest.TestCase):
             (judged["value"], judged["limit"]["bound"], judged["is_met"]), (past(limit), limit.bound, False)
         )
 
-    def test_a_table_comes_back(self) -> None:
+    def test_a_table(self) -> None:
+        """It has its figures as they were measured, and as they are printed."""
         self.assertEqual(str(NEW), LINES)
-        self.assertEqual(table_from_json(json.loads(json.dumps(asdict(NEW)))), NEW)
+        [found] = json.loads(json.dumps(part_to_json(PARTS[0], [NEW])))["tables"]
+        self.assertEqual((found["name"], found["heading"], found["text"]), (NEW.name, NEW.heading, LINES))
+        self.assertEqual((found["rows"][0], found["rows"][1][1]["value"]), (["a", 1.234], 2.5))
 
 
 class PageTest(unittest.TestCase):
@@ -103,28 +120,48 @@ class PageTest(unittest.TestCase):
     def test_what_stands_between_markers_is_written(self) -> None:
         page = self.page("other", "| x |\n") + self.page("new", "| old |\n") + self.page("new-one", "| y |\n")
         wanted = self.page("other", "| x |\n") + self.page("new", LINES) + self.page("new-one", "| y |\n")
-        found = with_tables(page, {"new": NEW})
+        found = with_tables(page, {"new": LINES})
         self.assertEqual(found, wanted)
-        self.assertEqual(with_tables(found, {"new": NEW}), wanted)
+        self.assertEqual(with_tables(found, {"new": LINES}), wanted)
 
     def test_a_table_without_an_end_is_refused(self) -> None:
         for rest in ("| old |\n", "| old |\n<!-- table: other -->\n<!-- end -->\n"):
-            with self.subTest(rest), self.assertRaises(Unended):
-                with_tables("<!-- table: new -->\n" + rest, {"new": NEW})
+            with self.subTest(rest), self.assertRaises(Refused):
+                with_tables("<!-- table: new -->\n" + rest, {"new": LINES})
+
+    def call(self, report: object, page: str) -> tuple[Outcome, str]:
+        """How the command ends that is given this report and this page, and the page then."""
+        with tempfile.TemporaryDirectory() as folder:
+            measured, path = Path(folder) / "measured.json", Path(folder) / "page.md"
+            measured.write_text(json.dumps(report), encoding="utf-8")
+            path.write_text(page, encoding="utf-8")
+            return running.run([ROOT / "bench" / "tables", measured, path]), path.read_text(encoding="utf-8")
 
     def test_the_command(self) -> None:
-        part = PARTS[0]
-        with tempfile.TemporaryDirectory() as folder:
-            report, page = Path(folder) / "measured.json", Path(folder) / "page.md"
-            report.write_text(json.dumps({"parts": [part_to_json(part, [NEW, "A sentence."])]}), encoding="utf-8")
-            page.write_text(self.page("new", ""), encoding="utf-8")
-            self.assertEqual(subprocess.call([ROOT / "bench" / "tables", report, page]), 0)
-            self.assertEqual(page.read_text(encoding="utf-8"), self.page("new", LINES))
+        report = {"is_quick": False, "parts": [part_to_json(PARTS[0], [NEW, "A sentence."])]}
+        found, page = self.call(report, self.page("new", ""))
+        self.assertEqual((found, page), (Outcome(0, b"", b""), self.page("new", LINES)))
+
+    def test_what_the_command_refuses(self) -> None:
+        """A quick run, what no run wrote and a table without an end: in a line, and the page stays as it is."""
+        parts = [part_to_json(PARTS[0], [NEW])]
+        page = self.page("new", "")
+        cut = page.replace("<!-- end -->", "")
+        for report, text, why in (
+            ({"is_quick": True, "parts": parts}, page, b"quick run"),
+            ({"parts": parts}, page, b"bench/run"),
+            ([], page, b"bench/run"),
+            ({"is_quick": False, "parts": parts}, cut, b"no end"),
+        ):
+            with self.subTest(why=why, report=report):
+                found, after = self.call(report, text)
+                self.assertEqual((found.status, found.output, after), (1, b"", text))
+                self.assertRegex(found.errors, b"^tables: .*%s.*\n$" % why)
 
     def test_the_page_of_the_benchmarks(self) -> None:
         """Each marker has an end, and nothing changes without tables."""
         page = (DOCS / "performance.md").read_text(encoding="utf-8")
-        self.assertEqual(with_tables(page, tables_of({"parts": []})), page)
+        self.assertEqual(with_tables(page, {}), page)
         self.assertEqual(page.count("<!-- table: "), page.count("<!-- end -->"))
 
 
