@@ -11,9 +11,11 @@ from __future__ import annotations
 
 import sys
 import time
+from pathlib import Path
 from typing import Any
+from urllib.parse import unquote, urlsplit
 
-from interop.bindings import Client, Session, is_installed, svn
+from interop import bindings
 
 
 def place_of(field: str) -> tuple[str, int]:
@@ -22,16 +24,15 @@ def place_of(field: str) -> tuple[str, int]:
     return path, int(rev)
 
 
-class Asker(Session):
-    """A connection that answers queries."""
+class Asker(bindings.Opened):
+    """A repository that answers queries, by the URL of its folder."""
 
     def __init__(self, url: str) -> None:
-        super().__init__(url)
+        super().__init__(Path(unquote(urlsplit(url).path)))
         self.url = url
-        self.client = Client()
 
     def locate(self, path: str, peg: int, rev: int) -> list[str]:
-        places = svn.ra.get_locations(self._session, path.encode(), peg, [rev])
+        places = bindings.ra.get_locations(self._session, path.encode(), peg, [rev])
         return ["/" + place.decode().lstrip("/") for place in places.values()] or ["-"]
 
     def log(self, path: str, peg: int) -> list[str]:
@@ -40,7 +41,7 @@ class Asker(Session):
         def take(entry: Any, _: object) -> None:
             found.append(f"r{entry.revision}")
 
-        svn.ra.get_log2(self._session, [path.encode()], peg, 0, 0, *[False] * 3, [], take)
+        bindings.ra.get_log2(self._session, [path.encode()], peg, 0, 0, *[False] * 3, [], take)
         return found
 
     def answer(self, verb: str, fields: list[str]) -> list[str]:
@@ -55,10 +56,8 @@ class Asker(Session):
         if verb == "mergeinfo":
             return self.mergeinfo(path, peg)
         source, target = ((f"{self.url}/{path}", peg) for path, peg in map(place_of, fields))
-        merges = self.client.merges(verb == "merged", target, source, None)
-        if verb == "eligible":
-            return [f"r{rev}" for rev, is_partial in merges if not is_partial]
-        return [f"r{rev}{'*' * is_partial}" for rev, is_partial in merges]
+        merges = self.merges(verb == "merged", (target, source), None)
+        return [str(merge) for merge in merges if verb == "merged" or not merge.is_partial]
 
 
 def main() -> None:
@@ -71,5 +70,5 @@ def main() -> None:
         print("\n".join([f"#{number} ok", *lines]))
 
 
-if __name__ == "__main__" and is_installed:
+if __name__ == "__main__" and bindings.is_installed:
     main()
