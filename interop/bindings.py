@@ -54,7 +54,9 @@ class Opened:
     """A repository, open for requests, for the client library and as a file system."""
 
     def __init__(self, repository: Path) -> None:
-        self._session = ra.open2(url_of(repository).encode(), ra.Callbacks(), {})
+        # A session does not keep its callbacks, and ends Python by a signal where they are gone.
+        self._callbacks = ra.Callbacks()
+        self._session = ra.open2(url_of(repository).encode(), self._callbacks, {})
         self._context = client.create_context()
         self._context.config = {}
         self._stored = repos.fs(repos.open(str(repository).encode()))
