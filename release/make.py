@@ -15,43 +15,27 @@ import sys
 import tempfile
 from collections.abc import Mapping, Sequence
 from pathlib import Path
-from typing import NamedTuple
 
 from dev.tree import ROOT
 from release.archives import NotMade, filled, package, tarball
 from release.contents import Parts, of_package, of_tarball, version
-from release.program import (
-    PROGRAMS,
-    Program,
-    built_using,
-    content,
-    licences,
-    link,
-    make_object,
-    of_relink,
-    printed,
-)
+from release.program import PROGRAMS, Program, built_using, content
+from release.program import licences, link, make_object, of_relink, printed
 
 DIST = ROOT / "dist"
 TESTED = ROOT / "out" / "tested"
-
-
-class Tested(NamedTuple):
-    """The tree that `./test` passed on, and the checksum of each program that it passed, by its place in the tree."""
-
-    tree: str
-    sums: Mapping[str, str]
 
 
 def sum_of(text: bytes) -> str:
     return hashlib.sha256(text).hexdigest()
 
 
-def tested() -> Tested:
+def tested() -> tuple[str, Mapping[str, str]]:
+    """The tree that `./test` passed on, and the checksum of each program that it passed, by its place in the tree."""
     lines = content(TESTED).decode("utf-8").splitlines() if TESTED.exists() else []
     if not lines:
         raise NotMade("./test did not pass on this tree")
-    return Tested(lines[0], {path: word for word, _, path in (line.partition("  ") for line in lines[1:])})
+    return lines[0], {path: word for word, _, path in (line.partition("  ") for line in lines[1:])}
 
 
 def judge_program(program: Program, sums: Mapping[str, str]) -> None:
@@ -67,11 +51,11 @@ def judge_tree() -> None:
     """Refuses a tree that `./test` did not pass on, and programs that it did not make."""
     if printed(["git", "status", "--porcelain"]):
         raise NotMade("the tree has changes that are not committed")
-    passed = tested()
-    if passed.tree != printed(["git", "rev-parse", "HEAD^{tree}"]):
+    tree, sums = tested()
+    if tree != printed(["git", "rev-parse", "HEAD^{tree}"]):
         raise NotMade("./test passed on another tree")
     for program in PROGRAMS:
-        judge_program(program, passed.sums)
+        judge_program(program, sums)
 
 
 def check(paths: Sequence[Path]) -> None:
@@ -80,23 +64,15 @@ def check(paths: Sequence[Path]) -> None:
         raise NotMade("the programs that are to be released did not pass")
 
 
-def time_of_commit() -> int:
-    return int(printed(["git", "-c", "log.showSignature=false", "log", "-1", "--format=%ct"]))
-
-
-def debian_changelog(when: int) -> bytes:
-    return filled("changelog.Debian", {"VERSION": version(), "DATE": email.utils.formatdate(when)})
-
-
 def made_of(paths: Mapping[str, Path]) -> dict[str, bytes]:
     """The files of a release, by their names, of the programs by theirs."""
-    when = time_of_commit()
+    when = int(printed(["git", "-c", "log.showSignature=false", "log", "-1", "--format=%ct"]))
+    changelog = filled("changelog.Debian", {"VERSION": version(), "DATE": email.utils.formatdate(when)})
     parts = Parts({name: content(path) for name, path in paths.items()}, licences())
-    installed = of_package(parts, debian_changelog(when))
     return {
         f"svnhist-{version()}-linux-x86_64.tar.gz": tarball(of_tarball(parts), when),
         f"svnhist-{version()}-relink.tar.gz": tarball(of_relink(parts), when),
-        f"svnhist_{version()}-1_amd64.deb": package(installed, built_using(), when),
+        f"svnhist_{version()}-1_amd64.deb": package(of_package(parts, changelog), built_using(), when),
     }
 
 

@@ -76,19 +76,8 @@ def is_of_object(program: Program) -> bool:
         return False
     with tempfile.TemporaryDirectory(prefix="svnhist-link-") as folder:
         linked = Path(folder, program.name)
-        printed(
-            [
-                kit() / "bin" / "rattle-link",
-                "--target",
-                TARGET,
-                "--toolchain",
-                kit() / "toolchain",
-                "-o",
-                linked,
-                program.object_file(),
-                *archives(),
-            ]
-        )
+        rattle_link: Words = [kit() / "bin" / "rattle-link", "--target", TARGET, "--toolchain", kit() / "toolchain"]
+        printed([*rattle_link, "-o", linked, program.object_file(), *archives()])
         return content(linked) == content(program.built())
 
 
@@ -116,9 +105,8 @@ def link(program: Program, to: Path) -> None:
 
 def named_ports() -> list[str]:
     """The ported crates of the kit that the crates of the programs name."""
-    lines = [
-        line.partition(":") for line in read("crates.txt").decode("ascii").splitlines() if not line.startswith("#")
-    ]
+    text = read("crates.txt").decode("ascii")
+    lines = [line.partition(":") for line in text.splitlines() if not line.startswith("#")]
     return sorted({name for line in lines for name in line[2].split()} - {line[0] for line in lines})
 
 

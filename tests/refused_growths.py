@@ -14,7 +14,6 @@ the count tells how often a long one was read.
 from __future__ import annotations
 
 import argparse
-import functools
 import itertools
 import os
 import re
@@ -23,20 +22,21 @@ import subprocess
 import sys
 import tempfile
 import threading
-from collections.abc import Iterator, Mapping, Sequence
+from collections.abc import Iterable, Mapping, Sequence
 from concurrent.futures import ThreadPoolExecutor
 from pathlib import Path
-from typing import NamedTuple, Optional
+from typing import NamedTuple
 
 from dev.checks import first_difference
 from dev.dumps import added, dump_of, mergeinfo
-from dev.running import Limits, Outcome, Word, run
+from dev.running import NOTHING, Limits, Outcome, Word, Words, run
 from dev.tree import CRATES, built
 from model import drawn_talks, turns
 
 FLAGS = ("-O2", "-std=c11", "-Wall", "-Wextra", "-fno-builtin", "-fPIC", "-shared")
 # Runs that are handed out at a time.
 PORTION = 64
+OBJECT = "refuse.so"
 SWEPT_TESTS = "refused_growths_"
 # A history with merges in both directions, which tests of the crates read, too.
 DUMP = CRATES / "sample_dumps" / "src" / "mergeinfo.rt"
@@ -77,37 +77,27 @@ MOST_GROWTHS_OF_A_LINE = 3
 # How many drawn talks are swept, and how many bytes their dump and their input have at most.
 TALKS = 10
 MOST_OF_A_TALK = 1500
-# What a swept talk has at least: pieces, and answers with lines.
-LEAST_PIECES = 2
-LEAST_ANSWERS = 2
 
 
 class Wrong(Exception):
     """What is not as it should be, in words."""
 
 
-class Way(NamedTuple):
-    """What is refused, in words, and the setting of the object that has it refused."""
-
-    words: str
-    setting: str
-
-
 OUT_OF_MEMORY = Outcome(4, b"", b"svnhist: out of memory\n")
-GROWTHS = (Way("growth %d", "REFUSE_GROWTH"), Way("all growths from %d on", "REFUSE_GROWTHS_FROM"))
-STARTS = (Way("start %d of a thread", "REFUSE_THREAD"), Way("all starts of threads from %d on", "REFUSE_THREADS_FROM"))
+# What is refused, by the setting of the object that has it refused.
+GROWTHS = {"REFUSE_GROWTH": "growth %d", "REFUSE_GROWTHS_FROM": "all growths from %d on"}
+STARTS = {"REFUSE_THREAD": "start %d of a thread", "REFUSE_THREADS_FROM": "all starts of threads from %d on"}
 
 
 class Subject(NamedTuple):
-    """What is run again and again: its command, the file for standard input, whether only growths between marks count,
-    how a run may end in which a growth is refused, beside as it ends otherwise, and whether it may have sent the first
-    replies of a talk then."""
+    """What is run again and again: its command, the file for standard input, whether it is a test, of which only growths
+    between marks count and which must pass, and whether it may have sent the first replies of a talk when memory ran
+    out."""
 
     name: str
     command: Sequence[Word]
-    given: Path = Path(os.devnull)
+    given: Path = NOTHING
     is_marked: bool = False
-    failure: Optional[Outcome] = None
     is_talk: bool = False
 
     def run(self, settings: Mapping[str, str]) -> Outcome:
@@ -115,42 +105,39 @@ class Subject(NamedTuple):
         return run(self.command, self.given, environment=settings)
 
 
-def shown(outcome: Outcome, line: str) -> str:
-    """An outcome in words, with one line for its output."""
-    return f"status {outcome.status}, {line!r:.300}, standard error {outcome.errors!r:.300}"
-
-
 def difference(wanted: Outcome, found: Outcome) -> str:
     """Both outcomes in words, with the first lines that differ."""
-    lines = first_difference(wanted.output, found.output)
-    return f"    wanted: {shown(wanted, lines[0])}\n    found:  {shown(found, lines[1])}"
+    lines = zip(("wanted", "found"), (wanted, found), first_difference(wanted.output, found.output))
+    return "\n".join(
+        f"    {name}: status {each.status}, {line!r:.300}, standard error {each.errors!r:.300}"
+        for name, each, line in lines
+    )
 
 
 class Sweep:
-    """A subject of which one call after another is refused."""
+    """A subject of which one call after another is refused, by a setting of the object in a folder."""
 
-    def __init__(self, subject: Subject, way: Way) -> None:
+    def __init__(self, subject: Subject, setting: str, folder: Path) -> None:
         self.subject = subject
-        self.way = way
+        self.setting = setting
+        self.folder = folder
         self.wanted = subject.run({})
         if self.wanted.status != 0:
             raise Wrong(f"{subject.name}, nothing refused: {self.wanted.shown()}")
 
-    def refuse(self, folder: Path, number: int) -> bool:
-        """Whether there was such a call to refuse. The folder has the object."""
-        told = folder / f"refused-{threading.get_ident()}"
-        found = self.subject.run(
-            {
-                "LD_PRELOAD": str(object_in(folder)),
-                "REFUSED_FILE": str(told),
-                "REFUSE_MARKED": str(int(self.subject.is_marked)),
-                self.way.setting: str(number),
-            }
-        )
+    def refuse(self, number: int) -> bool:
+        """Whether there was such a call to refuse."""
+        told = self.folder / f"refused-{threading.get_ident()}"
+        settings = {"REFUSED_FILE": str(told), "REFUSE_MARKED": str(int(self.subject.is_marked))}
+        found = self.subject.run({**object_in(self.folder), **settings, self.setting: str(number)})
         was_refused = told.exists()
         if was_refused:
             told.unlink()
-        self.judge(number, was_refused, found)
+        may_fail = was_refused and self.setting in GROWTHS and not self.subject.is_marked
+        if found != self.wanted and not (may_fail and self.is_failure(found)):
+            refused = {**GROWTHS, **STARTS}[self.setting] % number if was_refused else "nothing"
+            name = f"{self.subject.name}, {self.setting}={number}, {refused} refused"
+            raise Wrong(f"{name}:\n{difference(self.wanted, found)}")
         return was_refused
 
     def is_failure(self, found: Outcome) -> bool:
@@ -158,36 +145,24 @@ class Sweep:
         sent = found.output
         if self.subject.is_talk and self.wanted.output.startswith(sent) and (b"\n" + sent).endswith(b"\n\n"):
             found = found._replace(output=b"")
-        return found == self.subject.failure
+        return found == OUT_OF_MEMORY
 
-    def judge(self, number: int, was_refused: bool, found: Outcome) -> None:
-        may_fail = was_refused and self.way in GROWTHS
-        if found != self.wanted and not (may_fail and self.is_failure(found)):
-            refused = self.way.words % number if was_refused else "nothing"
-            raise Wrong(
-                f"{self.subject.name}, {self.way.setting}={number}, {refused} refused:\n"
-                f"{difference(self.wanted, found)}"
-            )
-
-    def outcomes(self, folder: Path, pool: ThreadPoolExecutor) -> Iterator[bool]:
-        """Whether there was a call to refuse, number by number from 1 on."""
-        for first in itertools.count(1, PORTION):
-            yield from pool.map(functools.partial(self.refuse, folder), range(first, first + PORTION))
-
-    def count(self, folder: Path, pool: ThreadPoolExecutor) -> int:
-        """How many runs had a call to refuse. Two in a row without one end the sweep."""
+    def count(self, pool: ThreadPoolExecutor) -> int:
+        """How many runs had a call to refuse, number by number from 1 on. Two in a row without one end the sweep."""
+        portions = (pool.map(self.refuse, range(first, first + PORTION)) for first in itertools.count(1, PORTION))
         total, had_any = 0, True
-        for has_any in self.outcomes(folder, pool):
+        for has_any in itertools.chain.from_iterable(portions):
             if not has_any and not had_any:
                 break
             total, had_any = total + has_any, has_any
         if total == 0:
-            raise Wrong(f"{self.subject.name}: nothing was refused ({self.way.setting})")
+            raise Wrong(f"{self.subject.name}: nothing was refused ({self.setting})")
         return total
 
 
-def object_in(folder: Path) -> Path:
-    return folder / "refuse.so"
+def object_in(folder: Path) -> dict[str, str]:
+    """What has a program load the object of a folder."""
+    return {"LD_PRELOAD": str(folder / OBJECT)}
 
 
 def compiler() -> list[Word]:
@@ -201,7 +176,7 @@ def compiler() -> list[Word]:
 
 def make_object(folder: Path) -> None:
     source = Path(__file__).with_name("refuse.c")
-    subprocess.run([*compiler(), *FLAGS, source, "-o", object_in(folder)], check=True)
+    subprocess.run([*compiler(), *FLAGS, source, "-o", folder / OBJECT], check=True)
 
 
 def kept(folder: Path, name: str, content: bytes) -> Path:
@@ -224,40 +199,27 @@ def bundle(workers: int, queries: bytes) -> bytes:
 
 def program_on_files(program: Path, folder: Path, workers: int) -> Subject:
     files = [kept(folder, "dump", dump()), kept(folder, "queries", QUERIES)]
-    name = f"the program, two files, workers: {workers}"
-    return Subject(name, [program, *files, str(BLOCK), str(workers)], failure=OUT_OF_MEMORY)
+    return Subject(f"the program, two files, workers: {workers}", [program, *files, str(BLOCK), str(workers)])
 
 
-def program_with_workers(program: Path, folder: Path) -> list[Subject]:
-    few = kept(folder, "few", bundle(WORKERS, QUERIES))
-    many = kept(folder, "many", bundle(WORKERS, QUERIES * TIMES))
-    return [
-        Subject("the program, few queries", [program], few, failure=OUT_OF_MEMORY),
-        Subject("the program, many queries", [program], many, failure=OUT_OF_MEMORY),
-        program_on_files(program, folder, WORKERS),
-    ]
-
-
-def program_alone(program: Path, folder: Path) -> Subject:
-    """One worker, which grows memory in one order, so that each growth is refused once."""
-    given = kept(folder, "alone", bundle(1, QUERIES * TIMES))
-    return Subject("the program, one worker", [program], given, failure=OUT_OF_MEMORY)
+def program_on_bundle(program: Path, folder: Path, name: str, workers: int, queries: bytes) -> Subject:
+    return Subject(f"the program, {name}", [program], kept(folder, name, bundle(workers, queries)))
 
 
 def talk_subject(live: Path, folder: Path, name: str, talk: drawn_talks.DrawnTalk) -> Subject:
     files = kept(folder, f"{name}.dump", talk.dump), kept(folder, f"{name}.input", talk.given)
-    words = f"{name}, workers: {talk.workers}"
-    return Subject(words, [live, files[0], str(talk.workers)], files[1], failure=OUT_OF_MEMORY, is_talk=True)
+    words: Words = [live, files[0], str(talk.workers)]
+    return Subject(f"{name}, workers: {talk.workers}", words, files[1], is_talk=True)
 
 
 def is_swept(talk: drawn_talks.DrawnTalk) -> bool:
-    """Whether a talk is short, goes on to the end of its input, and has pieces and answers with lines."""
+    """Whether a talk is short, goes on to the end of its input, and has two pieces and two answers with lines."""
     if len(talk.dump) + len(talk.given) > MOST_OF_A_TALK:
         return False
     said, status, _ = turns.talk_of(talk.dump, talk.given)
     pieces = sum(each.text.startswith(b"ready ") for each in said) - 1
     answers = sum(b" ok\n" in each.text and each.text.count(b"\n") > 2 for each in said)
-    return status == 0 and pieces >= LEAST_PIECES and answers >= LEAST_ANSWERS
+    return status == 0 and pieces >= 2 and answers >= 2
 
 
 def drawn_subjects(live: Path, folder: Path) -> list[Subject]:
@@ -276,48 +238,37 @@ def talk_with_workers(live: Path, folder: Path) -> Subject:
     return talk_subject(live, folder, "talk", drawn_talks.DrawnTalk(whole[:cut], WORKERS, given))
 
 
-def names_of_tests(binary: Path) -> list[str]:
-    """Those of the tests of a crate that are swept."""
-    listed = subprocess.run([binary, "--list"], stdout=subprocess.PIPE, encoding="utf-8", check=True).stdout
-    return [name for name in re.findall(r"^(\S+): test$", listed, re.MULTILINE) if SWEPT_TESTS in name]
-
-
 def tests_of_crates() -> list[Subject]:
     """The tests that are swept, as `rt ci` built them."""
-    found = [
-        Subject(f"{name} of {binary.name}", [binary, name], is_marked=True)
-        for binary in sorted(CRATES.glob("*/out/*_tests"))
-        for name in names_of_tests(binary)
-    ]
+    found = []
+    for binary in sorted(CRATES.glob("*/out/*_tests")):
+        listed = subprocess.run([binary, "--list"], stdout=subprocess.PIPE, encoding="utf-8", check=True).stdout
+        names = [name for name in re.findall(r"^(\S+): test$", listed, re.MULTILINE) if SWEPT_TESTS in name]
+        found += [Subject(f"{name} of {binary.name}", [binary, name], is_marked=True) for name in names]
     if not found:
         raise Wrong(f"no built test has {SWEPT_TESTS} in its name; ./test builds them")
     return found
 
 
-def count(folder: Path, pool: ThreadPoolExecutor, subjects: Sequence[Subject], ways: Sequence[Way]) -> int:
+def count(folder: Path, pool: ThreadPoolExecutor, subjects: Sequence[Subject], settings: Iterable[str]) -> int:
     """How many runs had a call to refuse."""
-    return sum(Sweep(subject, way).count(folder, pool) for subject in subjects for way in ways)
+    return sum(Sweep(subject, each, folder).count(pool) for subject in subjects for each in settings)
 
 
 def judge_one_worker(program: Path, folder: Path) -> None:
     """No report shows how many workers found it, but one worker starts no thread, and the sweeps show that several
     do."""
-    if Sweep(program_on_files(program, folder, 1), STARTS[0]).refuse(folder, 1):
+    if Sweep(program_on_files(program, folder, 1), "REFUSE_THREAD", folder).refuse(1):
         raise Wrong("the program, two files: one worker starts a thread")
-
-
-def dump_with_mergeinfo(lines: int) -> bytes:
-    """A dump of a directory `t` with mergeinfo of so many lines."""
-    text = b"".join(b"/a%d:1\n" % number for number in range(lines))
-    return dump_of([added(b"t", properties=mergeinfo(text))])
 
 
 def growths_of(program: Path, folder: Path, workers: int, queries: int, lines: int) -> int:
     """How many growths a run has that asks so often for the mergeinfo of so many lines."""
-    content = b"0 %d %d\n" % (workers, queries) + b"mergeinfo\tt@1\n" * queries + dump_with_mergeinfo(lines)
+    text = b"".join(b"/a%d:1\n" % number for number in range(lines))
+    asked = b"0 %d %d\n" % (workers, queries) + b"mergeinfo\tt@1\n" * queries
     counted = folder / "growths"
-    subject = Subject("mergeinfo", [program], kept(folder, "mergeinfo", content))
-    found = subject.run({"LD_PRELOAD": str(object_in(folder)), "GROWTHS_FILE": str(counted)})
+    settings = {**object_in(folder), "GROWTHS_FILE": str(counted)}
+    found = run([program], asked + dump_of([added(b"t", properties=mergeinfo(text))]), environment=settings)
     if found.status != 0:
         raise Wrong(f"mergeinfo of {lines} lines: {found.shown()}")
     return int(counted.read_text("ascii"))
@@ -351,7 +302,13 @@ def sweep_talks(live: Path, folder: Path, pool: ThreadPoolExecutor) -> str:
 def sweep_all(program: Path, live: Path, folder: Path) -> str:
     """What was refused, in words."""
     make_object(folder)
-    threaded, alone = program_with_workers(program, folder), program_alone(program, folder)
+    # One worker grows memory in one order, so that each growth is refused once.
+    alone = program_on_bundle(program, folder, "one worker", 1, QUERIES * TIMES)
+    threaded = [
+        program_on_bundle(program, folder, "few queries", WORKERS, QUERIES),
+        program_on_bundle(program, folder, "many queries", WORKERS, QUERIES * TIMES),
+        program_on_files(program, folder, WORKERS),
+    ]
     tests = tests_of_crates()
     with ThreadPoolExecutor(len(os.sched_getaffinity(0))) as pool:
         growths = count(folder, pool, [*threaded, alone], GROWTHS)
@@ -369,17 +326,12 @@ def sweep_all(program: Path, live: Path, folder: Path) -> str:
 def main() -> int:
     words = argparse.ArgumentParser(
         prog="tests/refused_growths",
-        description="Refuses each growth of memory and each "
-        "start of a thread in turn, in the program and in tests of the crates. Exits with "
-        "1 where a run does not end as it should.",
+        description="Refuses each growth of memory and each start of a thread in turn, in the program and in tests of the "
+        "crates. Exits with 1 where a run does not end as it should.",
     )
+    live_of_tree = built("svnhist_live")
     words.add_argument("program", type=Path, help="the built program")
-    words.add_argument(
-        "--live",
-        type=Path,
-        default=built("svnhist_live"),
-        help="the built program for talks (default: that of this tree)",
-    )
+    words.add_argument("--live", type=Path, default=live_of_tree, help="that for talks (default: that of this tree)")
     given = words.parse_args()
     program, live = given.program.absolute(), given.live.absolute()
     if not os.access(program, os.X_OK):

@@ -7,7 +7,6 @@ from __future__ import annotations
 
 import os
 from collections.abc import Iterator
-from typing import NamedTuple
 
 from dev.checks import Check
 from dev.dumps import END, FILE, Node, dump_of
@@ -25,45 +24,32 @@ PROPS = b"6 Props"
 HEADERS = (b"Content-length", b"Prop-content-length", b"Text-content-length")
 
 
-class Claim(NamedTuple):
-    """The last block of a dump, which claims a length, and why it is refused."""
-
-    name: str
-    block: bytes
-    reason: bytes
-
-
-def with_header(header: bytes, length: int) -> bytes:
-    """A record that claims this length in one header, and some bytes of its body."""
-    return RECORD + b"%s: %d\n\n" % (header, length) + b"x" * 100
-
-
-def with_section(section: bytes, length: int) -> bytes:
-    """A record that claims a property section of this length, and a section."""
-    return RECORD + b"Prop-content-length: %d\n\n" % length + section
-
-
-def claims_of(length: int) -> Iterator[Claim]:
+def claims_of(length: int) -> Iterator[tuple[str, bytes, bytes]]:
+    """The last blocks of dumps, which claim a length, each after its name and before the reason why it is refused."""
     value = b"K 13\nsvn:mergeinfo\nV %d\n/b:1\n" % length + END
     name = b"K %d\nsvn:mergeinfo\nV 4\n/b:1\n" % length + END
+    sections = [
+        (f"a section of {length} with a value", length, value, TRUNCATED),
+        (f"a section of {length} with a name", length, name, TRUNCATED),
+        (f"a value of {length} in a whole section", len(value), value, PROPS),
+        (f"a name of {length} in a whole section", len(name), name, PROPS),
+    ]
     for header in HEADERS:
-        yield Claim(f"{header.decode()}: {length}", with_header(header, length), TRUNCATED)
-    yield Claim(f"a section of {length} with a value", with_section(value, length), TRUNCATED)
-    yield Claim(f"a section of {length} with a name", with_section(name, length), TRUNCATED)
-    yield Claim(f"a value of {length} in a whole section", with_section(value, len(value)), PROPS)
-    yield Claim(f"a name of {length} in a whole section", with_section(name, len(name)), PROPS)
+        yield f"{header.decode()}: {length}", RECORD + b"%s: %d\n\n" % (header, length) + b"x" * 100, TRUNCATED
+    for title, claimed, section, reason in sections:
+        yield title, RECORD + b"Prop-content-length: %d\n\n" % claimed + section, reason
 
 
 class ClaimedLengths(ProgramTest):
     def checks(self, length: int) -> Iterator[Check]:
         """Each dump is given as a file and in a bundle."""
         program = self.programs.svnhist
-        for claim in claims_of(length):
-            dump = BEFORE + claim.block
+        for name, block, reason in claims_of(length):
+            dump = BEFORE + block
             words: Words = [program, self.made("dump", dump), os.devnull, "0", "1"]
-            wanted = Outcome(1, b"", b"svnhist: dump refused: %s at byte %d\n" % (claim.reason, len(BEFORE)))
-            yield Check(claim.name, wanted, run(words, limits=LIMITS))
-            yield Check(f"{claim.name}, in a bundle", wanted, run([program], b"0 1 0\n" + dump, limits=LIMITS))
+            wanted = Outcome(1, b"", b"svnhist: dump refused: %s at byte %d\n" % (reason, len(BEFORE)))
+            yield Check(name, wanted, run(words, limits=LIMITS))
+            yield Check(f"{name}, in a bundle", wanted, run([program], b"0 1 0\n" + dump, limits=LIMITS))
 
     def test_the_greatest_length(self) -> None:
         self.check_all(self.checks(LENGTHS[0]))

@@ -1,8 +1,6 @@
 """The recorded answers of Subversion, and the reports of many workers beside those of one."""
 from __future__ import annotations
 
-import unittest
-
 from interop import checking, worker_reports
 from interop.recorded import recorded_in
 from tests.base import ProgramTest
@@ -21,7 +19,3 @@ class Workers(ProgramTest):
     def test_reports_of_many_workers_are_those_of_one(self) -> None:
         for name, differing in worker_reports.compare_all(self.programs.svnhist):
             self.compare(name, 0, differing)
-
-
-if __name__ == "__main__":
-    unittest.main()

@@ -13,13 +13,15 @@ import time
 from collections.abc import Iterator, Sequence
 from pathlib import Path
 from types import FrameType
-from typing import Callable, NamedTuple, Optional, Union
+from typing import NamedTuple
 
+from dev.running import Outcome, Words
 from dev.tree import EXAMPLES, INTEROP, Programs
 from tests.base import ProgramTest, example
 from tests.copies import copied_tree, make_command, path_without, place_program
 
-Handler = Union[Callable[[int, Optional[FrameType]], None], signal.Handlers]
+# The words of a call that is refused, its status and the pattern of its line.
+Refused = tuple[Sequence[str], int, str]
 
 BUILDING = r"svnhist: building the program, which happens once and takes about \d+ minutes? on four cores\n"
 PROVED = r"svnhist: \d+ % after (\d+ min )?\d+ s: (\w+) is proved\n"
@@ -51,22 +53,6 @@ MAKES_PROGRAM = """\
 KEEPS = "mkdir -p out; echo kept >out/kept"
 WANTS_KEPT = "[ -f out/kept ] || exit 1"
 NEVER_ENDS = "exec sleep 600"
-
-
-class Found(NamedTuple):
-    """Of a call the status, and what was printed on standard output and on standard error."""
-
-    status: int
-    output: str
-    errors: str
-
-
-class Refused(NamedTuple):
-    """The words of a call that is refused, its status and the pattern of its line."""
-
-    words: Sequence[str]
-    status: int
-    errors: str
 
 
 class Note(NamedTuple):
@@ -177,29 +163,23 @@ class Tree:
             time.sleep(0.02)
 
 
-class Trial(NamedTuple):
-    """A call of a launcher: its words, the file for standard input, and what is printed."""
-
-    words: Sequence[str]
-    given: Path
-    printed: str
-
-
 class Launcher:
-    """A launcher of a tree, called through a symbolic link from another folder, and its call where none is named."""
+    """A launcher of a tree, called through a symbolic link from another folder. Where a call names no words, it has
+    these, and an input that has this printed."""
 
-    def __init__(self, tree: Tree, name: str, usage: str, trial: Trial) -> None:
+    def __init__(self, tree: Tree, usage: str, words: Sequence[str], given: Path, printed: str) -> None:
         self.tree = tree
-        self.name = name
-        self.crate = name.replace("-", "_")
         self.usage = usage
-        self.trial = trial
-        self.printed = re.escape(trial.printed)
+        self.words = words
+        self.given = given
+        self.printed = re.escape(printed)
+        self.name = usage.split()[0]
+        self.crate = self.name.replace("-", "_")
         self.needed = sorted(tree.below(self.crate) | {self.crate})
         self.lowest = next(crate for crate in self.needed if not tree.stands_on[crate])
         self.built = tree.root / "crates" / self.crate / "out" / self.crate
-        self.link = tree.folder / f"link-to-{name}"
-        self.link.symlink_to(tree.root / name)
+        self.link = tree.folder / f"link-to-{self.name}"
+        self.link.symlink_to(tree.root / self.name)
 
     def above(self, crate: str) -> list[str]:
         return sorted(name for name in self.needed if name == crate or crate in self.tree.below(name))
@@ -209,21 +189,15 @@ class Launcher:
             self.built.unlink()
 
     def start(self, words: Sequence[str] | None = None, errors: int = subprocess.PIPE) -> subprocess.Popen[bytes]:
-        whole: list[Path | str] = [self.link, *(self.trial.words if words is None else words)]
-        with open(self.trial.given, "rb") as given:
-            return subprocess.Popen(
-                whole,
-                cwd=self.tree.folder,
-                env=self.tree.environment,
-                stdin=given,
-                stdout=subprocess.PIPE,
-                stderr=errors,
-            )
+        whole: Words = [self.link, *(self.words if words is None else words)]
+        folder, variables, pipe = self.tree.folder, self.tree.environment, subprocess.PIPE
+        with open(self.given, "rb") as given:
+            return subprocess.Popen(whole, cwd=folder, env=variables, stdin=given, stdout=pipe, stderr=errors)
 
-    def call(self, words: Sequence[str] | None = None, errors: int = subprocess.PIPE) -> Found:
+    def call(self, words: Sequence[str] | None = None, errors: int = subprocess.PIPE) -> Outcome:
         return end_of(self.start(words, errors))
 
-    def call_on_terminal(self, ours: int, theirs: int) -> Found:
+    def call_on_terminal(self, ours: int, theirs: int) -> Outcome:
         """The same with a terminal, given by its two ends, as standard error."""
         found = self.call(errors=theirs)
         os.close(theirs)
@@ -233,17 +207,17 @@ class Launcher:
             while piece := os.read(ours, 1 << 16):
                 errors += piece
         os.close(ours)
-        return found._replace(errors=errors.decode().replace("\r\n", "\n"))
+        return found._replace(errors=errors.replace(b"\r\n", b"\n"))
 
 
-def end_of(process: subprocess.Popen[bytes]) -> Found:
+def end_of(process: subprocess.Popen[bytes]) -> Outcome:
     """How a call ends."""
     try:
         output, errors = process.communicate(timeout=LIMIT)
     except subprocess.TimeoutExpired:
         process.kill()
         output, errors = process.communicate()
-    return Found(process.returncode, output.decode(), (errors or b"").decode("utf-8", "replace"))
+    return Outcome(process.returncode, output, errors or b"")
 
 
 def is_running(group: int) -> bool:
@@ -258,11 +232,11 @@ def is_running(group: int) -> bool:
 
 
 @contextlib.contextmanager
-def handled(handler: Handler) -> Iterator[None]:
-    """Has what is started meanwhile ignore hang-ups and interrupts where the handler is SIG_IGN, and else end at them
-    and at SIGTERM, whether or not the caller of the tests ignores them."""
-    ending = [signal.SIGHUP, signal.SIGINT] + ([signal.SIGTERM] if handler != signal.SIG_IGN else [])
-    before = {number: signal.signal(number, handler) for number in ending}
+def signals(are_ignored: bool) -> Iterator[None]:
+    """Has what is started meanwhile ignore hang-ups and interrupts, or else end at them and at SIGTERM, whether or not
+    the caller of the tests ignores them."""
+    ending = [signal.SIGHUP, signal.SIGINT] + ([] if are_ignored else [signal.SIGTERM])
+    before = {number: signal.signal(number, signal.SIG_IGN if are_ignored else pass_over) for number in ending}
     try:
         yield
     finally:
@@ -275,15 +249,14 @@ def pass_over(_number: int, _frame: FrameType | None) -> None:
 
 
 def launcher_of_svnhist(tree: Tree) -> Launcher:
-    trial = Trial([], EXAMPLES / "first.bundle", example("first.report").decode())
-    return Launcher(tree, "svnhist", SVNHIST_USAGE, trial)
+    return Launcher(tree, SVNHIST_USAGE, [], EXAMPLES / "first.bundle", example("first.report").decode())
 
 
 def launcher_of_svnhist_live(tree: Tree) -> Launcher:
     queries = tree.folder / "queries"
     queries.write_text("log\ttrunk@10\n")
     printed = "ready 13\n\n#1 ok\nr5 /trunk\nr2 /trunk\nr1 /trunk\n\n"
-    return Launcher(tree, "svnhist-live", LIVE_USAGE, Trial([str(INTEROP / "branches.dump"), "1"], queries, printed))
+    return Launcher(tree, LIVE_USAGE, [str(INTEROP / "branches.dump"), "1"], queries, printed)
 
 
 def lines_for(crates: Sequence[str]) -> str:
@@ -297,20 +270,20 @@ def refused_by_svnhist(tree: Tree) -> Iterator[Refused]:
     numbers = f"0; 0 1 1; -1 1; 2147483648 1; 99999999999999999999 1; 0 0; 0 {ZEROS}; 0 65; 0 1x".split(";")
     wrong = [["x"], ["--help", "x"], [missing, missing, "", "1"]]
     for words in wrong + [[dump, queries, *each.split()] for each in numbers]:
-        yield Refused(words, 2, USAGE % SVNHIST_USAGE)
-    yield Refused([missing, missing, "0", "1"], 3, NO_QUERIES)
-    yield Refused([missing, queries, ZEROS + "2147483647", "64"], 3, NO_DUMP)
-    yield Refused([dump, folder, "0", "1"], 3, NO_QUERIES)
-    yield Refused([folder, queries, "0", "1"], 3, NO_DUMP)
+        yield words, 2, USAGE % SVNHIST_USAGE
+    yield [missing, missing, "0", "1"], 3, NO_QUERIES
+    yield [missing, queries, ZEROS + "2147483647", "64"], 3, NO_DUMP
+    yield [dump, folder, "0", "1"], 3, NO_QUERIES
+    yield [folder, queries, "0", "1"], 3, NO_DUMP
 
 
 def refused_by_svnhist_live(tree: Tree) -> Iterator[Refused]:
     missing, dump = str(tree.folder / "missing"), str(tree.root / "examples" / "branch.dump")
     wrong: list[list[str]] = [[], ["x"], [dump], [dump, "1", "1"], ["--help", "x"], [missing, ""]]
     for words in wrong + [[dump, workers] for workers in ("0", ZEROS, "65", "-1", "1x")]:
-        yield Refused(words, 2, USAGE % LIVE_USAGE)
-    yield Refused([missing, "1"], 3, NO_DUMP)
-    yield Refused([str(tree.folder), ZEROS + "64"], 3, NO_DUMP)
+        yield words, 2, USAGE % LIVE_USAGE
+    yield [missing, "1"], 3, NO_DUMP
+    yield [str(tree.folder), ZEROS + "64"], 3, NO_DUMP
 
 
 class LauncherTest(ProgramTest):
@@ -331,10 +304,11 @@ class LauncherTest(ProgramTest):
         self.tree = Tree(self.folder, self.programs)
         self.svnhist, self.live = launcher_of_svnhist(self.tree), launcher_of_svnhist_live(self.tree)
 
-    def fits(self, name: str, found: Found, status: int, output: str, errors: str) -> None:
+    def fits(self, name: str, found: Outcome, status: int, output: str, errors: str) -> None:
         """Compares the status of a call, and its output and errors with patterns."""
-        is_so = found.status == status and re.fullmatch(output, found.output) and re.fullmatch(errors, found.errors)
-        self.compare(name, found if is_so else Found(status, output, errors), found)
+        texts = [re.fullmatch(output.encode(), found.output), re.fullmatch(errors.encode(), found.errors)]
+        is_so = found.status == status and all(texts)
+        self.compare(name, found if is_so else (status, output, errors), found)
 
     def works(self, name: str, launcher: Launcher, errors: str) -> None:
         """A call that prints what it should."""
@@ -349,9 +323,9 @@ class FirstCalls(LauncherTest):
         tree.set_working_toolchain()
         found = svnhist.call()
         self.fits("a first call", found, 0, svnhist.printed, lines_for(svnhist.needed))
-        told = sorted(words[1] for words in re.findall(PROVED, found.errors))
+        told = sorted(words[1] for words in re.findall(PROVED, found.errors.decode()))
         self.compare("each crate is told", svnhist.needed, told)
-        self.compare("the last line", "svnhist: 100 %", found.errors.splitlines()[-1][:14])
+        self.compare("the last line", b"svnhist: 100 %", found.errors.splitlines()[-1][:14])
         self.compare("each crate is proved once", svnhist.needed, tree.started())
         self.compare("a program is run", ["svnhist"], tree.run())
         self.compare("no crate before those below", [], tree.started_too_early())
@@ -392,9 +366,9 @@ class LaterCalls(LauncherTest):
         super().setUp()
         self.tree.set_working_toolchain()
 
-    def started_build(self, launcher: Launcher, handler: Handler) -> subprocess.Popen[bytes]:
+    def started_build(self, launcher: Launcher, are_ignored: bool = False) -> subprocess.Popen[bytes]:
         """A call at a time when `rt` has begun."""
-        with handled(handler):
+        with signals(are_ignored):
             process = launcher.start()
         self.tree.wait_for_start()
         time.sleep(0.3)
@@ -471,7 +445,7 @@ class LaterCalls(LauncherTest):
         self.fits("a failed build", found, 70, "", BUILDING + r"fn read: not proved\n" + UNBUILT)
         self.compare("crates beside a failed one", True, len(self.tree.started()) > 1)
         self.compare("the crates beside a failed one are stopped", [], self.tree.still_running())
-        log = re.search(UNBUILT, found.errors)
+        log = re.search(UNBUILT, found.errors.decode())
         self.compare("the log of a failed build", True, log is not None and os.path.exists(log[1]))
         self.compare("nothing is left of a failed build", False, (self.tree.root / "out").exists())
 
@@ -490,7 +464,7 @@ class LaterCalls(LauncherTest):
             number = signal.Signals[name]
             self.tree.forget_build("svnhist")
             self.tree.set_toolchain(KEEPS, NEVER_ENDS)
-            process = self.started_build(self.svnhist, pass_over)
+            process = self.started_build(self.svnhist)
             process.send_signal(number)
             status = -number if number == signal.SIGKILL else 128 + number
             self.fits(name, end_of(process), status, "", BUILDING)
@@ -503,11 +477,11 @@ class LaterCalls(LauncherTest):
         """As `nohup` ignores them."""
         self.tree.forget_build("svnhist")
         self.tree.set_working_toolchain("sleep 1")
-        process = self.started_build(self.svnhist, signal.SIG_IGN)
+        process = self.started_build(self.svnhist, are_ignored=True)
         for number in (signal.SIGHUP, signal.SIGINT):
             process.send_signal(number)
         self.fits("ignored signals", end_of(process), 0, self.svnhist.printed, lines_for(["svnhist"]))
-        with handled(signal.SIG_IGN):
+        with signals(are_ignored=True):
             process = self.svnhist.start()
         self.fits("a call after ignored signals", end_of(process), 0, self.svnhist.printed, "")
 
@@ -540,7 +514,7 @@ class LaterCalls(LauncherTest):
         for launcher in (self.live, self.svnhist):
             self.tree.forget_build(launcher.crate)
         self.tree.set_toolchain(KEEPS, NEVER_ENDS)
-        process = self.started_build(self.live, pass_over)
+        process = self.started_build(self.live)
         process.kill()
         self.fits("a killed build", end_of(process), -signal.SIGKILL, "", BUILDING)
         self.compare("a killed build ends all", [], self.tree.still_running())

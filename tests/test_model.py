@@ -2,7 +2,6 @@
 from __future__ import annotations
 
 import tempfile
-import unittest
 from pathlib import Path
 
 from model import comparing, fuzzing, talking
@@ -35,7 +34,3 @@ class Talks(DrawnTest):
 
     def test_drawn_talks_are_those_of_the_model(self) -> None:
         self.check_seeds(talking.COMPARISON, self.programs.svnhist_live)
-
-
-if __name__ == "__main__":
-    unittest.main()

@@ -103,17 +103,15 @@ class Packages(ProgramTest):
 
     def run_installed(self, *words: str) -> Outcome:
         """What a program of the package prints about the first dump of the README."""
-        path = f"{self.root / 'usr' / 'bin'}{os.pathsep}{os.environ.get('PATH', os.defpath)}"
-        module = self.root / "usr" / "lib" / "python3" / "dist-packages"
+        usr = self.root / "usr"
         variables = {
-            "PATH": path,
-            "PYTHONPATH": str(module),
+            "PATH": f"{usr / 'bin'}{os.pathsep}{os.environ.get('PATH', os.defpath)}",
+            "PYTHONPATH": str(usr / "lib" / "python3" / "dist-packages"),
             "XDG_CACHE_HOME": str(self.folder / "cache"),
             "TZ": "UTC",
             "SVNHIST": None,
         }
-        pages = self.root / "usr" / "share" / "doc" / "svnhist"
-        return run(words, b"log\ttrunk@10\n", environment=variables, folder=pages)
+        return run(words, b"log\ttrunk@10\n", environment=variables, folder=usr / "share" / "doc" / "svnhist")
 
     def version_in(self, name: str) -> str:
         """What a manual page has for a version."""

@@ -10,7 +10,7 @@ import os
 import re
 from collections.abc import Iterator, Mapping
 from pathlib import Path
-from typing import NamedTuple, Optional
+from typing import Optional
 
 from dev.checks import Check
 from dev.running import Limits, run
@@ -58,13 +58,6 @@ LIMITS = Limits(seconds=600)
 Environment = Mapping[str, Optional[str]]
 
 
-class Command(NamedTuple):
-    """A command with the output that the page shows."""
-
-    line: str
-    output: str
-
-
 def blocks_of(page: str) -> list[str]:
     text = (ROOT / page).read_text("utf-8")
     if not page.endswith(".1"):
@@ -72,9 +65,10 @@ def blocks_of(page: str) -> list[str]:
     return [block.replace(r"\-", "-").replace(r"\(ha", "^").replace(r"\e", "\\") for block in EXAMPLE.findall(text)]
 
 
-def commands_of(block: str) -> Iterator[Command]:
+def commands_of(block: str) -> Iterator[tuple[str, str]]:
+    """The commands of a block, each with the output that the page shows."""
     pieces = re.split(r"^\$ (.*(?:\n> .*)*)\n", block, flags=re.MULTILINE)
-    return (Command(lines.replace("\n> ", "\n"), output) for lines, output in zip(pieces[1::2], pieces[2::2]))
+    return ((lines.replace("\n> ", "\n"), output) for lines, output in zip(pieces[1::2], pieces[2::2]))
 
 
 class ShownCommands(ProgramTest):
