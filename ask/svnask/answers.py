@@ -16,6 +16,8 @@ from typing import Generic, NamedTuple, TypeVar
 from .errors import Denied
 
 Range = tuple[int, int]
+# What separates the fields of a query, and queries.
+SEPARATORS = b"\t\n"
 # The kind of answer that a query has.
 A = TypeVar("A", bound="Answer")
 A_co = TypeVar("A_co", bound="Answer", covariant=True)
@@ -138,9 +140,14 @@ def numbers_in(log: bytes) -> list[int] | None:
         return None
 
 
+def is_askable(path: bytes) -> bool:
+    """Whether svnhist can be asked about a path."""
+    return not any(letter in path for letter in SEPARATORS)
+
+
 def peg_text(path: bytes, rev: int) -> bytes:
     """A path and its peg in a line of fields between tabs."""
-    for letter in b"\t\n":
+    for letter in SEPARATORS:
         if letter in path:
             raise Denied(
                 "E160005",

@@ -9,8 +9,8 @@ from types import TracebackType
 from typing import BinaryIO
 
 from . import dates, engine
-from .answers import A, Answer, Answers, Locate, Located, Log, Logged, Query, Segments, Where
-from .changes import Change, changes_of
+from .answers import A, Answer, Answers, Locate, Located, Log, Logged, Query, Segments, Where, is_askable
+from .changes import Change, Place, changes_of
 from .errors import Failed, Refused
 from .store import Index, Record, Revision, Store, opened
 
@@ -197,18 +197,25 @@ class History:
         >>> history.kind(b"/trunk/main.c", 13), history.kind(b"/trunk", 13), history.kind(b"/none", 13)
         ('file', 'dir', None)
         """
-        if path == b"/":
-            return "dir"
-        located = [each for each in self.segments(path, rev).segments if each.path is not None]
-        if not located:
-            return None
-        first = located[-1]
-        kinds = [
-            each.kind
-            for each in self.records(first.lo, first.lo)
-            if each.path == first.path and each.action in ("add", "replace")
-        ]
-        return kinds[-1] if kinds else None
+        return self.kinds([(path, rev)]).get((path, rev))
+
+    def kinds(self, places: Iterable[Place]) -> dict[Place, str]:
+        """The kinds of paths of revisions, as far as they are there.
+
+        >>> history.kinds([(b"/trunk", 13), (b"/none", 13)])
+        {(b'/trunk', 13): 'dir'}
+        """
+        made: dict[Place, Place] = {}
+        for answer in self.ask([Where(*place) for place in places if is_askable(place[0])]):
+            located = [(each.path, each.lo) for each in answer.segments if each.path is not None]
+            if located:
+                made[answer.query.path, answer.query.rev] = located[-1]
+        kinds: dict[Place, str] = {(b"/", 0): "dir"}
+        for rev in {rev for _, rev in made.values()}:
+            for record in self.records(rev, rev):
+                if record.kind is not None and record.action in ("add", "replace"):
+                    kinds[record.path, rev] = record.kind
+        return {place: kinds[first] for place, first in made.items() if first in kinds}
 
     def revision(self, rev: int) -> Revision:
         """Who committed a revision, when, and with which message.
@@ -258,8 +265,8 @@ class History:
     def changes(self, rev: int) -> list[Change]:
         """The changed paths of a revision, as `svn log -v` lists them.
 
-        >>> history.changes(10)
-        [Change(path=b'/branches/one-again', letter='A', source=(b'/branches/one', 5))]
+        >>> [(change.letter, change.path, change.source) for change in history.changes(10)]
+        [('A', b'/branches/one-again', (b'/branches/one', 5))]
         """
         if rev not in self._changes:
             self._changes[rev] = changes_of(self.records(rev, rev))

@@ -9,12 +9,10 @@ import fnmatch
 from collections.abc import Iterable, Iterator, Sequence
 from typing import NamedTuple
 
-from .changes import components, tops_of
+from .changes import Place, components, joined, rest_below, tops_of
 from .store import Record
-from .values import joined, rest_below
 
 PATTERNS = (b"/trunk", b"/branches/*", b"/tags/*")
-Place = tuple[bytes, int]
 
 
 class Life(NamedTuple):

@@ -1,32 +1,24 @@
-"""`log`: what `svn log` prints of a path."""
+"""`log`: the revisions that `svn log` lists of a path."""
 from __future__ import annotations
 
 import bisect
-import re
 from collections.abc import Iterator
 from dataclasses import dataclass
 from typing import NamedTuple
 
-from . import dates
 from .answers import Log, Segment, Where
 from .changes import is_at_or_below, tops_of
 from .errors import Denied
 from .history import History
-from .store import Revision
 from .targets import Target, decoded, known
-
-RULE = b"-" * 72 + b"\n"
-LINE_END = re.compile(rb"\r\n|\n\r|\n|\r")
 
 
 @dataclass
 class Options:
-    """The options of `svn log`."""
+    """The options of `svn log` that choose revisions."""
 
     ranges: list[tuple[int, int]] | None = None
     limit: int | None = None
-    is_quiet: bool = False
-    is_verbose: bool = False
     stops_on_copy: bool = False
 
 
@@ -169,47 +161,3 @@ def walk_of(history: History, target: Target) -> Walk:
     if found is None:
         raise not_found(target, target.rev)
     return Walk(found, listed(history, found))
-
-
-def cut(text: bytes) -> bytes:
-    """A text up to its first NUL."""
-    return text.partition(b"\0")[0]
-
-
-def head_line(revision: Revision, is_quiet: bool) -> bytes:
-    author = b"(no author)" if revision.author is None else cut(revision.author)
-    line = b"r%d | %s | %s" % (revision.number, author, dates.shown(revision.date).encode("ascii"))
-    if not is_quiet:
-        count = 1 + len(LINE_END.findall(cut(revision.message or b"")))
-        line += b" | %d line%s" % (count, b"" if count == 1 else b"s")
-    return line + b"\n"
-
-
-def entry_text(history: History, rev: int, options: Options) -> bytes:
-    """A revision as `svn log` prints it."""
-    revision = history.revision(rev)
-    text = RULE + head_line(revision, options.is_quiet)
-    if options.is_verbose:
-        changes = history.changes(rev)
-        if changes:
-            text += b"Changed paths:\n" + b"".join(change.line() + b"\n" for change in changes)
-    if not options.is_quiet:
-        text += b"\n" + cut(revision.message or b"") + b"\n"
-    return text
-
-
-def is_shown(history: History, rev: int, options: Options) -> bool:
-    """Whether a revision is printed. Revision 0 is, where it has a message."""
-    return rev > 0 or (history.revision(0).message is not None and not options.is_quiet)
-
-
-def shown(history: History, target: Target, options: Options) -> list[int]:
-    """The revisions of a log that are printed."""
-    return [rev for rev in entries(history, target, options) if is_shown(history, rev, options)]
-
-
-def log_text(history: History, target: Target, options: Options) -> Iterator[bytes]:
-    """The output of `svn log`, piece after piece."""
-    for rev in shown(history, target, options):
-        yield entry_text(history, rev, options)
-    yield RULE

@@ -11,11 +11,11 @@ from typing import NamedTuple
 
 from . import log
 from .answers import Answer, Answers, Inherited, Log, Mergeinfo, Pair, Query, Where
-from .changes import Change, is_at_or_below, tops_of
+from .changes import Change, is_at_or_below, joined, rest_below, tops_of
 from .errors import Denied
 from .history import History
 from .targets import Target
-from .values import Explicit, Run, Value, joined, rest_below, runs_of, value_of
+from .values import Explicit, Run, Value, runs_of, value_of
 
 # For each path the revisions of a history.
 Located = dict[bytes, set[int]]

@@ -22,7 +22,7 @@ BLOCK = re.compile(
     rb"\n*(?:Revision-number: (?P<rev>[0-9]+)\n|Node-path: (?P<path>[^\n]*)\n(?:Node-kind: (?P<kind>[^\n]*)\n)?"
     rb"(?:Node-action: (?P<action>[^\n]*)\n)?(?:Node-copyfrom-rev: (?P<from_rev>[0-9]+)\n)?"
     rb"(?:Node-copyfrom-path: (?P<from_path>[^\n]*)\n)?(?P<delta>Prop-delta: true\n)?(?:Prop-delta: [^\n]*\n)?"
-    rb"(?:Text-delta: [^\n]*\n)?|UUID: [^\n]*\n)At: (?P<at>[0-9]+)\n"
+    rb"(?:Text-delta: [^\n]*\n)?|UUID: [^\n]*\n)At: (?P<at>[0-9]+)\n(?:Mods: (?P<text>text)?(?: ?(?P<properties>properties))?\n)?"
     rb"(?:Prop-content-length: (?P<length>[0-9]+)\nContent-length: [0-9]+\n)?\n"
 )
 # The offset of a block, which follows its other headers, but for a block that is not well formed.
@@ -48,6 +48,9 @@ class Record(NamedTuple):
     source: tuple[bytes, int] | None
     mergeinfo: Setting | None
     at: int
+    # Whether it gives a text, and whether it changes properties.
+    has_text: bool
+    has_properties: bool
 
 
 class Revision(NamedTuple):
@@ -58,6 +61,8 @@ class Revision(NamedTuple):
     date: bytes | None
     message: bytes | None
     at: int
+    # All that it has, these three too.
+    properties: dict[bytes, bytes]
 
 
 class Index(NamedTuple):
@@ -152,7 +157,7 @@ class Store:
         length = digits.number(found["length"] or b"0")
         values = properties_of(self.data[found.end() : found.end() + length]) if length else {}
         author, date, message = (values.get(name) for name in (b"svn:author", b"svn:date", b"svn:log"))
-        return Revision(rev, author, date, message, digits.number(found["at"]))
+        return Revision(rev, author, date, message, digits.number(found["at"]), values)
 
     def records(self, first: int = 0, last: int | None = None) -> Iterator[Record]:
         """The records of revisions, in the order of the dump. They are numbered from 1 in the first one."""
@@ -219,6 +224,8 @@ def record_of(found: re.Match[bytes], number: int, rev: int, version: int) -> Re
         source,
         setting_of(section, version == 3 and found["delta"] is not None),
         digits.number(found["at"]),
+        found["text"] is not None,
+        found["properties"] is not None,
     )
 
 

@@ -40,6 +40,13 @@ LONGEST = (1 << 63) - 1
 UNKNOWN = b"Unknown: 1\n"
 COPIED = b"\nNode-copyfrom-path: "
 COPY = re.compile(rb"Node-path: ([^\n]*)\n(?s:.*)Node-copyfrom-rev: ([0-9]+)\nNode-copyfrom-path: ([^\n]*)\n")
+# What a record says of its text and its properties, by whether it gave and changed them.
+MODS = {
+    (False, False): b"",
+    (True, False): b"Mods: text\n",
+    (False, True): b"Mods: properties\n",
+    (True, True): b"Mods: text properties\n",
+}
 # How many pieces of a copy are written at once. One that is longer is not held back.
 MANY, LONG = 1024, 1 << 16
 # The headers of a revision as Subversion writes them, and those of a record that changes a text alone.
@@ -159,11 +166,20 @@ def mergeinfo_alone(section: bytes, is_delta: bool) -> bytes:
     return b"".join(kept if is_delta else kept[-1:]) + LAST_LINE
 
 
+def names_any(section: bytes, is_delta: bool, front: bytes) -> bool:
+    """Whether a property section changes properties, given the headers before it. An empty list does where there were
+    some: in a record that neither changes nor copies there were none."""
+    if not section or section != LAST_LINE:
+        return bool(section)
+    return not is_delta and (b"Node-action: change\n" in front or COPIED in front)
+
+
 class Stripper:
     """Copies a dump, block after block.
 
-    With `places` each block of the copy has a header `At`, the offset of the block in the given dump, which svnhist
-    ignores; with `people` the revisions keep their properties, such as author, date and message.
+    With `places` each block of the copy has a header `At`, the offset of the block in the given dump, and a record that
+    gave a text or changed properties has one that says so, `Mods`. svnhist ignores both. With `people` the revisions
+    keep their properties, such as author, date and message.
     """
 
     def __init__(self, source: Source, write: Write, places: bool = False, people: bool = False) -> None:
@@ -196,6 +212,9 @@ class Stripper:
 
     def _place(self, at: int) -> bytes:
         return b"At: %d\n" % (self.source.base + at) if self._places else b""
+
+    def _mods(self, has_text: bool, has_properties: bool) -> bytes:
+        return MODS[has_text, has_properties] if self._places else b""
 
     def _first_line(self) -> int:
         source = self.source
@@ -249,7 +268,7 @@ class Stripper:
             if after > end or len(pieces) > MANY:
                 break
             pieces.append(front)
-            pieces.append(b"At: %d\n\n" % (base + found.start(1)) if self._places else b"\n")
+            pieces.append(b"At: %d\nMods: text\n\n" % (base + found.start(1)) if self._places else b"\n")
             at = after
         self._put(b"".join(pieces))
         self.copy.records += len(pieces) // 2
@@ -267,17 +286,21 @@ class Stripper:
         begin = found.end()
         if whole < section + rest or begin + whole > len(data) or (text_delta and later_delta):
             return at
+        has_properties = False
         try:
             kept = b"\n"
             if properties is not None:
                 has_changes = self.copy.format == 3 and delta is not None
-                kept = body_of(mergeinfo_alone(data[begin : begin + section], has_changes))
+                given = data[begin : begin + section]
+                kept = body_of(mergeinfo_alone(given, has_changes))
+                has_properties = names_any(given, has_changes, front)
         except Malformed:
             return at
         if COPIED in front:
             self._note_copy(front)
         deltas = (delta or b"") + (text_delta or later_delta or b"")
-        self._put(b"%s%s%s%s" % (front, deltas, self._place(found.start(1)), kept))
+        mods = self._mods(text is not None, has_properties)
+        self._put(b"%s%s%s%s%s" % (front, deltas, self._place(found.start(1)), mods, kept))
         self.copy.records += 1
         return begin + whole
 
@@ -317,7 +340,7 @@ class Stripper:
             self.copy.records += 1
             is_delta = self.copy.format == 3 and headers.get(b"Prop-delta") == b"true"
             given = section if b"Prop-content-length" in headers else -1
-            return self._record(head, raw, end + 2, given, rest, is_delta)
+            return self._record(head, raw, end + 2, given, rest, is_delta, b"Text-content-length" in headers)
         if self.copy.uuid is None:
             self.copy.uuid = headers[kind]
         self._put(head + b"\n")
@@ -340,10 +363,10 @@ class Stripper:
             raise Malformed("the dump ends within a body")
         return at
 
-    def _record(self, head: bytes, raw: bytes, at: int, length: int, rest: int, is_delta: bool) -> int:
+    def _record(self, head: bytes, raw: bytes, at: int, length: int, rest: int, is_delta: bool, has_text: bool) -> int:
         if length < 0:
             at = self._after(raw, b"", at, rest)
-            self._put(head + b"\n")
+            self._put(head + self._mods(has_text, False) + b"\n")
             return at
         section, at = self._section(raw, at, length)
         at = self._after(raw, section, at, rest)
@@ -352,7 +375,7 @@ class Stripper:
             kept = mergeinfo_alone(section, is_delta) if length > 0 else section
         finally:
             # A section that is not well formed is kept as it is.
-            self._put(head + body_of(kept))
+            self._put(head + self._mods(has_text, names_any(section, is_delta, head)) + body_of(kept))
         return at
 
     def _revision(self, head: bytes, raw: bytes, at: int, length: int, rest: int) -> int:

@@ -1,10 +1,12 @@
 """What a picture tells of each of its marks, under the pointer."""
 from __future__ import annotations
 
-from . import dates, log
+from . import dates
 from .graph import Copy, Dot, Graph, Lane, Merge
 from .history import History
 from .lives import Life
+from .log_forms import cut
+from .plain_log import LINE_END, head_line
 from .texts import readable
 
 MOST_LISTED = 24
@@ -29,8 +31,8 @@ def dated(history: History, rev: int) -> str:
 def about_revision(history: History, rev: int) -> str:
     """A revision in two lines: who committed it and when, and the first line of the message."""
     revision = history.revision(rev)
-    message = log.LINE_END.split(log.cut(revision.message or b"").lstrip(), 1)[0]
-    return "%s\n%s" % (readable(log.head_line(revision, True)[:-1]), readable(message))
+    message = LINE_END.split(cut(revision.message or b"").lstrip(), 1)[0]
+    return "%s\n%s" % (readable(head_line(revision, True)[:-1]), readable(message))
 
 
 def about_copy(copy: Copy) -> str:

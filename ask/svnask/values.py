@@ -6,7 +6,7 @@ import re
 from collections.abc import Iterable, Iterator
 from typing import NamedTuple
 
-from .changes import is_at_or_below
+from .changes import joined
 from .digits import number
 from .store import Record
 
@@ -133,15 +133,3 @@ class Explicit:
                 self._put(joined(top, rest), record.rev, text)
         if record.mergeinfo is not None and record.action != "delete":
             self._put(record.path, record.rev, record.mergeinfo.text)
-
-
-def joined(top: bytes, rest: bytes) -> bytes:
-    """The path of what is below another one."""
-    if not rest:
-        return top
-    return top + rest if top.endswith(b"/") else top + b"/" + rest
-
-
-def rest_below(path: bytes, top: bytes) -> bytes:
-    assert is_at_or_below(path, top)
-    return path[len(top) :].lstrip(b"/")

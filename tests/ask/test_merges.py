@@ -9,8 +9,9 @@ from dev.dumps import FILE, added, changed, copied, dump_of, mergeinfo
 from svnask import branches, engine, merges
 from svnask.answers import Answer, Logged, Log, Pair, Query, Segments, Where
 from svnask.answers import Merges as Merged
+from svnask.changes import Place
 from svnask.history import History
-from svnask.lives import Life, Place
+from svnask.lives import Life
 from svnask.merges import Gain, Interval, minus
 from tests.ask import base
 

@@ -7,9 +7,12 @@ from collections.abc import Iterator
 
 from .. import log
 from ..digits import number
-from ..errors import Denied
+from ..errors import Denied, Usage
 from ..history import History
-from ..targets import known, ranges_of, revision_of, target_of
+from ..log_forms import AUTHOR, DATE, MESSAGE, Entry, Wanted, as_wanted, entries, printed
+from ..plain_log import RULE, PlainForm
+from ..targets import encoded, known, ranges_of, revision_of, target_of
+from ..xml_log import XmlForm
 from .base import Object, Verb, object_of_revision
 
 LIMIT = re.compile(r"\s*([-+]?)([0-9]+)\Z")
@@ -27,8 +30,13 @@ class LogVerb(Verb):
         parser.add_argument("-q", "--quiet", action="store_true")
         parser.add_argument("-v", "--verbose", action="store_true")
         parser.add_argument("--stop-on-copy", action="store_true")
+        parser.add_argument("--xml", action="store_true")
+        parser.add_argument("--with-all-revprops", action="store_true")
+        parser.add_argument("--with-no-revprops", action="store_true")
+        parser.add_argument("--with-revprop", dest="names", metavar="NAME", action="append", default=[])
 
     def options(self, history: History, given: Namespace) -> log.Options:
+        """Which revisions are asked for."""
         limit = None
         if given.limit is not None:
             found = LIMIT.match(given.limit)
@@ -37,16 +45,42 @@ class LogVerb(Verb):
             limit = number(found[2])
             if limit == 0 or found[1] == "-":
                 raise Denied("E200004", "Argument to --limit must be positive")
-        return log.Options(
-            ranges_of(history, given.ranges, given.changes), limit, given.quiet, given.verbose, given.stop_on_copy
-        )
+        return log.Options(ranges_of(history, given.ranges, given.changes), limit, given.stop_on_copy)
+
+    def revisions(self, history: History, given: Namespace) -> list[int]:
+        return log.entries(history, target_of(history, given.target), self.options(history, given))
 
     def text(self, history: History, given: Namespace) -> Iterator[bytes]:
-        return log.log_text(history, target_of(history, given.target), self.options(history, given))
+        wanted = wanted_of(given)
+        form = XmlForm() if given.xml else PlainForm(given.quiet)
+        return printed(history, self.revisions(history, given), wanted, form)
 
     def objects(self, history: History, given: Namespace) -> Iterator[Object]:
-        for rev in log.shown(history, target_of(history, given.target), self.options(history, given)):
-            yield object_of_revision(history, rev)
+        if given.xml:
+            raise Usage("--xml prints no objects: it is not taken with --json")
+        wanted = wanted_of(given)
+        for entry in entries(history, self.revisions(history, given), wanted):
+            yield object_of_revision(history, entry.revision.number)
+
+
+def wanted_of(given: Namespace) -> Wanted:
+    """What is shown of each revision. Of these three options the first one holds."""
+    if not given.xml:
+        for name, value in (
+            ("with-all-revprops", given.with_all_revprops),
+            ("with-no-revprops", given.with_no_revprops),
+            ("with-revprop", given.names),
+        ):
+            if value:
+                raise Denied("E205000", f"'{name}' option only valid in XML mode")
+    names: frozenset[bytes] | None = frozenset((AUTHOR, DATE) if given.quiet else (AUTHOR, DATE, MESSAGE))
+    if given.with_all_revprops:
+        names = None
+    elif given.with_no_revprops:
+        names = frozenset()
+    elif given.names:
+        names = frozenset(map(encoded, given.names))
+    return Wanted(names, given.verbose, given.xml)
 
 
 class ShowVerb(Verb):
@@ -56,11 +90,13 @@ class ShowVerb(Verb):
     def arguments(self, parser: ArgumentParser) -> None:
         parser.add_argument("revision", metavar="REV")
 
-    def text(self, history: History, given: Namespace) -> Iterator[bytes]:
+    def revision(self, history: History, given: Namespace) -> int:
         history.check()
-        rev = known(history, revision_of(history, given.revision))
-        yield log.entry_text(history, rev, log.Options(is_verbose=True)) + log.RULE
+        return known(history, revision_of(history, given.revision))
+
+    def text(self, history: History, given: Namespace) -> Iterator[bytes]:
+        revision = as_wanted(history.revision(self.revision(history, given)), None)
+        yield PlainForm().entry(Entry(revision, history.changes(revision.number))) + RULE
 
     def objects(self, history: History, given: Namespace) -> Iterator[Object]:
-        history.check()
-        yield object_of_revision(history, known(history, revision_of(history, given.revision)))
+        yield object_of_revision(history, self.revision(history, given))

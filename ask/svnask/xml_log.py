@@ -1,0 +1,105 @@
+"""The log as `svn log --xml` prints it.
+
+The order of the attributes of a tag, and of the properties of a revision, is that of a hash table which begins anew with
+each run of `svn`. Here it is always the same.
+"""
+from __future__ import annotations
+
+import base64
+import re
+from collections.abc import Sequence
+
+from .changes import Change
+from .log_forms import AUTHOR, DATE, MESSAGE, Entry, Form
+
+CONTROL = re.compile(rb"[\x00-\x08\x0b\x0c\x0e-\x1f\x7f]")
+# What is escaped in a text, and in an attribute besides.
+IN_TEXT = ((b"&", b"&amp;"), (b"<", b"&lt;"), (b">", b"&gt;"), (b"\r", b"&#13;"))
+IN_ATTRIBUTE = ((b'"', b"&quot;"), (b"'", b"&apos;"), (b"\n", b"&#10;"), (b"\t", b"&#9;"))
+Attribute = tuple[bytes, bytes]
+
+
+def escaped(text: bytes) -> bytes:
+    for letter, name in IN_TEXT:
+        text = text.replace(letter, name)
+    return text
+
+
+def attribute(text: bytes) -> bytes:
+    text = escaped(text)
+    for letter, name in IN_ATTRIBUTE:
+        text = text.replace(letter, name)
+    return text
+
+
+def opening(tag: bytes, attributes: Sequence[Attribute]) -> bytes:
+    """A tag with each of its attributes on a line."""
+    return b"<%s%s>" % (tag, b"".join(b'\n   %s="%s"' % (name, attribute(value)) for name, value in attributes))
+
+
+def numbered(text: bytes) -> bytes:
+    """A text whose control characters are written as decimal numbers."""
+    return CONTROL.sub(lambda found: b"?\\%03d" % found[0][0], text)
+
+
+def tagged(tag: bytes, text: bytes | None) -> bytes:
+    return b"" if text is None else b"<%s>%s</%s>\n" % (tag, escaped(numbered(text)), tag)
+
+
+def word(is_so: bool) -> bytes:
+    return b"true" if is_so else b"false"
+
+
+def path_text(change: Change) -> bytes:
+    attributes = [
+        (b"action", change.letter.encode("ascii")),
+        (b"prop-mods", word(change.has_properties)),
+        (b"text-mods", word(change.has_text)),
+        (b"kind", (change.kind or "").encode("latin-1")),
+    ]
+    if change.source is not None:
+        path, rev = change.source
+        attributes += [(b"copyfrom-path", path), (b"copyfrom-rev", b"%d" % rev)]
+    return b"%s%s</path>\n" % (opening(b"path", attributes), escaped(change.path))
+
+
+def is_plain(value: bytes) -> bool:
+    """Whether a value can stand in XML as it is."""
+    try:
+        value.decode("utf-8")
+    except UnicodeDecodeError:
+        return False
+    return CONTROL.search(value) is None
+
+
+def property_text(name: bytes, value: bytes) -> bytes:
+    attributes = [(b"name", name)]
+    if is_plain(value):
+        text = escaped(value)
+    else:
+        attributes.append((b"encoding", b"base64"))
+        text = base64.encodebytes(value)
+    return b"%s%s</property>\n" % (opening(b"property", attributes), text)
+
+
+class XmlForm(Form):
+    """The form of `--xml`."""
+
+    begin = b'<?xml version="1.0" encoding="UTF-8"?>\n<log>\n'
+    end = b"</log>\n"
+
+    def entry(self, entry: Entry) -> bytes:
+        revision = entry.revision
+        pieces = [
+            opening(b"logentry", [(b"revision", b"%d" % revision.number)]),
+            b"\n",
+            tagged(b"author", revision.author),
+            tagged(b"date", revision.date or None),
+        ]
+        if entry.changes:
+            pieces += [b"<paths>\n", *map(path_text, entry.changes), b"</paths>\n"]
+        pieces.append(tagged(b"msg", revision.message))
+        others = sorted(each for each in revision.properties.items() if each[0] not in (AUTHOR, DATE, MESSAGE))
+        if others:
+            pieces += [b"<revprops>\n", *(property_text(*each) for each in others), b"</revprops>\n"]
+        return b"".join(pieces) + b"</logentry>\n"

@@ -1,0 +1,190 @@
+"""Runs `svn` and svnask on the same question, and compares what they print.
+
+usage: tests/ask/beside-svn [--only KIND] FIRST LAST
+
+For each seed from FIRST to LAST it draws a repository, recorded or drawn, and a command of some kind, and prints what is
+not the same. A seed always draws the same. Of XML the attributes and the properties are sorted before, since their
+order changes with each run of `svn`. The status is 1 if anything was not the same. `$SVNHIST` names the program.
+"""
+from __future__ import annotations
+
+import argparse
+import os
+import random
+import re
+import shutil
+import sys
+import tempfile
+import time
+from collections.abc import Callable, Iterator
+from pathlib import Path
+from typing import NamedTuple
+
+from dev.tree import INTEROP, programs
+from interop.outputs import as_url
+from interop.repository import Repository
+from interop.tools import ENVIRONMENT, Tools, url_of
+from tests.ask import base
+from tests.ask.drawn_repositories import drawn
+
+ERROR = re.compile(r"^svn(?:ask)?: (E[0-9]+):", re.MULTILINE)
+ATTRIBUTES = re.compile(rb"<(\w+)((?:\n   [\w-]+=\"[^\"]*\")+)>")
+PROPERTIES = re.compile(rb"<revprops>\n(.*?)</revprops>\n", re.DOTALL)
+NAMES = sorted(path.stem for path in INTEROP.glob("*.dump") if path.stem != "values")
+# How many seeds have the same repository.
+TOGETHER = 20
+
+
+class Place(NamedTuple):
+    """A repository that was loaded: its dump, its URL, and the paths of each revision."""
+
+    dump: Path
+    url: str
+    trees: list[list[str]]
+
+
+class Output(NamedTuple):
+    """What a command printed, or the code of its error."""
+
+    status: int
+    text: bytes
+
+
+def loaded(number: int, folder: Path) -> Place:
+    """The repository of a number."""
+    shutil.rmtree(folder, ignore_errors=True)
+    folder.mkdir()
+    tools = Tools(folder)
+    chance = random.Random(number)
+    dump = base.content_of(chance.choice(NAMES)) if chance.random() < 0.3 else drawn(number)
+    tools.load(folder / "repository", dump)
+    made = folder / "dump"
+    made.write_bytes(tools.run("svnadmin", "dump", "-q", folder / "repository"))
+    trees = Repository(tools, folder / "repository").trees
+    return Place(made, url_of(folder / "repository"), [[f"/{path}" for path in tree] for tree in trees])
+
+
+def some(chance: random.Random, **shares: float) -> list[str]:
+    return ["--" + name.replace("_", "-") for name, share in shares.items() if chance.random() < share]
+
+
+def target(chance: random.Random, place: Place) -> str:
+    rev = chance.choice((len(place.trees) - 1, chance.randint(0, len(place.trees) - 1)))
+    return f"{chance.choice(place.trees[rev])}@{rev}"
+
+
+def ranges(chance: random.Random, place: Place) -> list[str]:
+    head = len(place.trees) - 1
+    found = []
+    if chance.random() < 0.3:
+        found += ["-l", str(chance.randint(1, 4))]
+    if chance.random() < 0.4:
+        found += ["-r", "%d:%d" % (chance.randint(0, head), chance.randint(0, head))]
+        if chance.random() < 0.3:
+            found += ["-r", "%d:%d" % (chance.randint(0, head), chance.randint(0, head))]
+    elif chance.random() < 0.1:
+        found += ["-c", "%d,-%d,%d-%d" % tuple(chance.randint(1, max(head, 1)) for _ in range(4))]
+    return found
+
+
+def of_properties(chance: random.Random) -> list[str]:
+    names = ("svn:log", "svn:author", "svn:date", "bug", "none")
+    rows: tuple[list[str], ...] = ([], [], [], ["--with-all-revprops"], ["--with-no-revprops"])
+    return chance.choice((*rows, [f"--with-revprop={name}" for name in chance.sample(names, 2)]))
+
+
+def xml(chance: random.Random, place: Place) -> list[str]:
+    options = some(chance, verbose=0.6, quiet=0.2, stop_on_copy=0.2)
+    return ["log", "--xml", target(chance, place), *options, *ranges(chance, place), *of_properties(chance)]
+
+
+KINDS: dict[str, Callable[[random.Random, Place], list[str]]] = {"xml": xml}
+
+
+def is_left_out(words: list[str]) -> bool:
+    """Whether the pages say that svnask prints something else."""
+    return False
+
+
+def normal(text: bytes) -> bytes:
+    """XML with sorted attributes and properties."""
+
+    def sort(found: re.Match[bytes]) -> bytes:
+        return b"<%s\n   %s>" % (found[1], b"\n   ".join(sorted(found[2][4:].split(b"\n   "))))
+
+    def sort_properties(found: re.Match[bytes]) -> bytes:
+        rows = sorted(found[1].split(b"</property>\n"))
+        return b"<revprops>\n%s</revprops>\n" % b"</property>\n".join(rows)
+
+    return PROPERTIES.sub(sort_properties, ATTRIBUTES.sub(sort, text)) if text.startswith(b"<?xml") else text
+
+
+def output_of(status: int | None, output: bytes, said: str) -> Output:
+    found = ERROR.search(said)
+    return Output(0, normal(output)) if status == 0 else Output(1, (found[1] if found else said).encode())
+
+
+class Compared(NamedTuple):
+    """A command, and what both printed."""
+
+    words: list[str]
+    wanted: Output
+    found: Output
+
+    def shown(self) -> str:
+        """The first lines that are not the same."""
+        lines = [each.text.split(b"\n") for each in (self.wanted, self.found)]
+        same = len(os.path.commonprefix(lines))
+        rows = zip(("svn", "svnask"), (self.wanted, self.found), lines)
+        return "\n".join(
+            f"  {name}: {each.status}, from line {same + 1} on {rest[same:same + 9]}" for name, each, rest in rows
+        )
+
+
+def compare(kind: str, seed: int, place: Place, folder: Path) -> Compared:
+    chance = random.Random(f"{kind} {seed}")
+    words = KINDS[kind](chance, place)
+    done = Tools(folder).try_run("svn", *(as_url(place.url, word) for word in words))
+    found = base.called(place.dump, *words)
+    said = done.errors.decode("utf-8", "replace")
+    return Compared(words, output_of(done.status, done.output, said), output_of(found.status, found.output, found.said))
+
+
+def differing(kinds: list[str], first: int, last: int, folder: Path) -> Iterator[tuple[int, Compared]]:
+    """The seeds with another output of svnask."""
+    place: Place | None = None
+    number = -1
+    for seed in range(first, last + 1):
+        if place is None or number != seed // TOGETHER:
+            number = seed // TOGETHER
+            place = loaded(number, folder / "loaded")
+        for kind in kinds:
+            compared = compare(kind, seed, place, folder)
+            if compared.wanted != compared.found:
+                yield seed, compared
+
+
+def main() -> int:
+    words = argparse.ArgumentParser(
+        prog="tests/ask/beside-svn",
+        description="Runs svn and svnask on one question for each seed. Exits with 1 where they do not print the same.",
+    )
+    words.add_argument("--only", choices=sorted(KINDS), help="the only kind of command")
+    words.add_argument("first", type=int, help="the first seed")
+    words.add_argument("last", type=int, help="the last seed")
+    given = words.parse_args()
+    kinds = [given.only] if given.only else sorted(KINDS)
+    count = 0
+    with tempfile.TemporaryDirectory(prefix="svnask-beside-svn-") as folder:
+        os.environ.update(ENVIRONMENT, XDG_CACHE_HOME=os.path.join(folder, "cache"), SVNHIST=str(programs().svnhist))
+        time.tzset()
+        for seed, compared in differing(kinds, given.first, given.last, Path(folder)):
+            print(f"seed {seed}: {compared.words}\n{compared.shown()}", flush=True)
+            count += 1
+    total = (given.last - given.first + 1) * len(kinds)
+    print(f"{total} commands, {count} with another output")
+    return 1 if count else 0
+
+
+if __name__ == "__main__":
+    sys.exit(main())
