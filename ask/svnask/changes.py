@@ -74,6 +74,16 @@ def source_of(records: Iterable[Record], path: bytes) -> Place | None:
     return found
 
 
+def place_of(change: Change, rev: int, records: Iterable[Record]) -> Place:
+    """A place at which a changed path is, given the records of the revision. What was deleted was there before, or came
+    with a copy of a directory above it."""
+    if change.letter != "D":
+        return change.path, rev
+    top, _, name = change.path.rpartition(b"/")
+    source = source_of(records, top or b"/")
+    return (joined(source[0], name), source[1]) if source is not None else (change.path, rev - 1)
+
+
 def fold(found: dict[bytes, Change], record: Record) -> None:
     before = found.get(record.path)
     mods = record.has_text, record.has_properties

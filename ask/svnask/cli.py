@@ -23,7 +23,7 @@ from .verbs.base import Object
 
 # The options that take a value, and the names of those that have a short one.
 LONG = {"-r": "--revision", "-c": "--change", "-l": "--limit", "-o": "--output"}
-VALUED = frozenset((*LONG.values(), "--into", "--show-revs", "--with-revprop"))
+VALUED = frozenset((*LONG.values(), "--into", "--show-revs", "--with-revprop", "--search", "--search-and"))
 # What JSON need not escape, but rules a terminal.
 HIGH_CONTROL = re.compile("[\x7f-\x9f]")
 # The status where svnask itself is at fault.

@@ -10,7 +10,7 @@ from typing import BinaryIO
 
 from . import dates, engine
 from .answers import A, Answer, Answers, Locate, Located, Log, Logged, Query, Segments, Where, is_askable
-from .changes import Change, Place, changes_of
+from .changes import Change, Place, changes_of, place_of
 from .errors import Failed, Refused
 from .store import Index, Record, Revision, Store, opened
 
@@ -271,6 +271,25 @@ class History:
         if rev not in self._changes:
             self._changes[rev] = changes_of(self.records(rev, rev))
         return self._changes[rev]
+
+    def find_kinds(self, revs: Iterable[int]) -> None:
+        """Has `changes` of these revisions say the kind of each path, of which no record of a deletion speaks.
+
+        >>> history.find_kinds([8])
+        >>> [(change.letter, change.path, change.kind) for change in history.changes(8)]
+        [('D', b'/branches/one', 'dir')]
+        """
+        lacking = {
+            (rev, at): place_of(change, rev, self.records(rev, rev))
+            for rev in revs
+            for at, change in enumerate(self.changes(rev))
+            if change.kind is None
+        }
+        if lacking:
+            kinds = self.kinds(set(lacking.values()))
+            for (rev, at), place in lacking.items():
+                changes = self._changes[rev]
+                changes[at] = changes[at]._replace(kind=kinds.get(place))
 
     def revision_at(self, date: str) -> int:
         """The youngest revision at a date, in one of the forms that `svn` takes in braces.

@@ -22,6 +22,16 @@ class Options:
     stops_on_copy: bool = False
 
 
+class Item(NamedTuple):
+    """A revision of a log, or with -1 the end of those that were merged in one."""
+
+    rev: int
+    has_merges: bool = False
+    is_reverse: bool = False
+    # Revisions before it that are not printed. Since 1.10 `svn log -g -v` lists their paths with it.
+    left_out: tuple[int, ...] = ()
+
+
 class Trace(NamedTuple):
     """Where a path was, the newest segment first, and the revisions that svnhist calls operative."""
 

@@ -3,11 +3,13 @@ from __future__ import annotations
 
 from abc import ABC, abstractmethod
 from collections.abc import Iterable, Iterator
-from dataclasses import dataclass
+from dataclasses import dataclass, field
 from typing import NamedTuple
 
-from .changes import Change, Place, joined, source_of
+from .changes import Change, components
 from .history import History
+from .log import Item
+from .search import Group, is_found
 from .store import Revision
 
 AUTHOR, DATE, MESSAGE = b"svn:author", b"svn:date", b"svn:log"
@@ -15,12 +17,12 @@ AUTHOR, DATE, MESSAGE = b"svn:author", b"svn:date", b"svn:log"
 
 @dataclass
 class Wanted:
-    """What is shown of each revision: the properties of these names, or all where there are none, with `is_verbose` the
-    changed paths, and with `has_kinds` the kind of each."""
+    """What is shown of each revision: the properties of these names, or all where there are none, and with
+    `is_verbose` the changed paths. Of some groups of patterns one must match it."""
 
     names: frozenset[bytes] | None = frozenset((AUTHOR, DATE, MESSAGE))
     is_verbose: bool = False
-    has_kinds: bool = False
+    groups: list[Group] = field(default_factory=list)
 
 
 class Entry(NamedTuple):
@@ -28,6 +30,11 @@ class Entry(NamedTuple):
 
     revision: Revision
     changes: list[Change]
+    # The revisions in which it was merged, the outermost first, and whether the last merge was a reverse one.
+    via: tuple[int, ...] = ()
+    is_reverse: bool = False
+    # Whether entries follow that were merged in it.
+    has_merges: bool = False
 
 
 class Form(ABC):
@@ -35,10 +42,16 @@ class Form(ABC):
 
     begin = b""
     end = b""
+    # What stands after the entries that were merged in one.
+    end_of_merges = b""
 
     @abstractmethod
     def entry(self, entry: Entry) -> bytes:
         """A revision."""
+
+    @abstractmethod
+    def texts(self, revision: Revision) -> Iterator[bytes]:
+        """What is searched of a revision, beside its paths."""
 
 
 def cut(text: bytes) -> bytes:
@@ -55,49 +68,43 @@ def as_wanted(revision: Revision, names: frozenset[bytes] | None) -> Revision:
     )
 
 
-def entries(history: History, revisions: Iterable[int], wanted: Wanted) -> Iterator[Entry]:
-    """The entries that are printed. Revision 0 is one where its message is wanted and there."""
-    for rev in revisions:
-        revision = as_wanted(history.revision(rev), wanted.names)
-        if rev > 0 or revision.message is not None:
-            yield Entry(revision, history.changes(rev) if wanted.is_verbose else [])
+def changes_of(history: History, item: Item) -> list[Change]:
+    """The changed paths that are listed with a revision: those of the ones that were left out before it, too."""
+    if not item.left_out:
+        return history.changes(item.rev)
+    found = {change.path: change for rev in (*item.left_out, item.rev) for change in history.changes(rev)}
+    return sorted(found.values(), key=lambda change: components(change.path))
 
 
-def place_of(history: History, rev: int, change: Change) -> Place:
-    """A place at which a changed path is. What was deleted was there before, or came with a copy of the same revision
-    of a directory above it."""
-    if change.letter != "D":
-        return change.path, rev
-    top, _, name = change.path.rpartition(b"/")
-    source = source_of(history.records(rev, rev), top or b"/")
-    return (joined(source[0], name), source[1]) if source is not None else (change.path, rev - 1)
+def paths_of(changes: Iterable[Change]) -> Iterator[bytes]:
+    for change in changes:
+        yield change.path
+        if change.source is not None:
+            yield change.source[0]
 
 
-def with_kinds(history: History, given: list[Entry]) -> list[Entry]:
-    """Entries with the kind of each changed path, which records of deletions do not say."""
-    lacking = {
-        (entry.revision.number, change.path): place_of(history, entry.revision.number, change)
-        for entry in given
-        for change in entry.changes
-        if change.kind is None
-    }
-    if not lacking:
-        return given
-    kinds = history.kinds(set(lacking.values()))
+def entries(history: History, items: Iterable[Item], wanted: Wanted, form: Form) -> Iterator[Entry | None]:
+    """The entries of a log, and None after those that were merged in one. Revision 0 has one where its message is
+    wanted and there."""
+    via: list[int] = []
+    for item in items:
+        if item.rev < 0:
+            del via[-1:]
+            yield None
+            continue
+        revision = as_wanted(history.revision(item.rev), wanted.names)
+        if item.rev == 0 and revision.message is None:
+            continue
+        changes = changes_of(history, item) if wanted.is_verbose else []
+        if not wanted.groups or is_found(wanted.groups, [*form.texts(revision), *paths_of(changes)]):
+            yield Entry(revision, changes, tuple(via), item.is_reverse, item.has_merges)
+        if item.has_merges:
+            via.append(item.rev)
 
-    def whole(rev: int, change: Change) -> Change:
-        return change if change.kind is not None else change._replace(kind=kinds.get(lacking[rev, change.path]))
 
-    return [
-        entry._replace(changes=[whole(entry.revision.number, change) for change in entry.changes]) for entry in given
-    ]
-
-
-def printed(history: History, revisions: Iterable[int], wanted: Wanted, form: Form) -> Iterator[bytes]:
+def printed(history: History, items: Iterable[Item], wanted: Wanted, form: Form) -> Iterator[bytes]:
     """A log, piece after piece."""
-    found = entries(history, revisions, wanted)
-    shown = with_kinds(history, list(found)) if wanted.has_kinds else found
     yield form.begin
-    for entry in shown:
-        yield form.entry(entry)
+    for entry in entries(history, items, wanted, form):
+        yield form.end_of_merges if entry is None else form.entry(entry)
     yield form.end

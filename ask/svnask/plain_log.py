@@ -2,6 +2,7 @@
 from __future__ import annotations
 
 import re
+from collections.abc import Iterator
 
 from . import dates
 from .log_forms import Entry, Form, cut
@@ -11,9 +12,12 @@ RULE = b"-" * 72 + b"\n"
 LINE_END = re.compile(rb"\r\n|\n\r|\n|\r")
 
 
+def author_of(revision: Revision) -> bytes:
+    return b"(no author)" if revision.author is None else cut(revision.author)
+
+
 def head_line(revision: Revision, is_quiet: bool) -> bytes:
-    author = b"(no author)" if revision.author is None else cut(revision.author)
-    line = b"r%d | %s | %s" % (revision.number, author, dates.shown(revision.date).encode("ascii"))
+    line = b"r%d | %s | %s" % (revision.number, author_of(revision), dates.shown(revision.date).encode("ascii"))
     if not is_quiet:
         count = 1 + len(LINE_END.findall(cut(revision.message or b"")))
         line += b" | %d line%s" % (count, b"" if count == 1 else b"s")
@@ -28,10 +32,20 @@ class PlainForm(Form):
     def __init__(self, is_quiet: bool = False) -> None:
         self._is_quiet = is_quiet
 
+    def texts(self, revision: Revision) -> Iterator[bytes]:
+        """Author and date as they are printed."""
+        yield author_of(revision)
+        yield dates.shown(revision.date).encode("ascii")
+        if not self._is_quiet:
+            yield revision.message or b""
+
     def entry(self, entry: Entry) -> bytes:
         text = RULE + head_line(entry.revision, self._is_quiet)
         if entry.changes:
             text += b"Changed paths:\n" + b"".join(change.line() + b"\n" for change in entry.changes)
+        if entry.via:
+            text += b"Reverse merged via: " if entry.is_reverse else b"Merged via: "
+            text += b", ".join(b"r%d" % rev for rev in entry.via) + b"\n"
         if not self._is_quiet:
             text += b"\n" + (entry.revision.message or b"") + b"\n"
         return text

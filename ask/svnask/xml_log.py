@@ -7,10 +7,11 @@ from __future__ import annotations
 
 import base64
 import re
-from collections.abc import Sequence
+from collections.abc import Iterator, Sequence
 
 from .changes import Change
 from .log_forms import AUTHOR, DATE, MESSAGE, Entry, Form
+from .store import Revision
 
 CONTROL = re.compile(rb"[\x00-\x08\x0b\x0c\x0e-\x1f\x7f]")
 # What is escaped in a text, and in an attribute besides.
@@ -87,11 +88,19 @@ class XmlForm(Form):
 
     begin = b'<?xml version="1.0" encoding="UTF-8"?>\n<log>\n'
     end = b"</log>\n"
+    end_of_merges = b"</logentry>\n"
+
+    def texts(self, revision: Revision) -> Iterator[bytes]:
+        """What is there, as it is."""
+        return (text for text in (revision.author, revision.date, revision.message) if text is not None)
 
     def entry(self, entry: Entry) -> bytes:
         revision = entry.revision
+        attributes = [(b"revision", b"%d" % revision.number)]
+        if entry.via:
+            attributes.append((b"reverse-merge", word(entry.is_reverse)))
         pieces = [
-            opening(b"logentry", [(b"revision", b"%d" % revision.number)]),
+            opening(b"logentry", attributes),
             b"\n",
             tagged(b"author", revision.author),
             tagged(b"date", revision.date or None),
@@ -102,4 +111,6 @@ class XmlForm(Form):
         others = sorted(each for each in revision.properties.items() if each[0] not in (AUTHOR, DATE, MESSAGE))
         if others:
             pieces += [b"<revprops>\n", *(property_text(*each) for each in others), b"</revprops>\n"]
-        return b"".join(pieces) + b"</logentry>\n"
+        if not entry.has_merges:
+            pieces.append(self.end_of_merges)
+        return b"".join(pieces)

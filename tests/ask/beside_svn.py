@@ -31,6 +31,12 @@ ERROR = re.compile(r"^svn(?:ask)?: (E[0-9]+):", re.MULTILINE)
 ATTRIBUTES = re.compile(rb"<(\w+)((?:\n   [\w-]+=\"[^\"]*\")+)>")
 PROPERTIES = re.compile(rb"<revprops>\n(.*?)</revprops>\n", re.DOTALL)
 NAMES = sorted(path.stem for path in INTEROP.glob("*.dump") if path.stem != "values")
+# fmt: off
+PATTERNS = (
+    "merge", "CAFE", "resume", "r\u00e9sum\u00e9", "[x]", "\\[x\\]", "alice", "(no author)", "jorg", "2024-01-1?", "mon", "+0000",
+    "a*b", "/trunk", "/b/*/f", "(no date)", "(invalid date)", "", "*", "soon", "T00:", "copy", "\x7f", "message", "?\\001",
+)
+# fmt: on
 # How many seeds have the same repository.
 TOGETHER = 20
 
@@ -98,7 +104,21 @@ def xml(chance: random.Random, place: Place) -> list[str]:
     return ["log", "--xml", target(chance, place), *options, *ranges(chance, place), *of_properties(chance)]
 
 
-KINDS: dict[str, Callable[[random.Random, Place], list[str]]] = {"xml": xml}
+def search(chance: random.Random, place: Place) -> list[str]:
+    options = some(chance, verbose=0.5, quiet=0.2, xml=0.3, stop_on_copy=0.1)
+    patterns = []
+    for _ in range(chance.randint(1, 3)):
+        patterns += [chance.choice(("--search", "--search", "--search-and")), pattern(chance)]
+    return ["log", target(chance, place), *options, *patterns, *ranges(chance, place)]
+
+
+def pattern(chance: random.Random) -> str:
+    if chance.random() < 0.6:
+        return chance.choice(PATTERNS)
+    return "".join(chance.choices("abeRtr*?[]\\!^-c\n. <&\u00e9\u0301\u1e9e\ufb01", k=chance.randint(1, 5)))
+
+
+KINDS: dict[str, Callable[[random.Random, Place], list[str]]] = {"search": search, "xml": xml}
 
 
 def is_left_out(words: list[str]) -> bool:

@@ -2,8 +2,9 @@
 from __future__ import annotations
 
 import re
-from argparse import ArgumentParser, Namespace
+from argparse import Action, ArgumentParser, Namespace
 from collections.abc import Iterator
+from typing import Any
 
 from .. import log
 from ..digits import number
@@ -11,10 +12,12 @@ from ..errors import Denied, Usage
 from ..history import History
 from ..log_forms import AUTHOR, DATE, MESSAGE, Entry, Wanted, as_wanted, entries, printed
 from ..plain_log import RULE, PlainForm
+from ..search import Glob, Group, folded
 from ..targets import encoded, known, ranges_of, revision_of, target_of
 from ..xml_log import XmlForm
 from .base import Object, Verb, object_of_revision
 
+SEARCH, SEARCH_AND = "--search", "--search-and"
 LIMIT = re.compile(r"\s*([-+]?)([0-9]+)\Z")
 
 
@@ -34,6 +37,8 @@ class LogVerb(Verb):
         parser.add_argument("--with-all-revprops", action="store_true")
         parser.add_argument("--with-no-revprops", action="store_true")
         parser.add_argument("--with-revprop", dest="names", metavar="NAME", action="append", default=[])
+        for option in (SEARCH, SEARCH_AND):
+            parser.add_argument(option, dest="groups", metavar="PATTERN", action=Searched, default=[])
 
     def options(self, history: History, given: Namespace) -> log.Options:
         """Which revisions are asked for."""
@@ -47,20 +52,38 @@ class LogVerb(Verb):
                 raise Denied("E200004", "Argument to --limit must be positive")
         return log.Options(ranges_of(history, given.ranges, given.changes), limit, given.stop_on_copy)
 
-    def revisions(self, history: History, given: Namespace) -> list[int]:
-        return log.entries(history, target_of(history, given.target), self.options(history, given))
+    def items(self, history: History, given: Namespace) -> list[log.Item]:
+        return [*map(log.Item, log.entries(history, target_of(history, given.target), self.options(history, given)))]
 
     def text(self, history: History, given: Namespace) -> Iterator[bytes]:
         wanted = wanted_of(given)
-        form = XmlForm() if given.xml else PlainForm(given.quiet)
-        return printed(history, self.revisions(history, given), wanted, form)
+        items = self.items(history, given)
+        if given.xml and given.verbose:
+            history.find_kinds(rev for item in items for rev in (*item.left_out, item.rev) if rev >= 0)
+        return printed(history, items, wanted, XmlForm() if given.xml else PlainForm(given.quiet))
 
     def objects(self, history: History, given: Namespace) -> Iterator[Object]:
         if given.xml:
             raise Usage("--xml prints no objects: it is not taken with --json")
         wanted = wanted_of(given)
-        for entry in entries(history, self.revisions(history, given), wanted):
-            yield object_of_revision(history, entry.revision.number)
+        for entry in entries(history, self.items(history, given), wanted, PlainForm(given.quiet)):
+            if entry is not None:
+                yield object_of_revision(history, entry.revision.number)
+
+
+class Searched(Action):
+    """`--search` begins a group of patterns, and `--search-and` adds to the last one."""
+
+    def __call__(self, parser: ArgumentParser, given: Namespace, values: Any, option: str | None = None) -> None:
+        pattern = folded(encoded(values))
+        if pattern is None:
+            raise Denied("E000022", "a pattern is not UTF-8")
+        groups: list[Group] = list(given.groups)
+        if option == SEARCH_AND and groups:
+            groups[-1] = [*groups[-1], Glob(pattern)]
+        else:
+            groups.append([Glob(pattern)])
+        given.groups = groups
 
 
 def wanted_of(given: Namespace) -> Wanted:
@@ -80,7 +103,7 @@ def wanted_of(given: Namespace) -> Wanted:
         names = frozenset()
     elif given.names:
         names = frozenset(map(encoded, given.names))
-    return Wanted(names, given.verbose, given.xml)
+    return Wanted(names, given.verbose, given.groups)
 
 
 class ShowVerb(Verb):
