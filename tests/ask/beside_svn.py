@@ -106,9 +106,8 @@ def xml(chance: random.Random, place: Place) -> list[str]:
 
 def search(chance: random.Random, place: Place) -> list[str]:
     options = some(chance, verbose=0.5, quiet=0.2, xml=0.3, stop_on_copy=0.1)
-    patterns = []
-    for _ in range(chance.randint(1, 3)):
-        patterns += [chance.choice(("--search", "--search", "--search-and")), pattern(chance)]
+    names = [chance.choice(("search", "search", "search-and")) for _ in range(chance.randint(1, 3))]
+    patterns = [f"--{name}={pattern(chance)}" for name in names]
     return ["log", target(chance, place), *options, *patterns, *ranges(chance, place)]
 
 

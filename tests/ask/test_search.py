@@ -42,8 +42,8 @@ class Search(base.Case):
         rows: tuple[tuple[list[str], list[int]], ...] = (
             (["--search", "COPY", "--search-and", "one"], [11, 10, 6, 3]),
             (["--search-and", "copy 5", "--search", "the branch"], [10, 8]),
-            (["--search", "copy", "-l", "4"], [11, 10]), (["--search", "copy", "-q"], []),
-            (["--search", "/tags/", "-q"], []), (["--search", "/tags/begun", "-q", "-v"], [12, 4]),
+            (["--search", "copy", "-l", "4"], [13, 11, 10]), (["--search", "copy", "-q"], []),
+            (["--search", "/tags/", "-q"], []), (["--search", "/tags/begun", "-q", "-v"], [13, 12, 4]),
             (["--search", "2024-01-01 00:08"], [8]), (["--search=-5x"], []), (["--search", "-01-01", "-l", "1"], [13]),
         )
         # fmt: on
