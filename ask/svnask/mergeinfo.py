@@ -198,9 +198,7 @@ def below(explicit: Explicit, target: Target) -> Iterator[Mergeinfo]:
 
 
 def queries_of(explicit: Explicit, source: Target, target: Target, question: Question) -> list[Query[Answer]]:
-    """All that is asked of svnhist for a question. The root is no target of `-R`."""
-    if question.is_recursive and target.path == b"/":
-        raise Denied("E195002", "-R is not taken for the root, where 'svn' fails itself")
+    """All that is asked of svnhist for a question."""
     asked: list[Query[Answer]] = [Where(*target), Mergeinfo(*target), Where(*source), Log(*source)]
     if question.is_recursive:
         return [*asked, *below(explicit, target)]
@@ -227,6 +225,15 @@ def as_answered(
         partial -= same
         whole = operative - partial - {each.rev for each in eligible.revisions}
     return Sorted(found.whole - operative | whole, found.partial - operative | partial)
+
+
+def has_none(history: History, explicit: Explicit, target: Target, is_recursive: bool) -> bool:
+    """Whether a target that is there has no mergeinfo, so that nothing was merged from wherever."""
+    asked: list[Query[Answer]] = [Mergeinfo(*target), *(below(explicit, target) if is_recursive else ())]
+    answers = history.answers(asked)
+    return answers[Mergeinfo(*target)].status != "no-such-path" and not (
+        Catalog(history, explicit, answers, target, is_recursive).entries
+    )
 
 
 def show_revs(

@@ -25,12 +25,11 @@ def head_line(revision: Revision, is_quiet: bool) -> bytes:
 
 
 class PlainForm(Form):
-    """The form without `--xml`; with `is_quiet` it has no messages."""
+    """The form without `--xml`; with `is_quiet` it has no messages, and with `is_incremental` no last line."""
 
-    end = RULE
-
-    def __init__(self, is_quiet: bool = False) -> None:
+    def __init__(self, is_quiet: bool = False, is_incremental: bool = False) -> None:
         self._is_quiet = is_quiet
+        self.end = b"" if is_incremental else RULE
 
     def texts(self, revision: Revision) -> Iterator[bytes]:
         """Author and date as they are printed."""

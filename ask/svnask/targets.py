@@ -76,10 +76,17 @@ def known(history: History, rev: int) -> int:
     return rev
 
 
-def target_of(history: History, text: str) -> Target:
-    """The target that a user names. Without a peg it is of the youngest revision."""
+def place_of(history: History, text: str) -> Target:
+    """The path and the peg that a user names, which may be above the youngest revision. Without a peg it is that."""
     path, peg = split_peg(text)
-    return Target(path_of(path), known(history, revision_of(history, peg) if peg else history.head))
+    return Target(path_of(path), revision_of(history, peg) if peg else history.head)
+
+
+def target_of(history: History, text: str) -> Target:
+    """The target that a user names, of a revision that there is."""
+    found = place_of(history, text)
+    known(history, found.rev)
+    return found
 
 
 def range_of(history: History, text: str) -> tuple[int, int]:

@@ -4,29 +4,59 @@ from __future__ import annotations
 from argparse import ArgumentParser, Namespace
 from collections.abc import Iterator
 
-from .. import log, mergeinfo
+from .. import diagram, log, mergeinfo
 from ..answers import Mergeinfo
 from ..errors import Denied, Usage
 from ..history import History, one
-from ..targets import decoded, range_of, target_of
+from ..log_forms import AUTHOR, DATE, MESSAGE, Wanted, printed
+from ..plain_log import PlainForm
+from ..targets import Target, decoded, known, place_of, range_of, target_of
 from ..values import Explicit
-from .base import Object, Verb
+from .base import Object, Verb, object_of_revision
+
+# The options that need another one, in the order in which `svn` judges them.
+OF_LOG = (("quiet", "--quiet (-q)"), ("verbose", "--verbose (-v)"), ("incremental", "--incremental"))
+OF_SHOW_REVS = (
+    ("ranges", "--revision (-r) option"),
+    ("depth", "Depth specification options"),
+    ("log", "--log option"),
+)
 
 
 class MergeinfoVerb(Verb):
     name = "mergeinfo"
-    help = "the mergeinfo of a path, or with --show-revs what 'svn mergeinfo' prints of a source and a target"
+    help = "the mergeinfo of a path, or what 'svn mergeinfo' prints of a source and a target"
 
     def arguments(self, parser: ArgumentParser) -> None:
-        parser.add_argument("source", metavar="PATH[@PEG]", help="a path, or with --show-revs the source")
+        parser.add_argument("source", metavar="PATH[@PEG]", help="a path, or with a target the source")
         parser.add_argument("target", metavar="TARGET[@PEG]", nargs="?")
-        parser.add_argument("--show-revs", choices=("merged", "eligible"))
-        parser.add_argument("-R", "--recursive", action="store_true")
+        parser.add_argument("--show-revs", metavar="merged|eligible")
+        parser.add_argument("-R", "--recursive", dest="depth", action="store_const", const="infinity")
+        parser.add_argument("--depth", metavar="empty|infinity")
         parser.add_argument("-r", "--revision", dest="ranges", metavar="LO:HI", action="append", default=[])
+        parser.add_argument("--log", action="store_true")
+        parser.add_argument("-q", "--quiet", action="store_true")
+        parser.add_argument("-v", "--verbose", action="store_true")
+        parser.add_argument("--incremental", action="store_true")
+
+    def judge(self, given: Namespace) -> None:
+        """Refuses options without the one that they belong to."""
+        for name, option in OF_LOG:
+            if getattr(given, name) and not given.log:
+                raise Denied("E205000", f"{option} option valid only with --log option")
+        if given.show_revs not in (None, "merged", "eligible"):
+            raise Denied("E205000", f"'{given.show_revs}' is not a valid --show-revs value")
+        for name, options in OF_SHOW_REVS:
+            if getattr(given, name) and not given.show_revs:
+                raise Denied("E205000", f"{options} valid only with --show-revs option")
+        if given.depth not in (None, "empty", "infinity"):
+            raise Denied("E200007", "Only depths 'infinity' and 'empty' are currently supported")
+        if given.show_revs and given.target is None:
+            raise Usage("--show-revs takes a source and a target")
+        if len(given.ranges) > 1:
+            raise Denied("E205000", "Multiple revision arguments encountered; can't specify -r more than once")
 
     def value(self, history: History, given: Namespace) -> dict[bytes, str]:
-        if given.target is not None or given.recursive or given.ranges:
-            raise Usage("a target, -R and -r belong to --show-revs")
         target = target_of(history, given.source)
         answer = one(history.ask([Mergeinfo(*target)]))
         if answer.status == "malformed-mergeinfo":
@@ -36,27 +66,62 @@ class MergeinfoVerb(Verb):
         return answer.value
 
     def revisions(self, history: History, given: Namespace) -> list[tuple[int, bool]]:
-        if given.target is None:
-            raise Usage("--show-revs takes a source and a target")
-        if len(given.ranges) > 1:
-            raise Denied("E205000", "Multiple revision arguments encountered; can't specify -r more than once")
         bounds = range_of(history, given.ranges[0]) if given.ranges else None
         target = target_of(history, given.target)
-        source = target_of(history, given.source)
-        question = mergeinfo.Question(given.show_revs, given.recursive, bounds)
+        source = place_of(history, given.source)
+        question = mergeinfo.Question(given.show_revs, given.depth == "infinity", bounds)
+        if question.is_recursive and target.path == b"/":
+            raise Denied("E195002", "-R is not taken for the root, where 'svn' fails itself")
         explicit = Explicit(history.records())
+        if source.rev > history.head and question.verb == "merged":
+            # Without mergeinfo of the target `svn` does not look at the source.
+            if mergeinfo.has_none(history, explicit, target, question.is_recursive):
+                return []
+        known(history, source.rev)
         answers = history.answers(mergeinfo.queries_of(explicit, source, target, question))
         return mergeinfo.show_revs(history, explicit, answers, source, target, question)
 
+    def summary(self, history: History, given: Namespace) -> diagram.Summary:
+        source = target_of(history, given.source)
+        return diagram.summary(history, source, target_of(history, given.target))
+
+    def log(self, history: History, given: Namespace) -> Iterator[bytes]:
+        items = [log.Item(rev) for rev, _ in self.revisions(history, given)]
+        wanted = Wanted(frozenset((AUTHOR, DATE) if given.quiet else (AUTHOR, DATE, MESSAGE)), given.verbose)
+        return printed(history, items, wanted, PlainForm(given.quiet, given.incremental))
+
     def text(self, history: History, given: Namespace) -> Iterator[bytes]:
+        self.judge(given)
+        if given.log:
+            return self.log(history, given)
         if given.show_revs:
             return mergeinfo.show_revs_text(self.revisions(history, given))
+        if given.target is not None:
+            return diagram.text(self.summary(history, given))
         return (b"%s:%s\n" % (path, ranges.encode("ascii")) for path, ranges in self.value(history, given).items())
 
     def objects(self, history: History, given: Namespace) -> Iterator[Object]:
+        self.judge(given)
         if given.show_revs:
             for rev, starred in self.revisions(history, given):
-                yield {"revision": rev, "partial": starred}
+                found = object_of_revision(history, rev) if given.log else {"revision": rev}
+                yield {**found, "partial": starred}
+        elif given.target is not None:
+            yield object_of_summary(self.summary(history, given))
         else:
             for path, ranges in self.value(history, given).items():
                 yield {"path": decoded(path), "ranges": ranges}
+
+
+def object_of_place(place: Target | None) -> Object | None:
+    return None if place is None else {"path": decoded(place.path), "revision": place.rev}
+
+
+def object_of_summary(found: diagram.Summary) -> Object:
+    return {
+        "source": object_of_place(found.source),
+        "target": object_of_place(found.target),
+        "ancestor": object_of_place(found.ancestor),
+        "merged": object_of_place(found.merged),
+        "is_back": found.is_back,
+    }
