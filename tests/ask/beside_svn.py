@@ -111,18 +111,36 @@ def search(chance: random.Random, place: Place) -> list[str]:
     return ["log", target(chance, place), *options, *patterns, *ranges(chance, place)]
 
 
+def diagram(chance: random.Random, place: Place) -> list[str]:
+    return ["mergeinfo", target(chance, place), target(chance, place)]
+
+
+def merges(chance: random.Random, place: Place) -> list[str]:
+    verb = chance.choice(("merged", "eligible"))
+    options = some(chance, recursive=0.3) + (some(chance, log=1, verbose=0.5, quiet=0.2, incremental=0.1))
+    head = len(place.trees) - 1
+    if chance.random() < 0.2:
+        options += ["-r", "%d:%d" % (chance.randint(0, head), chance.randint(0, head))]
+    return ["mergeinfo", f"--show-revs={verb}", *options, target(chance, place), target(chance, place)]
+
+
 def pattern(chance: random.Random) -> str:
     if chance.random() < 0.6:
         return chance.choice(PATTERNS)
     return "".join(chance.choices("abeRtr*?[]\\!^-c\n. <&\u00e9\u0301\u1e9e\ufb01", k=chance.randint(1, 5)))
 
 
-KINDS: dict[str, Callable[[random.Random, Place], list[str]]] = {"search": search, "xml": xml}
+KINDS: dict[str, Callable[[random.Random, Place], list[str]]] = {
+    "diagram": diagram,
+    "merges": merges,
+    "search": search,
+    "xml": xml,
+}
 
 
 def is_left_out(words: list[str]) -> bool:
     """Whether the pages say that svnask prints something else."""
-    return False
+    return "--recursive" in words and words[-1].startswith("/@")
 
 
 def normal(text: bytes) -> bytes:
