@@ -5,7 +5,7 @@ from argparse import ArgumentParser, Namespace
 from collections.abc import Iterator
 
 from .. import log
-from ..answers import Segments
+from ..answers import Locate, Segments
 from ..history import History
 from ..targets import known, revision_of, target_of
 from .base import Object, Verb, shown
@@ -20,12 +20,16 @@ class WhereVerb(Verb):
         parser.add_argument("revision", metavar="REV")
 
     def answer(self, history: History, given: Namespace) -> bytes | None:
+        """Where the target was in a revision. In a later one it is at its own path, if what is there comes from it."""
         target = target_of(history, given.target)
         rev = known(history, revision_of(history, given.revision))
-        answer = history.locate(target.path, target.rev, rev)
-        if not answer.ok:
+        earlier, later = Locate(*target, min(rev, target.rev)), Locate(target.path, max(rev, target.rev), target.rev)
+        answers = history.answers([earlier, later])
+        if not answers[earlier].ok:
             raise log.not_found(target, target.rev)
-        return answer.path
+        if rev <= target.rev:
+            return answers[earlier].path
+        return target.path if answers[later].path == target.path else None
 
     def text(self, history: History, given: Namespace) -> Iterator[bytes]:
         yield (self.answer(history, given) or b"-") + b"\n"
