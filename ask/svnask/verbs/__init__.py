@@ -8,7 +8,7 @@ from .dumps import ByteVerb, InfoVerb, RecordVerb
 from .graph import GraphVerb
 from .logs import LogVerb, ShowVerb
 from .merges import MergeinfoVerb
-from .places import SegmentsVerb, WhereVerb
+from .places import HeirsVerb, SegmentsVerb, WhereVerb
 
 VERBS: list[Verb] = [
     LogVerb(),
@@ -16,6 +16,7 @@ VERBS: list[Verb] = [
     MergeinfoVerb(),
     WhereVerb(),
     SegmentsVerb(),
+    HeirsVerb(),
     BranchesVerb(),
     ContainsVerb(),
     UnmergedVerb(),

@@ -6,7 +6,7 @@ from argparse import ArgumentParser, ArgumentTypeError, Namespace
 from collections.abc import Iterator
 from typing import Any
 
-from ..changes import Change
+from ..changes import Change, Place
 from ..digits import number
 from ..history import History
 from ..store import Record
@@ -46,10 +46,14 @@ def shown(text: bytes | None) -> str | None:
     return None if text is None else decoded(text)
 
 
+def object_of_place(place: Place) -> Object:
+    return {"path": decoded(place[0]), "revision": place[1]}
+
+
 def object_of_change(change: Change) -> Object:
     found: Object = {"path": decoded(change.path), "action": change.letter}
     if change.source:
-        found["from"] = {"path": decoded(change.source[0]), "revision": change.source[1]}
+        found["from"] = object_of_place(change.source)
     return found
 
 
@@ -74,7 +78,7 @@ def object_of_record(record: Record) -> Object:
         "byte": record.at,
     }
     if record.source:
-        found["from"] = {"path": decoded(record.source[0]), "revision": record.source[1]}
+        found["from"] = object_of_place(record.source)
     if record.mergeinfo:
         found["mergeinfo"] = shown(record.mergeinfo.text)
     return found

@@ -8,7 +8,7 @@ from .. import branches
 from ..history import History
 from ..lives import Life
 from ..targets import decoded, known, path_of, revision_of, target_of
-from .base import Object, Verb
+from .base import Object, Verb, object_of_place
 
 
 def patterns_of(given: Namespace) -> list[bytes]:
@@ -27,7 +27,7 @@ def add_patterns(parser: ArgumentParser, default: str) -> None:
 def object_of_life(life: Life) -> Object:
     found: Object = {"path": decoded(life.path), "first": life.first, "last": life.last, "is_alive": life.is_alive}
     if life.source is not None:
-        found["from"] = {"path": decoded(life.source[0]), "revision": life.source[1]}
+        found["from"] = object_of_place(life.source)
     return found
 
 

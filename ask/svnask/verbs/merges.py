@@ -10,9 +10,9 @@ from ..errors import Denied, Usage
 from ..history import History, one
 from ..log_forms import AUTHOR, DATE, MESSAGE, Wanted, printed
 from ..plain_log import PlainForm
-from ..targets import Target, decoded, known, place_of, range_of, target_of
+from ..targets import decoded, known, place_of, range_of, target_of
 from ..values import Explicit
-from .base import Object, Verb, object_of_revision
+from .base import Object, Verb, object_of_place, object_of_revision
 
 # The options that need another one, in the order in which `svn` judges them.
 OF_LOG = (("quiet", "--quiet (-q)"), ("verbose", "--verbose (-v)"), ("incremental", "--incremental"))
@@ -113,15 +113,11 @@ class MergeinfoVerb(Verb):
                 yield {"path": decoded(path), "ranges": ranges}
 
 
-def object_of_place(place: Target | None) -> Object | None:
-    return None if place is None else {"path": decoded(place.path), "revision": place.rev}
-
-
 def object_of_summary(found: diagram.Summary) -> Object:
     return {
         "source": object_of_place(found.source),
         "target": object_of_place(found.target),
         "ancestor": object_of_place(found.ancestor),
-        "merged": object_of_place(found.merged),
+        "merged": None if found.merged is None else object_of_place(found.merged),
         "is_back": found.is_back,
     }

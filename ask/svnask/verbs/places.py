@@ -1,14 +1,15 @@
-"""`where` and `segments`."""
+"""`where`, `segments` and `heirs`."""
 from __future__ import annotations
 
 from argparse import ArgumentParser, Namespace
 from collections.abc import Iterator
 
-from .. import log
+from .. import heirs, log
 from ..answers import Locate, Segments
+from ..errors import Usage
 from ..history import History
-from ..targets import known, revision_of, target_of
-from .base import Object, Verb, shown
+from ..targets import decoded, known, revision_of, target_of
+from .base import Object, Verb, object_of_place, shown
 
 
 class WhereVerb(Verb):
@@ -58,3 +59,37 @@ class SegmentsVerb(Verb):
     def objects(self, history: History, given: Namespace) -> Iterator[Object]:
         for segment in self.answer(history, given).segments:
             yield {"first": segment.lo, "last": segment.hi, "path": shown(segment.path)}
+
+
+class HeirsVerb(Verb):
+    name = "heirs"
+    help = "each path of a later revision that was a path, itself or by copies, and the way there"
+
+    def arguments(self, parser: ArgumentParser) -> None:
+        parser.add_argument("target", metavar="PATH[@PEG]")
+        parser.add_argument("revision", metavar="REV", nargs="?", default="HEAD")
+
+    def heirs(self, history: History, given: Namespace) -> list[heirs.Heir]:
+        target = target_of(history, given.target)
+        rev = known(history, revision_of(history, given.revision))
+        if rev < target.rev:
+            raise Usage(f"revision {rev} is before the peg revision {target.rev}: where and segments look back")
+        if not history.locate(*target, target.rev).ok:
+            raise log.not_found(target, target.rev)
+        return heirs.heirs(history, target, rev)
+
+    def text(self, history: History, given: Namespace) -> Iterator[bytes]:
+        for heir in self.heirs(history, given):
+            yield b"%s\t%s\n" % (heir.path, b", ".join(map(text_of_step, heir.way)) or b"itself")
+
+    def objects(self, history: History, given: Namespace) -> Iterator[Object]:
+        for heir in self.heirs(history, given):
+            yield {"path": decoded(heir.path), "way": [object_of_step(step) for step in heir.way]}
+
+
+def text_of_step(step: heirs.Step) -> bytes:
+    return b"r%d %s%s@%d" % (step.rev, b"moved from " if step.is_moved else b"from ", *step.source)
+
+
+def object_of_step(step: heirs.Step) -> Object:
+    return {"revision": step.rev, "from": object_of_place(step.source), "is_moved": step.is_moved}
