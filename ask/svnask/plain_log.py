@@ -16,6 +16,11 @@ def author_of(revision: Revision) -> bytes:
     return b"(no author)" if revision.author is None else cut(revision.author)
 
 
+def first_line(revision: Revision) -> bytes:
+    """The first line of the message that is not empty."""
+    return LINE_END.split(cut(revision.message or b"").lstrip(), 1)[0]
+
+
 def head_line(revision: Revision, is_quiet: bool) -> bytes:
     line = b"r%d | %s | %s" % (revision.number, author_of(revision), dates.shown(revision.date).encode("ascii"))
     if not is_quiet:

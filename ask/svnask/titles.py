@@ -5,8 +5,7 @@ from . import dates
 from .graph import Copy, Dot, Graph, Lane, Merge
 from .history import History
 from .lives import Life
-from .log_forms import cut
-from .plain_log import LINE_END, head_line
+from .plain_log import first_line, head_line
 from .texts import readable
 
 MOST_LISTED = 24
@@ -31,8 +30,7 @@ def dated(history: History, rev: int) -> str:
 def about_revision(history: History, rev: int) -> str:
     """A revision in two lines: who committed it and when, and the first line of the message."""
     revision = history.revision(rev)
-    message = LINE_END.split(cut(revision.message or b"").lstrip(), 1)[0]
-    return "%s\n%s" % (readable(head_line(revision, True)[:-1]), readable(message))
+    return "%s\n%s" % (readable(head_line(revision, True)[:-1]), readable(first_line(revision)))
 
 
 def about_copy(copy: Copy) -> str:

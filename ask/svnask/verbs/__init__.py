@@ -5,6 +5,7 @@ from .asking import AskVerb
 from .base import Verb
 from .branches import BranchesVerb, ChangedTagsVerb, ContainsVerb, UnmergedVerb
 from .dumps import ByteVerb, InfoVerb, RecordVerb
+from .gains import NewVerb
 from .graph import GraphVerb
 from .logs import LogVerb, ShowVerb
 from .merges import MergeinfoVerb
@@ -20,6 +21,7 @@ VERBS: list[Verb] = [
     BranchesVerb(),
     ContainsVerb(),
     UnmergedVerb(),
+    NewVerb(),
     ChangedTagsVerb(),
     GraphVerb(),
     RecordVerb(),

@@ -1,0 +1,108 @@
+"""What one branch or tag has and another one lacks, as release notes list it."""
+from __future__ import annotations
+
+from collections.abc import Iterable, Iterator, Sequence
+from typing import NamedTuple
+
+from . import log
+from .answers import Answers, Log, Mergeinfo, Where
+from .changes import is_at_or_below
+from .errors import Denied
+from .history import History
+from .lives import Tree
+from .targets import Target, decoded
+from .values import Run, runs_of
+
+
+class Part(NamedTuple):
+    """Revisions of a source path that a value names, as far as one life of that path has them."""
+
+    query: Log
+    inheritable: bool
+
+
+class Held(NamedTuple):
+    """The revisions that a path has: in its own history, and by its mergeinfo as a whole or in part."""
+
+    own: set[int]
+    merged: set[int]
+    partial: set[int]
+
+    def how(self, rev: int) -> str:
+        return "history" if rev in self.own else "merged" if rev in self.merged else "merged in part"
+
+
+class Gained(NamedTuple):
+    """A revision that came in, and how it is had."""
+
+    rev: int
+    how: str
+
+
+def value_of(answers: Answers, target: Target) -> dict[bytes, str]:
+    """The mergeinfo of a target that is there."""
+    answer = answers[Mergeinfo(*target)]
+    if answer.status == "malformed-mergeinfo":
+        raise Denied("E200020", f"the mergeinfo of '{decoded(target.path)}' can't be read")
+    return answer.value
+
+
+def parts_of(tree: Tree, head: int, path: bytes, runs: Iterable[Run]) -> Iterator[Part]:
+    """The queries for the operative revisions of a source path in the revisions that a value names."""
+    lives = list(tree.lives(path, head))
+    for run in runs:
+        for life in lives:
+            lo, hi = max(run.lo, life.first), min(run.hi, life.last)
+            if lo <= hi:
+                yield Part(Log(path, hi, (lo, hi)), run.inheritable)
+
+
+def held(history: History, targets: Sequence[Target]) -> list[Held]:
+    """What each of some targets has."""
+    answers = history.answers(query for each in targets for query in (Where(*each), Log(*each), Mergeinfo(*each)))
+    for target in targets:
+        if not answers[Where(*target)].ok:
+            raise log.not_reached(history, target)
+    tree = Tree(history.records())
+    parts = {
+        target: [
+            part
+            for path, ranges in value_of(answers, target).items()
+            for part in parts_of(tree, history.head, path, runs_of(ranges.encode("ascii")))
+        ]
+        for target in targets
+    }
+    answers.update(history.answers(part.query for each in parts.values() for part in each))
+    return [held_by(history, answers, target, parts[target]) for target in targets]
+
+
+def held_by(history: History, answers: Answers, target: Target, parts: Iterable[Part]) -> Held:
+    trace = log.Trace(answers[Where(*target)].segments, answers[Log(*target)].revisions)
+    found = Held(set(log.listed(history, trace)), set(), set())
+    for query, inheritable in parts:
+        (found.merged if inheritable else found.partial).update(answers[query].revisions)
+    return found
+
+
+def is_copy_alone(history: History, rev: int) -> bool:
+    """Whether a revision made branches or tags by copies and changed nothing else."""
+    changes = history.changes(rev)
+    copies = [change.path for change in changes if change.source is not None]
+    return bool(changes) and all(
+        change.source is not None
+        or (change.letter == "A" and any(is_at_or_below(path, change.path) for path in copies))
+        for change in changes
+    )
+
+
+def gained(history: History, before: Target, after: Target) -> list[Gained]:
+    """The revisions that the second target has and the first one lacks, the newest first. Those that only copied are
+    left out."""
+    of_before, of_after = held(history, [before, after])
+    whole = of_before.own | of_before.merged
+    revisions = (of_after.own | of_after.merged | (of_after.partial - of_before.partial)) - whole
+    return [
+        Gained(rev, of_after.how(rev))
+        for rev in sorted(revisions, reverse=True)
+        if rev > 0 and not is_copy_alone(history, rev)
+    ]

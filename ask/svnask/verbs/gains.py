@@ -1,0 +1,39 @@
+"""`new`: what came in."""
+from __future__ import annotations
+
+from argparse import ArgumentParser, Namespace
+from collections.abc import Iterator
+
+from .. import log
+from ..gained import Gained, gained
+from ..history import History
+from ..log_forms import Wanted, printed
+from ..plain_log import PlainForm, author_of, first_line
+from ..targets import target_of
+from .base import Object, Verb, object_of_revision
+
+
+class NewVerb(Verb):
+    name = "new"
+    help = "the revisions that one branch or tag has, in its history or merged, and another one lacks"
+
+    def arguments(self, parser: ArgumentParser) -> None:
+        parser.add_argument("before", metavar="FROM[@PEG]", help="the branch or tag that lacks them")
+        parser.add_argument("after", metavar="TO[@PEG]", help="the branch or tag that has them")
+        parser.add_argument("-v", "--verbose", action="store_true", help="as 'svn log -v' prints them")
+
+    def gained(self, history: History, given: Namespace) -> list[Gained]:
+        return gained(history, target_of(history, given.before), target_of(history, given.after))
+
+    def text(self, history: History, given: Namespace) -> Iterator[bytes]:
+        found = self.gained(history, given)
+        if given.verbose:
+            yield from printed(history, [log.Item(each.rev) for each in found], Wanted(is_verbose=True), PlainForm())
+            return
+        for each in found:
+            revision = history.revision(each.rev)
+            yield b"r%d\t%s\t%s\n" % (each.rev, author_of(revision), first_line(revision))
+
+    def objects(self, history: History, given: Namespace) -> Iterator[Object]:
+        for each in self.gained(history, given):
+            yield {**object_of_revision(history, each.rev), "how": each.how}
