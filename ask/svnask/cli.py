@@ -14,7 +14,7 @@ from collections.abc import Iterable, Iterator
 from typing import Any, BinaryIO, NoReturn
 
 from . import __version__
-from .errors import Damaged, Denied, Error, Failed, Refused, Usage
+from .errors import Damaged, Denied, Error, Failed, Refused, Unsound, Usage
 from .history import History
 from .refusals import about_record, explained
 from .texts import say
@@ -175,6 +175,9 @@ def write(lines: Iterable[bytes], history: History) -> None:
         if history.is_from_cache and not is_begun:
             raise Stale from error
         raise
+    except Unsound:
+        sys.stdout.buffer.flush()
+        raise
     except Denied:
         # A dump that is refused has no answer, not even that there is no such path or revision.
         history.check()
@@ -210,7 +213,8 @@ def main(arguments: list[str] | None = None) -> int:
     try:
         call(sys.argv[1:] if arguments is None else arguments)
     except Error as error:
-        say(f"svnask: {error}", *error.advice)
+        if not isinstance(error, Unsound):
+            say(f"svnask: {error}", *error.advice)
         return error.status
     except Stopped as stopped:
         end_by(stopped.args[0])

@@ -72,8 +72,13 @@ class Branches:
         ]
         return max(found, key=lambda place: place.rev) if found else None
 
-    def last_merged(self, source: Target, target: Target, ancestor: Target) -> Target:
-        """The youngest place of one branch up to which all was merged to the other, or the ancestor."""
+    def last_merges(self, ancestor: Target) -> tuple[Target, Target]:
+        """The youngest place of each branch up to which all was merged to the other, or the ancestor."""
+        pairs = (self.source, self.target), (self.target, self.source)
+        of_source, of_target = (self._last_merged(*pair, ancestor) for pair in pairs)
+        return of_source, of_target
+
+    def _last_merged(self, source: Target, target: Target, ancestor: Target) -> Target:
         merged = self._shown("merged", source, target, (source.rev, ancestor.rev))
         if not merged:
             return ancestor
@@ -94,8 +99,7 @@ def summary(history: History, source: Target, target: Target) -> Summary:
     if ancestor is None or (ancestor == Target(b"/", 0) and b"/" not in (source.path, target.path)):
         names = decoded(source.path), source.rev, decoded(target.path), target.rev
         raise Denied("E195016", "'%s@%d' must be ancestrally related to '%s@%d'" % names)
-    of_source = branches.last_merged(source, target, ancestor)
-    of_target = branches.last_merged(target, source, ancestor)
+    of_source, of_target = branches.last_merges(ancestor)
     is_back = of_source.rev < of_target.rev
     merged = of_target if is_back else of_source
     return Summary(source, target, ancestor, merged if merged.rev > ancestor.rev else None, is_back)

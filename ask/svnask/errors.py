@@ -42,6 +42,13 @@ class Denied(Error):
         self.code = code
 
 
+class Unsound(Error):
+    """Something was found that should not be. All of it was printed."""
+
+    def __init__(self) -> None:
+        super().__init__("", 1)
+
+
 class Refused(Error):
     """The dump is refused: the number and the name of the reason, and the byte or the record at which it is found."""
 

@@ -178,6 +178,14 @@ def letters(name: bytes) -> str:
     return name.decode("utf-8", "surrogateescape")
 
 
+def is_matched(path: bytes, pattern: bytes) -> bool:
+    """Whether a path matches a pattern, component by component."""
+    parts, wanted = components(path), components(pattern)
+    return len(parts) == len(wanted) and all(
+        fnmatch.fnmatchcase(letters(part), letters(each)) for part, each in zip(parts, wanted)
+    )
+
+
 def is_plain(part: bytes) -> bool:
     return not any(letter in part for letter in b"*?[")
 

@@ -8,13 +8,14 @@ from .dumps import ByteVerb, InfoVerb, RecordVerb
 from .gains import NewVerb
 from .graph import GraphVerb
 from .logs import LogVerb, ShowVerb
-from .merges import MergeinfoVerb
+from .merges import CheckMergeinfoVerb, MergeinfoVerb
 from .places import HeirsVerb, SegmentsVerb, WhereVerb
 
 VERBS: list[Verb] = [
     LogVerb(),
     ShowVerb(),
     MergeinfoVerb(),
+    CheckMergeinfoVerb(),
     WhereVerb(),
     SegmentsVerb(),
     HeirsVerb(),

@@ -10,7 +10,7 @@ from ..changes import Change, Place
 from ..digits import number
 from ..history import History
 from ..store import Record
-from ..targets import decoded
+from ..targets import decoded, path_of
 
 Object = dict[str, Any]
 
@@ -33,6 +33,19 @@ class Verb:
     def objects(self, history: History, given: Namespace) -> Iterator[Object]:
         """The same for a script, one object a line."""
         raise NotImplementedError
+
+
+def patterns_of(given: Namespace) -> list[bytes]:
+    return [path_of(pattern) for pattern in given.patterns]
+
+
+def add_patterns(parser: ArgumentParser, default: str) -> None:
+    parser.add_argument(
+        "patterns",
+        metavar="PATTERN",
+        nargs="*",
+        help=f"paths, in which *, ? and [..] stand for letters of a name; {default} if none is given",
+    )
 
 
 def counted(text: str) -> int:

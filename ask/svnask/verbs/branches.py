@@ -7,21 +7,8 @@ from collections.abc import Iterator
 from .. import branches
 from ..history import History
 from ..lives import Life
-from ..targets import decoded, known, path_of, revision_of, target_of
-from .base import Object, Verb, object_of_place
-
-
-def patterns_of(given: Namespace) -> list[bytes]:
-    return [path_of(pattern) for pattern in given.patterns]
-
-
-def add_patterns(parser: ArgumentParser, default: str) -> None:
-    parser.add_argument(
-        "patterns",
-        metavar="PATTERN",
-        nargs="*",
-        help=f"paths, in which *, ? and [..] stand for letters of a name; {default} if none is given",
-    )
+from ..targets import decoded, known, revision_of, target_of
+from .base import Object, Verb, add_patterns, object_of_place, patterns_of
 
 
 def object_of_life(life: Life) -> Object:

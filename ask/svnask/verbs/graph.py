@@ -11,8 +11,8 @@ from collections.abc import Iterable, Iterator
 from .. import graph, picture
 from ..errors import Failed, Usage
 from ..history import History
-from .base import Object, Verb
-from .branches import add_patterns, object_of_life, patterns_of
+from .base import Object, Verb, add_patterns, patterns_of
+from .branches import object_of_life
 
 
 class GraphVerb(Verb):

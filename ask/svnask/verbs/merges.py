@@ -1,4 +1,4 @@
-"""`mergeinfo`."""
+"""`mergeinfo` and `check-mergeinfo`."""
 from __future__ import annotations
 
 from argparse import ArgumentParser, Namespace
@@ -6,13 +6,14 @@ from collections.abc import Iterator
 
 from .. import diagram, log, mergeinfo
 from ..answers import Mergeinfo
-from ..errors import Denied, Usage
+from ..errors import Denied, Unsound, Usage
 from ..history import History, one
 from ..log_forms import AUTHOR, DATE, MESSAGE, Wanted, printed
 from ..plain_log import PlainForm
-from ..targets import decoded, known, place_of, range_of, target_of
+from ..soundness import findings
+from ..targets import decoded, encoded, known, place_of, range_of, target_of
 from ..values import Explicit
-from .base import Object, Verb, object_of_place, object_of_revision
+from .base import Object, Verb, add_patterns, object_of_place, object_of_revision, patterns_of, shown
 
 # The options that need another one, in the order in which `svn` judges them.
 OF_LOG = (("quiet", "--quiet (-q)"), ("verbose", "--verbose (-v)"), ("incremental", "--incremental"))
@@ -121,3 +122,27 @@ def object_of_summary(found: diagram.Summary) -> Object:
         "merged": None if found.merged is None else object_of_place(found.merged),
         "is_back": found.is_back,
     }
+
+
+class CheckMergeinfoVerb(Verb):
+    name = "check-mergeinfo"
+    help = "what is wrong with values of svn:mergeinfo, with status 1 if anything is"
+
+    def arguments(self, parser: ArgumentParser) -> None:
+        add_patterns(parser, "all paths")
+
+    def text(self, history: History, given: Namespace) -> Iterator[bytes]:
+        found = findings(history, patterns_of(given))
+        for each in found:
+            named = b"" if each.source is None else b"%s:%s " % (each.source, each.ranges)
+            yield b"%s\t%s%s\n" % (each.path, named, encoded(each.reason))
+        if found:
+            raise Unsound
+
+    def objects(self, history: History, given: Namespace) -> Iterator[Object]:
+        found = findings(history, patterns_of(given))
+        for each in found:
+            named = {"source": shown(each.source), "ranges": each.ranges.decode("ascii") or None}
+            yield {"path": decoded(each.path), **named, "reason": each.reason}
+        if found:
+            raise Unsound
