@@ -3,7 +3,7 @@ from __future__ import annotations
 
 import bisect
 import re
-from collections.abc import Iterator
+from collections.abc import Iterator, Sequence
 from dataclasses import dataclass
 from typing import NamedTuple
 
@@ -28,6 +28,8 @@ class Options:
     is_quiet: bool = False
     is_verbose: bool = False
     stops_on_copy: bool = False
+    # What is logged together with the target.
+    besides: Sequence[Target] = ()
 
 
 class Trace(NamedTuple):
@@ -139,29 +141,38 @@ class Walk(NamedTuple):
 
 
 def entries(history: History, target: Target, options: Options) -> list[int]:
-    """The revisions of a log, range after range. The target is looked up in the youngest revision of all ranges, and
-    each one begins where it was in its own."""
+    """The revisions of a log, range after range."""
     ranges = options.ranges or [(target.rev, 0)]
     for bounds in ranges:
         known(history, max(bounds))
+    walks = [chosen(history, each, ranges, options.stops_on_copy) for each in (target, *options.besides)]
+    revisions: list[int] = []
+    for (first, last), found in zip(ranges, zip(*walks)):
+        revisions += sorted(set().union(*found), reverse=first >= last)
+        if options.limit is not None and len(revisions) >= options.limit:
+            break
+    return revisions[: options.limit]
+
+
+def chosen(
+    history: History, target: Target, ranges: Sequence[tuple[int, int]], stops_on_copy: bool
+) -> Iterator[list[int]]:
+    """The revisions of each range. The target is looked up in the youngest revision of all ranges, and each one begins
+    where it was in its own."""
     found = reached(history, target, max(max(bounds) for bounds in ranges))
     walk = Walk(found, listed(history, found))
     path = target.path
-    revisions: list[int] = []
-    for first, last in ranges:
-        if options.limit is not None and len(revisions) >= options.limit:
-            break
-        high = max(first, last)
+    for bounds in ranges:
+        high = max(bounds)
         segment = found.at(high)
         if segment is None and not found.is_gap(high):
             # The path was not made yet.
+            yield []
             continue
         # Between a copy and its source it is looked for where it was in the range before.
         path = segment.path or path if segment is not None else path
         here = walk if segment is not None else walk_of(history, Target(path, high))
-        chosen = here.between(history, min(first, last), high, options.stops_on_copy)
-        revisions += chosen if first < last else chosen[::-1]
-    return revisions[: options.limit]
+        yield here.between(history, min(bounds), high, stops_on_copy)
 
 
 def walk_of(history: History, target: Target) -> Walk:

@@ -6,6 +6,7 @@ from .base import Verb
 from .branches import BranchesVerb, ChangedTagsVerb, ContainsVerb, UnmergedVerb
 from .dumps import ByteVerb, InfoVerb, RecordVerb
 from .graph import GraphVerb
+from .kept import ForgetVerb, SourcesVerb, UpdateVerb
 from .logs import LogVerb, ShowVerb
 from .merges import MergeinfoVerb
 from .places import SegmentsVerb, WhereVerb
@@ -25,4 +26,7 @@ VERBS: list[Verb] = [
     ByteVerb(),
     InfoVerb(),
     AskVerb(),
+    UpdateVerb(),
+    ForgetVerb(),
+    SourcesVerb(),
 ]

@@ -1,0 +1,194 @@
+"""What svn, svnadmin and svnrdump are asked about a repository."""
+from __future__ import annotations
+
+import base64
+import os
+import re
+import subprocess
+import tempfile
+import urllib.parse
+import xml.etree.ElementTree as xml
+from collections.abc import Iterator, Sequence
+from contextlib import contextmanager
+from typing import IO, NamedTuple
+
+from .engine import name_of
+from .errors import Failed, Unreached
+
+# The messages are in English, and a path may have any letters.
+LOCALE = {"LC_ALL": "C.UTF-8"}
+# What a command says of its failure.
+ERROR = re.compile(r"svn[a-z]*: (?:warning: )?([EW][0-9]{6}: .*)")
+# That there is nothing at a URL of a repository, and what follows from it.
+NONE_THERE, NOT_ALL = "W170000: ", "E200009: "
+# How XML has a byte of a message that it can't carry.
+ESCAPED = re.compile(r"\?\\[0-9]{3}")
+NAMED = {"author": b"svn:author", "date": b"svn:date", "msg": b"svn:log"}
+# A letter of a path that a URL has as it is, as Subversion writes it, but for the sign of a peg revision.
+PLAIN = "/!$&'()*+,-.:=_~"
+PORTS = {"svn": ":3690", "http": ":80", "https": ":443"}
+
+Properties = dict[bytes, bytes]
+
+
+class Repository(NamedTuple):
+    """Where a repository is, which one it is, and its youngest revision."""
+
+    root: str
+    uuid: bytes
+    youngest: int
+
+
+class Access(NamedTuple):
+    """The options of svn by which a repository is reached."""
+
+    words: tuple[str, ...] = ()
+
+    def look(self, url: str) -> Repository:
+        """The repository that has a path. `Unreached` where none has."""
+        found = parsed(output_of("svn", "info", "--xml", *self.words, url))
+        entry = found.find("entry")
+        root, uuid = found.findtext("entry/repository/root"), found.findtext("entry/repository/uuid")
+        if entry is None or root is None or uuid is None:
+            raise Failed("svn info printed something other than a repository")
+        return Repository(canonical(root), uuid.encode("utf-8"), int(entry.attrib["revision"]))
+
+    def look_above(self, url: str) -> Repository:
+        """The repository that has a path, or had it: that which has one above it."""
+        first: Unreached | None = None
+        for above in ancestors(url):
+            try:
+                return self.look(above)
+            except Unreached as error:
+                if not error.is_none_there:
+                    raise first or error from error
+                first = first or error
+        raise first or Failed(f"'{url}' is no URL")
+
+    def properties(self, root: str, rev: int) -> Properties:
+        """The properties of a revision."""
+        words = ("svn", "proplist", "--revprop", "-v", "--xml", "-r", str(rev))
+        found = parsed(output_of(*words, *self.words, root)).iter("property")
+        return {each.attrib["name"].encode("utf-8"): value_of(each) for each in found}
+
+    def all_properties(self, root: str, last: int) -> Iterator[tuple[int, Properties]]:
+        """The properties of all revisions from 0 on, as far as XML carries them, and by themselves where it does
+        not."""
+        yield 0, self.properties(root, 0)
+        words = ("svn", "log", "--xml", "--with-all-revprops", "-r", f"1:{last}")
+        with printed(*words, *self.words, root) as stream:
+            for _, element in xml.iterparse(stream):
+                if element.tag == "logentry":
+                    rev = int(element.attrib["revision"])
+                    yield rev, properties_of(element) or self.properties(root, rev)
+                    element.clear()
+
+    def dumped(self, root: str, first: int, last: int) -> Sequence[str]:
+        return ("svnrdump", "dump", "-q", "--incremental", "-r", f"{first}:{last}", *self.words, root)
+
+
+def properties_of(entry: xml.Element) -> Properties | None:
+    """The properties in an entry of a log. None where one of them may be another one than what XML says."""
+    found: Properties = {}
+    for tag, name in NAMED.items():
+        text = entry.findtext(tag)
+        if text is not None and ESCAPED.search(text) or not text and tag == "date":
+            return None
+        if text is not None:
+            found[name] = text.encode("utf-8")
+    found.update((each.attrib["name"].encode("utf-8"), value_of(each)) for each in entry.iter("property"))
+    return found
+
+
+def value_of(element: xml.Element) -> bytes:
+    """The value of a property."""
+    text = (element.text or "").encode("utf-8")
+    return base64.b64decode(text) if element.get("encoding") == "base64" else text
+
+
+def parsed(text: bytes) -> xml.Element:
+    try:
+        return xml.fromstring(text)
+    except xml.ParseError as error:
+        raise Failed(f"svn printed something other than XML: {error}") from error
+
+
+def output_of(*words: str) -> bytes:
+    """What a command prints. Its failure is raised."""
+    with printed(*words) as stream:
+        return stream.read()
+
+
+@contextmanager
+def printed(*words: str) -> Iterator[IO[bytes]]:
+    """What a command prints, which has ended well at the end, or its failure is raised. It may ask for a password on the
+    terminal, which is also its standard input."""
+    with tempfile.TemporaryFile() as errors:
+        try:
+            process = subprocess.Popen(words, stdout=subprocess.PIPE, stderr=errors, env={**os.environ, **LOCALE})
+        except OSError as error:
+            raise Failed(f"cannot run {words[0]}: {error.strerror}") from error
+        assert process.stdout is not None
+        is_read = False
+        try:
+            yield process.stdout
+            is_read = True
+        finally:
+            if not is_read:
+                # Nobody wants the rest.
+                process.terminate()
+            process.stdout.close()
+            status = process.wait()
+        if status:
+            errors.seek(0)
+            raise failure(words[0], status, errors.read().decode("utf-8", "replace"))
+
+
+def failure(command: str, status: int, said: str) -> Failed | Unreached:
+    """Why a command failed, by its status and what it said."""
+    if status < 0:
+        return Failed(f"{command} was ended by {name_of(-status)}")
+    lines = [found[1] for found in map(ERROR.match, said.splitlines()) if found]
+    if not lines:
+        return Failed(f"{command} ended with status {status}" + (said.strip() and ": " + said.strip().splitlines()[-1]))
+    first, *rest = [line for line in lines if not line.startswith(NOT_ALL)] or lines
+    return Unreached(first, rest, first.startswith(NONE_THERE))
+
+
+def canonical(url: str) -> str:
+    """A URL as the cache names it, without a slash at its end. All commands of Subversion take it for the same, without
+    a peg revision."""
+    scheme, _, rest = url.partition("://")
+    host, _, path = rest.partition("/")
+    scheme = scheme.lower()
+    user, sign, host = host.rpartition("@")
+    host = host.lower()
+    if host.endswith(PORTS.get(scheme, "/")):
+        host = host[: -len(PORTS[scheme])]
+    parts = [part for part in urllib.parse.unquote_to_bytes(encoded(path)).split(b"/") if part not in (b"", b".")]
+    return f"{scheme}://{user}{sign}{host}/" + urllib.parse.quote(b"/".join(parts), safe=PLAIN)
+
+
+def encoded(text: str) -> bytes:
+    return text.encode("utf-8", "surrogateescape")
+
+
+def ancestors(url: str) -> Iterator[str]:
+    """A canonical URL, and those above it."""
+    front, _, rest = url.partition("://")
+    host, _, path = rest.partition("/")
+    parts = path.split("/") if path else []
+    for count in range(len(parts), -1, -1):
+        yield f"{front}://{host}/" + "/".join(parts[:count])
+
+
+def path_below(url: str, root: str) -> bytes | None:
+    """The path that a URL has below a root, both canonical."""
+    if url == root:
+        return b"/"
+    front = root if root.endswith("/") else root + "/"
+    return b"/" + urllib.parse.unquote_to_bytes(url[len(front) :]) if url.startswith(front) else None
+
+
+def url_of_folder(folder: str) -> str:
+    return canonical("file://" + urllib.parse.quote(os.fsencode(folder)))
