@@ -59,6 +59,8 @@ def with_source(words: list[str], verbs: Iterable[str]) -> list[str]:
     where none is asked."""
     found = places(words)
     plain = [words[at] for at in found]
+    if not plain:
+        return words
     if plain == ["sources"] or plain == words[:1] and plain[0] in verbs and words[1:] in (["-h"], ["--help"]):
         return [*words[: found[0]], "-", *words[found[0] :]]
     urls = [word for word in plain[1:] if IS_URL.match(word)]

@@ -143,8 +143,8 @@ class Entry:
             return store
         try:
             with self.first_file() as (file, kept):
-                file.write(store.first)
-                file.write(store.later)
+                file.write(memoryview(store.first))
+                file.write(memoryview(store.later))
             kept = kept._replace(state=store.index.kept.state, base=store.index.length)
             made = self.commit(store.index._replace(kept=kept))
         except OSError:

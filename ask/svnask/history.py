@@ -292,8 +292,8 @@ def whole(store: Store) -> Iterator[str]:
         yield store.base
         return
     with tempfile.NamedTemporaryFile(prefix="svnask-") as file:
-        file.write(store.first)
-        file.write(store.later)
+        file.write(memoryview(store.first))
+        file.write(memoryview(store.later))
         file.flush()
         yield file.name
 

@@ -13,13 +13,13 @@ from collections.abc import Iterable, Iterator, Sequence
 from contextlib import closing, contextmanager
 from typing import IO, BinaryIO, NamedTuple
 
-from . import cache, repositories
+from . import cache, repositories, strip
 from .entries import Entry, read_index
 from .errors import Error, Failed, Usage
 from .progress import Progress
 from .repositories import Access, Properties, Repository, canonical
 from .store import Index, Kept, Store, properties_of
-from .strip import LAST_LINE, Copy, Stripper, body_of, entry
+from .strip import Copy, Stripper
 from .window import Window
 
 DUMP, FOLDER, URL = b"dump", b"folder", b"url"
@@ -136,7 +136,7 @@ class State(NamedTuple):
     end: str
 
     def text(self) -> bytes:
-        return b"%d %d %d %d %d %s %s" % (*self[:5], self.front.encode(), self.end.encode())
+        return " ".join(map(str, self)).encode("ascii")
 
 
 def state_in(text: bytes) -> State | None:
@@ -160,7 +160,7 @@ class Dump(Source):
         self.begin = file.tell() if file is not None and self.is_regular else 0
 
     def close(self) -> None:
-        if self.file is not None and self.file is not sys.stdin.buffer:
+        if self.file is not None and self.name != "-":
             self.file.close()
 
     @property
@@ -395,7 +395,7 @@ class Asked(Source):
     def new_properties(self) -> Iterable[tuple[int, bytes]]:
         """The property section of each revision, as it is now."""
         for rev, found in self.access.all_properties(self.root, self.now.youngest):
-            yield rev, b"".join(entry(*each) for each in found.items()) + LAST_LINE
+            yield rev, b"".join(strip.entry(*each) for each in found.items()) + strip.LAST_LINE
 
 
 def normal(properties: Properties) -> Properties:

@@ -3,7 +3,7 @@ from __future__ import annotations
 
 import os
 import stat
-from typing import BinaryIO
+from typing import IO
 
 PIECE = 1 << 17
 NEWLINE = 10
@@ -19,7 +19,7 @@ class Window:
     data: bytes
     base: int
 
-    def __init__(self, file: BinaryIO, base: int = 0) -> None:
+    def __init__(self, file: IO[bytes], base: int = 0) -> None:
         self.base = base
         self.data = b""
         self._file = file

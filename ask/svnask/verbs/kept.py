@@ -8,6 +8,7 @@ from contextlib import closing
 from functools import partial
 
 from ..errors import Failed, Usage
+from ..history import History
 from ..progress import Bar
 from ..repositories import Access
 from ..sources import held, source_of, with_properties
@@ -18,13 +19,21 @@ from .base import Object, Verb
 class KeptVerb(Verb):
     """A verb that asks nothing about a history."""
 
+    form = ""
+
     def act(self, given: Namespace, access: Access) -> Iterator[Object]:
         """Does what the verb says, and tells what was done."""
         raise NotImplementedError
 
     def line(self, found: Object) -> bytes:
         """What is printed of an object where objects are not asked for."""
-        return b""
+        return encoded(self.form.format(**found))
+
+    def text(self, history: History, given: Namespace) -> Iterator[bytes]:
+        return iter(())
+
+    def objects(self, history: History, given: Namespace) -> Iterator[Object]:
+        return iter(())
 
 
 class UpdateVerb(KeptVerb):
@@ -64,6 +73,7 @@ class ForgetVerb(KeptVerb):
 class SourcesVerb(KeptVerb):
     name = "sources"
     help = "list the sources of which something is kept"
+    form = "{source}\tr{youngest}\t{bytes} bytes\tused {last_use}\n"
 
     def act(self, given: Namespace, access: Access) -> Iterator[Object]:
         if given.dump != "-":
@@ -72,6 +82,3 @@ class SourcesVerb(KeptVerb):
             used = time.strftime("%Y-%m-%dT%H:%M:%SZ", time.gmtime(each.used))
             place = decoded(each.place)
             yield {"source": place, "kind": each.kind, "youngest": each.youngest, "bytes": each.size, "last_use": used}
-
-    def line(self, found: Object) -> bytes:
-        return encoded("{source}\tr{youngest}\t{bytes} bytes\tused {last_use}\n".format(**found))

@@ -63,7 +63,9 @@ def targets_of(history: History, given: Namespace) -> list[Target]:
         return [first, *(target_of(history, each) for each in given.besides)]
     for each in given.besides:
         if each.startswith(("/", "^")) or IS_URL.match(each):
-            text = f"Only relative paths can be specified after a URL for 'svn log', but '{each}' is not a relative path"
+            text = (
+                f"Only relative paths can be specified after a URL for 'svn log', but '{each}' is not a relative path"
+            )
             raise Denied("E205000", text)
     return [Target(below(first.path, path_of(each)), first.rev) for each in given.besides]
 
