@@ -143,8 +143,7 @@ class Entry:
             return store
         try:
             with self.first_file() as (file, kept):
-                file.write(memoryview(store.first))
-                file.write(memoryview(store.later))
+                store.write(file)
             kept = kept._replace(state=store.index.kept.state, base=store.index.length)
             made = self.commit(store.index._replace(kept=kept))
         except OSError:

@@ -292,8 +292,7 @@ def whole(store: Store) -> Iterator[str]:
         yield store.base
         return
     with tempfile.NamedTemporaryFile(prefix="svnask-") as file:
-        file.write(memoryview(store.first))
-        file.write(memoryview(store.later))
+        store.write(file.file)
         file.flush()
         yield file.name
 

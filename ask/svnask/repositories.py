@@ -2,6 +2,7 @@
 from __future__ import annotations
 
 import base64
+import codecs
 import os
 import re
 import subprocess
@@ -13,7 +14,9 @@ from contextlib import contextmanager
 from typing import IO, NamedTuple
 
 from .engine import name_of
+from .digits import number
 from .errors import Failed, Unreached
+from .store import properties_of as properties_of_section
 
 # The messages are in English, and a path may have any letters.
 LOCALE = {"LC_ALL": "C.UTF-8"}
@@ -21,8 +24,13 @@ LOCALE = {"LC_ALL": "C.UTF-8"}
 ERROR = re.compile(r"svn[a-z]*: (?:warning: )?([EW][0-9]{6}: .*)")
 # That there is nothing at a URL of a repository, and what follows from it.
 NONE_THERE, NOT_ALL = "W170000: ", "E200009: "
+# That the lines of a value end in several ways.
+MIXED = "E135000: "
 # How XML has a byte of a message that it can't carry.
-ESCAPED = re.compile(r"\?\\[0-9]{3}")
+ESCAPED = re.compile("\\?\\\\[0-9]{3}|\ufffd")
+# What XML can't have, and what svn prints even so.
+CONTROL = re.compile("[\x00-\x08\x0b\x0c\x0e-\x1f\ufffe\uffff]")
+PIECE = 1 << 16
 NAMED = {"author": b"svn:author", "date": b"svn:date", "msg": b"svn:log"}
 # A letter of a path that a URL has as it is, as Subversion writes it, but for the sign of a peg revision.
 PLAIN = "/!$&'()*+,-.:=_~"
@@ -46,12 +54,12 @@ class Access(NamedTuple):
 
     def look(self, url: str) -> Repository:
         """The repository that has a path. `Unreached` where none has."""
-        found = parsed(output_of("svn", "info", "--xml", *self.words, url))
-        entry = found.find("entry")
-        root, uuid = found.findtext("entry/repository/root"), found.findtext("entry/repository/uuid")
-        if entry is None or root is None or uuid is None:
+        with printed("svn", "info", "--xml", *self.words, url) as stream:
+            found = list(elements(stream, "entry"))
+        root, uuid = (found[0].findtext(f"repository/{name}") if found else None for name in ("root", "uuid"))
+        if root is None or uuid is None:
             raise Failed("svn info printed something other than a repository")
-        return Repository(canonical(root), uuid.encode("utf-8"), int(entry.attrib["revision"]))
+        return Repository(canonical(root), uuid.encode("utf-8"), int(found[0].attrib["revision"]))
 
     def look_above(self, url: str) -> Repository:
         """The repository that has a path, or had it: that which has one above it."""
@@ -66,10 +74,17 @@ class Access(NamedTuple):
         raise first or Failed(f"'{url}' is no URL")
 
     def properties(self, root: str, rev: int) -> Properties:
-        """The properties of a revision."""
+        """The properties of a revision. svn fails where the lines of a value end in several ways, and svnrdump does
+        not."""
         words = ("svn", "proplist", "--revprop", "-v", "--xml", "-r", str(rev))
-        found = parsed(output_of(*words, *self.words, root)).iter("property")
-        return {each.attrib["name"].encode("utf-8"): value_of(each) for each in found}
+        try:
+            with printed(*words, *self.words, root) as stream:
+                return {each.attrib["name"].encode("utf-8"): value_of(each) for each in elements(stream, "property")}
+        except Unreached as error:
+            if not str(error).startswith(MIXED):
+                raise
+        with printed(*self.dumped(root, rev, rev), is_read_whole=False) as stream:
+            return properties_of_section(first_section(stream))
 
     def all_properties(self, root: str, last: int) -> Iterator[tuple[int, Properties]]:
         """The properties of all revisions from 0 on, as far as XML carries them, and by themselves where it does
@@ -77,11 +92,9 @@ class Access(NamedTuple):
         yield 0, self.properties(root, 0)
         words = ("svn", "log", "--xml", "--with-all-revprops", "-r", f"1:{last}")
         with printed(*words, *self.words, root) as stream:
-            for _, element in xml.iterparse(stream):
-                if element.tag == "logentry":
-                    rev = int(element.attrib["revision"])
-                    yield rev, properties_of(element) or self.properties(root, rev)
-                    element.clear()
+            for element in elements(stream, "logentry"):
+                rev = int(element.attrib["revision"])
+                yield rev, properties_of(element) or self.properties(root, rev)
 
     def dumped(self, root: str, first: int, last: int) -> Sequence[str]:
         return ("svnrdump", "dump", "-q", "--incremental", "-r", f"{first}:{last}", *self.words, root)
@@ -100,27 +113,46 @@ def properties_of(entry: xml.Element) -> Properties | None:
     return found
 
 
+def first_section(stream: IO[bytes]) -> bytes:
+    """The property section of the first revision in a dump."""
+    length = 0
+    for line in stream:
+        name, _, value = line.partition(b": ")
+        if name == b"Prop-content-length":
+            length = number(value.strip())
+        elif line == b"\n" and length:
+            return stream.read(length)
+    return b""
+
+
 def value_of(element: xml.Element) -> bytes:
     """The value of a property."""
     text = (element.text or "").encode("utf-8")
     return base64.b64decode(text) if element.get("encoding") == "base64" else text
 
 
-def parsed(text: bytes) -> xml.Element:
+def elements(stream: IO[bytes], tag: str) -> Iterator[xml.Element]:
+    """The elements of a name in XML, one after another. What XML can't have is replaced."""
+    parser, decoder = xml.XMLPullParser(["start", "end"]), codecs.getincrementaldecoder("utf-8")("replace")
+    parents: list[xml.Element] = []
     try:
-        return xml.fromstring(text)
+        for piece in iter(lambda: stream.read(PIECE), b""):
+            parser.feed(CONTROL.sub("\ufffd", decoder.decode(piece)))
+            for event, element in parser.read_events():
+                if event == "start":
+                    parents.append(element)
+                    continue
+                parents.pop()
+                if element.tag == tag:
+                    yield element
+                    # There may be millions of them.
+                    parents[-1].remove(element)
     except xml.ParseError as error:
         raise Failed(f"svn printed something other than XML: {error}") from error
 
 
-def output_of(*words: str) -> bytes:
-    """What a command prints. Its failure is raised."""
-    with printed(*words) as stream:
-        return stream.read()
-
-
 @contextmanager
-def printed(*words: str) -> Iterator[IO[bytes]]:
+def printed(*words: str, is_read_whole: bool = True) -> Iterator[IO[bytes]]:
     """What a command prints, which has ended well at the end, or its failure is raised. It may ask for a password on the
     terminal, which is also its standard input."""
     with tempfile.TemporaryFile() as errors:
@@ -132,14 +164,14 @@ def printed(*words: str) -> Iterator[IO[bytes]]:
         is_read = False
         try:
             yield process.stdout
-            is_read = True
+            is_read = is_read_whole
         finally:
             if not is_read:
                 # Nobody wants the rest.
                 process.terminate()
             process.stdout.close()
             status = process.wait()
-        if status:
+        if status and is_read_whole:
             errors.seek(0)
             raise failure(words[0], status, errors.read().decode("utf-8", "replace"))
 

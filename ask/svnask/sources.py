@@ -294,6 +294,8 @@ def whole_part(copy: Copy) -> Copy:
 class Asked(Source):
     """A repository, of which Subversion is asked."""
 
+    root: str
+
     def __init__(self, name: str, access: Access) -> None:
         super().__init__(name)
         self.access = access
@@ -306,8 +308,7 @@ class Asked(Source):
         try:
             yield
         except Error as error:
-            entry = self.entry()
-            if entry is not None and entry.is_there and not isinstance(error, Usage):
+            if self.is_kept:
                 error.advice = (*error.advice, OFFLINE)
             raise
 
@@ -325,6 +326,11 @@ class Asked(Source):
     def entry(self) -> Entry | None:
         top = cache.folder()
         return None if top is None else Entry(top, self.kind, self.place)
+
+    @property
+    def is_kept(self) -> bool:
+        entry = self.entry()
+        return entry is not None and entry.is_there
 
     @property
     def place(self) -> bytes:
@@ -472,8 +478,10 @@ def source_of(name: str, access: Access = Access(), is_offline: bool = False) ->
     """The source that a word names."""
     if IS_URL.match(name):
         return Address(name, access, is_offline)
-    if os.path.isdir(os.path.join(name, "db")) and os.path.isfile(os.path.join(name, "format")):
-        return Folder(name, access)
+    folder = Folder(name, access)
+    is_repository = os.path.isdir(os.path.join(name, "db")) and os.path.isfile(os.path.join(name, "format"))
+    if is_repository or is_offline and not os.path.isfile(name) and folder.is_kept:
+        return folder
     return Dump(name, opened(name, is_offline))
 
 

@@ -6,7 +6,7 @@ import os
 import re
 import shutil
 from collections.abc import Iterator
-from typing import BinaryIO, NamedTuple, Union
+from typing import IO, BinaryIO, NamedTuple, Union
 
 from . import cache, digits
 from .errors import Damaged
@@ -181,6 +181,12 @@ class Store:
             while found := BLOCK.match(part, at):
                 at = found.end() + digits.number(found["length"] or b"0")
                 yield found
+
+    def write(self, file: IO[bytes]) -> None:
+        """Writes the whole copy to a file."""
+        for part in self.first, self.later:
+            with memoryview(part) as whole:
+                file.write(whole)
 
     def between(self, first: int, last: int) -> bytes:
         """The bytes of the copy from one offset to another one."""

@@ -160,7 +160,9 @@ class Reading(base.Case):
 
     def test_a_cache_that_cannot_be_written_is_read(self) -> None:
         self.history(base.dump_of("branches"))
-        with mock.patch.object(os, "utime", side_effect=OSError), mock.patch.object(Stripper, "run", side_effect=OSError):
+        with mock.patch.object(os, "utime", side_effect=OSError), mock.patch.object(
+            Stripper, "run", side_effect=OSError
+        ):
             self.assertEqual(self.history(base.dump_of("branches")).head, 13)
 
     def test_a_cache_of_another_user_is_not_read(self) -> None:

@@ -7,6 +7,7 @@ from collections.abc import Iterator
 from contextlib import closing
 from functools import partial
 
+from ..entries import read_index
 from ..errors import Failed, Usage
 from ..history import History
 from ..progress import Bar
@@ -46,8 +47,8 @@ class UpdateVerb(KeptVerb):
     def act(self, given: Namespace, access: Access) -> Iterator[Object]:
         with closing(source_of(given.dump, access)) as source, closing(Bar()) as bar:
             entry = source.entry()
-            before = entry.load() if entry is not None else None
-            head = before.head if before is not None else -1
+            before = read_index(entry.folder) if entry is not None else None
+            head = len(before.revisions) - 1 if before is not None else -1
             with closing(source.store(bar)) as store:
                 youngest = store.head
             if given.properties:
