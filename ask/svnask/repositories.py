@@ -26,8 +26,8 @@ ERROR = re.compile(r"svn[a-z]*: (?:warning: )?([EW][0-9]{6}: .*)")
 NONE_THERE, NOT_ALL = "W170000: ", "E200009: "
 # That the lines of a value end in several ways.
 MIXED = "E135000: "
-# How XML has a byte of a message that it can't carry.
-ESCAPED = re.compile("\\?\\\\[0-9]{3}|\ufffd")
+# How svn prints a byte that it can't.
+ESCAPED = re.compile("\\?\\\\[0-9A-F]{2}|\ufffd")
 # What XML can't have, and what svn prints even so.
 CONTROL = re.compile("[\x00-\x08\x0b\x0c\x0e-\x1f\ufffe\uffff]")
 PIECE = 1 << 16
@@ -74,12 +74,14 @@ class Access(NamedTuple):
         raise first or Failed(f"'{url}' is no URL")
 
     def properties(self, root: str, rev: int) -> Properties:
-        """The properties of a revision. svn fails where the lines of a value end in several ways, and svnrdump does
-        not."""
+        """The properties of a revision. Of some svn says something else, or fails where the lines of a value end in
+        several ways, and svnrdump does not."""
         words = ("svn", "proplist", "--revprop", "-v", "--xml", "-r", str(rev))
         try:
             with printed(*words, *self.words, root) as stream:
-                return {each.attrib["name"].encode("utf-8"): value_of(each) for each in elements(stream, "property")}
+                found = {each.attrib["name"].encode("utf-8"): value_of(each) for each in elements(stream, "property")}
+            if not any(ESCAPED.search(value.decode("utf-8", "ignore")) for value in found.values()):
+                return found
         except Unreached as error:
             if not str(error).startswith(MIXED):
                 raise
@@ -87,30 +89,30 @@ class Access(NamedTuple):
             return properties_of_section(first_section(stream))
 
     def all_properties(self, root: str, last: int) -> Iterator[tuple[int, Properties]]:
-        """The properties of all revisions from 0 on, as far as XML carries them, and by themselves where it does
-        not."""
+        """The properties of all revisions from 0 on. Those that the log can't carry are asked for by themselves."""
         yield 0, self.properties(root, 0)
         words = ("svn", "log", "--xml", "--with-all-revprops", "-r", f"1:{last}")
         with printed(*words, *self.words, root) as stream:
             for element in elements(stream, "logentry"):
                 rev = int(element.attrib["revision"])
-                yield rev, properties_of(element) or self.properties(root, rev)
+                found, is_all = properties_of(element)
+                yield rev, found if is_all else {**self.properties(root, rev), **found}
 
     def dumped(self, root: str, first: int, last: int) -> Sequence[str]:
         return ("svnrdump", "dump", "-q", "--incremental", "-r", f"{first}:{last}", *self.words, root)
 
 
-def properties_of(entry: xml.Element) -> Properties | None:
-    """The properties in an entry of a log. None where one of them may be another one than what XML says."""
+def properties_of(entry: xml.Element) -> tuple[Properties, bool]:
+    """The properties in an entry of a log that are there as they are, and whether these are all. An empty date is not
+    there."""
     found: Properties = {}
-    for tag, name in NAMED.items():
-        text = entry.findtext(tag)
-        if text is not None and ESCAPED.search(text) or not text and tag == "date":
-            return None
-        if text is not None:
+    texts = {name: entry.findtext(tag) for tag, name in NAMED.items()}
+    for name, text in texts.items():
+        if text is not None and not ESCAPED.search(text):
             found[name] = text.encode("utf-8")
+    is_all = len(found) == sum(text is not None for text in texts.values()) and bool(texts[b"svn:date"])
     found.update((each.attrib["name"].encode("utf-8"), value_of(each)) for each in entry.iter("property"))
-    return found
+    return found, is_all
 
 
 def first_section(stream: IO[bytes]) -> bytes:

@@ -59,6 +59,7 @@ class Grown:
     def __init__(self, folder: Path, dump: bytes, count: int) -> None:
         self.folder = folder
         self.url = folder.as_uri()
+        self.sources: list[base.Word] = [self.folder, self.url]
         self.front, *self.pieces = PIECES.split(dump)
         self.count = 0
         svn("svnadmin", "create", folder)
@@ -115,7 +116,7 @@ def svnserve(parent: Path) -> Iterator[str]:
     users, settings = parent / "users", parent / "svnserve.conf"
     users.write_text("[users]\nalice = secret\n")
     settings.write_text(f"[general]\nanon-access = none\nauth-access = write\npassword-db = {users}\n")
-    options = ["--listen-host", "127.0.0.1", "--listen-port", str(port), "--config-file", settings]
+    options: list[Word] = ["--listen-host", "127.0.0.1", "--listen-port", str(port), "--config-file", settings]
     with ended("svnserve", "-d", "--foreground", "-r", parent, *options, port=port):
         yield f"svn://127.0.0.1:{port}"
 

@@ -83,7 +83,7 @@ class Growth(Case):
             turn = 0
             while True:
                 turn += 1
-                for source in (made.folder, made.url, dump):
+                for source in [*made.sources, dump]:
                     self.check_whole(source, made.dump())
                 if made.is_whole:
                     break
@@ -94,11 +94,11 @@ class Growth(Case):
     def test_only_what_is_new_is_read(self) -> None:
         made = self.repository()
         dump = self.made("dump", made.dump())
-        for source in (made.folder, made.url, dump):
+        for source in [*made.sources, dump]:
             self.asked(source, "info")
         made.grow(4)
         dump.write_bytes(made.dump())
-        for source, count in ((made.folder, 9), (made.url, 9), (dump, 9)):
+        for source in (*made.sources, dump):
             with mock.patch.object(Stripper, "_put_revision", autospec=True, side_effect=Stripper._put_revision) as put:
                 self.assertIn(b"youngest: 8\n", self.asked(source, "info"))
                 self.assertEqual(put.call_count, 4, source)
@@ -134,16 +134,16 @@ class Growth(Case):
         words = "for name in a b c d e f g h; do svn mkdir -q -m new $0/$name; done"
         with subprocess.Popen(["sh", "-c", words, made.url]) as commits:
             while commits.poll() is None:
-                for source in (made.folder, made.url):
+                for source in made.sources:
                     self.asked(source, "log", "-q")
         svn_log = grown.svn("svn", "log", "-v", made.url).output
-        for source in (made.folder, made.url):
+        for source in made.sources:
             self.assertEqual(self.asked(source, "log", "-v"), svn_log)
 
     def test_two_runs_at_once(self) -> None:
         made = self.repository()
         for _ in range(2):
-            for source in (made.folder, made.url):
+            for source in made.sources:
                 runs = [subprocess.Popen(base.command(source, "log", "-v"), stdout=subprocess.PIPE) for _ in range(3)]
                 self.assertEqual(len({run.communicate()[0] for run in runs}), 1)
                 self.assertEqual([run.returncode for run in runs], [0] * 3)
@@ -166,10 +166,10 @@ class Another(Case):
     """A source that is another one now."""
 
     def check_read_anew(self, made: grown.Grown, change: Callable[[grown.Grown], grown.Grown]) -> None:
-        for source in (made.folder, made.url):
+        for source in made.sources:
             self.asked(source, "info")
         changed = change(made)
-        for source in (made.folder, made.url):
+        for source in made.sources:
             self.assertEqual(self.asked(source, "log", "-v"), grown.svn("svn", "log", "-v", changed.url).output)
 
     def replaced(self, dump: bytes, count: int) -> Callable[[grown.Grown], grown.Grown]:
@@ -264,7 +264,7 @@ class Cut(Case):
     def test_killed_at_any_point(self) -> None:
         for kind in ("folder", "url"):
             made = self.repository("drawn", 9, kind)
-            source = made.folder if kind == "folder" else made.url
+            source = made.sources[kind == "url"]
             self.check_killed(source, made)
             made.grow(9)
             self.check_killed(source, made)
@@ -293,7 +293,7 @@ class Cut(Case):
 
     def test_a_full_disk(self) -> None:
         made = self.repository("drawn", 9)
-        for source in (made.folder, made.url):
+        for source in made.sources:
             for size in (0, 100, 2000, 4096, 1 << 16):
                 words = base.command(source, "log", "-v")
 
@@ -347,7 +347,7 @@ class Kept(Case):
     def test_what_is_kept_answers_alone(self) -> None:
         made = self.repository()
         dump = self.made("dump", made.dump())
-        asked = (made.folder, made.url, dump)
+        asked = [*made.sources, dump]
         for source in asked:
             done = base.called(source, "info", "--offline")
             self.assertEqual((done.status, done.output), (1, b""))
@@ -362,12 +362,12 @@ class Kept(Case):
     def test_what_is_kept_is_listed_and_forgotten(self) -> None:
         made = self.repository()
         self.assertEqual(self.asked("sources"), b"")
-        for source in (made.folder, made.url, base.dump_of("names")):
+        for source in [*made.sources, base.dump_of("names")]:
             self.asked(source, "info")
         lines = self.asked("sources").splitlines()
         self.assertEqual([line.split(b"\t")[1] for line in lines], [b"r7", b"r4", b"r4"])
         self.assertEqual(self.asked("sources", "--json").count(b'"last_use"'), 3)
-        for source in (made.folder, made.url + "/trunk", base.dump_of("names")):
+        for source in (str(made.folder), made.url + "/trunk", str(base.dump_of("names"))):
             self.assertEqual(self.asked(source, "forget"), b"")
             done = base.called(source, "forget")
             self.assertEqual((done.status, done.output), (1, b""))
@@ -379,7 +379,7 @@ class Kept(Case):
         self.assertEqual(self.asked(made.folder, "update"), b"")
         made.grow(2)
         line = b'{"source": "%s", "youngest": 6, "new": %d}\n'
-        for source, new in ((made.folder, 2), (made.url, 7), (made.url, 0)):
+        for source, new in ((str(made.folder), 2), (made.url, 7), (made.url, 0)):
             self.assertEqual(self.asked(source, "update", "--json"), line % (made.url.encode(), new))
 
 
@@ -395,7 +395,7 @@ class NewProperties(Case):
             (5, {b"svn:log": b"one\r\ntwo\rthree\n\n", b"svn:author": b"<&>", b"svn:date": b""}),
             (6, {b"svn:log": b" \t", b"svn:author": b"long " * 3000, b"svn:date": b"2024-01-05T00:00:00.000000Z"}),
         ]
-        for source in (made.folder, made.url):
+        for source in made.sources:
             self.asked(source, "info")
         made.grow(2)
         for rev, properties in changed:
@@ -403,13 +403,13 @@ class NewProperties(Case):
             grown.svn("svnadmin", "load-revprops", "-q", "--bypass-prop-validation", made.folder, given=given)
         dump = self.made("now.dump", grown.svn("svnadmin", "dump", "-q", made.folder).output)
         expected = self.asked(dump, "log", "-r0:HEAD", "--json")
-        for source in (made.folder, made.url):
+        for source in made.sources:
             self.assertNotEqual(self.asked(source, "log", "-r0:HEAD", "--json"), expected)
             self.assertEqual(self.asked(source, "update", "--properties"), b"")
             self.assertEqual(self.asked(source, "log", "-r0:HEAD", "--json"), expected)
             self.assertEqual(self.asked(source, "log", "-v"), self.asked(dump, "log", "-v"))
         self.assertEqual(base.called(dump, "update", "--properties").status, 2)
         made.grow(9)
-        for source in (made.folder, made.url):
-            self.assertIn(b"youngest: 13\n", self.asked(source, "info"))
+        for source in made.sources:
+            self.check_whole(source, grown.svn("svnadmin", "dump", "-q", made.folder).output)
             self.assertIn(b"the first one", self.asked(source, "log", "-r0"))
