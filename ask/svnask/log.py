@@ -13,7 +13,7 @@ from .changes import is_at_or_below, tops_of
 from .errors import Denied
 from .history import History
 from .store import Revision
-from .targets import Target, decoded, known
+from .targets import Target, below, decoded, known
 
 RULE = b"-" * 72 + b"\n"
 LINE_END = re.compile(rb"\r\n|\n\r|\n|\r")
@@ -28,8 +28,8 @@ class Options:
     is_quiet: bool = False
     is_verbose: bool = False
     stops_on_copy: bool = False
-    # What is logged together with the target.
-    besides: Sequence[Target] = ()
+    # The paths below the target that are logged in its place.
+    below: Sequence[bytes] = ()
 
 
 class Trace(NamedTuple):
@@ -141,38 +141,31 @@ class Walk(NamedTuple):
 
 
 def entries(history: History, target: Target, options: Options) -> list[int]:
-    """The revisions of a log, range after range."""
+    """The revisions of a log, range after range. The target is looked up in the youngest revision of all ranges, and
+    each one begins where it was in its own."""
     ranges = options.ranges or [(target.rev, 0)]
     for bounds in ranges:
         known(history, max(bounds))
-    walks = [chosen(history, each, ranges, options.stops_on_copy) for each in (target, *options.besides)]
-    revisions: list[int] = []
-    for (first, last), found in zip(ranges, zip(*walks)):
-        revisions += sorted(set().union(*found), reverse=first >= last)
-        if options.limit is not None and len(revisions) >= options.limit:
-            break
-    return revisions[: options.limit]
-
-
-def chosen(
-    history: History, target: Target, ranges: Sequence[tuple[int, int]], stops_on_copy: bool
-) -> Iterator[list[int]]:
-    """The revisions of each range. The target is looked up in the youngest revision of all ranges, and each one begins
-    where it was in its own."""
     found = reached(history, target, max(max(bounds) for bounds in ranges))
     walk = Walk(found, listed(history, found))
     path = target.path
-    for bounds in ranges:
-        high = max(bounds)
+    revisions: list[int] = []
+    for first, last in ranges:
+        if options.limit is not None and len(revisions) >= options.limit:
+            break
+        high = max(first, last)
         segment = found.at(high)
         if segment is None and not found.is_gap(high):
             # The path was not made yet.
-            yield []
             continue
         # Between a copy and its source it is looked for where it was in the range before.
         path = segment.path or path if segment is not None else path
-        here = walk if segment is not None else walk_of(history, Target(path, high))
-        yield here.between(history, min(bounds), high, stops_on_copy)
+        here = [walk_of(history, Target(below(path, each), high)) for each in options.below]
+        if not here:
+            here = [walk if segment is not None else walk_of(history, Target(path, high))]
+        chosen = {rev for each in here for rev in each.between(history, min(first, last), high, options.stops_on_copy)}
+        revisions += sorted(chosen, reverse=first >= last)
+    return revisions[: options.limit]
 
 
 def walk_of(history: History, target: Target) -> Walk:

@@ -10,7 +10,7 @@ from ..digits import number
 from ..errors import Denied
 from ..history import History
 from ..sources import IS_URL
-from ..targets import Target, below, known, path_of, ranges_of, revision_of, target_of
+from ..targets import Target, known, path_of, ranges_of, revision_of, target_of
 from .base import Object, Verb, object_of_revision
 
 LIMIT = re.compile(r"\s*([-+]?)([0-9]+)\Z")
@@ -22,7 +22,7 @@ class LogVerb(Verb):
 
     def arguments(self, parser: ArgumentParser) -> None:
         parser.add_argument("target", metavar="PATH[@PEG]", nargs="?", default="")
-        parser.add_argument("besides", metavar="PATH", nargs="*", help="further paths, below a URL")
+        parser.add_argument("paths", metavar="PATH", nargs="*", help="paths that are logged together, below a URL")
         parser.add_argument("-r", "--revision", dest="ranges", metavar="LO:HI", action="append", default=[])
         parser.add_argument("-c", "--change", dest="changes", metavar="N", action="append", default=[])
         parser.add_argument("-l", "--limit", metavar="N")
@@ -45,29 +45,32 @@ class LogVerb(Verb):
             given.quiet,
             given.verbose,
             given.stop_on_copy,
-            targets_of(history, given)[1:],
+            paths_below(given),
         )
 
     def text(self, history: History, given: Namespace) -> Iterator[bytes]:
-        return log.log_text(history, targets_of(history, given)[0], self.options(history, given))
+        return log.log_text(history, target_in(history, given), self.options(history, given))
 
     def objects(self, history: History, given: Namespace) -> Iterator[Object]:
-        for rev in log.shown(history, targets_of(history, given)[0], self.options(history, given)):
+        for rev in log.shown(history, target_in(history, given), self.options(history, given)):
             yield object_of_revision(history, rev)
 
 
-def targets_of(history: History, given: Namespace) -> list[Target]:
-    """The paths of a log. After a URL they are below it, and of its peg revision."""
-    first = target_of(history, given.target)
-    if not IS_URL.match(given.target) or not given.besides:
-        return [first, *(target_of(history, each) for each in given.besides)]
-    for each in given.besides:
+def target_in(history: History, given: Namespace) -> Target:
+    """The target of a log. Several paths are below the URL before them, or that of the source."""
+    return target_of(history, given.target if IS_URL.match(given.target) or not given.paths else "")
+
+
+def paths_below(given: Namespace) -> list[bytes]:
+    """The paths that are logged together, if these are several ones or stand after a URL."""
+    for each in given.paths:
         if each.startswith(("/", "^")) or IS_URL.match(each):
             text = (
                 f"Only relative paths can be specified after a URL for 'svn log', but '{each}' is not a relative path"
             )
             raise Denied("E205000", text)
-    return [Target(below(first.path, path_of(each)), first.rev) for each in given.besides]
+    words = given.paths if IS_URL.match(given.target) or not given.paths else [given.target, *given.paths]
+    return [path_of(each) for each in words]
 
 
 class ShowVerb(Verb):
