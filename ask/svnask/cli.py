@@ -19,7 +19,7 @@ from .errors import Damaged, Denied, Error, Failed, Refused, Usage
 from .history import History
 from .progress import Bar
 from .refusals import about_record, explained
-from .sources import Source, source_of
+from .sources import Address, Source, source_of
 from .texts import say
 from .verbs import VERBS
 from .verbs.base import Object, Verb
@@ -27,6 +27,9 @@ from .verbs.kept import KeptVerb
 
 # What JSON need not escape, but rules a terminal.
 HIGH_CONTROL = re.compile("[\x7f-\x9f]")
+# The refusals that come from records which lack others.
+OF_HIDDEN = (16, 18, 19)
+HIDDEN = "a host hides from a user the paths that he may not read, and a history without them may have gaps"
 # The status where svnask itself is at fault.
 FAULT = 5
 
@@ -128,7 +131,8 @@ def write(lines: Iterable[bytes], history: History) -> None:
 
 def advice(refused: Refused, history: History, dump: str) -> list[str]:
     if refused.unit == "record":
-        return [about_record(each) for each in history.records() if each.number == refused.place]
+        found = [about_record(each) for each in history.records() if each.number == refused.place]
+        return [*found, HIDDEN] if isinstance(history.source, Address) and refused.number in OF_HIDDEN else found
     return explained(refused, dump, history.front())
 
 

@@ -23,7 +23,7 @@ LOCALE = {"LC_ALL": "C.UTF-8"}
 # What a command says of its failure.
 ERROR = re.compile(r"svn[a-z]*: (?:warning: )?([EW][0-9]{6}: .*)")
 # That there is nothing at a URL of a repository, and what follows from it.
-NONE_THERE, NOT_ALL = "W170000: ", "E200009: "
+NONE_THERE, NOT_ALL = re.compile(r"W170000: URL '.*' non-existent in revision"), "E200009: "
 # That the lines of a value end in several ways.
 MIXED = "E135000: "
 # How svn prints a byte that it can't.
@@ -32,7 +32,7 @@ ESCAPED = re.compile("\\?\\\\[0-9A-F]{2}|\ufffd")
 CONTROL = re.compile("[\x00-\x08\x0b\x0c\x0e-\x1f\ufffe\uffff]")
 PIECE = 1 << 16
 NAMED = {"author": b"svn:author", "date": b"svn:date", "msg": b"svn:log"}
-# A letter of a path that a URL has as it is, as Subversion writes it, but for the sign of a peg revision.
+# The letters of a path that a URL has as they are, but for the sign of a peg revision.
 PLAIN = "/!$&'()*+,-.:=_~"
 PORTS = {"svn": ":3690", "http": ":80", "https": ":443"}
 
@@ -54,7 +54,7 @@ class Access(NamedTuple):
 
     def look(self, url: str) -> Repository:
         """The repository that has a path. `Unreached` where none has."""
-        with printed("svn", "info", "--xml", *self.words, url) as stream:
+        with printed("svn", "info", "--xml", *self.words, without_peg(url)) as stream:
             found = list(elements(stream, "entry"))
         root, uuid = (found[0].findtext(f"repository/{name}") if found else None for name in ("root", "uuid"))
         if root is None or uuid is None:
@@ -92,7 +92,7 @@ class Access(NamedTuple):
         """The properties of all revisions from 0 on. Those that the log can't carry are asked for by themselves."""
         yield 0, self.properties(root, 0)
         words = ("svn", "log", "--xml", "--with-all-revprops", "-r", f"1:{last}")
-        with printed(*words, *self.words, root) as stream:
+        with printed(*words, *self.words, without_peg(root)) as stream:
             for element in elements(stream, "logentry"):
                 rev = int(element.attrib["revision"])
                 found, is_all = properties_of(element)
@@ -186,12 +186,11 @@ def failure(command: str, status: int, said: str) -> Failed | Unreached:
     if not lines:
         return Failed(f"{command} ended with status {status}" + (said.strip() and ": " + said.strip().splitlines()[-1]))
     first, *rest = [line for line in lines if not line.startswith(NOT_ALL)] or lines
-    return Unreached(first, rest, first.startswith(NONE_THERE))
+    return Unreached(first, rest, NONE_THERE.match(first) is not None)
 
 
 def canonical(url: str) -> str:
-    """A URL as the cache names it, without a slash at its end. All commands of Subversion take it for the same, without
-    a peg revision."""
+    """A URL as the cache names it, without a slash at its end. All commands of Subversion take it for the same."""
     scheme, _, rest = url.partition("://")
     host, _, path = rest.partition("/")
     scheme = scheme.lower()
@@ -214,6 +213,11 @@ def ancestors(url: str) -> Iterator[str]:
     parts = path.split("/") if path else []
     for count in range(len(parts), -1, -1):
         yield f"{front}://{host}/" + "/".join(parts[:count])
+
+
+def without_peg(url: str) -> str:
+    """A URL for a command that takes a peg revision. svnrdump takes none, and svn none for properties of revisions."""
+    return url + "@"
 
 
 def path_below(url: str, root: str) -> bytes | None:

@@ -10,7 +10,7 @@ import stat
 import sys
 import tempfile
 from collections.abc import Iterable, Iterator, Sequence
-from contextlib import closing, contextmanager
+from contextlib import ExitStack, closing, contextmanager
 from typing import IO, BinaryIO, NamedTuple
 
 from . import cache, repositories, strip
@@ -57,12 +57,19 @@ class Source:
             return self._kept(entry)
         if entry is None:
             return self.read(progress)
+        return self._current(entry) or self._updated(entry, progress)
+
+    def _current(self, entry: Entry) -> Store | None:
+        """What is kept, if nothing has changed since."""
         kept = entry.load()
-        if kept is not None:
+        if kept is None:
+            return None
+        with ExitStack() as unless_current:
+            unless_current.callback(kept.close)
             if self.is_as_kept(kept):
+                unless_current.pop_all()
                 return kept
-            kept.close()
-        return self._updated(entry, progress)
+        return None
 
     def _kept(self, entry: Entry | None) -> Store:
         found = entry.load() if entry is not None else None
@@ -74,19 +81,25 @@ class Source:
         """The copy after what is new was added to it, or what was read anew. It is kept, if the disk can have it."""
         try:
             with entry.locked(lambda: progress.waits(self.name)):
-                kept = entry.load()
                 # Another run may have added it meanwhile.
-                if kept is not None and self.is_as_kept(kept):
-                    return kept
-                entry.clear(kept.index.kept.generation if kept is not None else 0)
-                if kept is not None:
-                    with closing(kept):
-                        grown = self.grown(entry, kept, progress)
-                    if grown is not None:
-                        return entry.joined(grown)
-                return self.first(entry, progress)
+                return self._current(entry) or self._grown(entry, progress) or self.first(entry, progress)
         except OSError:
             return self.read(progress)
+
+    def _grown(self, entry: Entry, progress: Progress) -> Store | None:
+        """What is kept, with what is new."""
+        kept = entry.load()
+        entry.clear(kept.index.kept.generation if kept is not None else 0)
+        if kept is None:
+            return None
+        with closing(kept):
+            grown = self.grown(entry, kept, progress)
+        if grown is None:
+            return None
+        # A part of it another run made.
+        joined = entry.joined(grown)
+        joined.is_loaded = True
+        return joined
 
     def read(self, progress: Progress) -> Store:
         """A copy in a folder of its own, which goes when it is closed."""

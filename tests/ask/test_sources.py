@@ -7,7 +7,6 @@ from pathlib import Path
 from unittest import mock
 
 from dev.dumps import FILE, Dump, Revision, added
-from dev.running import run
 from svnask.errors import Unreached
 from svnask.history import History
 from svnask.repositories import Access, canonical, path_below
@@ -82,12 +81,10 @@ class Words(Case):
         url = canonical(made.url)
         for name in names:
             quoted = canonical(f"{url}/" + name.replace("%", "%25").replace("?", "%3F").replace("#", "%23"))
-            for words in (
-                ["log", "-v", quoted + "@"],
-                [made.folder, "log", "-v", name + "@"],
-                [url, "log", "-v", name + "@"],
-            ):
-                self.assertEqual(self.asked(*words), grown.svn("svn", "log", "-v", quoted + "@").output, words)
+            theirs = grown.svn("svn", "log", "-v", quoted + "@").output
+            self.assertEqual(self.asked("log", "-v", quoted + "@"), theirs)
+            for source in (str(made.folder), url):
+                self.assertEqual(self.asked(source, "log", "-v", name + "@"), theirs, (source, name))
 
     def test_urls_of_one_place_are_one(self) -> None:
         # fmt: off
@@ -127,7 +124,7 @@ class Failing(Case):
         for words in ([none, "log"], ["log", f"{none}/trunk@3"], [f"{none}/x", "update"]):
             self.check_said(base.called(*words), 1, "E170013: Unable to connect to a repository at URL")
         self.check_said(base.called("http://127.0.0.1:1/x", "info"), 1, "E170013: ")
-        self.check_said(base.called("ftp://127.0.0.1/x", "info"), 1, "E170000: ")
+        self.check_said(base.called("ftp://127.0.0.1/x", "info"), 1, "W170000: Unrecognized URL scheme")
         self.assertFalse((self.cache / "svnhist").exists())
 
     def test_a_folder_that_is_a_repository_no_more(self) -> None:
@@ -137,7 +134,7 @@ class Failing(Case):
         (made.folder / "db" / "format").unlink()
         for source in made.sources:
             done = base.called(source, "info")
-            self.check_said(done, 1, "E170013: ")
+            self.check_said(done, 1, "E160004: ")
             self.assertEqual(done.said.splitlines()[-1], "--offline answers from what is kept of it")
             self.asked(source, "info", "--offline")
 
@@ -191,7 +188,12 @@ class Served(Case):
     def check_served(self, url: str, made: grown.Grown) -> None:
         with mock.patch.dict(os.environ, HOME=str(self.folder)):
             settings = ("--config-dir", str(self.folder / "settings"), "--non-interactive", "--no-auth-cache")
-            for words in ([], ["--username", "alice", "--password", "wrong"], ["--username=bob", "--password="]):
+            wrong: list[list[str]] = [
+                [],
+                ["--username", "alice", "--password", "wrong"],
+                ["--username=bob", "--password="],
+            ]
+            for words in wrong:
                 done = base.called(url, "info", *settings, *words)
                 self.check_said(done, 1, "E")
                 self.assertRegex(done.said, "E(170001|215004|170013): ")
@@ -234,14 +236,15 @@ class Served(Case):
     def test_svnask_prints_what_svn_prints(self) -> None:
         self.assertEqual(list(beside_svn.differences(self.folder, 1, 60)), [])
 
-    def test_what_a_host_hides(self) -> None:
+    def test_a_refusal_of_what_a_host_hides(self) -> None:
         made = self.repository()
-        folder = made.folder.parent
-        (folder / "authz").write_text("[/]\n* = r\n[/trunk]\n* =\n")
-        (made.folder / "conf" / "svnserve.conf").write_text(
-            f"[general]\nauthz-db = {folder}/authz\nanon-access = read\n"
-        )
-        with grown.svnserve(folder, "read") as url:
-            done = base.called(f"{url}/repository", "log")
-            theirs = run(["svnrdump", "dump", "-q", f"{url}/repository"])
-            self.assertEqual((done.status, done.output), (1, b""), (done, theirs.errors))
+        faulty = self.made("faulty", made.dump().replace(b"Node-path: trunk\n", b"Node-path: other\n", 1))
+        (self.folder / "programs").mkdir()
+        for command in ("svnadmin", "svnrdump"):
+            self.script(f"programs/{command}", f"exec cat {faulty}")
+        with mock.patch.dict(os.environ, PATH=f"{self.folder}/programs:{os.environ['PATH']}"):
+            for source in made.sources:
+                for _ in range(2):
+                    done = base.called(source, "log")
+                    self.check_said(done, 1, "dump refused: 16 NoParent at record 4\nrecord 4: r1 add /trunk/lib")
+                    self.assertEqual("hides" in done.said, source == made.url)
