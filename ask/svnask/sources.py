@@ -418,8 +418,8 @@ class Asked(Source):
 
 
 def normal(properties: Properties) -> Properties:
-    """Properties as svnrdump writes them, which has each line end in one way."""
-    return {name: LINE_END.sub(b"\n", value) for name, value in properties.items()}
+    """Properties as svnrdump writes them, which has each line end in one way, and a value before a byte zero."""
+    return {name: LINE_END.sub(b"\n", value).partition(b"\0")[0] for name, value in properties.items()}
 
 
 class Folder(Asked):

@@ -105,6 +105,22 @@ class Growth(Case):
                 self.assertIn(b"youngest: 8\n", self.asked(source, "info"))
                 self.assertEqual(put.call_count, 4, source)
 
+    def test_odd_properties_of_the_last_revision_are_known_again(self) -> None:
+        made = self.repository()
+        for message in (b"one\r\ntwo\rthree\n", b"\x00\x01 and more\x00", b"caf\xe9\r\n", b"?\\001", b"\xe6\xbc\xa2\r"):
+            odd: Properties = {
+                b"svn:log": message,
+                b"svn:author": b"\xff",
+                b"svn:date": b"2024-01-05T00:00:00.000000Z",
+                b"other": message,
+            }
+            given = bytes(Dump([Revision(4, (), odd)]))
+            grown.svn("svnadmin", "load-revprops", "-q", "--bypass-prop-validation", made.folder, given=given)
+            for source in made.sources:
+                self.asked(source, "info")
+                with mock.patch.object(sources.Asked, "first", side_effect=AssertionError(message)):
+                    self.asked(source, "info")
+
     def test_what_came_later_is_joined(self) -> None:
         made = self.repository()
         self.asked(made.folder, "info")
