@@ -36,6 +36,13 @@ MOST_OF_PROGRAM = most(1.5, f"a later log but for {MORE} seconds, relative to sv
 MOST_OF_LINES = most(3.0, "the module, many answers relative to svnhist")
 
 
+def python_words(setup: Setup, cache: Path, *words: str | Path) -> Words:
+    """A script in Python with the program and the cache of a benchmark, and compiled once, as when installed."""
+    python = [f"PYTHONPYCACHEPREFIX={setup.folder / 'compiled'}", f"PYTHONPATH={ROOT / 'ask'}"]
+    own = [f"SVNHIST={setup.program}", f"SVNHIST_LIVE={setup.live}", f"XDG_CACHE_HOME={cache}"]
+    return ["/usr/bin/env", "-u", "PYTHONDONTWRITEBYTECODE", *python, *own, sys.executable, *words]
+
+
 class Asked:
     """A dump, the same without texts, and the commands about them."""
 
@@ -49,10 +56,7 @@ class Asked:
         load_into_cache(self.dump)
 
     def python(self, *words: str | Path) -> Words:
-        """A script in Python with the program and the cache of this benchmark, and compiled once, as when installed."""
-        python = [f"PYTHONPYCACHEPREFIX={self.setup.folder / 'compiled'}", f"PYTHONPATH={ROOT / 'ask'}"]
-        own = [f"SVNHIST={self.setup.program}", f"XDG_CACHE_HOME={self.cache}"]
-        return ["/usr/bin/env", "-u", "PYTHONDONTWRITEBYTECODE", *python, *own, sys.executable, *words]
+        return python_words(self.setup, self.cache, *words)
 
     def first_words(self) -> Words:
         """The first call, with an empty cache. Its question is one that the program isn't asked."""

@@ -28,8 +28,8 @@ CONSOLE = re.compile(r"^```console\n(.*?)^```$", re.MULTILINE | re.DOTALL)
 EXAMPLE = re.compile(r"^\.EX\n(.*?)^\.EE$", re.MULTILINE | re.DOTALL)
 # A command of GNU parallel, which not every machine has. Only a block with one may need what such a block made.
 PARALLEL = re.compile(r"^\$ parallel ", re.MULTILINE)
-# Commands of the examples. REPO is the repository of interop/branches.dump, and URL that of interop/merges.dump. All
-# hosts are this machine.
+# Commands of the examples. REPO is the repository of interop/branches.dump, and URL and that of the example host
+# are that of interop/merges.dump. All hosts are this machine.
 TOOLS = {
     "svnadmin": [
         'cd "$INTEROP" && case "$*" in',
@@ -42,14 +42,28 @@ TOOLS = {
     ],
     "svnrdump": [
         'cd "$INTEROP" && case "$*" in',
-        "'dump -q URL') exec cat merges-svnrdump.dump ;;",
+        "'dump -q URL' | 'dump -q --incremental -r 0:19 https://svn.example.org/repo') exec cat merges-svnrdump.dump ;;",
         "'dump -q -r 0:7 URL') exec sed '/^Revision-number: 8$/,$ d' merges-svnrdump.dump ;;",
         "'dump -q --incremental -r 8:19 URL')",
         "exec sed -n '1,4 p; /^Revision-number: 8$/,$ p' merges-svnrdump.dump ;;",
         "esac",
         "exit 1",
     ],
-    "svn": ['test "$*" = "list URL/branches@17" && exec printf "%s/\\n" one three two', "exit 1"],
+    "svn": [
+        'case "$*" in',
+        "'list URL/branches@17') exec printf '%s/\\n' one three two ;;",
+        "'info --xml https://svn.example.org/repo'*)",
+        "echo '<info><entry revision=\"19\"><repository><root>https://svn.example.org/repo</root>'",
+        "uuid=$(sed -n 's/^UUID: //p' \"$INTEROP/merges-svnrdump.dump\")",
+        'exec echo "<uuid>$uuid</uuid></repository></entry></info>" ;;',
+        "'proplist --revprop -v --xml -r 19 https://svn.example.org/repo')",
+        "printf '<properties><property name=\"svn:%s\">%s</property>' author bob",
+        "printf '<property name=\"svn:%s\">%s</property>' date 2024-01-01T00:19:00.000000Z",
+        "printf '<property name=\"svn:%s\">%s</property>' log 'Merge what is for the directory alone'",
+        "exec echo '</properties>' ;;",
+        "esac",
+        "exit 1",
+    ],
     "svnlook": ['test "$*" = "youngest REPO" && exec echo 13', "exit 1"],
     "ssh": ['case "$1" in host | host[12]) shift ;; *) exit 1 ;; esac', 'test "$1" != -- || shift', 'exec sh -c "$*"'],
 }

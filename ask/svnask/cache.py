@@ -1,21 +1,26 @@
-"""The folders of the cache: one for each dump, by a name that tells its content."""
+"""The folder of the cache, which has a folder for each source, and how much is kept there."""
 from __future__ import annotations
 
 import contextlib
-import hashlib
 import os
+import re
 import shutil
 import stat
 import tempfile
 import time
-from typing import BinaryIO
+from collections.abc import Iterator
 
-END = 1 << 16
-# How the folders in the making begin. They are given up after a day, and others are where they were not used for 30.
+from .errors import Failed
+
+# How the folders of runs begin. They are given up after a day, and others are where they were not used for 30.
 NEW = "new-"
 UNFINISHED, UNUSED = 86400, 30 * 86400
 # The number of the administrator.
 ROOT = 0
+# How many bytes all copies have at most, but for the last one that was made.
+MOST = 8 << 30
+SIZE = re.compile(r"([0-9]{1,12})([KMG]?)\Z", re.IGNORECASE)
+UNITS = {"": 0, "K": 10, "M": 20, "G": 30}
 
 
 def folder() -> str | None:
@@ -25,15 +30,13 @@ def folder() -> str | None:
     return os.path.join(base, "svnhist") if os.path.isabs(base) else None
 
 
-def key_of(file: BinaryIO) -> str:
-    """A name for the content of a file, by what tells it apart cheaply: where it is, its size and its times, and what
-    stands at both its ends."""
-    status = os.fstat(file.fileno())
-    place = status.st_dev, status.st_ino, status.st_size, status.st_mtime_ns, status.st_ctime_ns
-    digest = hashlib.sha256(b"%d %d %d %d %d\n" % place)
-    for begin in (0, max(status.st_size - END, 0)):
-        digest.update(os.pread(file.fileno(), END, begin))
-    return digest.hexdigest()
+def limit() -> int:
+    """How many bytes all copies may have."""
+    named = os.environ.get("SVNASK_CACHE_SIZE", "")
+    found = SIZE.match(named)
+    if named and found is None:
+        raise Failed(f"$SVNASK_CACHE_SIZE is '{named}', and no number with K, M or G after it", 2)
+    return int(found[1]) << UNITS[found[2].upper()] if found else MOST
 
 
 def is_own(path: str) -> bool:
@@ -48,40 +51,57 @@ def touch(path: str) -> None:
         os.utime(path)
 
 
-def new_folder(top: str) -> str:
-    """A folder in the making. What is no longer used is taken out of the cache before."""
-    os.makedirs(top, mode=0o700, exist_ok=True)
-    forget(top)
-    return tempfile.mkdtemp(prefix=NEW, dir=top)
+def make(path: str) -> None:
+    """Makes the folder of a source, if it is not there."""
+    os.makedirs(os.path.dirname(path), mode=0o700, exist_ok=True)
+    with contextlib.suppress(FileExistsError):
+        os.mkdir(path, 0o700)
+    if not is_own(path):
+        raise PermissionError(f"{path} belongs to another user")
 
 
-def forget(top: str) -> None:
-    """Takes out of the cache what was not used for long, and what a run that was killed left half made."""
-    now = time.time()
-    for name in os.listdir(top):
-        path = os.path.join(top, name)
+def folders(top: str) -> Iterator[os.DirEntry[str]]:
+    """The folders of the cache."""
+    with contextlib.suppress(OSError), os.scandir(top) as found:
+        yield from (each for each in found if each.is_dir(follow_symlinks=False))
+
+
+def make_room(kept: str) -> None:
+    """Takes out of the cache what was not used for long, what a run that was killed left, what another version made,
+    and, but for the folder that is named, what was not used for longest until the rest fits."""
+    top = os.path.dirname(kept)
+    now, found = time.time(), []
+    for each in folders(top):
         with contextlib.suppress(OSError):
-            if now - os.stat(path).st_mtime > (UNFINISHED if name.startswith(NEW) else UNUSED):
-                shutil.rmtree(path)
+            used = each.stat().st_mtime
+            is_of_run = each.name.startswith(NEW)
+            is_old = now - used > (UNFINISHED if is_of_run else UNUSED)
+            is_of_before = not is_of_run and os.path.exists(os.path.join(each.path, "dump"))
+            if is_old or is_of_before:
+                remove(each.path)
+            else:
+                found.append((each.path != kept, used, each.path))
+    left = limit()
+    for is_other, _, path in sorted(found, key=lambda each: (each[0], -each[1])):
+        left -= size_of(path)
+        if left < 0 and is_other:
+            remove(path)
+
+
+def size_of(path: str) -> int:
+    """How many bytes the files of a folder have."""
+    with contextlib.suppress(OSError), os.scandir(path) as found:
+        return sum(each.stat().st_size for each in found)
+    return 0
 
 
 def flush(path: str) -> None:
-    """Has the disk keep a folder and its files."""
-    for name in [os.path.join(path, each) for each in os.listdir(path)] + [path]:
-        descriptor = os.open(name, os.O_RDONLY)
-        try:
-            os.fsync(descriptor)
-        finally:
-            os.close(descriptor)
-
-
-def put(made: str, path: str) -> bool:
-    """Gives a folder its name, unless there is one of that name."""
+    """Has the disk keep a file, or the names in a folder."""
+    descriptor = os.open(path, os.O_RDONLY)
     try:
-        os.rename(made, path)
-    except OSError:
-        return False
-    return True
+        os.fsync(descriptor)
+    finally:
+        os.close(descriptor)
 
 
 def remove(path: str) -> None:

@@ -8,24 +8,28 @@ import os
 import re
 import signal
 import sys
-import time
 import traceback
 from collections.abc import Iterable, Iterator
-from typing import Any, BinaryIO, NoReturn
+from contextlib import closing
+from typing import Any, NoReturn
 
 from . import __version__
+from .command_line import REACHED, REACHED_ALONE, joined, ordered, split_access, with_source
 from .errors import Damaged, Denied, Error, Failed, Refused, Unsound, Usage
 from .history import History
+from .progress import Bar
 from .refusals import about_record, explained
+from .sources import Address, Source, source_of
 from .texts import say
 from .verbs import VERBS
-from .verbs.base import Object
+from .verbs.base import Object, Verb
+from .verbs.kept import KeptVerb
 
-# The options that take a value, and the names of those that have a short one.
-LONG = {"-r": "--revision", "-c": "--change", "-l": "--limit", "-o": "--output"}
-VALUED = frozenset((*LONG.values(), "--into", "--show-revs", "--with-revprop", "--search", "--search-and"))
 # What JSON need not escape, but rules a terminal.
 HIGH_CONTROL = re.compile("[\x7f-\x9f]")
+# The refusals that come from records which lack others.
+OF_HIDDEN = (16, 18, 19)
+HIDDEN = "a host hides from a user the paths that he may not read, and a history without them may have gaps"
 # The status where svnask itself is at fault.
 FAULT = 5
 
@@ -43,84 +47,32 @@ class Parser(argparse.ArgumentParser):
 def parser() -> Parser:
     made = Parser(
         prog="svnask",
-        description="Answers a question about the history of a Subversion repository from "
-        "its dump, as 'svn' would print it.",
+        description="Answers a question about the history of a Subversion repository, as 'svn' would print it, from "
+        "its dump or from what is kept of the repository itself.",
+        epilog=f"A repository is reached by the options of svn: {', '.join(sorted((*REACHED, *REACHED_ALONE)))}.",
     )
-    made.add_argument("dump", metavar="DUMP", help="a dump, or - for the standard input")
+    made.add_argument(
+        "dump", metavar="SOURCE", help="a dump, - for the standard input, the folder of a repository or its URL"
+    )
     made.add_argument("--json", action="store_true", help="print one object a line, for scripts")
-    made.add_argument("--no-cache", action="store_true", help="read the dump anew, and keep nothing of it")
+    made.add_argument("--no-cache", action="store_true", help="read the source anew, and keep nothing of it")
+    made.add_argument("--offline", action="store_true", help="answer from what is kept, without asking the source")
     made.add_argument("-V", "--version", action="version", version="svnask " + __version__)
     verbs = made.add_subparsers(dest="verb", metavar="VERB", required=True, parser_class=Parser)
     for verb in VERBS:
         below = verbs.add_parser(verb.name, help=verb.help, description=verb.help)
-        for option in ("--json", "--no-cache"):
+        for option in ("--json", "--no-cache", "--offline"):
             below.add_argument(option, action="store_true", default=argparse.SUPPRESS, help=argparse.SUPPRESS)
         verb.arguments(below)
     return made
 
 
-def with_dump(arguments: list[str]) -> list[str]:
-    """The arguments with a dump, which `svnask VERB --help` needs none of."""
-    is_help = arguments[1:] in (["-h"], ["--help"])
-    return ["-"] + arguments if is_help and arguments[0] in [verb.name for verb in VERBS] else arguments
-
-
-def joined(arguments: list[str]) -> list[str]:
-    """The arguments with each option that takes a value as `--name=value`. A value may be empty, or begin with a minus
-    or an equals sign: `-c -3,5` is what `svn` takes, and `-r=5` is not."""
-    found: list[str] = []
-    left = iter(arguments)
-    for word in left:
-        if word == "--":
-            return [*found, word, *left]
-        name = LONG.get(word[:2], word)
-        value: str | None = None
-        if name != word and len(word) > 2:
-            value = word[2:]
-        elif name in VALUED:
-            value = next(left, None)
-        found.append(word if value is None else f"{name}={value}")
-    return found
-
-
-class Progress:
-    """One line on a terminal where reading takes more than a second: how much was read, and how fast."""
-
-    def __init__(self, size: int | None) -> None:
-        self._size = size
-        self._begun = self._shown = time.monotonic()
-        self._is_open = False
-
-    def __call__(self, count: int) -> None:
-        now = time.monotonic()
-        if now - self._begun < 1 or now - self._shown < 0.1 or sys.stderr is None or not sys.stderr.isatty():
-            return
-        self._shown, self._is_open = now, True
-        share = "%3d %%, " % (100 * count // self._size) if self._size else ""
-        rate = count / (now - self._begun) / (1 << 20)
-        sys.stderr.write("\rreading the dump: %s%d MB, %d MB/s " % (share, count >> 20, rate))
-        sys.stderr.flush()
-
-    def close(self) -> None:
-        if self._is_open:
-            sys.stderr.write("\r\x1b[K")
-            sys.stderr.flush()
-
-
-def opened(name: str) -> BinaryIO:
-    if name == "-" and sys.stdin is None:
-        raise Failed("cannot read the standard input: it is closed")
-    try:
-        return sys.stdin.buffer if name == "-" else open(name, "rb")
-    except IsADirectoryError as error:
-        hint = f": svnadmin dump -q {name} | svnask - .." if os.path.isdir(os.path.join(name, "db")) else ""
-        raise Failed(f"{name} is a directory{hint}") from error
-    except (OSError, ValueError) as error:
-        raise Failed("cannot read %s: %s" % (name, getattr(error, "strerror", error))) from error
+def verb_of(given: argparse.Namespace) -> Verb:
+    return next(verb for verb in VERBS if verb.name == given.verb)
 
 
 def lines_of(history: History, given: argparse.Namespace) -> Iterator[bytes]:
-    verb = next(verb for verb in VERBS if verb.name == given.verb)
+    verb = verb_of(given)
     if verb.judges and not history.is_whole:
         history.check()
     if not given.json:
@@ -136,28 +88,24 @@ def object_line(found: Object) -> bytes:
     return HIGH_CONTROL.sub(lambda each: "\\u%04x" % ord(each[0]), line).encode("utf-8", "backslashreplace") + b"\n"
 
 
-def answer(given: argparse.Namespace, file: BinaryIO) -> None:
-    """Answers the question about a dump. What the cache has of it is made anew where it is refused: the disk may have
+def answer(given: argparse.Namespace, source: Source) -> None:
+    """Answers the question about a source. What the cache has of it is made anew where it is refused: the disk may have
     changed it."""
     for _ in range(2):
-        with read(given, file) as history:
+        with read(given, source) as history:
             try:
                 write(lines_of(history, given), history)
                 return
             except Stale:
                 history.forget()
-                file.seek(0)
             except Refused as refused:
                 raise Failed(str(refused), refused.status, advice(refused, history, given.dump)) from refused
     raise Failed("the cache is damaged again and again: --no-cache reads the dump anew")
 
 
-def read(given: argparse.Namespace, file: BinaryIO) -> History:
-    progress = Progress(os.fstat(file.fileno()).st_size)
-    try:
-        return History.open(file, not given.no_cache, progress)
-    finally:
-        progress.close()
+def read(given: argparse.Namespace, source: Source) -> History:
+    with closing(Bar()) as bar:
+        return History.of(source, bar, not given.no_cache, given.offline)
 
 
 class Stale(Exception):
@@ -186,7 +134,8 @@ def write(lines: Iterable[bytes], history: History) -> None:
 
 def advice(refused: Refused, history: History, dump: str) -> list[str]:
     if refused.unit == "record":
-        return [about_record(each) for each in history.records() if each.number == refused.place]
+        found = [about_record(each) for each in history.records() if each.number == refused.place]
+        return [*found, HIDDEN] if isinstance(history.source, Address) and refused.number in OF_HIDDEN else found
     return explained(refused, dump, history.front())
 
 
@@ -242,14 +191,21 @@ def main(arguments: list[str] | None = None) -> int:
 def call(arguments: list[str]) -> None:
     if sys.stdout is None:
         raise Failed("cannot write: the standard output is closed")
+    access, words = split_access(joined(arguments))
     try:
-        given = parser().parse_args(joined(with_dump(arguments)))
+        given = parser().parse_args(ordered(with_source(words, [verb.name for verb in VERBS])))
     except SystemExit:
         # The help was printed, or the version.
         sys.stdout.flush()
         return
-    with opened(given.dump) as file:
-        answer(given, file)
+    verb = verb_of(given)
+    if isinstance(verb, KeptVerb):
+        for each in verb.act(given, access):
+            sys.stdout.buffer.write(object_line(each) if given.json else verb.line(each))
+        sys.stdout.buffer.flush()
+        return
+    with closing(source_of(given.dump, access, given.offline)) as source:
+        answer(given, source)
 
 
 def run() -> NoReturn:

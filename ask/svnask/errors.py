@@ -27,6 +27,14 @@ class Damaged(Failed):
         super().__init__("the cache is damaged: --no-cache reads the dump anew")
 
 
+class Unreached(Error):
+    """A repository could not be asked: what Subversion said of it, perhaps that there is nothing at a URL."""
+
+    def __init__(self, text: str, advice: Sequence[str] = (), is_none_there: bool = False) -> None:
+        super().__init__(text, 1, advice)
+        self.is_none_there = is_none_there
+
+
 class Usage(Error):
     """The arguments are wrong."""
 

@@ -3,8 +3,9 @@ from __future__ import annotations
 
 import os
 import stat
-import sys
+import tempfile
 from collections.abc import Callable, Iterable, Iterator
+from contextlib import closing, contextmanager
 from types import TracebackType
 from typing import BinaryIO
 
@@ -12,14 +13,16 @@ from . import dates, engine
 from .answers import A, Answer, Answers, Locate, Located, Log, Logged, Query, Segments, Where, is_askable
 from .changes import Change, Place, changes_of, place_of
 from .errors import Failed, Refused
-from .store import Index, Record, Revision, Store, opened
+from .progress import Progress, Told
+from .sources import Dump, Source, source_of
+from .store import Index, Record, Revision, Store
 
 # The longest header that is looked for in a dump.
 HEADER = 1 << 16
 
 
 class History:
-    """A dump, read once. What is asked of it is answered by svnhist; revisions have what the dump says of them.
+    """A dump or a repository, read once. What is asked of it is answered by svnhist; revisions have what the dump says of them.
 
     >>> with History.open("interop/branches.dump") as history:
     ...     history.head, history.log(b"trunk", 13).revisions
@@ -28,10 +31,11 @@ class History:
     In the examples of the methods `history` is this one. It is closed at the end of `with`, or by `close`.
     """
 
-    def __init__(self, store: Store, file: int | None = None) -> None:
+    def __init__(self, store: Store, file: int | None = None, source: Source = Source("")) -> None:
         self._store = store
         # The descriptor of the dump, where it is a file.
         self._file = file
+        self.source = source
         # Whether svnhist has answered, so that it does not refuse the dump.
         self._is_accepted = False
         self._revisions: dict[int, Revision] = {}
@@ -41,21 +45,27 @@ class History:
     def open(
         cls, dump: str | BinaryIO, is_cached: bool = True, seen: Callable[[int], object] = lambda read: None
     ) -> History:
-        """The history of a file, by its name or opened. `-` is the standard input. What is read of a file is kept in
-        the cache, unless `is_cached` is false. `seen` is told now and then how many bytes were read.
+        """The history of a file, by its name or opened, or of a repository, by its folder or its URL. `-` is the standard
+        input. What is read is kept in the cache, unless `is_cached` is false. `seen` is told now and then how many bytes
+        of a dump, or up to which revision a repository was read.
 
         >>> with History.open("interop/merges.dump", is_cached=False) as merges:
         ...     merges.head
         19
         """
+        if not isinstance(dump, str):
+            return cls.of(Dump(str(dump.name), dump), Told(seen), is_cached)
+        with closing(source_of(dump)) as source:
+            return cls.of(source, Told(seen), is_cached)
+
+    @classmethod
+    def of(cls, source: Source, progress: Progress, is_cached: bool = True, is_offline: bool = False) -> History:
+        """The history of a source, as it is now or, without asking it, as it was when it was read last."""
         try:
-            if not isinstance(dump, str):
-                return cls(opened(dump, is_cached, seen), of_file(dump))
-            with sys.stdin.buffer if dump == "-" else open(dump, "rb") as file:
-                return cls(opened(file, is_cached, seen), of_file(file))
+            store = source.store(progress, is_cached, is_offline)
+            return cls(store, of_file(source.file) if isinstance(source, Dump) else None, source)
         except OSError as error:
-            name = dump if isinstance(dump, str) else dump.name
-            raise Failed(f"cannot read {name}, or copy what is needed of it: {error.strerror}") from error
+            raise Failed(f"cannot read {source.name}, or copy what is needed of it: {error.strerror}") from error
 
     @property
     def is_from_cache(self) -> bool:
@@ -126,7 +136,8 @@ class History:
             self.check()
             return
         try:
-            yield from engine.run(self._store.dump, asked)
+            with whole(self._store) as dump:
+                yield from engine.run(dump, asked)
         except Refused as refused:
             raise self._placed(refused) from refused
         self._is_accepted = True
@@ -146,7 +157,7 @@ class History:
         >>> history.front()[:31]
         b'SVN-fs-dump-format-version: 2\\n\\n'
         """
-        return self._store.data[: 1 << 12]
+        return self._store.between(0, 1 << 12)
 
     def check(self) -> None:
         """Raises `Refused` where svnhist refuses the dump.
@@ -300,9 +311,21 @@ class History:
         return dates.revision_at(dates.given(date), self.head, lambda rev: self.revision(rev).date)
 
 
-def of_file(file: BinaryIO) -> int | None:
+@contextmanager
+def whole(store: Store) -> Iterator[str]:
+    """A stand-in until the program is given the two parts of a copy: the path of a file that has both."""
+    if not store.later:
+        yield store.base
+        return
+    with tempfile.NamedTemporaryFile(prefix="svnask-") as file:
+        store.write(file.file)
+        file.flush()
+        yield file.name
+
+
+def of_file(file: BinaryIO | None) -> int | None:
     """A descriptor of a file, of which any part can be read again."""
-    return os.dup(file.fileno()) if stat.S_ISREG(os.fstat(file.fileno()).st_mode) else None
+    return os.dup(file.fileno()) if file is not None and stat.S_ISREG(os.fstat(file.fileno()).st_mode) else None
 
 
 def one(answers: Iterator[A]) -> A:

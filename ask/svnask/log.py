@@ -2,7 +2,7 @@
 from __future__ import annotations
 
 import bisect
-from collections.abc import Iterator
+from collections.abc import Iterator, Sequence
 from dataclasses import dataclass
 from typing import NamedTuple
 
@@ -10,7 +10,7 @@ from .answers import Log, Segment, Where
 from .changes import is_at_or_below, tops_of
 from .errors import Denied
 from .history import History
-from .targets import Target, decoded, known
+from .targets import Target, below, decoded, known
 
 
 @dataclass
@@ -20,6 +20,8 @@ class Options:
     ranges: list[tuple[int, int]] | None = None
     limit: int | None = None
     stops_on_copy: bool = False
+    # The paths below the target that are logged in its place.
+    below: Sequence[bytes] = ()
 
 
 class Item(NamedTuple):
@@ -160,9 +162,11 @@ def entries(history: History, target: Target, options: Options) -> list[int]:
             continue
         # Between a copy and its source it is looked for where it was in the range before.
         path = segment.path or path if segment is not None else path
-        here = walk if segment is not None else walk_of(history, Target(path, high))
-        chosen = here.between(history, min(first, last), high, options.stops_on_copy)
-        revisions += chosen if first < last else chosen[::-1]
+        here = [walk_of(history, Target(below(path, each), high)) for each in options.below]
+        if not here:
+            here = [walk if segment is not None else walk_of(history, Target(path, high))]
+        chosen = {rev for each in here for rev in each.between(history, min(first, last), high, options.stops_on_copy)}
+        revisions += sorted(chosen, reverse=first >= last)
     return revisions[: options.limit]
 
 

@@ -5,17 +5,16 @@ import mmap
 import os
 import re
 import shutil
-import stat
-import tempfile
-from collections.abc import Callable, Iterator
-from typing import BinaryIO, NamedTuple
+from collections.abc import Iterator
+from typing import IO, BinaryIO, NamedTuple, Union
 
 from . import cache, digits
-from .errors import Damaged, Failed
-from .source import Source
-from .strip import MERGEINFO, Malformed, Stripper, clean, entries_of
+from .errors import Damaged
+from .strip import MERGEINFO, Malformed, body_of, clean, entries_of
 
-VERSION = b"svnask 2"
+# A part of a copy.
+Bytes = Union[mmap.mmap, bytes]
+VERSION = b"svnask 3"
 FIRST_LINE = b"SVN-fs-dump-format-version: 2\n\n"
 # A block of the copy. `Stripper` writes the headers in this order.
 BLOCK = re.compile(
@@ -65,6 +64,18 @@ class Revision(NamedTuple):
     properties: dict[bytes, bytes]
 
 
+class Kept(NamedTuple):
+    """What the cache knows of a copy: what it is of, how the file was of which it is, the number in the names of its
+    files, and the length of the first one."""
+
+    kind: bytes = b""
+    # The real path of a file or a folder, or a URL.
+    place: bytes = b""
+    state: bytes = b""
+    generation: int = 0
+    base: int = 0
+
+
 class Index(NamedTuple):
     """What is known of a copy beside its bytes."""
 
@@ -79,13 +90,16 @@ class Index(NamedTuple):
     revisions: list[int]
     # The revision and the path of each copy of a path of the revision before to itself.
     renewals: list[tuple[int, bytes]]
+    kept: Kept = Kept()
 
     def text(self) -> bytes:
-        counts = self.format, self.records, self.size, self.length, len(self.revisions)
-        lines = [b"%d %d %d %d %d" % counts, self.uuid]
+        kind, place, state, generation, base = self.kept
+        counts = self.format, self.records, self.size, self.length, len(self.revisions), generation, base, len(place)
+        lines = [b"%d %d %d %d %d %d %d %d" % counts, self.uuid, kind, state]
         lines += [b"%d" % place for place in self.revisions]
         lines += [b"%d %s" % renewal for renewal in self.renewals]
-        rest = b"\n".join(lines)
+        # A place may have newlines.
+        rest = b"\n".join(lines) + b"\n" + place
         return b"%s %d\n%s" % (VERSION, len(rest), rest)
 
 
@@ -95,37 +109,57 @@ def index_of(text: bytes) -> Index:
     head, _, rest = text.partition(b"\n")
     if head != b"%s %d" % (VERSION, len(rest)):
         raise ValueError("another version, or not the whole of an index")
-    lines = rest.split(b"\n")
-    version, records, size, length, count = map(int, lines[0].split())
-    pairs = [line.split(b" ", 1) for line in lines[2 + count :]]
+    counts, uuid, kind, state, _ = rest.split(b"\n", 4)
+    version, records, size, length, count, generation, base, named = map(int, counts.split())
+    lines = rest[: len(rest) - named - 1].split(b"\n")
+    pairs = [line.split(b" ", 1) for line in lines[4 + count :]]
     return Index(
         version,
-        lines[1],
+        uuid,
         records,
         size,
         length,
         True,
-        list(map(int, lines[2 : 2 + count])),
+        list(map(int, lines[4 : 4 + count])),
         [(int(rev), path) for rev, path in pairs],
+        Kept(kind, rest[len(rest) - named :], state, generation, base),
     )
 
 
 class Store:
-    """The copy of a dump and its index. The folder of a run goes when the store is closed."""
+    """The copy of a dump, which has two parts, and its index. No block is in both.
+
+    The first part is a file, which may be gone from its folder when it is read; the other one came later, and is part
+    of a file. A folder that is not of the cache goes when the store is closed.
+    """
 
     def __init__(self, folder: str, index: Index, is_kept: bool, is_loaded: bool = False) -> None:
-        self.dump = os.path.join(folder, "dump")
         self.index = index
         # Whether another run made it.
         self.is_loaded = is_loaded
         self._folder = folder
         self._is_kept = is_kept
-        self._map: mmap.mmap | None = None
+        generation, length = index.kept.generation, index.kept.base
+        self._file = open(os.path.join(folder, "dump.%d" % generation), "rb")
+        try:
+            own = "/proc/%d/fd/%d" % (os.getpid(), self._file.fileno())
+            self.base = own if os.path.exists(own) else self._file.name
+            if os.fstat(self._file.fileno()).st_size != length:
+                raise Damaged
+            self.first = part_of(self._file, length)
+            self.later: Bytes = b""
+            if index.length > length:
+                with open(os.path.join(folder, "later.%d" % generation), "rb") as later:
+                    self.later = part_of(later, index.length - length)
+        except BaseException:
+            self._file.close()
+            raise
 
     def close(self) -> None:
-        if self._map is not None:
-            self._map.close()
-            self._map = None
+        for part in self.first, self.later:
+            if isinstance(part, mmap.mmap):
+                part.close()
+        self._file.close()
         if not self._is_kept:
             shutil.rmtree(self._folder, ignore_errors=True)
 
@@ -139,33 +173,62 @@ class Store:
         """The youngest revision."""
         return len(self.index.revisions) - 1
 
-    @property
-    def data(self) -> mmap.mmap | bytes:
-        """The copy, which is no one else's, so that it can be mapped."""
-        if self._map is None:
-            with open(self.dump, "rb") as file:
-                # An empty file can't be mapped.
-                if not os.path.getsize(self.dump):
-                    return b""
-                self._map = mmap.mmap(file.fileno(), 0, access=mmap.ACCESS_READ)
-        return self._map
+    def _parts(self, place: int) -> Iterator[tuple[Bytes, int]]:
+        """The parts from an offset in the copy on, and where in each of them that is."""
+        length = self.index.kept.base
+        if place < length:
+            yield self.first, place
+        yield self.later, max(place - length, 0)
 
-    def revision(self, rev: int) -> Revision:
-        found = BLOCK.match(self.data, self.index.revisions[rev])
+    def _blocks(self, place: int) -> Iterator[re.Match[bytes]]:
+        """The blocks from an offset in the copy on."""
+        for part, at in self._parts(place):
+            while found := BLOCK.match(part, at):
+                at = found.end() + digits.number(found["length"] or b"0")
+                yield found
+
+    def write(self, file: IO[bytes]) -> None:
+        """Writes the whole copy to a file."""
+        for part in self.first, self.later:
+            with memoryview(part) as whole:
+                file.write(whole)
+
+    def between(self, first: int, last: int) -> bytes:
+        """The bytes of the copy from one offset to another one."""
+        length = self.index.kept.base
+        later = self.later[max(first - length, 0) : max(last - length, 0)]
+        return self.first[first:last] + later if first < length else later
+
+    def with_properties(self, rev: int, section: bytes) -> bytes:
+        """The bytes of a revision with other properties."""
+        found, begin = self._block_of(rev), self.index.revisions[rev]
+        end = (*self.index.revisions[rev + 1 : rev + 2], self.index.length)[0]
+        head = b"Revision-number: %d\nAt: %s\n" % (rev, found["at"])
+        after = begin + found.end() - found.start() + len(section_of(found))
+        return head + (body_of(section) if section else b"\n") + self.between(after, end)
+
+    def _block_of(self, rev: int) -> re.Match[bytes]:
+        part, at = next(self._parts(self.index.revisions[rev]))
+        found = BLOCK.match(part, at)
         if found is None or found["rev"] is None or digits.number(found["rev"]) != rev:
             raise Damaged
-        length = digits.number(found["length"] or b"0")
-        values = properties_of(self.data[found.end() : found.end() + length]) if length else {}
+        return found
+
+    def revision(self, rev: int) -> Revision:
+        found = self._block_of(rev)
+        values = properties_of(section_of(found))
         author, date, message = (values.get(name) for name in (b"svn:author", b"svn:date", b"svn:log"))
         return Revision(rev, author, date, message, digits.number(found["at"]), values)
 
+    def section(self, rev: int) -> tuple[int, bytes]:
+        """The offset of a revision in the given dump, and its property section."""
+        found = self._block_of(rev)
+        return digits.number(found["at"]), section_of(found)
+
     def records(self, first: int = 0, last: int | None = None) -> Iterator[Record]:
         """The records of revisions, in the order of the dump. They are numbered from 1 in the first one."""
-        data = self.data
-        at = self.index.revisions[first]
         rev = number = 0
-        for found in iter(lambda: BLOCK.match(data, at), None):
-            at = found.end() + digits.number(found["length"] or b"0")
+        for found in self._blocks(self.index.revisions[first]):
             if found["rev"] is not None:
                 rev = digits.number(found["rev"])
                 if last is not None and rev > last:
@@ -176,10 +239,9 @@ class Store:
 
     def blocks(self) -> Iterator[tuple[int, Record | None]]:
         """The offset in the given dump of each block, and its record, if it has one."""
-        data, rev, number = self.data, -1, 0
-        at = len(FIRST_LINE)
-        for found in iter(lambda: BLOCK.match(data, at), None):
-            at = found.end() + digits.number(found["length"] or b"0")
+        rev, number, end = -1, 0, len(FIRST_LINE)
+        for found in self._blocks(end):
+            end = found.end() + digits.number(found["length"] or b"0")
             record = None
             if found["rev"] is not None:
                 rev = digits.number(found["rev"])
@@ -187,7 +249,8 @@ class Store:
                 number += 1
                 record = record_of(found, number, rev, self.index.format)
             yield digits.number(found["at"]), record
-        last = MARK.match(data, at)
+        # A part that came later is well formed to its end.
+        last = None if self.later else MARK.match(self.first, end)
         if last:
             yield digits.number(last[1]), None
 
@@ -195,8 +258,22 @@ class Store:
         """The offset in the given dump of what stands at an offset in the copy."""
         if place == 0:
             return 0
-        found = MARK.match(self.data, place)
+        part, at = next(self._parts(place))
+        found = MARK.match(part, at)
         return digits.number(found[1]) if found else self.index.size
+
+
+def part_of(file: BinaryIO, length: int) -> Bytes:
+    """The first bytes of a file, which no one changes, so that they can be mapped."""
+    if os.fstat(file.fileno()).st_size < length:
+        raise Damaged
+    # Nothing can't be mapped.
+    return mmap.mmap(file.fileno(), length, access=mmap.ACCESS_READ) if length else b""
+
+
+def section_of(found: re.Match[bytes]) -> bytes:
+    """The property section of a block."""
+    return found.string[found.end() : found.end() + digits.number(found["length"] or b"0")]
 
 
 def properties_of(section: bytes) -> dict[bytes, bytes]:
@@ -211,7 +288,7 @@ def properties_of(section: bytes) -> dict[bytes, bytes]:
 
 
 def record_of(found: re.Match[bytes], number: int, rev: int, version: int) -> Record:
-    section = found.string[found.end() : found.end() + digits.number(found["length"] or b"0")]
+    section = section_of(found)
     source = None
     if found["from_path"] is not None and found["from_rev"]:
         source = clean(found["from_path"]), digits.number(found["from_rev"])
@@ -241,100 +318,3 @@ def setting_of(section: bytes, is_delta: bool) -> Setting | None:
     if values:
         return Setting(values[-1])
     return None if is_delta else Setting(None)
-
-
-def make(file: BinaryIO, folder: str, seen: Callable[[int], object]) -> Index:
-    """Copies a dump to a folder, with its index."""
-    before = state_of(file)
-    with open(os.path.join(folder, "dump"), "wb", 1 << 20) as copy:
-        stripper = Stripper(Source(file), copy.write, places=True, people=True)
-        found = stripper.run(seen)
-    after = state_of(file)
-    if after != before:
-        raise Failed("the dump was changed while it was read")
-    size = found.read if after is None else max(after.size, found.read)
-    index = Index(
-        found.format,
-        found.uuid or b"",
-        found.records,
-        size,
-        found.length,
-        found.fault is None and found.is_from_0,
-        found.revisions,
-        found.renewals,
-    )
-    with open(os.path.join(folder, "index"), "wb") as file_of_index:
-        file_of_index.write(index.text())
-    return index
-
-
-class State(NamedTuple):
-    """What tells cheaply whether a file was changed: its size and the time of its content."""
-
-    size: int
-    time: int
-
-
-def state_of(file: BinaryIO) -> State | None:
-    """The state of a regular file."""
-    status = os.fstat(file.fileno())
-    return State(status.st_size, status.st_mtime_ns) if stat.S_ISREG(status.st_mode) else None
-
-
-def opened(file: BinaryIO, is_cached: bool, seen: Callable[[int], object]) -> Store:
-    """The store of a dump. A regular file is looked for in the cache, and kept there."""
-    state = state_of(file)
-    top = cache.folder()
-    if not is_cached or state is None or not state.size or file.tell() or top is None:
-        return in_folder(file, tempfile.mkdtemp(prefix="svnask-"), seen)
-    name = cache.key_of(file)
-    kept = load(os.path.join(top, name))
-    if kept is not None:
-        return kept
-    try:
-        made = cache.new_folder(top)
-        store = in_folder(file, made, seen)
-        if not store.index.is_whole:
-            return store
-        cache.flush(made)
-    except OSError:
-        # The cache can't be written, perhaps since its disk is full.
-        file.seek(0)
-        return in_folder(file, tempfile.mkdtemp(prefix="svnask-"), seen)
-    return keep(store, made, os.path.join(top, name))
-
-
-def load(folder: str) -> Store | None:
-    """The store of a folder of the cache, if it is there and as it was made."""
-    try:
-        if not cache.is_own(folder):
-            return None
-        with open(os.path.join(folder, "index"), "rb") as file:
-            store = Store(folder, index_of(file.read()), True, is_loaded=True)
-        if os.path.getsize(store.dump) != store.index.length:
-            return None
-    except (OSError, ValueError, IndexError):
-        return None
-    cache.touch(folder)
-    return store
-
-
-def in_folder(file: BinaryIO, folder: str, seen: Callable[[int], object]) -> Store:
-    try:
-        return Store(folder, make(file, folder, seen), False)
-    except BaseException:
-        shutil.rmtree(folder, ignore_errors=True)
-        raise
-
-
-def keep(store: Store, made: str, folder: str) -> Store:
-    """Gives a folder its name in the cache. Where another run was faster, its folder is the same; one that is damaged
-    or of another version makes room."""
-    if cache.put(made, folder):
-        return Store(folder, store.index, True)
-    other = load(folder)
-    if other is not None:
-        store.close()
-        return other
-    cache.remove(folder)
-    return Store(folder, store.index, True) if cache.put(made, folder) else store

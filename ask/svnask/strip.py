@@ -11,7 +11,7 @@ from collections.abc import Callable
 from dataclasses import dataclass, field
 
 from .digits import number
-from .source import Source
+from .window import Window
 
 Write = Callable[[bytes], object]
 Headers = dict[bytes, bytes]
@@ -81,6 +81,8 @@ class Copy:
     format: int = 0
     uuid: bytes | None = None
     records: int = 0
+    # How many of them come before the last revision.
+    records_before: int = 0
     # The offset in the copy of each revision.
     revisions: list[int] = field(default_factory=list)
     # Whether these are the revisions from 0 on, each once.
@@ -182,22 +184,27 @@ class Stripper:
     keep their properties, such as author, date and message.
     """
 
-    def __init__(self, source: Source, write: Write, places: bool = False, people: bool = False) -> None:
+    def __init__(
+        self, source: Window, write: Write, places: bool = False, people: bool = False, known: Copy | None = None
+    ) -> None:
         self.source = source
-        self.copy = Copy()
+        self.copy = known or Copy()
         self._write = write
         self._places = places
         self._people = people
+        self._is_piece = False
 
-    def run(self, seen: Callable[[int], object] = lambda read: None) -> Copy:
-        """Copies the whole dump. `seen` is told now and then how many bytes were read."""
+    def run(self, seen: Callable[[int], object] = lambda read: None, has_first_line: bool = True) -> Copy:
+        """Copies the whole dump, or what comes after a part that is known. `seen` is told now and then how many bytes
+        were read. A piece that Subversion wrote has the first line of a dump and its UUID again."""
+        self._is_piece = has_first_line and self.copy.format > 0
         try:
-            at = self._first_line()
+            at = self._first_line() if has_first_line else 0
             turn = 0
             while at >= 0:
                 at = self._block(at)
                 turn += 1
-                if turn & 0xFFF == 0:
+                if turn & 0xFF == 0:
                     seen(self.source.base + at)
             if self.source.is_cut:
                 raise Malformed("the dump was cut while it was read")
@@ -220,6 +227,10 @@ class Stripper:
         source = self.source
         source.want(0, len(MAGIC) + 2)
         line = bytes(source.data[: len(MAGIC) + 2])
+        if self._is_piece:
+            if FORMATS.get(line) != self.copy.format:
+                raise Malformed("a piece of a dump has not the format of the dump")
+            return len(line)
         self.copy.format = FORMATS.get(line, 0)
         if self.copy.format == 0:
             self._put(bytes(source.data[: 1 << 16]))
@@ -343,7 +354,8 @@ class Stripper:
             return self._record(head, raw, end + 2, given, rest, is_delta, b"Text-content-length" in headers)
         if self.copy.uuid is None:
             self.copy.uuid = headers[kind]
-        self._put(head + b"\n")
+        if not self._is_piece:
+            self._put(head + b"\n")
         return self._after(raw, b"", end + 2, section + rest)
 
     def _section(self, raw: bytes, at: int, length: int) -> tuple[bytes, int]:
@@ -387,6 +399,7 @@ class Stripper:
     def _put_revision(self, head: bytes, section: bytes) -> None:
         if not head.startswith(b"Revision-number: %d\n" % len(self.copy.revisions)):
             self.copy.is_from_0 = False
+        self.copy.records_before = self.copy.records
         self.copy.revisions.append(self.copy.length)
         # svnhist does not judge the properties of revisions, so they are kept as they are.
         self._put(head + (body_of(section) if self._people and section else b"\n"))

@@ -7,13 +7,14 @@ from typing import NamedTuple
 from .digits import number
 from .errors import Denied
 from .history import History
+from .repositories import canonical, path_below
+from .sources import IS_URL
 
 NUMBER = re.compile(r"r*([0-9]+)\Z")
 # A word of `-c`: a minus for the way back, and one number or two.
 CHANGE = re.compile(r"(-?)r*\+?([0-9]+)(?:(-)r*\+?([0-9]*))?\Z")
 DATE = re.compile(r"\{(.*)\}\Z", re.DOTALL)
 WORDS = re.compile(r"(?:BASE|PREV|COMMITTED)\Z", re.IGNORECASE)
-URL = re.compile(r"[A-Za-z][A-Za-z0-9+.-]*://")
 
 
 class Target(NamedTuple):
@@ -41,7 +42,7 @@ def split_peg(text: str) -> tuple[str, str]:
 
 def path_of(text: str) -> bytes:
     """A path of the repository, with or without `^/` or a slash at its front."""
-    if URL.match(text):
+    if IS_URL.match(text):
         raise Denied("E170000", f"'{text}' is a URL, and a dump has none: name the path in it, such as trunk")
     if text.startswith("^/") or text == "^":
         text = text[1:]
@@ -49,6 +50,23 @@ def path_of(text: str) -> bytes:
     if b".." in parts:
         raise Denied("E195002", f"a path may not have '..': '{text}'")
     return b"/" + b"/".join(parts)
+
+
+def placed(history: History, text: str) -> bytes:
+    """The path of a target: of a URL that of the repository, and of a name what is below the URL of the source."""
+    source = history.source
+    if IS_URL.match(text) and source.root:
+        found = path_below(canonical(text), source.root)
+        if found is None:
+            raise Denied("E170000", f"'{text}' isn't in the same repository as '{source.root}'")
+        return found
+    path = path_of(text)
+    return path if text.startswith(("/", "^")) else below(source.path, path)
+
+
+def below(top: bytes, path: bytes) -> bytes:
+    """A path as one below another one."""
+    return path if top == b"/" else top + path if path != b"/" else top
 
 
 def revision_of(history: History, text: str) -> int:
@@ -79,7 +97,7 @@ def known(history: History, rev: int) -> int:
 def place_of(history: History, text: str) -> Target:
     """The path and the peg that a user names, which may be above the youngest revision. Without a peg it is that."""
     path, peg = split_peg(text)
-    return Target(path_of(path), revision_of(history, peg) if peg else history.head)
+    return Target(placed(history, path), revision_of(history, peg) if peg else history.head)
 
 
 def target_of(history: History, text: str) -> Target:

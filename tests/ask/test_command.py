@@ -91,11 +91,11 @@ class Command(base.Case):
     def test_a_file_that_is_not_there_has_status_3(self) -> None:
         self.assertEqual(base.run(self.folder / "none", "info").status, 3)
 
-    def test_a_repository_is_no_dump(self) -> None:
+    def test_a_folder_that_is_no_repository_is_no_source(self) -> None:
         (self.folder / "db").mkdir()
         done = base.run(self.folder, "info")
-        self.assertEqual(done.status, 3)
-        self.assertIn("is a directory: svnadmin dump -q ", done.said)
+        self.assertEqual((done.status, done.output), (3, b""))
+        self.assertIn("is a directory, and no repository", done.said)
 
     def test_questions_without_an_answer_have_status_1(self) -> None:
         # fmt: off
@@ -244,7 +244,7 @@ class Command(base.Case):
         assert process.stdin is not None
         process.stdin.write(first_lines())
         process.stdin.flush()
-        base.wait_for(lambda: list(Path(self.temporary()).glob("svnask-*/dump")))
+        base.wait_for(lambda: list(Path(self.temporary()).glob("svnask-*/dump.0")))
         return process
 
     def test_tests_of_signals_pass_where_the_caller_ignores_them(self) -> None:

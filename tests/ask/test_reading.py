@@ -5,17 +5,16 @@ import errno
 import os
 import subprocess
 from pathlib import Path
-from typing import BinaryIO, Callable
 from unittest import mock
 
 from dev.dumps import FILE, Revision, added, first_lines
 from dev.tree import INTEROP
-from svnask import cache, store
+from svnask import cache, entries, sources
 from svnask.answers import Line
 from svnask.errors import Failed, Refused
 from svnask.history import History
-from svnask.source import Source
 from svnask.strip import Stripper
+from svnask.window import Window
 from tests.ask import base
 
 
@@ -26,11 +25,17 @@ def stripped(dump: Path, through_pipe: bool) -> bytes:
         with subprocess.Popen(["cat", dump], stdout=writing):
             os.close(writing)
             with open(reading, "rb") as pipe:
-                Stripper(Source(pipe), pieces.append, places=True, people=True).run()
+                Stripper(Window(pipe), pieces.append, places=True, people=True).run()
     else:
         with open(dump, "rb") as file:
-            Stripper(Source(file), pieces.append, places=True, people=True).run()
+            Stripper(Window(file), pieces.append, places=True, people=True).run()
     return b"".join(pieces)
+
+
+def file_of(folder: Path, pattern: str) -> Path:
+    """The only file of a folder with such a name."""
+    (found,) = folder.glob(pattern)
+    return found
 
 
 class Reading(base.Case):
@@ -110,22 +115,22 @@ class Reading(base.Case):
     def test_a_damaged_cache_is_made_anew(self) -> None:
         with self.history(base.dump_of("branches")):
             folder = self.kept()
-        for name in ("dump", "index"):
-            whole = (folder / name).read_bytes()
-            ends = [whole.rindex(b"Revision-number") - 1, whole.rindex(b"Node-path")] if name == "dump" else []
+        for pattern in ("dump.*", "index"):
+            whole = file_of(folder, pattern).read_bytes()
+            ends = [whole.rindex(b"Revision-number") - 1, whole.rindex(b"Node-path")] if pattern != "index" else []
             wrong = [whole[:end] for end in (*ends, 0, 9, len(whole) // 2, len(whole) - 1)] + [whole + b"\n7"]
-            for content in wrong + [whole.replace(b"svnask 2 ", b"svnask 1 ")]:
-                (folder / name).write_bytes(content)
+            for content in wrong + [whole.replace(b"svnask 3 ", b"svnask 1 ")]:
+                file_of(folder, pattern).write_bytes(content)
                 with self.history(base.dump_of("branches")) as history:
                     self.assertEqual((history.head, history.log(b"trunk", 13).revisions), (13, [5, 2, 1]))
-                self.assertEqual((self.kept() / name).read_bytes(), whole)
+                self.assertEqual(len(file_of(self.kept(), pattern).read_bytes()), len(whole))
 
     def test_a_cache_with_other_bytes_is_made_anew(self) -> None:
         dump = base.dump_of("branches")
         whole = base.called(dump, "log", "trunk")
         self.assertEqual(whole.status, 0)
-        for name, place in (("dump", -1000), ("index", -20)):
-            kept = self.kept() / name
+        for pattern, place in (("dump.*", -1000), ("index", -20)):
+            kept = file_of(self.kept(), pattern)
             with open(kept, "r+b") as file:
                 size = file.seek(0, os.SEEK_END)
                 file.seek(place, os.SEEK_END)
@@ -138,7 +143,7 @@ class Reading(base.Case):
         whole = base.content_of("branches")
         dump = self.made("dump", whole)
         status = os.stat(dump)
-        with mock.patch.object(cache, "END", 8):
+        with mock.patch.object(sources, "END", 8):
             self.assertEqual(self.history(dump).revision(9).author, b"alice")
             with open(dump, "r+b") as file:
                 file.write(whole.replace(b"alice", b"malic"))
@@ -148,24 +153,24 @@ class Reading(base.Case):
     def test_a_copy_is_on_the_disk_before_it_has_its_name(self) -> None:
         done = mock.Mock()
         done.attach_mock(mock.Mock(wraps=os.fsync), "fsync")
-        done.attach_mock(mock.Mock(wraps=os.rename), "rename")
-        with mock.patch.object(os, "fsync", done.fsync), mock.patch.object(os, "rename", done.rename):
+        done.attach_mock(mock.Mock(wraps=os.replace), "replace")
+        with mock.patch.object(os, "fsync", done.fsync), mock.patch.object(os, "replace", done.replace):
             self.history(base.dump_of("branches"))
-        self.assertEqual([name for name, _, _ in done.mock_calls], ["fsync"] * 3 + ["rename"])
+        self.assertEqual([name for name, _, _ in done.mock_calls], ["fsync"] * 2 + ["replace", "fsync"])
 
     def test_a_cache_that_cannot_be_written_is_read(self) -> None:
         self.history(base.dump_of("branches"))
-        with mock.patch.object(os, "utime", side_effect=OSError), mock.patch.object(store, "make", side_effect=OSError):
+        with mock.patch.object(os, "utime", side_effect=OSError), mock.patch.object(
+            Stripper, "run", side_effect=OSError
+        ):
             self.assertEqual(self.history(base.dump_of("branches")).head, 13)
 
     def test_a_cache_of_another_user_is_not_read(self) -> None:
         self.history(base.dump_of("branches"))
         with mock.patch.object(os, "geteuid", return_value=os.geteuid() + 1), mock.patch.object(cache, "ROOT", -1):
-            self.assertIsNone(store.load(str(self.kept())))
-            with mock.patch.object(os, "rename", side_effect=PermissionError), self.history(
-                base.dump_of("branches")
-            ) as history:
-                self.assertEqual(history.head, 13)
+            self.assertIsNone(entries.read_index(str(self.kept())))
+            with self.history(base.dump_of("branches")) as history:
+                self.assertEqual((history.head, history.is_from_cache), (13, False))
         self.kept()
 
     def test_without_a_home_there_is_no_cache(self) -> None:
@@ -182,18 +187,18 @@ class Reading(base.Case):
     def test_a_dump_that_is_cut_while_it_is_read_is_not_answered(self) -> None:
         front = first_lines() + bytes(Revision(0)) + bytes(Revision(1))
         files = [bytes(added(b"f%d" % number, FILE)) + b"\n" * 50000 for number in range(60)]
-        filled = Source._fill  # pylint: disable=protected-access
+        filled = Window._fill  # pylint: disable=protected-access
 
         for content in (front + b"".join(files), front + files[0]):
             dump = self.made("dump", content)
 
-            def cut(source: Source, at: int, count: int, dump: Path = dump) -> int:
+            def cut(source: Window, at: int, count: int, dump: Path = dump) -> int:
                 os.truncate(dump, len(front))
                 return filled(source, at, count)
 
             for is_cached in (True, False):
                 dump = self.made("dump", content)
-                with mock.patch.object(Source, "_fill", cut), self.assertRaises(Failed):
+                with mock.patch.object(Window, "_fill", cut), self.assertRaises(Failed):
                     History.open(str(dump), is_cached)
                 self.assertEqual(list(self.cache.glob("svnhist/*")), [])
 
@@ -202,14 +207,7 @@ class Reading(base.Case):
         self.assertEqual(self.history(base.dump_of("branches")).head, 13)
 
     def test_a_full_disk_of_the_cache_harms_nothing(self) -> None:
-        written = store.make
-
-        def fail_in_cache(file: BinaryIO, folder: str, seen: Callable[[int], object]) -> store.Index:
-            if cache.NEW in folder:
-                raise OSError(errno.ENOSPC, "no space")
-            return written(file, folder, seen)
-
-        with mock.patch.object(store, "make", fail_in_cache):
+        with mock.patch.object(os, "fsync", side_effect=OSError(errno.ENOSPC, "no space")):
             self.assertEqual(self.history(base.dump_of("branches")).head, 13)
         self.assertEqual(self.folders(), [])
 

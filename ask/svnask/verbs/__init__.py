@@ -7,6 +7,7 @@ from .branches import BranchesVerb, ChangedTagsVerb, ContainsVerb, UnmergedVerb
 from .dumps import ByteVerb, InfoVerb, RecordVerb
 from .gains import NewVerb
 from .graph import GraphVerb
+from .kept import ForgetVerb, SourcesVerb, UpdateVerb
 from .logs import LogVerb, ShowVerb
 from .merges import CheckMergeinfoVerb, MergeinfoVerb
 from .places import HeirsVerb, SegmentsVerb, WhereVerb
@@ -29,4 +30,7 @@ VERBS: list[Verb] = [
     ByteVerb(),
     InfoVerb(),
     AskVerb(),
+    UpdateVerb(),
+    ForgetVerb(),
+    SourcesVerb(),
 ]

@@ -13,7 +13,8 @@ from ..history import History
 from ..log_forms import AUTHOR, DATE, MESSAGE, Entry, Wanted, as_wanted, entries, printed
 from ..plain_log import RULE, PlainForm
 from ..search import Glob, Group, folded
-from ..targets import encoded, known, ranges_of, revision_of, target_of
+from ..sources import IS_URL
+from ..targets import Target, encoded, known, path_of, ranges_of, revision_of, target_of
 from ..xml_log import XmlForm
 from .base import Object, Verb, object_of_revision
 
@@ -26,7 +27,8 @@ class LogVerb(Verb):
     help = "the log of a path, as 'svn log' prints it"
 
     def arguments(self, parser: ArgumentParser) -> None:
-        parser.add_argument("target", metavar="PATH[@PEG]", nargs="?", default="/")
+        parser.add_argument("target", metavar="PATH[@PEG]", nargs="?", default="")
+        parser.add_argument("paths", metavar="PATH", nargs="*", help="paths that are logged together, below a URL")
         parser.add_argument("-r", "--revision", dest="ranges", metavar="LO:HI", action="append", default=[])
         parser.add_argument("-c", "--change", dest="changes", metavar="N", action="append", default=[])
         parser.add_argument("-l", "--limit", metavar="N")
@@ -50,10 +52,11 @@ class LogVerb(Verb):
             limit = number(found[2])
             if limit == 0 or found[1] == "-":
                 raise Denied("E200004", "Argument to --limit must be positive")
-        return log.Options(ranges_of(history, given.ranges, given.changes), limit, given.stop_on_copy)
+        ranges = ranges_of(history, given.ranges, given.changes)
+        return log.Options(ranges, limit, given.stop_on_copy, paths_below(given))
 
     def items(self, history: History, given: Namespace) -> list[log.Item]:
-        return [*map(log.Item, log.entries(history, target_of(history, given.target), self.options(history, given)))]
+        return [*map(log.Item, log.entries(history, target_in(history, given), self.options(history, given)))]
 
     def text(self, history: History, given: Namespace) -> Iterator[bytes]:
         wanted = wanted_of(given)
@@ -104,6 +107,23 @@ def wanted_of(given: Namespace) -> Wanted:
     elif given.names:
         names = frozenset(map(encoded, given.names))
     return Wanted(names, given.verbose, given.groups)
+
+
+def target_in(history: History, given: Namespace) -> Target:
+    """The target of a log. Several paths are below the URL before them, or that of the source."""
+    return target_of(history, given.target if IS_URL.match(given.target) or not given.paths else "")
+
+
+def paths_below(given: Namespace) -> list[bytes]:
+    """The paths that are logged together, if these are several ones or stand after a URL."""
+    for each in given.paths:
+        if each.startswith(("/", "^")) or IS_URL.match(each):
+            text = (
+                f"Only relative paths can be specified after a URL for 'svn log', but '{each}' is not a relative path"
+            )
+            raise Denied("E205000", text)
+    words = given.paths if IS_URL.match(given.target) or not given.paths else [given.target, *given.paths]
+    return [path_of(each) for each in words]
 
 
 class ShowVerb(Verb):

@@ -3,24 +3,24 @@ from __future__ import annotations
 
 import os
 import stat
-from typing import BinaryIO
+from typing import IO
 
 PIECE = 1 << 17
 NEWLINE = 10
 
 
-class Source:
+class Window:
     """The bytes of a dump, of which a window is in memory.
 
     `data` is the window, and `base` the offset of its first byte in the dump. A file is read and not mapped, since
-    another program may make it shorter meanwhile.
+    another program may make it shorter meanwhile. What is read may be the rest of a dump, from an offset on.
     """
 
     data: bytes
     base: int
 
-    def __init__(self, file: BinaryIO) -> None:
-        self.base = 0
+    def __init__(self, file: IO[bytes], base: int = 0) -> None:
+        self.base = base
         self.data = b""
         self._file = file
         self._is_regular = stat.S_ISREG(os.fstat(file.fileno()).st_mode)

@@ -1,0 +1,81 @@
+"""The words of a command line, which are as for svn: options in any place, and a URL in place of a source."""
+from __future__ import annotations
+
+import re
+from collections.abc import Iterable
+
+from .repositories import Access
+from .sources import IS_URL
+from .targets import split_peg
+
+# The options that take a value, and the names of those that have a short one.
+LONG = {"-r": "--revision", "-c": "--change", "-l": "--limit", "-o": "--output"}
+# How a repository is reached. These options are those of svn, with a value and without one.
+REACHED = frozenset(("--username", "--password", "--config-dir", "--config-option", "--trust-server-cert-failures"))
+REACHED_ALONE = frozenset(("--non-interactive", "--no-auth-cache"))
+VALUED = frozenset(
+    (*LONG.values(), *REACHED, "--into", "--show-revs", "--depth", "--with-revprop", "--search", "--search-and")
+)
+NUMBER = re.compile("-[0-9]")
+# The verbs that svn has, too.
+OF_SVN = ("log", "mergeinfo")
+
+
+def joined(arguments: Iterable[str]) -> list[str]:
+    """The arguments with each option that takes a value as `--name=value`. A value may be empty, or begin with a minus
+    or an equals sign: `-c -3,5` is what `svn` takes, and `-r=5` is not."""
+    found: list[str] = []
+    left = iter(arguments)
+    for word in left:
+        if word == "--":
+            return [*found, word, *left]
+        name = LONG.get(word[:2], word)
+        value: str | None = None
+        if name != word and len(word) > 2:
+            value = word[2:]
+        elif name in VALUED:
+            value = next(left, None)
+        found.append(word if value is None else f"{name}={value}")
+    return found
+
+
+def split_access(words: list[str]) -> tuple[Access, list[str]]:
+    """How a repository is reached, and the other words."""
+    end = words.index("--") if "--" in words else len(words)
+    own = [word for word in words[:end] if word in REACHED_ALONE or "=" in word and word.partition("=")[0] in REACHED]
+    return Access(tuple(own)), [word for word in words[:end] if word not in own] + words[end:]
+
+
+def is_option(word: str) -> bool:
+    return word.startswith("-") and word != "-" and not NUMBER.match(word)
+
+
+def places(words: list[str]) -> list[int]:
+    """The places of the words that are no options."""
+    end = words.index("--") if "--" in words else len(words)
+    return [at for at, word in enumerate(words[:end]) if not is_option(word)] + list(range(end + 1, len(words)))
+
+
+def with_source(words: list[str], verbs: Iterable[str]) -> list[str]:
+    """The words with a source before the verb: that of the first URL where they are those of svn, and the standard input
+    where none is asked."""
+    found = places(words)
+    plain = [words[at] for at in found]
+    if not plain:
+        return words
+    if plain == ["sources"] or plain == words[:1] and plain[0] in verbs and words[1:] in (["-h"], ["--help"]):
+        return [*words[: found[0]], "-", *words[found[0] :]]
+    urls = [word for word in plain[1:] if IS_URL.match(word)]
+    if not urls or plain[0] not in OF_SVN:
+        return words
+    return [*words[: found[0]], split_peg(urls[0])[0], *words[found[0] :]]
+
+
+def ordered(words: list[str]) -> list[str]:
+    """The words with the options that stand after the verb right behind it."""
+    found = places(words)
+    if len(found) < 2 or "--" in words:
+        return words
+    verb = found[1]
+    after = words[verb + 1 :]
+    return words[: verb + 1] + sorted(after, key=lambda word: not is_option(word))

@@ -1,0 +1,250 @@
+"""Repositories by their folder and their URL: what is asked of them and how, and what is said where that fails."""
+from __future__ import annotations
+
+import os
+import subprocess
+from pathlib import Path
+from unittest import mock
+
+from dev.dumps import FILE, Dump, Revision, added
+from svnask.errors import Unreached
+from svnask.history import History
+from svnask.repositories import Access, canonical, path_below
+from tests.ask import base, beside_served, grown
+
+ALICE = ("--username", "alice", "--password", "secret")
+ASKED = base.commands(
+    "log -v; log -q -r 3:9 trunk; mergeinfo branches/two; mergeinfo --show-revs eligible trunk branches/two; "
+    "segments tags/one-1.0; branches; where trunk 3"
+)
+
+
+class Case(base.Case):
+    def setUp(self) -> None:
+        super().setUp()
+        grown.need(*grown.COMMANDS)
+
+    def repository(self, name: str = "branches", place: str = "served/repository") -> grown.Grown:
+        (self.folder / place).parent.mkdir(exist_ok=True)
+        return grown.Grown(self.folder / place, base.content_of(name), 99)
+
+    def asked(self, *words: base.Word) -> bytes:
+        done = base.called(*words)
+        self.assertEqual((done.status, done.said), (0, ""), words)
+        return done.output
+
+    def check_said(self, done: base.Done, status: int, said: str) -> None:
+        self.assertEqual((done.status, done.output), (status, b""), done)
+        self.assertTrue(done.said.startswith(f"svnask: {said}"), done)
+
+
+class Words(Case):
+    def test_targets_are_named_by_urls_and_below_them(self) -> None:
+        made = self.repository()
+        url = made.url
+        # fmt: off
+        rows = (
+            (f"log -q {url}/trunk", "log -q trunk"), (f"log {url}/trunk@4 -q", "log -q trunk@4"), (f"log {url}", "log"),
+            (f"{url} log -q trunk", "log -q trunk"), (f"{url}/trunk log -q", "log -q trunk"), (f"{url}/ log", "log"),
+            (f"{url}/trunk log -q ^/branches/two", "log -q branches/two"), (f"{url}/trunk log -q /tags", "log -q tags"),
+            (f"{url}/branches log -q two", "log -q branches/two"), (f"{url}/branches log -q two@9", "log -q branches/two@9"),
+            (f"{url}/trunk log -q {url}/tags", "log -q tags"), (f"log -q {url}/trun%6b", "log -q trunk"),
+            (f"log -q {url}/branches/one@7", "log -q branches/one@7"), (f"{url}/branches where two 5", "where branches/two 5"),
+            (f"log {url}/trunk/ -r 2:1", "log trunk -r 2:1"), (f"{url}/branches/two segments .", "segments branches/two"),
+            (f"mergeinfo {url}/branches/two", "mergeinfo branches/two"),
+            (f"mergeinfo --show-revs eligible {url}/trunk {url}/branches/two -R", "mergeinfo --show-revs eligible trunk branches/two -R"),
+            (f"--json log {url}/trunk -l1", "--json log trunk -l1"), (f"{url}/trunk branches", "branches"),
+            (f"log -q {url}/branches two one-again", "log -q branches/two branches/one-again"),
+        )
+        # fmt: on
+        dump = str(base.dump_of("branches"))
+        for words, expected in rows:
+            head, *rest = expected.split()
+            place = [head, dump, *rest] if head == "--json" else [dump, head, *rest]
+            if words.endswith("one-again"):
+                self.assertEqual(self.asked(*words.split()), grown.svn("svn", *words.split()).output)
+            else:
+                self.assertEqual(self.asked(*words.split()), self.asked(*place), words)
+
+    def test_what_is_gone_is_found_by_what_is_above_it(self) -> None:
+        made = self.repository()
+        for _ in range(2):
+            self.assertIn(b"r5 | ", self.asked("log", f"{made.url}/branches/one@7"))
+            self.check_said(base.called("log", f"{made.url}/branches/one"), 1, "E160013: ")
+            self.check_said(base.called("log", f"{made.url}/none/at/all@7"), 1, "E160013: ")
+        self.assertEqual(self.asked("sources").count(b"\n"), 1)
+
+    def test_names_of_any_kind(self) -> None:
+        names = ("a b", "50% off", "at@sign", "漢", "a+b;c", "q?x#y", "%41")
+        nodes = [added(name.encode(), FILE) for name in names]
+        made = grown.Grown(self.folder / "a b@c 漢", bytes(Dump([Revision(0), Revision(1, nodes, base.named(1))])), 9)
+        url = canonical(made.url)
+        for name in names:
+            quoted = canonical(f"{url}/" + name.replace("%", "%25").replace("?", "%3F").replace("#", "%23"))
+            theirs = grown.svn("svn", "log", "-v", quoted + "@").output
+            self.assertEqual(self.asked("log", "-v", quoted + "@"), theirs)
+            for source in (str(made.folder), url):
+                self.assertEqual(self.asked(source, "log", "-v", name + "@"), theirs, (source, name))
+
+    def test_urls_of_one_place_are_one(self) -> None:
+        # fmt: off
+        rows = (
+            ("SVN://Host:3690/a//b/", "svn://host/a/b"), ("http://h:80", "http://h/"), ("https://h:443/x/./y", "https://h/x/y"),
+            ("svn+ssh://me@Host/r", "svn+ssh://me@host/r"), ("file:///a%20b@c", "file:///a%20b%40c"),
+            ("file:///%7Ea/b", "file:///~a/b"), ("http://h:8080/%e6", "http://h:8080/%E6"),
+        )
+        # fmt: on
+        for url, expected in rows:
+            self.assertEqual(canonical(url), expected)
+            self.assertEqual(canonical(expected), expected)
+        self.assertEqual(path_below("svn://h/a/b%20c", "svn://h/a"), b"/b c")
+        self.assertEqual(path_below("svn://h/a", "svn://h/"), b"/a")
+        self.assertIsNone(path_below("svn://h/ab", "svn://h/a"))
+
+    def test_targets_of_another_repository(self) -> None:
+        one, other = self.repository(), self.repository("merges", "other")
+        self.check_said(
+            base.called("mergeinfo", "--show-revs", "merged", f"{one.url}/trunk", f"{other.url}/trunk"), 1, "E170000: "
+        )
+        self.check_said(base.called("log", one.url, other.url), 1, "E205000: ")
+        self.check_said(base.called(one.folder, "log", f"{other.url}/trunk"), 1, "E170000: ")
+
+    def test_a_history_of_the_module(self) -> None:
+        made = self.repository()
+        for source in made.sources:
+            told: list[int] = []
+            with History.open(str(source), seen=told.append) as history:
+                self.assertEqual((history.head, history.log(b"trunk", 13).revisions), (13, [5, 2, 1]))
+                self.assertEqual(history.header(0), [])
+
+
+class Failing(Case):
+    def test_a_wrong_url(self) -> None:
+        none = f"file://{self.folder}/none"
+        for words in ([none, "log"], ["log", f"{none}/trunk@3"], [f"{none}/x", "update"]):
+            self.check_said(base.called(*words), 1, "E170013: Unable to connect to a repository at URL")
+        self.check_said(base.called("http://127.0.0.1:1/x", "info"), 1, "E170013: ")
+        self.check_said(base.called("ftp://127.0.0.1/x", "info"), 1, "W170000: Unrecognized URL scheme")
+        self.assertFalse((self.cache / "svnhist").exists())
+
+    def test_a_folder_that_is_a_repository_no_more(self) -> None:
+        made = self.repository()
+        for source in made.sources:
+            self.asked(source, "info")
+        (made.folder / "db" / "format").unlink()
+        for source in made.sources:
+            done = base.called(source, "info")
+            self.check_said(done, 1, "E160004: ")
+            self.assertEqual(done.said.splitlines()[-1], "--offline answers from what is kept of it")
+            self.asked(source, "info", "--offline")
+
+    def test_without_the_commands_of_subversion(self) -> None:
+        made = self.repository()
+        empty = self.folder / "empty"
+        empty.mkdir()
+        with mock.patch.dict(os.environ, PATH=str(empty)):
+            for source in made.sources:
+                self.check_said(base.called(source, "info"), 3, "cannot run svn: ")
+        svn = self.script("empty/svn", f'PATH={os.environ["PATH"]} exec svn "$@"')
+        self.assertTrue(os.path.exists(svn))
+        with mock.patch.dict(os.environ, PATH=str(empty)):
+            for source, command in zip(made.sources, ("svnadmin", "svnrdump")):
+                self.check_said(base.called(source, "info"), 3, f"cannot run {command}: ")
+
+    def test_a_command_that_is_killed_or_says_nothing(self) -> None:
+        made = self.repository()
+        programs = self.folder / "programs"
+        programs.mkdir()
+        # fmt: off
+        rows = (
+            ("kill -9 $$", 3, "svn was ended by SIGKILL"), ("exit 7", 3, "svn ended with status 7"), ("exit 0", 3, "svn info printed"),
+            ("echo '<info>'; exit 0", 3, "svn info printed"), ("echo x", 3, "svn printed something other than XML"),
+            ("echo 'svn: E1: x' >&2; exit 1", 3, "svn ended with status 1: svn: E1: x"),
+        )
+        # fmt: on
+        for line, status, said in rows:
+            self.script("programs/svn", line)
+            with mock.patch.dict(os.environ, PATH=f"{programs}:{os.environ['PATH']}"):
+                self.check_said(base.called(made.folder, "info"), status, said)
+
+    def test_no_command_is_left_over(self) -> None:
+        made = self.repository()
+        programs = self.folder / "programs"
+        programs.mkdir()
+        self.script("programs/svnadmin", f"echo $$ > {self.folder}/number", "exec sleep 600")
+        with base.signals_end():
+            child = subprocess.Popen(
+                base.command(made.folder, "info"), env={**os.environ, "PATH": f"{programs}:{os.environ['PATH']}"}
+            )
+        number = self.folder / "number"
+        base.wait_for(lambda: number.exists() and number.read_text())
+        child.terminate()
+        child.wait()
+        base.wait_for(lambda: not Path(f"/proc/{number.read_text().strip()}").exists())
+        self.asked(made.folder, "info")
+
+
+class Served(Case):
+    def check_served(self, url: str, made: grown.Grown) -> None:
+        with mock.patch.dict(os.environ, HOME=str(self.folder)):
+            settings = ("--config-dir", str(self.folder / "settings"), "--non-interactive", "--no-auth-cache")
+            wrong: list[list[str]] = [
+                [],
+                ["--username", "alice", "--password", "wrong"],
+                ["--username=bob", "--password="],
+            ]
+            for words in wrong:
+                done = base.called(url, "info", *settings, *words)
+                self.check_said(done, 1, "E")
+                self.assertRegex(done.said, "E(170001|215004|170013): ")
+            dump = self.made("dump", made.dump())
+            for words in ASKED:
+                self.assertEqual(self.asked(url, *words, *settings, *ALICE), self.asked(dump, *words), words)
+            self.assertEqual(
+                self.asked(*settings, *ALICE, "log", f"{url}/branches/two@11", "-v"),
+                self.asked(dump, "log", "-v", "branches/two@11"),
+            )
+            made.commit("later")
+            self.assertIn(b"Make later", self.asked(url, "log", "-r14", *settings, *ALICE))
+            self.asked(url, "update", "--properties", *settings, *ALICE)
+            done = base.called(url, "info", *settings)
+            self.check_said(done, 1, "E")
+            self.assertIn("--offline", done.said)
+            self.assertIn(b"youngest: 14\n", self.asked(url, "info", "--offline"))
+
+    def test_svnserve(self) -> None:
+        made = self.repository()
+        with grown.svnserve(made.folder.parent) as url:
+            self.check_served(f"{url}/repository", made)
+
+    def test_apache(self) -> None:
+        made = self.repository()
+        with grown.apache(made.folder.parent, self.folder / "apache") as url:
+            self.check_served(f"{url}/repository", made)
+
+    def test_a_server_that_ends_meanwhile(self) -> None:
+        made = self.repository()
+        with grown.svnserve(made.folder.parent, "read") as url:
+            url += "/repository"
+            self.asked(url, "info")
+        done = base.called(url, "info")
+        self.check_said(done, 1, "E170013: ")
+        self.assertIn("--offline", done.said)
+        with self.assertRaises(Unreached):
+            Access().look(canonical(url))
+
+    def test_svnask_prints_what_svn_prints(self) -> None:
+        self.assertEqual(list(beside_served.differences(self.folder, 1, 60)), [])
+
+    def test_a_refusal_of_what_a_host_hides(self) -> None:
+        made = self.repository()
+        faulty = self.made("faulty", made.dump().replace(b"Node-path: trunk\n", b"Node-path: other\n", 1))
+        (self.folder / "programs").mkdir()
+        for command in ("svnadmin", "svnrdump"):
+            self.script(f"programs/{command}", f"exec cat {faulty}")
+        with mock.patch.dict(os.environ, PATH=f"{self.folder}/programs:{os.environ['PATH']}"):
+            for source in made.sources:
+                for _ in range(2):
+                    done = base.called(source, "log")
+                    self.check_said(done, 1, "dump refused: 16 NoParent at record 4\nrecord 4: r1 add /trunk/lib")
+                    self.assertEqual("hides" in done.said, source == made.url)
