@@ -8,13 +8,12 @@ import signal
 import subprocess
 import sys
 from collections.abc import Callable
-from pathlib import Path
 from unittest import mock
 
-from dev.dumps import Dump, Properties, Revision, section
+from dev.dumps import Dump, Properties, Revision
 from dev.running import run
 from dev.tree import ROOT
-from svnask import entries, repositories, sources
+from svnask import entries, sources
 from svnask.history import History
 from svnask.strip import Stripper
 from tests.ask import base, grown
@@ -99,7 +98,8 @@ class Growth(Case):
         made.grow(4)
         dump.write_bytes(made.dump())
         for source in (*made.sources, dump):
-            with mock.patch.object(Stripper, "_put_revision", autospec=True, side_effect=Stripper._put_revision) as put:
+            put_revision = Stripper._put_revision  # pylint: disable=protected-access
+            with mock.patch.object(Stripper, "_put_revision", autospec=True, side_effect=put_revision) as put:
                 self.assertIn(b"youngest: 8\n", self.asked(source, "info"))
                 self.assertEqual(put.call_count, 4, source)
                 self.assertIn(b"youngest: 8\n", self.asked(source, "info"))
