@@ -6,10 +6,12 @@ from typing import NamedTuple
 
 from . import log, mergeinfo
 from .answers import Answer, Log, Logged, Mergeinfo, Query, Where
-from .changes import is_at_or_below
+from .changes import components, is_at_or_below
+from .errors import Denied
 from .history import History
-from .lives import PATTERNS, Life, all_lives, moved_lives
-from .targets import Target
+from .lives import Life, Tree, is_plain, lives_in, moves_of, unmatched
+from .targets import Target, decoded
+from .texts import say
 from .values import Explicit, runs_of
 
 # How many revisions are looked through at first for the last change of a life, and how many times more at each further
@@ -17,12 +19,22 @@ from .values import Explicit, runs_of
 FIRST_WINDOW, WINDOW_GROWS = 64, 16
 
 
-def lives_of(history: History, patterns: Sequence[bytes]) -> list[Life]:
-    """The lives of all paths that match a pattern, or of the trunk, the branches and the tags."""
-    lives = all_lives(history.records(), patterns or PATTERNS, history.head)
-    if not lives:
-        # Nothing more will be asked, and the dump may be one that is refused.
+def lives_of(history: History, patterns: Sequence[bytes], default: bytes = b"/**") -> list[Life]:
+    """The lives of all paths that match a pattern, or the default one. That no path ever matched one is an error where
+    it is a path itself, since that is mostly a mistake."""
+    return lives_matching(history, Tree(history.records()), patterns, default)
+
+
+def lives_matching(history: History, tree: Tree, patterns: Sequence[bytes], default: bytes = b"/**") -> list[Life]:
+    lives = lives_in(tree, patterns or (default,), history.head)
+    missing = list(unmatched(tree, patterns, history.head))
+    if missing or not lives:
+        # Nothing more may be asked, and the dump may be one that is refused.
         history.check()
+    for pattern in missing:
+        if all(map(is_plain, components(pattern))):
+            raise Denied("E160013", f"Path not found in any revision: '{decoded(pattern)}'")
+        say(f"svnask: no path matches '{decoded(pattern)}'")
     return lives
 
 
@@ -52,21 +64,27 @@ def last_changes(history: History, lives: Iterable[Life]) -> dict[Life, int]:
 
 
 class Listed(NamedTuple):
-    """A life, the newest operative revision of it, and whether it goes on with another one of those listed under a new
-    name."""
+    """A life, and the newest operative revision of it."""
 
     life: Life
     last_change: int
+    # Whether it goes on with another one of those listed under a new name, and under which one it goes on itself.
     is_moved: bool
+    moved_to: Life | None
+    # Whether it is a directory of branches, and none itself.
+    is_folder: bool
 
 
 def listed(history: History, patterns: Sequence[bytes]) -> Iterator[Listed]:
     """The lives of all paths that match a pattern, or of the trunk, the branches and the tags."""
-    lives = lives_of(history, patterns)
+    tree = Tree(history.records())
+    lives = lives_matching(history, tree, patterns)
     changes = last_changes(history, lives)
-    moved = moved_lives(lives)
+    moves = moves_of(lives)
+    moved = set(moves.values())
     for life in lives:
-        yield Listed(life, changes[life], life in moved)
+        is_folder = life.source is None and tree.is_folder(life.path, tree.branches)
+        yield Listed(life, changes[life], life in moved, moves.get(life), is_folder)
 
 
 def logs_of(lives: Iterable[Life]) -> list[Query[Answer]]:
@@ -146,7 +164,7 @@ def unmerged(history: History, patterns: Sequence[bytes], into: Target) -> Itera
     explicit = Explicit(history.records())
     sources = [
         Target(life.path, history.head)
-        for life in lives_of(history, patterns or (b"/branches/*",))
+        for life in lives_of(history, patterns, b"/branches/**")
         if life.is_alive and life.path != into.path
     ]
     question = mergeinfo.Question("eligible")
@@ -167,7 +185,7 @@ class Touched(NamedTuple):
 
 def touched(history: History, patterns: Sequence[bytes]) -> Iterator[Touched]:
     """The tags that are not what they were copied from."""
-    lives = lives_of(history, patterns or (b"/tags/*",))
+    lives = lives_of(history, patterns, b"/tags/**")
     later = [life for life in lives if life.last > life.first]
     answers = list(history.ask([Log(life.path, life.last, (life.first + 1, life.last)) for life in later]))
     changed: dict[Life, list[int]] = {}

@@ -6,13 +6,17 @@ moved or deleted, of which no record names the path.
 from __future__ import annotations
 
 import fnmatch
+import functools
 from collections.abc import Iterable, Iterator, Sequence
 from typing import NamedTuple
 
-from .changes import Place, components, joined, rest_below, tops_of
+from .changes import Place, components, is_at_or_below, joined, rest_below, tops_of
 from .store import Record
 
-PATTERNS = (b"/trunk", b"/branches/*", b"/tags/*")
+# Where the trunk, the branches and the tags are, as the Subversion book has them.
+PLACES = (b"/trunk", b"/branches/*", b"/tags/*")
+# As the last component of a pattern, the branches at any depth.
+ANY_DEPTH = b"**"
 
 
 class Life(NamedTuple):
@@ -122,8 +126,39 @@ class Tree:
                 if event.source is not None and (rev is None or event.rev <= rev):
                     yield moved(path, top, event.source)
 
+    def copies(self) -> list[tuple[bytes, Event]]:
+        """The copies, in the order of the dump, with their paths."""
+        found = [(path, event) for path, events in self._events.items() for event in events if event.source is not None]
+        return sorted(found, key=lambda each: each[1].number)
+
+    @functools.cached_property
+    def branches(self) -> list[bytes]:
+        """The paths of the trunk, the branches and the tags, and of what was copied from one of them as a whole to a
+        place that is in none of them. A directory of branches is none itself."""
+        found = dict.fromkeys(path for pattern in PLACES for path in self.matching(pattern))
+        for path, event in self.copies():
+            assert event.source is not None
+            if event.source[0] in found and not any(
+                top in found and not self._may_be_folder(top) for top in tops_of(path)
+            ):
+                found[path] = None
+        return [path for path in found if not self.is_folder(path, found)]
+
+    def _may_be_folder(self, path: bytes) -> bool:
+        """Whether a path was never the trunk or a copy."""
+        return path != PLACES[0] and not any(event.source is not None for event in self._events.get(path, ()))
+
+    def is_folder(self, path: bytes, branches: Iterable[bytes]) -> bool:
+        """Whether a path is a directory of branches, and none itself."""
+        return self._may_be_folder(path) and any(each != path and is_at_or_below(each, path) for each in branches)
+
     def matching(self, pattern: bytes) -> list[bytes]:
-        """The paths that ever were and match a pattern, component by component."""
+        """The paths that ever were and match a pattern, component by component. At its end `**` stands for the branches
+        at any depth."""
+        *parts, last = components(pattern) or [b""]
+        if last == ANY_DEPTH:
+            tops = self.matching(b"/" + b"/".join(parts))
+            return [path for path in self.branches if any(path != top and is_at_or_below(path, top) for top in tops)]
         found = [b"/"]
         for part in components(pattern):
             if is_plain(part):
@@ -150,10 +185,11 @@ class Tree:
             yield life
 
 
-def moved_lives(lives: Sequence[Life]) -> set[Life]:
-    """Those of some lives that go on with another one of them under a new name."""
+def moves_of(lives: Sequence[Life]) -> dict[Life, Life]:
+    """Of those of some lives that go on with another one of them under a new name, that other one."""
     ends = {(life.path, life.last): life for life in lives}
-    return {life for life in lives if life.source in ends and life.continues(ends[life.source])}
+    moved = [(ends[life.source], life) for life in lives if life.source in ends]
+    return {life: later for life, later in moved if later.continues(life)}
 
 
 def count_up_to(events: Sequence[Event], rev: int) -> int:
@@ -192,6 +228,16 @@ def is_plain(part: bytes) -> bool:
 
 def all_lives(records: Iterable[Record], patterns: Sequence[bytes], head: int) -> list[Life]:
     """The lives of all paths that match a pattern, in the order of paths and revisions."""
-    tree = Tree(records)
+    return lives_in(Tree(records), patterns, head)
+
+
+def lives_in(tree: Tree, patterns: Sequence[bytes], head: int) -> list[Life]:
     paths = {path for pattern in patterns for path in tree.matching(pattern)}
     return [life for path in sorted(paths, key=components) for life in tree.lives(path, head)]
+
+
+def unmatched(tree: Tree, patterns: Sequence[bytes], head: int) -> Iterator[bytes]:
+    """The patterns that no path ever matched."""
+    for pattern in patterns:
+        if not any(True for path in tree.matching(pattern) for _ in tree.lives(path, head)):
+            yield pattern

@@ -21,6 +21,11 @@ def first_line(revision: Revision) -> bytes:
     return LINE_END.split(cut(revision.message or b"").lstrip(), 1)[0]
 
 
+def summary_of(revision: Revision) -> bytes:
+    """The author and the first line of the message."""
+    return author_of(revision) + b"\t" + first_line(revision)
+
+
 def head_line(revision: Revision, is_quiet: bool) -> bytes:
     line = b"r%d | %s | %s" % (revision.number, author_of(revision), dates.shown(revision.date).encode("ascii"))
     if not is_quiet:

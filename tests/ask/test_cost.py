@@ -9,7 +9,7 @@ from unittest import mock
 from dev.dumps import added, dump_of
 from svnask import engine
 from svnask.answers import Answer, Query
-from svnask.lives import Life, moved_lives
+from svnask.lives import Life, moves_of
 from tests.ask import base
 
 DUMP = base.dump_of("merges")
@@ -57,5 +57,5 @@ class Growth(unittest.TestCase):
             for number in range(1, 30000)
         ]
         begun = time.monotonic()
-        self.assertEqual(moved_lives(found), set(found[1:]))
+        self.assertEqual(moves_of(found), dict(zip(found, found[1:])))
         self.assertLess(time.monotonic() - begun, 10)

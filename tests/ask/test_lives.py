@@ -1,9 +1,11 @@
 """Lives of branches and tags."""
 from __future__ import annotations
 
+import json
 import os
+from pathlib import Path
 
-from dev.dumps import added, dump_of
+from dev.dumps import added, copied, deleted, dump_of
 from svnask.answers import Locate
 from svnask.lives import Tree, all_lives
 from tests.ask import base
@@ -52,3 +54,62 @@ class Lives(base.Case):
         for pattern, wanted in rows:
             found = tree.matching(b"/b/" + base.as_bytes(pattern))
             self.assertEqual([os.fsdecode(path) for path in found], ["/b/" + names[each] for each in wanted], pattern)
+
+
+class Branches(base.Case):
+    """What counts as a branch, and what is said of a pattern that matches none."""
+
+    def repository(self) -> Path:
+        return self.made(
+            "dump",
+            dump_of(
+                [*map(added, (b"trunk", b"trunk/lib", b"branches", b"branches/people", b"tags", b"old"))],
+                [copied(b"branches/people/dora work", b"trunk", 1)],
+                [copied(b"branches/one", b"trunk", 1), copied(b"branches/one/lib/trunk", b"trunk", 2)],
+                [copied(b"old/one", b"branches/one", 3), copied(b"branches/lib", b"trunk/lib", 1)],
+                [deleted(b"branches/one"), copied(b"branches/two", b"branches/one", 4)],
+            ),
+        )
+
+    def paths(self, *words: str) -> list[str]:
+        done = base.called(self.repository(), "branches", *words)
+        self.assertEqual((done.status, done.said), (0, ""))
+        return [line.split("\t")[0] for line in done.output.decode().splitlines()]
+
+    def test_a_copy_of_a_branch_is_a_branch(self) -> None:
+        # fmt: off
+        rows = (
+            ((), ["/branches/lib", "/branches/one", "/branches/people/dora work", "/branches/two", "/old/one", "/trunk"]),
+            (("/branches/**",), ["/branches/lib", "/branches/one", "/branches/people/dora work", "/branches/two"]),
+            (("/branches/*",), ["/branches/lib", "/branches/one", "/branches/people", "/branches/two"]),
+            (("/old/**", "/trunk"), ["/old/one", "/trunk"]),
+        )
+        # fmt: on
+        for words, wanted in rows:
+            self.assertEqual(self.paths(*words), wanted, words)
+
+    def test_what_is_said_of_a_life(self) -> None:
+        lines = base.called(self.repository(), "branches", "/branches/*").output.decode().splitlines()
+        self.assertEqual(lines[1].split("\t")[-2:], ["ended in r5", "moved to /branches/two"])
+        self.assertEqual(lines[2].split("\t")[-1], "folder")
+        self.assertTrue(lines[3].split("\t")[2].startswith("moved from /branches/one@4"))
+
+    def test_patterns_that_match_nothing(self) -> None:
+        dump = self.repository()
+        for verb in (["branches"], ["unmerged"], ["contains", "2"], ["changed-tags"], ["graph"]):
+            done = base.called(dump, *verb, "branches/relase-1.x")
+            self.assertEqual((done.status, done.output), (1, b""), verb)
+            self.assertIn("E160013", done.said)
+            done = base.called(dump, *verb, "branches/rel*")
+            self.assertEqual((done.status, done.said), (0, "svnask: no path matches '/branches/rel*'\n"), verb)
+
+    def test_unmerged_with_messages(self) -> None:
+        dump = base.dump_of("merges")
+        lines = base.called(dump, "unmerged", "--log", "/trunk", "--into", "branches/two").output.splitlines()
+        self.assertEqual(lines[0], b"/trunk\tr11\tcarol\tMerge the branch back")
+        found = json.loads(
+            base.called("--json", dump, "unmerged", "/trunk", "--into", "branches/two").output.split(b"\n")[0]
+        )
+        self.assertEqual(
+            (found["path"], found["revision"], found["author"], found["partial"]), ("/trunk", 11, "carol", False)
+        )

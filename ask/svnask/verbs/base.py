@@ -44,7 +44,8 @@ def add_patterns(parser: ArgumentParser, default: str) -> None:
         "patterns",
         metavar="PATTERN",
         nargs="*",
-        help=f"paths, in which *, ? and [..] stand for letters of a name; {default} if none is given",
+        help="paths, in which *, ? and [..] stand for letters of a name, and ** at the end for the trunk, the branches "
+        f"and the tags at any depth; {default} if none is given",
     )
 
 

@@ -7,8 +7,9 @@ from collections.abc import Iterator
 from .. import branches
 from ..history import History
 from ..lives import Life
+from ..plain_log import summary_of
 from ..targets import decoded, known, revision_of, target_of
-from .base import Object, Verb, add_patterns, object_of_place, patterns_of
+from .base import Object, Verb, add_patterns, object_of_place, object_of_revision, patterns_of
 
 
 def object_of_life(life: Life) -> Object:
@@ -27,18 +28,24 @@ class BranchesVerb(Verb):
     help = "each life of a branch or a tag: its revisions, where it came from, and its last change"
 
     def arguments(self, parser: ArgumentParser) -> None:
-        add_patterns(parser, "/trunk, /branches/* and /tags/*")
+        add_patterns(parser, "/**")
 
     def text(self, history: History, given: Namespace) -> Iterator[bytes]:
-        for life, last_change, is_moved in branches.listed(history, patterns_of(given)):
-            origin = (b"moved " if is_moved else b"") + origin_of(life)
-            end = b"" if life.is_alive else b"\tended in r%d" % (life.last + 1)
-            span = b"r%d-r%d" % (life.first, life.last)
-            yield b"%s\t%s\t%s\tchanged in r%d%s\n" % (life.path, span, origin, last_change, end)
+        for each in branches.listed(history, patterns_of(given)):
+            life = each.life
+            fields = [life.path, b"r%d-r%d" % (life.first, life.last)]
+            fields += [(b"moved " if each.is_moved else b"") + origin_of(life), b"changed in r%d" % each.last_change]
+            if not life.is_alive:
+                fields.append(b"ended in r%d" % (life.last + 1))
+            if each.moved_to is not None:
+                fields.append(b"moved to " + each.moved_to.path)
+            yield b"\t".join(fields + [b"folder"] * each.is_folder) + b"\n"
 
     def objects(self, history: History, given: Namespace) -> Iterator[Object]:
-        for life, last_change, is_moved in branches.listed(history, patterns_of(given)):
-            yield dict(object_of_life(life), last_change=last_change, is_moved=is_moved)
+        for each in branches.listed(history, patterns_of(given)):
+            found = dict(object_of_life(each.life), last_change=each.last_change, is_moved=each.is_moved)
+            moved_to = None if each.moved_to is None else decoded(each.moved_to.path)
+            yield {**found, "moved_to": moved_to, "is_folder": each.is_folder}
 
 
 class ContainsVerb(Verb):
@@ -47,7 +54,7 @@ class ContainsVerb(Verb):
 
     def arguments(self, parser: ArgumentParser) -> None:
         parser.add_argument("revision", metavar="REV")
-        add_patterns(parser, "/trunk, /branches/* and /tags/*")
+        add_patterns(parser, "/**")
 
     def holders(self, history: History, given: Namespace) -> Iterator[branches.Holder]:
         return branches.holders(history, patterns_of(given), known(history, revision_of(history, given.revision)))
@@ -66,10 +73,12 @@ class UnmergedVerb(Verb):
     help = "what of each branch is still to be merged, as 'svn mergeinfo --show-revs eligible' says"
 
     def arguments(self, parser: ArgumentParser) -> None:
-        add_patterns(parser, "/branches/*")
+        add_patterns(parser, "/branches/**")
         parser.add_argument(
             "--into", metavar="TARGET[@PEG]", default="/trunk", help="the target, /trunk if none is given"
         )
+
+        parser.add_argument("--log", action="store_true", help="also author and first line of the message")
 
     def left(self, history: History, given: Namespace) -> Iterator[branches.Left]:
         return branches.unmerged(history, patterns_of(given), target_of(history, given.into))
@@ -77,12 +86,13 @@ class UnmergedVerb(Verb):
     def text(self, history: History, given: Namespace) -> Iterator[bytes]:
         for path, revisions in self.left(history, given):
             for rev, is_partial in revisions:
-                yield b"%s\tr%d%s\n" % (path, rev, b"*" if is_partial else b"")
+                about = b"\t" + summary_of(history.revision(rev)) if given.log else b""
+                yield b"%s\tr%d%s%s\n" % (path, rev, b"*" if is_partial else b"", about)
 
     def objects(self, history: History, given: Namespace) -> Iterator[Object]:
         for path, revisions in self.left(history, given):
             for rev, is_partial in revisions:
-                yield {"path": decoded(path), "revision": rev, "partial": is_partial}
+                yield {**object_of_revision(history, rev), "path": decoded(path), "partial": is_partial}
 
 
 class ChangedTagsVerb(Verb):
@@ -90,7 +100,7 @@ class ChangedTagsVerb(Verb):
     help = "the tags that are not what they were copied from"
 
     def arguments(self, parser: ArgumentParser) -> None:
-        add_patterns(parser, "/tags/*")
+        add_patterns(parser, "/tags/**")
 
     def text(self, history: History, given: Namespace) -> Iterator[bytes]:
         for life, is_changed_when_made, revisions in branches.touched(history, patterns_of(given)):

@@ -8,7 +8,7 @@ from .. import log
 from ..gained import Gained, gained
 from ..history import History
 from ..log_forms import Wanted, printed
-from ..plain_log import PlainForm, author_of, first_line
+from ..plain_log import PlainForm, summary_of
 from ..targets import target_of
 from .base import Object, Verb, object_of_revision
 
@@ -31,8 +31,7 @@ class NewVerb(Verb):
             yield from printed(history, [log.Item(each.rev) for each in found], Wanted(is_verbose=True), PlainForm())
             return
         for each in found:
-            revision = history.revision(each.rev)
-            yield b"r%d\t%s\t%s\n" % (each.rev, author_of(revision), first_line(revision))
+            yield b"r%d\t%s\n" % (each.rev, summary_of(history.revision(each.rev)))
 
     def objects(self, history: History, given: Namespace) -> Iterator[Object]:
         for each in self.gained(history, given):

@@ -20,7 +20,7 @@ class GraphVerb(Verb):
     help = "a picture of branches and tags, their copies and merges, as SVG for a browser"
 
     def arguments(self, parser: ArgumentParser) -> None:
-        add_patterns(parser, "/trunk, /branches/* and /tags/*")
+        add_patterns(parser, "/**")
         parser.add_argument("-o", "--output", metavar="FILE", help="where to write it, in place of the standard output")
 
     def text(self, history: History, given: Namespace) -> Iterator[bytes]:
