@@ -140,29 +140,44 @@ class Walk(NamedTuple):
         return self.revisions[bisect.bisect_left(self.revisions, low) : bisect.bisect_right(self.revisions, high)]
 
 
-def entries(history: History, target: Target, options: Options) -> list[int]:
-    """The revisions of a log, range after range. The target is looked up in the youngest revision of all ranges, and
-    each one begins where it was in its own."""
+class Part(NamedTuple):
+    """A range of a log, where its target was in the youngest revision of it, and the walk of that."""
+
+    first: int
+    last: int
+    path: bytes
+    walk: Walk
+
+
+def parts(history: History, target: Target, options: Options) -> Iterator[Part]:
+    """The ranges of a log. The target is looked up in the youngest revision of all, and each one begins where it was in
+    its own; a range before the path was made is left out."""
     ranges = options.ranges or [(target.rev, 0)]
     for bounds in ranges:
         known(history, max(bounds))
     found = reached(history, target, max(max(bounds) for bounds in ranges))
     walk = Walk(found, listed(history, found))
     path = target.path
-    revisions: list[int] = []
     for first, last in ranges:
-        if options.limit is not None and len(revisions) >= options.limit:
-            break
         high = max(first, last)
         segment = found.at(high)
-        if segment is None and not found.is_gap(high):
-            # The path was not made yet.
-            continue
-        # Between a copy and its source it is looked for where it was in the range before.
-        path = segment.path or path if segment is not None else path
-        here = walk if segment is not None else walk_of(history, Target(path, high))
-        chosen = here.between(history, min(first, last), high, options.stops_on_copy)
-        revisions += chosen if first < last else chosen[::-1]
+        if segment is not None:
+            path = segment.path or path
+            yield Part(first, last, path, walk)
+        elif found.is_gap(high):
+            # Between a copy and its source it is looked for where it was in the range before.
+            yield Part(first, last, path, walk_of(history, Target(path, high)))
+
+
+def entries(history: History, target: Target, options: Options) -> list[int]:
+    """The revisions of a log, range after range."""
+    revisions: list[int] = []
+    for part in parts(history, target, options):
+        if options.limit is not None and len(revisions) >= options.limit:
+            break
+        low, high = min(part.first, part.last), max(part.first, part.last)
+        chosen = part.walk.between(history, low, high, options.stops_on_copy)
+        revisions += chosen if part.first < part.last else chosen[::-1]
     return revisions[: options.limit]
 
 

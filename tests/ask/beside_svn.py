@@ -117,7 +117,13 @@ def pattern(chance: random.Random) -> str:
     return "".join(chance.choices("abeRtr*?[]\\!^-c\n. <&\u00e9\u0301\u1e9e\ufb01", k=chance.randint(1, 5)))
 
 
-KINDS: dict[str, Callable[[random.Random, Place], list[str]]] = {"search": search, "xml": xml}
+def merges(chance: random.Random, place: Place) -> list[str]:
+    options = some(chance, verbose=0.5, quiet=0.3, xml=0.3, stop_on_copy=0.15)
+    patterns = [f"--search={pattern(chance)}"] if chance.random() < 0.1 else []
+    return ["log", "-g", target(chance, place), *options, *patterns, *ranges(chance, place)]
+
+
+KINDS: dict[str, Callable[[random.Random, Place], list[str]]] = {"merges": merges, "search": search, "xml": xml}
 
 
 def is_left_out(words: list[str]) -> bool:
@@ -139,7 +145,10 @@ def normal(text: bytes) -> bytes:
 
 
 def output_of(status: int | None, output: bytes, said: str) -> Output:
+    """What a command printed. Where `svn` is ended by a signal, svnask refuses."""
     found = ERROR.search(said)
+    if status is not None and status < 0:
+        return Output(1, b"E195002")
     return Output(0, normal(output)) if status == 0 else Output(1, (found[1] if found else said).encode())
 
 

@@ -6,7 +6,7 @@ from argparse import Action, ArgumentParser, Namespace
 from collections.abc import Iterator
 from typing import Any
 
-from .. import log
+from .. import log, merged_log
 from ..digits import number
 from ..errors import Denied, Usage
 from ..history import History
@@ -32,6 +32,7 @@ class LogVerb(Verb):
         parser.add_argument("-l", "--limit", metavar="N")
         parser.add_argument("-q", "--quiet", action="store_true")
         parser.add_argument("-v", "--verbose", action="store_true")
+        parser.add_argument("-g", "--use-merge-history", dest="merges", action="store_true")
         parser.add_argument("--stop-on-copy", action="store_true")
         parser.add_argument("--xml", action="store_true")
         parser.add_argument("--with-all-revprops", action="store_true")
@@ -53,7 +54,10 @@ class LogVerb(Verb):
         return log.Options(ranges_of(history, given.ranges, given.changes), limit, given.stop_on_copy)
 
     def items(self, history: History, given: Namespace) -> list[log.Item]:
-        return [*map(log.Item, log.entries(history, target_of(history, given.target), self.options(history, given)))]
+        target, options = target_of(history, given.target), self.options(history, given)
+        if given.merges:
+            return merged_log.items_of(history, target, options)
+        return [*map(log.Item, log.entries(history, target, options))]
 
     def text(self, history: History, given: Namespace) -> Iterator[bytes]:
         wanted = wanted_of(given)
@@ -68,7 +72,8 @@ class LogVerb(Verb):
         wanted = wanted_of(given)
         for entry in entries(history, self.items(history, given), wanted, PlainForm(given.quiet)):
             if entry is not None:
-                yield object_of_revision(history, entry.revision.number)
+                merged = {"merged_via": list(entry.via), "is_reverse": entry.is_reverse} if given.merges else {}
+                yield {**object_of_revision(history, entry.revision.number), **merged}
 
 
 class Searched(Action):
