@@ -77,7 +77,7 @@ def parts_of(info: Intervals, is_reverse: bool) -> list[Part]:
     left = [Rest(path, info[path]) for path in in_hash_order(info) if info[path]]
     found: list[Part] = []
     while len(left) > 1:
-        left.sort(key=attrgetter("first"))
+        left.sort(key=attrgetter("first", "last"))
         first = left[0].first
         count = sum(1 for each in left if each.first == first)
         last = min(left[0].last, left[count].first - 1) if count < len(left) else left[0].last

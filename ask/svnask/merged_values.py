@@ -21,11 +21,12 @@ class Difference(NamedTuple):
     def add(self, other: Difference) -> None:
         for total, more in zip(self, other):
             for path, intervals in more.items():
-                total[path] = united([*total.get(path, []), *intervals])
+                total[path] = united([*total[path], *intervals]) if path in total else intervals
 
 
 class Line(NamedTuple):
-    """A line of a value: its revisions, and those of them that are inherited."""
+    """A line of a value: its revisions, and those of them that are inherited. For Subversion a range goes on where
+    revisions are no longer inherited as another one."""
 
     path: bytes
     whole: list[Interval]
@@ -70,7 +71,8 @@ class Values:
     def _read(self, line: bytes) -> Line:
         path, runs = line_of(line)
         inheritable = self._intervals(run for run in runs if run.inheritable)
-        found = self._lines[line] = Line(path, self._intervals(runs), inheritable)
+        others = self._intervals(run for run in runs if not run.inheritable)
+        found = self._lines[line] = Line(path, sorted(inheritable + others), inheritable)
         return found
 
     def _intervals(self, runs: Iterable[Run]) -> list[Interval]:
@@ -184,7 +186,7 @@ def left_of(these: Intervals, those: Intervals) -> Intervals:
     for path, intervals in these.items():
         other = those.get(path)
         if other != intervals:
-            rest = intervals if other is None else minus(intervals, other)
+            rest = intervals if other is None else united(minus(intervals, other))
             if rest or other is None:
                 found[path] = rest
     return found
