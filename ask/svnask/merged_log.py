@@ -20,7 +20,7 @@ from .merged_parts import Part, parts_of
 from .merged_values import MergeinfoChanges
 from .merges import Interval, Intervals, united
 from .store import Record
-from .targets import Target
+from .targets import Target, known
 from .traces import Cut, Traces
 from .values import Explicit
 
@@ -159,6 +159,8 @@ class Walker:
     def _walk(self, part: Part) -> Iterator[Step]:
         """The revisions of a part that was merged, the youngest one first."""
         paths, low, high = self._not_searched(part)
+        if paths:
+            known(self._history, high)
         cuts = self._cuts(paths, high)
         revisions = falling(cuts, low, high)
         merged = self._merged(cuts, revisions)
@@ -213,12 +215,15 @@ class Walker:
 
     def _is_sent(self, rev: int) -> bool:
         """Whether a merged revision is sent: once, and not where it changed nothing but what the targets were then."""
-        own = [path for path, intervals in self._own.items() if has(intervals, rev)]
-        changed = (change.path for change in self._history.changes(rev))
-        if rev in self._sent or all(any(is_at_or_below(path, top) for top in own) for path in changed):
+        if rev in self._sent or not self._is_elsewhere(rev):
             return False
         self._sent.add(rev)
         return True
+
+    def _is_elsewhere(self, rev: int) -> bool:
+        """Whether a revision changed a path that is not at or below where the targets were then."""
+        own = [path for path, intervals in self._own.items() if has(intervals, rev)]
+        return any(not any(is_at_or_below(change.path, top) for top in own) for change in self._history.changes(rev))
 
 
 def falling(cuts: list[Cut], low: int, high: int) -> list[int]:

@@ -1,7 +1,8 @@
 """What mergeinfo gained and lost in a revision, as `svn log -g` sees it."""
 from __future__ import annotations
 
-from collections.abc import Container, Iterable, Iterator, Sequence
+import functools
+from collections.abc import Container, Iterator, Sequence
 from typing import NamedTuple
 
 from .changes import Place, is_at_or_below, joined, rest_below, source_of, tops_of
@@ -9,7 +10,9 @@ from .history import History
 from .merges import Interval, Intervals, minus, united
 from .store import Record
 from .traces import Traces
-from .values import Explicit, Run, line_of, lines_of
+from .values import Explicit, line_of, lines_of
+
+RECENT = 64
 
 
 class Difference(NamedTuple):
@@ -40,11 +43,12 @@ class Malformed(Exception):
 class Values:
     """Values of `svn:mergeinfo`, of which each line is read once: those of one path have most of them in common."""
 
-    def __init__(self, most: int) -> None:
-        self._most = most
+    def __init__(self) -> None:
         self._lines: dict[bytes, Line] = {}
+        # What a path has after a revision it mostly has before the next one.
+        self.whole = functools.lru_cache(RECENT)(self._whole)
 
-    def whole(self, text: bytes) -> Intervals:
+    def _whole(self, text: bytes) -> Intervals:
         """What a text says, whether it is inherited or not."""
         found: Intervals = {}
         for line in self._of(text):
@@ -70,14 +74,10 @@ class Values:
 
     def _read(self, line: bytes) -> Line:
         path, runs = line_of(line)
-        inheritable = self._intervals(run for run in runs if run.inheritable)
-        others = self._intervals(run for run in runs if not run.inheritable)
+        inheritable = united([(run.lo, run.hi) for run in runs if run.inheritable])
+        others = united([(run.lo, run.hi) for run in runs if not run.inheritable])
         found = self._lines[line] = Line(path, sorted(inheritable + others), inheritable)
         return found
-
-    def _intervals(self, runs: Iterable[Run]) -> list[Interval]:
-        """Runs up to the youngest revision."""
-        return united([(run.lo, min(run.hi, self._most)) for run in runs if run.lo <= self._most])
 
 
 class MergeinfoChanges:
@@ -87,7 +87,7 @@ class MergeinfoChanges:
         self._history = history
         self._explicit = explicit
         self._traces = traces
-        self._values = Values(history.head)
+        self._values = Values()
         self._known: dict[int, dict[bytes, Difference]] = {}
         self._copies: dict[int, list[Record]] = {}
 

@@ -58,9 +58,10 @@ class Traces:
     def find(self, places: Iterable[Place]) -> None:
         """Asks about those of some places that are not known, all at once."""
         asked: dict[Place, None] = {}
+        head = self._history.head
         for path, rev in places:
-            if self._walk(path, rev) is None and is_askable(path) and self._tree.exists(path, rev):
-                lives = self._tree.lives(path, self._history.head)
+            if rev <= head and self._walk(path, rev) is None and is_askable(path) and self._tree.exists(path, rev):
+                lives = self._tree.lives(path, head)
                 asked[path, next((life.last for life in lives if life.first <= rev <= life.last), rev)] = None
         queries = {place: (Where(*place), Log(*place)) for place in asked}
         answers = self._history.answers(query for pair in queries.values() for query in pair)
