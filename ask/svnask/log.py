@@ -2,12 +2,12 @@
 from __future__ import annotations
 
 import bisect
-from collections.abc import Iterator
+from collections.abc import Iterable, Iterator, Sequence
 from dataclasses import dataclass
 from typing import NamedTuple
 
 from .answers import Log, Segment, Where
-from .changes import is_at_or_below, tops_of
+from .changes import Place, is_at_or_below, joined, tops_of
 from .errors import Denied
 from .history import History
 from .targets import Target, decoded, known
@@ -67,12 +67,18 @@ def not_located(target: Target, rev: int) -> Denied:
     return Denied("E195012", f"Unable to find repository location for '{decoded(target.path)}' in revision {rev}")
 
 
+def traces(history: History, places: Iterable[Place]) -> Iterator[tuple[Place, Trace | None]]:
+    """Where each of some paths was and when it changed, if it is there."""
+    queries = {place: (Where(*place), Log(*place)) for place in places}
+    answers = history.answers(query for pair in queries.values() for query in pair)
+    for place, (asked, logged) in queries.items():
+        where = answers[asked]
+        yield place, Trace(where.segments, answers[logged].revisions) if where.ok else None
+
+
 def trace(history: History, target: Target) -> Trace | None:
-    """Where a path was and when it changed, if it is there."""
-    asked, logged = Where(*target), Log(*target)
-    answers = history.answers([asked, logged])
-    where = answers[asked]
-    return Trace(where.segments, answers[logged].revisions) if where.ok else None
+    ((_, found),) = traces(history, [target])
+    return found
 
 
 def renewed(history: History, segments: list[Segment]) -> Iterator[int]:
@@ -141,17 +147,24 @@ class Walk(NamedTuple):
 
 
 class Part(NamedTuple):
-    """A range of a log, where its target was in the youngest revision of it, and the walk of that."""
+    """A range of a log, and for each target where it was in the youngest revision of it, with the walk of that."""
 
     first: int
     last: int
-    path: bytes
-    walk: Walk
+    paths: list[bytes]
+    walks: list[Walk]
+
+    def revisions(self, history: History, stops_on_copy: bool) -> list[int]:
+        """The revisions of the range, in its order. Each one is listed once."""
+        low, high = min(self.first, self.last), max(self.first, self.last)
+        found = [walk.between(history, low, high, stops_on_copy) for walk in self.walks]
+        rising = found[0] if len(found) == 1 else sorted(set().union(*found))
+        return rising if self.first < self.last else rising[::-1]
 
 
-def parts(history: History, target: Target, options: Options) -> Iterator[Part]:
+def parts(history: History, target: Target, below: Sequence[bytes], options: Options) -> Iterator[Part]:
     """The ranges of a log. The target is looked up in the youngest revision of all, and each one begins where it was in
-    its own; a range before the path was made is left out."""
+    its own; a range before the path was made is left out. Paths below the target are taken in its place."""
     ranges = options.ranges or [(target.rev, 0)]
     for bounds in ranges:
         known(history, max(bounds))
@@ -161,28 +174,32 @@ def parts(history: History, target: Target, options: Options) -> Iterator[Part]:
     for first, last in ranges:
         high = max(first, last)
         segment = found.at(high)
-        if segment is not None:
-            path = segment.path or path
-            yield Part(first, last, path, walk)
+        # Between a copy and its source it is looked for where it was in the range before.
+        path = segment.path or path if segment is not None else path
+        if below and (segment is not None or found.is_gap(high)):
+            paths = [joined(path, rest) for rest in below]
+            yield Part(first, last, paths, walks_of(history, paths, high))
+        elif segment is not None:
+            yield Part(first, last, [path], [walk])
         elif found.is_gap(high):
-            # Between a copy and its source it is looked for where it was in the range before.
-            yield Part(first, last, path, walk_of(history, Target(path, high)))
+            yield Part(first, last, [path], walks_of(history, [path], high))
 
 
-def entries(history: History, target: Target, options: Options) -> list[int]:
+def entries(history: History, target: Target, below: Sequence[bytes], options: Options) -> list[int]:
     """The revisions of a log, range after range."""
     revisions: list[int] = []
-    for part in parts(history, target, options):
+    for part in parts(history, target, below, options):
         if options.limit is not None and len(revisions) >= options.limit:
             break
-        low, high = min(part.first, part.last), max(part.first, part.last)
-        chosen = part.walk.between(history, low, high, options.stops_on_copy)
-        revisions += chosen if part.first < part.last else chosen[::-1]
+        revisions += part.revisions(history, options.stops_on_copy)
     return revisions[: options.limit]
 
 
-def walk_of(history: History, target: Target) -> Walk:
-    found = trace(history, target)
-    if found is None:
-        raise not_found(target, target.rev)
-    return Walk(found, listed(history, found))
+def walks_of(history: History, paths: Sequence[bytes], rev: int) -> list[Walk]:
+    """The walks of paths of a revision, which must be there."""
+    walks = []
+    for place, found in traces(history, [(path, rev) for path in paths]):
+        if found is None:
+            raise not_reached(history, Target(*place))
+        walks.append(Walk(found, listed(history, found)))
+    return walks

@@ -233,14 +233,15 @@ def falling(cuts: list[Cut], low: int, high: int) -> list[int]:
     return sorted({rev for cut in cuts for rev in cut.between(low, high)}, reverse=True)
 
 
-def items_of(history: History, target: Target, options: Options) -> list[Item]:
+def items_of(history: History, target: Target, below: Sequence[bytes], options: Options) -> list[Item]:
     """The items of a log with what was merged. A limit counts each item of several ranges, ends too."""
     walker = Walker(history, options.stops_on_copy)
     found: list[Item] = []
-    for part in parts(history, target, options):
-        walker.traces.add(part.walk)
+    for part in parts(history, target, below, options):
+        for walk in part.walks:
+            walker.traces.add(walk)
         limit = options.limit - len(found) if options.limit is not None else 0
-        found += walker.items([part.path], part.first, part.last, limit)
+        found += walker.items(part.paths, part.first, part.last, limit)
         if len(found) == options.limit:
             break
     return found

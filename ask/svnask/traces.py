@@ -5,11 +5,11 @@ import bisect
 from collections.abc import Iterable
 from typing import NamedTuple
 
-from .answers import Log, Where, is_askable
+from .answers import is_askable
 from .changes import Place
 from .history import History
 from .lives import Tree
-from .log import Trace, Walk, copied_in, listed
+from .log import Walk, copied_in, listed, traces
 
 
 class Cut(NamedTuple):
@@ -63,11 +63,8 @@ class Traces:
             if rev <= head and self._walk(path, rev) is None and is_askable(path) and self._tree.exists(path, rev):
                 lives = self._tree.lives(path, head)
                 asked[path, next((life.last for life in lives if life.first <= rev <= life.last), rev)] = None
-        queries = {place: (Where(*place), Log(*place)) for place in asked}
-        answers = self._history.answers(query for pair in queries.values() for query in pair)
-        for where, log in queries.values():
-            if answers[where].ok:
-                found = Trace(answers[where].segments, answers[log].revisions)
+        for _, found in traces(self._history, asked):
+            if found is not None:
                 self.add(Walk(found, listed(self._history, found)))
 
     def cut(self, path: bytes, rev: int) -> Cut | None:

@@ -123,7 +123,22 @@ def merges(chance: random.Random, place: Place) -> list[str]:
     return ["log", "-g", target(chance, place), *options, *patterns, *ranges(chance, place)]
 
 
-KINDS: dict[str, Callable[[random.Random, Place], list[str]]] = {"merges": merges, "search": search, "xml": xml}
+def several(chance: random.Random, place: Place) -> list[str]:
+    """Paths below a target."""
+    found = target(chance, place)
+    path, _, rev = found.rpartition("@")
+    below = [each[len(path) :].lstrip("/") for each in place.trees[int(rev)] if each.startswith(path.rstrip("/") + "/")]
+    paths = chance.choices([*below, ".", "none"] if chance.random() < 0.1 else below or ["."], k=chance.randint(1, 3))
+    options = some(chance, verbose=0.3, use_merge_history=0.3, stop_on_copy=0.2)
+    return ["log", "-q", *options, *ranges(chance, place), found, *(word for word in paths if "@" not in word)]
+
+
+KINDS: dict[str, Callable[[random.Random, Place], list[str]]] = {
+    "merges": merges,
+    "search": search,
+    "several": several,
+    "xml": xml,
+}
 
 
 def is_left_out(words: list[str]) -> bool:

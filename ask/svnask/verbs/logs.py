@@ -13,7 +13,7 @@ from ..history import History
 from ..log_forms import AUTHOR, DATE, MESSAGE, Entry, Wanted, as_wanted, entries, printed
 from ..plain_log import RULE, PlainForm
 from ..search import Glob, Group, folded
-from ..targets import encoded, known, ranges_of, revision_of, target_of
+from ..targets import encoded, known, paths_below, ranges_of, revision_of, target_of
 from ..xml_log import XmlForm
 from .base import Object, Verb, object_of_revision
 
@@ -27,6 +27,7 @@ class LogVerb(Verb):
 
     def arguments(self, parser: ArgumentParser) -> None:
         parser.add_argument("target", metavar="PATH[@PEG]", nargs="?", default="/")
+        parser.add_argument("paths", metavar="PATH", nargs="*", help="paths below the first one, in its place")
         parser.add_argument("-r", "--revision", dest="ranges", metavar="LO:HI", action="append", default=[])
         parser.add_argument("-c", "--change", dest="changes", metavar="N", action="append", default=[])
         parser.add_argument("-l", "--limit", metavar="N")
@@ -54,10 +55,10 @@ class LogVerb(Verb):
         return log.Options(ranges_of(history, given.ranges, given.changes), limit, given.stop_on_copy)
 
     def items(self, history: History, given: Namespace) -> list[log.Item]:
-        target, options = target_of(history, given.target), self.options(history, given)
+        asked = target_of(history, given.target), paths_below(given.paths), self.options(history, given)
         if given.merges:
-            return merged_log.items_of(history, target, options)
-        return [*map(log.Item, log.entries(history, target, options))]
+            return merged_log.items_of(history, *asked)
+        return [*map(log.Item, log.entries(history, *asked))]
 
     def text(self, history: History, given: Namespace) -> Iterator[bytes]:
         wanted = wanted_of(given)
