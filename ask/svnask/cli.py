@@ -83,6 +83,18 @@ def joined(arguments: list[str]) -> list[str]:
     return found
 
 
+def in_order(words: list[str]) -> list[str]:
+    """The words with the options of a verb before its other arguments, which the parser takes only where they stand
+    together."""
+    end = words.index("--") if "--" in words else len(words)
+    plain = [at for at, word in enumerate(words[:end]) if not word.startswith("-") or word == "-"]
+    if len(plain) < 2:
+        return words
+    begin = plain[1] + 1
+    options = [word for at, word in enumerate(words[begin:end], begin) if at not in plain]
+    return words[:begin] + options + [words[at] for at in plain[2:]] + words[end:]
+
+
 class Progress:
     """One line on a terminal where reading takes more than a second: how much was read, and how fast."""
 
@@ -239,7 +251,7 @@ def call(arguments: list[str]) -> None:
     if sys.stdout is None:
         raise Failed("cannot write: the standard output is closed")
     try:
-        given = parser().parse_args(joined(with_dump(arguments)))
+        given = parser().parse_args(in_order(joined(with_dump(arguments))))
     except SystemExit:
         # The help was printed, or the version.
         sys.stdout.flush()

@@ -16,6 +16,7 @@ import shutil
 import sys
 import tempfile
 import time
+import urllib.parse
 from collections.abc import Callable, Iterator
 from pathlib import Path
 from typing import NamedTuple
@@ -28,6 +29,7 @@ from tests.ask import base
 from tests.ask.drawn_repositories import drawn
 
 ERROR = re.compile(r"^svn(?:ask)?: (E[0-9]+):", re.MULTILINE)
+URL = re.compile(rb"file://[^\n' ]*?/loaded/repository([^\n' ]*)")
 ATTRIBUTES = re.compile(rb"<(\w+)((?:\n   [\w-]+=\"[^\"]*\")+)>")
 PROPERTIES = re.compile(rb"<revprops>\n(.*?)</revprops>\n", re.DOTALL)
 NAMES = sorted(path.stem for path in INTEROP.glob("*.dump") if path.stem != "values")
@@ -133,10 +135,16 @@ def several(chance: random.Random, place: Place) -> list[str]:
     return ["log", "-q", *options, *ranges(chance, place), found, *(word for word in paths if "@" not in word)]
 
 
+def values(chance: random.Random, place: Place) -> list[str]:
+    targets = [target(chance, place) for _ in range(chance.choice((1, 1, 2)))]
+    return ["propget", "svn:mergeinfo", *some(chance, recursive=0.6, verbose=0.3, no_newline=0.1), *targets]
+
+
 KINDS: dict[str, Callable[[random.Random, Place], list[str]]] = {
     "merges": merges,
     "search": search,
     "several": several,
+    "values": values,
     "xml": xml,
 }
 
@@ -164,6 +172,7 @@ def output_of(status: int | None, output: bytes, said: str) -> Output:
     found = ERROR.search(said)
     if status is not None and status < 0:
         return Output(1, b"E195002")
+    # Of a property that is missing the warning comes first.
     return Output(0, normal(output)) if status == 0 else Output(1, (found[1] if found else said).encode())
 
 
@@ -190,7 +199,13 @@ def compare(kind: str, seed: int, place: Place, folder: Path) -> Compared:
     done = Tools(folder).try_run("svn", *(as_url(place.url, word) for word in words))
     found = base.called(place.dump, *words)
     said = done.errors.decode("utf-8", "replace")
-    return Compared(words, output_of(done.status, done.output, said), output_of(found.status, found.output, found.said))
+    # In place of a URL svnask prints the path.
+    printed = (
+        URL.sub(lambda url: urllib.parse.unquote_to_bytes(url[1]) or b"/", done.output)
+        if kind == "values"
+        else done.output
+    )
+    return Compared(words, output_of(done.status, printed, said), output_of(found.status, found.output, found.said))
 
 
 def differing(kinds: list[str], first: int, last: int, folder: Path) -> Iterator[tuple[int, Compared]]:

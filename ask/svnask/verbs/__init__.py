@@ -9,11 +9,13 @@ from .graph import GraphVerb
 from .logs import LogVerb, ShowVerb
 from .merges import MergeinfoVerb
 from .places import SegmentsVerb, WhereVerb
+from .properties import PropgetVerb
 
 VERBS: list[Verb] = [
     LogVerb(),
     ShowVerb(),
     MergeinfoVerb(),
+    PropgetVerb(),
     WhereVerb(),
     SegmentsVerb(),
     BranchesVerb(),
