@@ -12,6 +12,7 @@ MOST = 18
 
 def number(digits: str | bytes) -> int:
     """The number of some decimal digits, or `LARGEST` for one with more than 18 of them."""
-    text = digits if isinstance(digits, str) else digits.decode("ascii")
-    short = text if len(text) <= MOST else text.lstrip("0") or "0"
+    if len(digits) <= MOST:
+        return int(digits)
+    short = (digits if isinstance(digits, str) else digits.decode("ascii")).lstrip("0") or "0"
     return int(short) if len(short) <= MOST else LARGEST

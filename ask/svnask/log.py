@@ -2,15 +2,15 @@
 from __future__ import annotations
 
 import bisect
-from collections.abc import Iterator, Sequence
+from collections.abc import Iterable, Iterator, Sequence
 from dataclasses import dataclass
 from typing import NamedTuple
 
 from .answers import Log, Segment, Where
-from .changes import is_at_or_below, tops_of
+from .changes import Place, is_at_or_below, joined, tops_of
 from .errors import Denied
 from .history import History
-from .targets import Target, below, decoded, known
+from .targets import Target, decoded, known
 
 
 @dataclass
@@ -20,8 +20,6 @@ class Options:
     ranges: list[tuple[int, int]] | None = None
     limit: int | None = None
     stops_on_copy: bool = False
-    # The paths below the target that are logged in its place.
-    below: Sequence[bytes] = ()
 
 
 class Item(NamedTuple):
@@ -69,12 +67,18 @@ def not_located(target: Target, rev: int) -> Denied:
     return Denied("E195012", f"Unable to find repository location for '{decoded(target.path)}' in revision {rev}")
 
 
+def traces(history: History, places: Iterable[Place]) -> Iterator[tuple[Place, Trace | None]]:
+    """Where each of some paths was and when it changed, if it is there."""
+    queries = {place: (Where(*place), Log(*place)) for place in places}
+    answers = history.answers(query for pair in queries.values() for query in pair)
+    for place, (asked, logged) in queries.items():
+        where = answers[asked]
+        yield place, Trace(where.segments, answers[logged].revisions) if where.ok else None
+
+
 def trace(history: History, target: Target) -> Trace | None:
-    """Where a path was and when it changed, if it is there."""
-    asked, logged = Where(*target), Log(*target)
-    answers = history.answers([asked, logged])
-    where = answers[asked]
-    return Trace(where.segments, answers[logged].revisions) if where.ok else None
+    ((_, found),) = traces(history, [target])
+    return found
 
 
 def renewed(history: History, segments: list[Segment]) -> Iterator[int]:
@@ -142,36 +146,60 @@ class Walk(NamedTuple):
         return self.revisions[bisect.bisect_left(self.revisions, low) : bisect.bisect_right(self.revisions, high)]
 
 
-def entries(history: History, target: Target, options: Options) -> list[int]:
-    """The revisions of a log, range after range. The target is looked up in the youngest revision of all ranges, and
-    each one begins where it was in its own."""
+class Part(NamedTuple):
+    """A range of a log, and for each target where it was in the youngest revision of it, with the walk of that."""
+
+    first: int
+    last: int
+    paths: list[bytes]
+    walks: list[Walk]
+
+    def revisions(self, history: History, stops_on_copy: bool) -> list[int]:
+        """The revisions of the range, in its order. Each one is listed once."""
+        low, high = min(self.first, self.last), max(self.first, self.last)
+        found = [walk.between(history, low, high, stops_on_copy) for walk in self.walks]
+        rising = found[0] if len(found) == 1 else sorted(set().union(*found))
+        return rising if self.first < self.last else rising[::-1]
+
+
+def parts(history: History, target: Target, below: Sequence[bytes], options: Options) -> Iterator[Part]:
+    """The ranges of a log. The target is looked up in the youngest revision of all, and each one begins where it was in
+    its own; a range before the path was made is left out. Paths below the target are taken in its place."""
     ranges = options.ranges or [(target.rev, 0)]
     for bounds in ranges:
         known(history, max(bounds))
     found = reached(history, target, max(max(bounds) for bounds in ranges))
     walk = Walk(found, listed(history, found))
     path = target.path
-    revisions: list[int] = []
     for first, last in ranges:
-        if options.limit is not None and len(revisions) >= options.limit:
-            break
         high = max(first, last)
         segment = found.at(high)
-        if segment is None and not found.is_gap(high):
-            # The path was not made yet.
-            continue
         # Between a copy and its source it is looked for where it was in the range before.
         path = segment.path or path if segment is not None else path
-        here = [walk_of(history, Target(below(path, each), high)) for each in options.below]
-        if not here:
-            here = [walk if segment is not None else walk_of(history, Target(path, high))]
-        chosen = {rev for each in here for rev in each.between(history, min(first, last), high, options.stops_on_copy)}
-        revisions += sorted(chosen, reverse=first >= last)
+        if below and (segment is not None or found.is_gap(high)):
+            paths = [joined(path, rest) for rest in below]
+            yield Part(first, last, paths, walks_of(history, paths, high))
+        elif segment is not None:
+            yield Part(first, last, [path], [walk])
+        elif found.is_gap(high):
+            yield Part(first, last, [path], walks_of(history, [path], high))
+
+
+def entries(history: History, target: Target, below: Sequence[bytes], options: Options) -> list[int]:
+    """The revisions of a log, range after range."""
+    revisions: list[int] = []
+    for part in parts(history, target, below, options):
+        if options.limit is not None and len(revisions) >= options.limit:
+            break
+        revisions += part.revisions(history, options.stops_on_copy)
     return revisions[: options.limit]
 
 
-def walk_of(history: History, target: Target) -> Walk:
-    found = trace(history, target)
-    if found is None:
-        raise not_found(target, target.rev)
-    return Walk(found, listed(history, found))
+def walks_of(history: History, paths: Sequence[bytes], rev: int) -> list[Walk]:
+    """The walks of paths of a revision, which must be there."""
+    walks = []
+    for place, found in traces(history, [(path, rev) for path in paths]):
+        if found is None:
+            raise not_reached(history, Target(*place))
+        walks.append(Walk(found, listed(history, found)))
+    return walks

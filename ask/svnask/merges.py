@@ -112,6 +112,17 @@ def minus(these: Sequence[Interval], those: Sequence[Interval]) -> list[Interval
     return left
 
 
+def united(intervals: list[Interval]) -> list[Interval]:
+    """Intervals in any order as rising ones, of which none touches another."""
+    found: list[Interval] = []
+    for lo, hi in sorted(intervals) if len(intervals) > 1 else intervals:
+        if found and lo <= found[-1][1] + 1:
+            found[-1] = found[-1][0], max(hi, found[-1][1])
+        else:
+            found.append((lo, hi))
+    return found
+
+
 def intervals_of(ranges: str) -> list[Interval]:
     """The intervals of a rangelist, with those that are not inheritable."""
     found = []

@@ -69,6 +69,14 @@ def below(top: bytes, path: bytes) -> bytes:
     return path if top == b"/" else top + path if path != b"/" else top
 
 
+def paths_below(texts: list[str]) -> list[bytes]:
+    """Paths below a target. They have no peg of their own."""
+    for text in texts:
+        if IS_URL.match(text) or text.startswith("/"):
+            raise Denied("E205000", f"Only relative paths can be specified after the first one, but '{text}' is not")
+    return [path_of(text)[1:] for text in texts]
+
+
 def revision_of(history: History, text: str) -> int:
     """A revision by its number, `HEAD` or `{DATE}`. It may be above the youngest one."""
     found = NUMBER.match(text)

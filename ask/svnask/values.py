@@ -51,21 +51,30 @@ def has_clash(runs: list[Run]) -> bool:
     return False
 
 
+def lines_of(text: bytes) -> list[bytes]:
+    """The lines of a text, of which the last one may end with a newline."""
+    lines = text.split(b"\n") if text else []
+    if len(lines) > 1 and lines[-1] == b"":
+        lines.pop()
+    return lines
+
+
+def line_of(line: bytes) -> tuple[bytes, list[Run]]:
+    """The source path of a line and its runs. `ValueError` where Subversion can't read it."""
+    path, colon, ranges = line.rpartition(b":")
+    if not colon:
+        raise ValueError("no colon")
+    source = b"/" + b"/".join(part for part in path.split(b"/") if part not in (b"", b"."))
+    return source, runs_of(ranges.strip(b" \t").rstrip(b","))
+
+
 def value_of(text: bytes) -> Value | None:
     """What a text says, or None where Subversion can't read it."""
     value: Value = {}
-    lines = text.split(b"\n")
-    if lines[-1] == b"" and len(lines) > 1:
-        lines.pop()
-        if lines == [b""]:
-            return None
     try:
-        for line in lines if text else []:
-            path, colon, ranges = line.rpartition(b":")
-            if not colon:
-                return None
-            source = b"/" + b"/".join(part for part in path.split(b"/") if part not in (b"", b"."))
-            value.setdefault(source, []).extend(runs_of(ranges.strip(b" \t").rstrip(b",")))
+        for line in lines_of(text):
+            path, runs = line_of(line)
+            value.setdefault(path, []).extend(runs)
     except ValueError:
         return None
     return value
@@ -79,8 +88,10 @@ class Explicit:
         # For each path that ever had a text, the revisions in which that changed, and what it had from then on.
         self._revs: dict[bytes, list[int]] = {}
         self._texts: dict[bytes, list[bytes | None]] = {}
+        # For each revision the paths to which a record gave another text than they had, or what they were copied from.
+        self.settings: dict[int, set[bytes]] = {}
         for record in records:
-            self._apply(record)
+            self.apply(record)
 
     def text(self, path: bytes, rev: int) -> bytes | None:
         """The text of a path in a revision."""
@@ -121,7 +132,8 @@ class Explicit:
             self._revs[path].append(rev)
             self._texts[path].append(text)
 
-    def _apply(self, record: Record) -> None:
+    def apply(self, record: Record) -> None:
+        """Takes the next record of a dump."""
         if record.action != "change":
             for path, _ in list(self.below(record.path, record.rev)):
                 self._put(path, record.rev, None)
@@ -132,4 +144,6 @@ class Explicit:
                 rest = path[len(source) :].lstrip(b"/")
                 self._put(joined(top, rest), record.rev, text)
         if record.mergeinfo is not None and record.action != "delete":
+            if record.mergeinfo.text != self.text(record.path, record.rev):
+                self.settings.setdefault(record.rev, set()).add(record.path)
             self._put(record.path, record.rev, record.mergeinfo.text)

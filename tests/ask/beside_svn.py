@@ -16,6 +16,7 @@ import shutil
 import sys
 import tempfile
 import time
+import urllib.parse
 from collections.abc import Callable, Iterator
 from pathlib import Path
 from typing import NamedTuple
@@ -28,6 +29,7 @@ from tests.ask import base
 from tests.ask.drawn_repositories import drawn
 
 ERROR = re.compile(r"^svn(?:ask)?: (E[0-9]+):", re.MULTILINE)
+URL = re.compile(rb"file://[^\n' ]*?/loaded/repository([^\n' ]*)")
 ATTRIBUTES = re.compile(rb"<(\w+)((?:\n   [\w-]+=\"[^\"]*\")+)>")
 PROPERTIES = re.compile(rb"<revprops>\n(.*?)</revprops>\n", re.DOTALL)
 NAMES = sorted(path.stem for path in INTEROP.glob("*.dump") if path.stem != "values")
@@ -116,12 +118,15 @@ def diagram(chance: random.Random, place: Place) -> list[str]:
 
 
 def merges(chance: random.Random, place: Place) -> list[str]:
-    verb = chance.choice(("merged", "eligible"))
-    options = some(chance, recursive=0.3) + (some(chance, log=1, verbose=0.5, quiet=0.2, incremental=0.1))
+    """What was merged, as a log. That of the root with all below it is refused."""
+    verb, source, merged = chance.choice(("merged", "eligible")), target(chance, place), target(chance, place)
+    options = some(
+        chance, recursive=0 if merged.startswith("/@") else 0.3, log=1, verbose=0.5, quiet=0.2, incremental=0.1
+    )
     head = len(place.trees) - 1
     if chance.random() < 0.2:
         options += ["-r", "%d:%d" % (chance.randint(0, head), chance.randint(0, head))]
-    return ["mergeinfo", f"--show-revs={verb}", *options, target(chance, place), target(chance, place)]
+    return ["mergeinfo", f"--show-revs={verb}", *options, source, merged]
 
 
 def pattern(chance: random.Random) -> str:
@@ -130,17 +135,36 @@ def pattern(chance: random.Random) -> str:
     return "".join(chance.choices("abeRtr*?[]\\!^-c\n. <&\u00e9\u0301\u1e9e\ufb01", k=chance.randint(1, 5)))
 
 
+def merge_history(chance: random.Random, place: Place) -> list[str]:
+    options = some(chance, verbose=0.5, quiet=0.3, xml=0.3, stop_on_copy=0.15)
+    patterns = [f"--search={pattern(chance)}"] if chance.random() < 0.1 else []
+    return ["log", "-g", target(chance, place), *options, *patterns, *ranges(chance, place)]
+
+
+def several(chance: random.Random, place: Place) -> list[str]:
+    """Paths below a target."""
+    found = target(chance, place)
+    path, _, rev = found.rpartition("@")
+    below = [each[len(path) :].lstrip("/") for each in place.trees[int(rev)] if each.startswith(path.rstrip("/") + "/")]
+    paths = chance.choices([*below, ".", "none"] if chance.random() < 0.1 else below or ["."], k=chance.randint(1, 3))
+    options = some(chance, verbose=0.3, use_merge_history=0.3, stop_on_copy=0.2)
+    return ["log", "-q", *options, *ranges(chance, place), found, *(word for word in paths if "@" not in word)]
+
+
+def values(chance: random.Random, place: Place) -> list[str]:
+    targets = [target(chance, place) for _ in range(chance.choice((1, 1, 2)))]
+    return ["propget", "svn:mergeinfo", *some(chance, recursive=0.6, verbose=0.3, no_newline=0.1), *targets]
+
+
 KINDS: dict[str, Callable[[random.Random, Place], list[str]]] = {
     "diagram": diagram,
+    "merge-history": merge_history,
     "merges": merges,
     "search": search,
+    "several": several,
+    "values": values,
     "xml": xml,
 }
-
-
-def is_left_out(words: list[str]) -> bool:
-    """Whether the pages say that svnask prints something else."""
-    return "--recursive" in words and words[-1].startswith("/@")
 
 
 def normal(text: bytes) -> bytes:
@@ -157,7 +181,11 @@ def normal(text: bytes) -> bytes:
 
 
 def output_of(status: int | None, output: bytes, said: str) -> Output:
+    """What a command printed. Where `svn` is ended by a signal, svnask refuses."""
     found = ERROR.search(said)
+    if status is not None and status < 0:
+        return Output(1, b"E195002")
+    # Of a property that is missing the warning comes first.
     return Output(0, normal(output)) if status == 0 else Output(1, (found[1] if found else said).encode())
 
 
@@ -184,7 +212,13 @@ def compare(kind: str, seed: int, place: Place, folder: Path) -> Compared:
     done = Tools(folder).try_run("svn", *(as_url(place.url, word) for word in words))
     found = base.called(place.dump, *words)
     said = done.errors.decode("utf-8", "replace")
-    return Compared(words, output_of(done.status, done.output, said), output_of(found.status, found.output, found.said))
+    # In place of a URL svnask prints the path.
+    printed = (
+        URL.sub(lambda url: urllib.parse.unquote_to_bytes(url[1]) or b"/", done.output)
+        if kind == "values"
+        else done.output
+    )
+    return Compared(words, output_of(done.status, printed, said), output_of(found.status, found.output, found.said))
 
 
 def differing(kinds: list[str], first: int, last: int, folder: Path) -> Iterator[tuple[int, Compared]]:

@@ -11,12 +11,14 @@ from .kept import ForgetVerb, SourcesVerb, UpdateVerb
 from .logs import LogVerb, ShowVerb
 from .merges import CheckMergeinfoVerb, MergeinfoVerb
 from .places import HeirsVerb, SegmentsVerb, WhereVerb
+from .properties import PropgetVerb
 
 VERBS: list[Verb] = [
     LogVerb(),
     ShowVerb(),
     MergeinfoVerb(),
     CheckMergeinfoVerb(),
+    PropgetVerb(),
     WhereVerb(),
     SegmentsVerb(),
     HeirsVerb(),

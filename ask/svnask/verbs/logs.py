@@ -6,15 +6,14 @@ from argparse import Action, ArgumentParser, Namespace
 from collections.abc import Iterator
 from typing import Any
 
-from .. import log
+from .. import log, merged_log
 from ..digits import number
 from ..errors import Denied, Usage
 from ..history import History
 from ..log_forms import AUTHOR, DATE, MESSAGE, Entry, Wanted, as_wanted, entries, printed
 from ..plain_log import RULE, PlainForm
 from ..search import Glob, Group, folded
-from ..sources import IS_URL
-from ..targets import Target, encoded, known, path_of, ranges_of, revision_of, target_of
+from ..targets import encoded, known, paths_below, ranges_of, revision_of, target_of
 from ..xml_log import XmlForm
 from .base import Object, Verb, object_of_revision
 
@@ -28,12 +27,13 @@ class LogVerb(Verb):
 
     def arguments(self, parser: ArgumentParser) -> None:
         parser.add_argument("target", metavar="PATH[@PEG]", nargs="?", default="")
-        parser.add_argument("paths", metavar="PATH", nargs="*", help="paths that are logged together, below a URL")
+        parser.add_argument("paths", metavar="PATH", nargs="*", help="paths below the first one, in its place")
         parser.add_argument("-r", "--revision", dest="ranges", metavar="LO:HI", action="append", default=[])
         parser.add_argument("-c", "--change", dest="changes", metavar="N", action="append", default=[])
         parser.add_argument("-l", "--limit", metavar="N")
         parser.add_argument("-q", "--quiet", action="store_true")
         parser.add_argument("-v", "--verbose", action="store_true")
+        parser.add_argument("-g", "--use-merge-history", dest="merges", action="store_true")
         parser.add_argument("--stop-on-copy", action="store_true")
         parser.add_argument("--xml", action="store_true")
         parser.add_argument("--with-all-revprops", action="store_true")
@@ -52,11 +52,13 @@ class LogVerb(Verb):
             limit = number(found[2])
             if limit == 0 or found[1] == "-":
                 raise Denied("E200004", "Argument to --limit must be positive")
-        ranges = ranges_of(history, given.ranges, given.changes)
-        return log.Options(ranges, limit, given.stop_on_copy, paths_below(given))
+        return log.Options(ranges_of(history, given.ranges, given.changes), limit, given.stop_on_copy)
 
     def items(self, history: History, given: Namespace) -> list[log.Item]:
-        return [*map(log.Item, log.entries(history, target_in(history, given), self.options(history, given)))]
+        asked = target_of(history, given.target), paths_below(given.paths), self.options(history, given)
+        if given.merges:
+            return merged_log.items_of(history, *asked)
+        return [*map(log.Item, log.entries(history, *asked))]
 
     def text(self, history: History, given: Namespace) -> Iterator[bytes]:
         wanted = wanted_of(given)
@@ -71,7 +73,8 @@ class LogVerb(Verb):
         wanted = wanted_of(given)
         for entry in entries(history, self.items(history, given), wanted, PlainForm(given.quiet)):
             if entry is not None:
-                yield object_of_revision(history, entry.revision.number)
+                merged = {"merged_via": list(entry.via), "is_reverse": entry.is_reverse} if given.merges else {}
+                yield {**object_of_revision(history, entry.revision.number), **merged}
 
 
 class Searched(Action):
@@ -107,23 +110,6 @@ def wanted_of(given: Namespace) -> Wanted:
     elif given.names:
         names = frozenset(map(encoded, given.names))
     return Wanted(names, given.verbose, given.groups)
-
-
-def target_in(history: History, given: Namespace) -> Target:
-    """The target of a log. Several paths are below the URL before them, or that of the source."""
-    return target_of(history, given.target if IS_URL.match(given.target) or not given.paths else "")
-
-
-def paths_below(given: Namespace) -> list[bytes]:
-    """The paths that are logged together, if these are several ones or stand after a URL."""
-    for each in given.paths:
-        if each.startswith(("/", "^")) or IS_URL.match(each):
-            text = (
-                f"Only relative paths can be specified after a URL for 'svn log', but '{each}' is not a relative path"
-            )
-            raise Denied("E205000", text)
-    words = given.paths if IS_URL.match(given.target) or not given.paths else [given.target, *given.paths]
-    return [path_of(each) for each in words]
 
 
 class ShowVerb(Verb):

@@ -1,0 +1,247 @@
+"""`log -g`: the revisions of a log with those that were merged in them.
+
+`svn log -g` walks from merge to merge, and what it leaves out depends on what it walked before, even where that is a
+fault of it. So this is the same walk: each revision of the range in turn, then what its mergeinfo gained or lost, as
+ranges of revisions of other paths, each of which is walked in the same way.
+"""
+from __future__ import annotations
+
+import bisect
+from collections.abc import Iterable, Iterator, Sequence
+from operator import attrgetter
+from typing import NamedTuple, Union
+
+from .changes import is_at_or_below
+from .errors import Denied
+from .history import History
+from .lives import Tree
+from .log import Item, Options, parts
+from .merged_parts import Part, parts_of
+from .merged_values import MergeinfoChanges
+from .merges import Interval, Intervals, united
+from .store import Record
+from .targets import Target, known
+from .traces import Cut, Traces
+from .values import Explicit
+
+END = Item(-1)
+# What a walk gives: an item, or a part that is walked before it goes on.
+Step = Union[Item, Part]
+
+
+class Range(NamedTuple):
+    """The revisions between two, the youngest or the oldest one first."""
+
+    low: int
+    high: int
+    is_falling: bool
+    limit: int
+
+
+class Searched:
+    """What was walked below some merge: for each path its ranges, of which those that have a revision in common are one.
+    A range that only touches another one is another."""
+
+    def __init__(self) -> None:
+        self._runs: dict[bytes, list[Interval]] = {}
+
+    def has(self, path: bytes, low: int, high: int) -> bool:
+        """Whether all of a range of a path was walked."""
+        runs = self._runs.get(path, [])
+        at = bisect.bisect_right(runs, (low, high)) - 1
+        if at >= 0 and runs[at][0] <= low and high <= runs[at][1]:
+            return True
+        at = bisect.bisect_left(runs, (low + 1,)) - 1
+        while 0 <= at < len(runs) and runs[at][0] <= low <= runs[at][1]:
+            low, at = runs[at][1] + 1, at + 1
+            if low > high:
+                return True
+        return False
+
+    def first_of(self, path: bytes, rev: int) -> int:
+        """Where the range of a path begins that has a revision, or that revision where there is none."""
+        runs = self._runs.get(path, [])
+        at = bisect.bisect_left(runs, (rev + 1,)) - 1
+        return runs[at][0] if at >= 0 and rev <= runs[at][1] else rev
+
+    def add(self, path: bytes, low: int, high: int) -> None:
+        runs = self._runs.setdefault(path, [])
+        first = bisect.bisect_left(runs, (low,))
+        if first and runs[first - 1][1] >= low:
+            first -= 1
+        last = first
+        while last < len(runs) and runs[last][0] <= high:
+            low, high = min(low, runs[last][0]), max(high, runs[last][1])
+            last += 1
+        runs[first:last] = [(low, high)]
+
+
+def has(intervals: list[Interval], rev: int) -> bool:
+    at = bisect.bisect_left(intervals, (rev + 1,)) - 1
+    return at >= 0 and rev <= intervals[at][1]
+
+
+class Walker:
+    """Walks the ranges of a log."""
+
+    def __init__(self, history: History, stops_on_copy: bool) -> None:
+        self._history = history
+        explicit = Explicit(())
+
+        def passed() -> Iterator[Record]:
+            for record in history.records():
+                explicit.apply(record)
+                yield record
+
+        self.traces = Traces(history, Tree(passed()), stops_on_copy)
+        self._changes = MergeinfoChanges(history, explicit, self.traces)
+        # Where the targets were themselves in the range.
+        self._own: Intervals = {}
+        # The revisions that were sent as merged ones, and those that were left out since the last one that was sent.
+        self._sent: set[int] = set()
+        self._left_out: list[int] = []
+        # Subversion keeps this for a falling range alone.
+        self._searched: Searched | None = None
+
+    def items(self, paths: list[bytes], first: int, last: int, limit: int) -> Iterator[Item]:
+        """The revisions between two, with those that were merged in them."""
+        asked = Range(min(first, last), max(first, last), first >= last, limit)
+        self._own = self._own_of(paths, asked)
+        self._sent = set()
+        self._searched = Searched() if asked.is_falling else None
+        # Walks in walks may be deeper than calls of Python.
+        walks: list[Iterator[Step]] = [self._top(paths, asked)]
+        begun: list[Part] = []
+        while walks:
+            step = next(walks[-1], None)
+            if isinstance(step, Item):
+                yield step
+            elif step is not None:
+                self._check(step, begun)
+                begun.append(step)
+                walks.append(self._walk(step))
+            else:
+                walks.pop()
+                del begun[-1:]
+
+    def _check(self, part: Part, begun: list[Part]) -> None:
+        if self._searched is None and part in begun:
+            raise Denied(
+                "E195002",
+                f"-g with a rising range is not taken where 'svn' does not end: r{part.last} was merged in itself",
+            )
+
+    def _own_of(self, paths: list[bytes], asked: Range) -> Intervals:
+        found: Intervals = {}
+        for path in paths:
+            cut = self.traces.cut(path, asked.high)
+            for segment in cut.walk.found.segments if cut is not None else ():
+                lo, hi = max(segment.lo, asked.low), min(segment.hi, asked.high)
+                if segment.path is not None:
+                    found.setdefault(segment.path, []).extend([(lo, hi)] if lo <= hi else [])
+        return {path: united(intervals) for path, intervals in found.items()}
+
+    def _cuts(self, paths: Iterable[bytes], rev: int) -> list[Cut]:
+        return [cut for cut in (self.traces.cut(path, rev) for path in paths) if cut is not None]
+
+    def _top(self, paths: list[bytes], asked: Range) -> Iterator[Step]:
+        cuts = self._cuts(paths, asked.high)
+        revisions = falling(cuts, asked.low, asked.high)
+        # With several ranges, the limit of the later ones may be below 0: then they have one revision each.
+        most = max(asked.limit, 1) if asked.limit else len(revisions)
+        revisions = revisions[:most] if asked.is_falling else revisions[::-1][:most]
+        merged = self._merged(cuts, revisions)
+        for rev in revisions:
+            yield self._item(rev, rev in merged, False)
+            if rev in merged:
+                yield from self._below(merged[rev])
+
+    def _walk(self, part: Part) -> Iterator[Step]:
+        """The revisions of a part that was merged, the youngest one first."""
+        paths, low, high = self._not_searched(part)
+        if paths:
+            known(self._history, high)
+        cuts = self._cuts(paths, high)
+        revisions = falling(cuts, low, high)
+        merged = self._merged(cuts, revisions)
+        for rev in revisions:
+            if self._is_sent(rev):
+                yield self._item(rev, rev in merged, part.is_reverse)
+            else:
+                self._left_out.append(rev)
+            if rev in merged:
+                yield from self._below(merged[rev])
+
+    def _item(self, rev: int, has_merges: bool, is_reverse: bool) -> Item:
+        left_out = tuple(self._left_out)
+        self._left_out.clear()
+        return Item(rev, has_merges, is_reverse, left_out)
+
+    def _merged(self, cuts: list[Cut], revisions: list[int]) -> dict[int, list[Part]]:
+        """What was merged in each of some revisions, if anything was. It is looked up where each path goes on before
+        the revision, but as of the revision itself."""
+        found: dict[int, list[Part]] = {}
+        for rev in revisions:
+            if rev in self._changes.revisions:
+                paths = [path for path in (cut.path_before(rev) for cut in cuts) if path is not None]
+                gained, lost = self._changes.of_paths(paths, rev)
+                if gained or lost:
+                    found[rev] = sorted(
+                        [*parts_of(gained, False), *parts_of(lost, True)], key=attrgetter("first", "last")
+                    )
+        self.traces.find((path, part.last) for each in found.values() for part in each for path in part.paths)
+        return found
+
+    def _below(self, merged: list[Part]) -> Iterator[Step]:
+        for part in reversed(merged):
+            yield part
+        yield END
+        self._left_out.clear()
+
+    def _not_searched(self, part: Part) -> tuple[Sequence[bytes], int, int]:
+        """The paths of a part that were not walked already, and the range that is left of it."""
+        low, high = part.first, part.last
+        if self._searched is None:
+            return part.paths, low, high
+        left = []
+        for path in part.paths:
+            if not self._searched.has(path, min(low, high), max(low, high)):
+                left.append(path)
+                if len(part.paths) == 1:
+                    high = self._searched.first_of(path, high)
+        for path in left:
+            self._searched.add(path, min(low, high), max(low, high))
+        return left, low, high
+
+    def _is_sent(self, rev: int) -> bool:
+        """Whether a merged revision is sent: once, and not where it changed nothing but what the targets were then."""
+        if rev in self._sent or not self._is_elsewhere(rev):
+            return False
+        self._sent.add(rev)
+        return True
+
+    def _is_elsewhere(self, rev: int) -> bool:
+        """Whether a revision changed a path that is not at or below where the targets were then."""
+        own = [path for path, intervals in self._own.items() if has(intervals, rev)]
+        return any(not any(is_at_or_below(change.path, top) for top in own) for change in self._history.changes(rev))
+
+
+def falling(cuts: list[Cut], low: int, high: int) -> list[int]:
+    """The revisions of some walks that are in a range, the youngest one first."""
+    if len(cuts) == 1:
+        return cuts[0].between(low, high)[::-1]
+    return sorted({rev for cut in cuts for rev in cut.between(low, high)}, reverse=True)
+
+
+def items_of(history: History, target: Target, below: Sequence[bytes], options: Options) -> list[Item]:
+    """The items of a log with what was merged. A limit counts each item of several ranges, ends too."""
+    walker = Walker(history, options.stops_on_copy)
+    found: list[Item] = []
+    for part in parts(history, target, below, options):
+        for walk in part.walks:
+            walker.traces.add(walk)
+        limit = options.limit - len(found) if options.limit is not None else 0
+        found += walker.items(part.paths, part.first, part.last, limit)
+        if len(found) == options.limit:
+            break
+    return found

@@ -1,0 +1,192 @@
+"""What mergeinfo gained and lost in a revision, as `svn log -g` sees it."""
+from __future__ import annotations
+
+import functools
+from collections.abc import Container, Iterator, Sequence
+from typing import NamedTuple
+
+from .changes import Place, is_at_or_below, joined, rest_below, source_of, tops_of
+from .history import History
+from .merges import Interval, Intervals, minus, united
+from .store import Record
+from .traces import Traces
+from .values import Explicit, line_of, lines_of
+
+RECENT = 64
+
+
+class Difference(NamedTuple):
+    """What mergeinfo gained, and what it lost."""
+
+    gained: Intervals
+    lost: Intervals
+
+    def add(self, other: Difference) -> None:
+        for total, more in zip(self, other):
+            for path, intervals in more.items():
+                total[path] = united([*total[path], *intervals]) if path in total else intervals
+
+
+class Line(NamedTuple):
+    """A line of a value: its revisions, and those of them that are inherited. For Subversion a range goes on where
+    revisions are no longer inherited as another one."""
+
+    path: bytes
+    whole: list[Interval]
+    inheritable: list[Interval]
+
+
+class Malformed(Exception):
+    """A value can't be read."""
+
+
+class Values:
+    """Values of `svn:mergeinfo`, of which each line is read once: those of one path have most of them in common."""
+
+    def __init__(self) -> None:
+        self._lines: dict[bytes, Line] = {}
+        # What a path has after a revision it mostly has before the next one.
+        self.whole = functools.lru_cache(RECENT)(self._whole)
+
+    def _whole(self, text: bytes) -> Intervals:
+        """What a text says, whether it is inherited or not."""
+        found: Intervals = {}
+        for line in self._of(text):
+            before = found.get(line.path)
+            found[line.path] = line.whole if before is None else united([*before, *line.whole])
+        return found
+
+    def inheritable(self, text: bytes, rest: bytes = b"") -> Intervals:
+        """What a path below that has the text inherits."""
+        found: Intervals = {}
+        for line in self._of(text):
+            if line.inheritable:
+                path = joined(line.path, rest)
+                before = found.get(path)
+                found[path] = line.inheritable if before is None else united([*before, *line.inheritable])
+        return found
+
+    def _of(self, text: bytes) -> list[Line]:
+        try:
+            return [self._lines.get(line) or self._read(line) for line in lines_of(text)]
+        except ValueError as error:
+            raise Malformed from error
+
+    def _read(self, line: bytes) -> Line:
+        path, runs = line_of(line)
+        inheritable = united([(run.lo, run.hi) for run in runs if run.inheritable])
+        others = united([(run.lo, run.hi) for run in runs if not run.inheritable])
+        found = self._lines[line] = Line(path, sorted(inheritable + others), inheritable)
+        return found
+
+
+class MergeinfoChanges:
+    """What the mergeinfo of paths gained and lost, revision by revision."""
+
+    def __init__(self, history: History, explicit: Explicit, traces: Traces) -> None:
+        self._history = history
+        self._explicit = explicit
+        self._traces = traces
+        self._values = Values()
+        self._known: dict[int, dict[bytes, Difference]] = {}
+        self._copies: dict[int, list[Record]] = {}
+
+    @property
+    def revisions(self) -> Container[int]:
+        """The revisions in which the mergeinfo of any path may have changed."""
+        return self._explicit.settings
+
+    def of_paths(self, paths: Sequence[bytes], rev: int) -> Difference:
+        """What the mergeinfo at and below some paths gained and lost in a revision that has any."""
+        found = Difference({}, {})
+        changed = self._changed(rev)
+        if changed:
+            for path in paths:
+                if path not in changed and self._traces.exists(path, rev):
+                    self._add_inherited(found, path, rev)
+            for path, difference in changed.items():
+                if any(is_at_or_below(path, top) for top in paths):
+                    found.add(difference)
+        return found
+
+    def _changed(self, rev: int) -> dict[bytes, Difference]:
+        """What each changed path gained and lost: none where any of their values is malformed."""
+        if rev not in self._known:
+            try:
+                self._known[rev] = dict(self._differences(rev, self._explicit.settings[rev]))
+            except Malformed:
+                self._known[rev] = {}
+        return self._known[rev]
+
+    def _differences(self, rev: int, paths: set[bytes]) -> Iterator[tuple[bytes, Difference]]:
+        for change in self._history.changes(rev):
+            if change.letter == "D" or change.path not in paths:
+                continue
+            base = self._base(change.path, rev) if change.letter == "M" else change.source
+            before = self._explicit.text(*base) if base is not None else None
+            now = self._explicit.text(change.path, rev)
+            if before != now:
+                for text in (before, now):
+                    self._values.whole(text or b"")
+                old = self._effective(*base) if base is not None else None
+                yield change.path, difference(old, self._effective(change.path, rev))
+
+    def _base(self, path: bytes, rev: int) -> Place:
+        """Where a path was before a revision, or what it was copied from in it."""
+        if rev not in self._copies:
+            records = self._history.records(rev, rev)
+            self._copies[rev] = [record for record in records if record.action in ("add", "replace")]
+        return source_of(self._copies[rev], path) or (path, rev - 1)
+
+    def _add_inherited(self, found: Difference, path: bytes, rev: int) -> None:
+        """Adds what a path gained and lost of what it inherits, where that is not as it was."""
+        base = self._base(path, rev)
+        if not self._traces.exists(*base):
+            return
+        before, now = self._inherited(*base), self._inherited(path, rev)
+        if before is None or before == now:
+            return
+        found.add(difference(self._effective(*base), self._effective(path, rev)))
+
+    def _effective(self, path: bytes, rev: int) -> Intervals | None:
+        """The mergeinfo that a path has or inherits, None where there is none or it is malformed."""
+        for top in tops_of(path):
+            text = self._explicit.text(top, rev)
+            if text is not None:
+                try:
+                    return (
+                        self._values.whole(text)
+                        if top == path
+                        else self._values.inheritable(text, rest_below(path, top))
+                    )
+                except Malformed:
+                    return None
+        return None
+
+    def _inherited(self, path: bytes, rev: int) -> Intervals | None:
+        """The mergeinfo of the nearest path above, as it stands there."""
+        _, *above = tops_of(path)
+        for top in above:
+            text = self._explicit.text(top, rev)
+            if text is not None:
+                try:
+                    return self._values.inheritable(text)
+                except Malformed:
+                    return None
+        return None
+
+
+def difference(old: Intervals | None, new: Intervals | None) -> Difference:
+    return Difference(left_of(new or {}, old or {}), left_of(old or {}, new or {}))
+
+
+def left_of(these: Intervals, those: Intervals) -> Intervals:
+    """What some mergeinfo has and other has not. A path that only the one has is there without revisions, too."""
+    found = {}
+    for path, intervals in these.items():
+        other = those.get(path)
+        if other != intervals:
+            rest = intervals if other is None else united(minus(intervals, other))
+            if rest or other is None:
+                found[path] = rest
+    return found
