@@ -10,7 +10,7 @@ import stat
 import sys
 import tempfile
 from collections.abc import Iterable, Iterator, Sequence
-from contextlib import ExitStack, closing, contextmanager
+from contextlib import ExitStack, closing, contextmanager, suppress
 from typing import IO, BinaryIO, NamedTuple
 
 from . import cache, repositories, strip
@@ -558,7 +558,10 @@ def held() -> Iterator[Held]:
     found = []
     for each in cache.folders(top) if top is not None else ():
         index = read_index(each.path)
-        if index is not None:
+        # Another run may take it out of the cache meanwhile.
+        with suppress(FileNotFoundError):
+            if index is None:
+                continue
             kind, place = index.kept.kind.decode("ascii", "replace"), index.kept.place
             size, used = cache.size_of(each.path), each.stat().st_mtime
             found.append(Held(kind, place, len(index.revisions) - 1, size, used))
