@@ -74,7 +74,7 @@ class Source:
     def _kept(self, entry: Entry | None) -> Store:
         found = entry.load() if entry is not None else None
         if found is None:
-            raise Failed(f"nothing is kept of {self.name}, and --offline asks nothing of it", 1)
+            raise Failed(f"nothing is kept of {self.name}", 1)
         return found
 
     def _updated(self, entry: Entry, progress: Progress) -> Store:
@@ -470,7 +470,7 @@ class Address(Asked):
             with self.advised():
                 self.root = self.now.root
         elif not self.root and is_offline:
-            raise Failed(f"nothing is kept of {name}, and --offline asks nothing of it", 1)
+            raise Failed(f"nothing is kept of {name}", 1)
         elif not self.root:
             self._now = access.look_above(url)
             self.root = self._now.root
