@@ -10,7 +10,7 @@ from dev.dumps import FILE, Dump, Revision, added
 from svnask.errors import Unreached
 from svnask.history import History
 from svnask.repositories import Access, canonical, path_below
-from tests.ask import base, served_beside_svn, grown
+from tests.ask import base, grown, served_beside_svn
 
 ALICE = ("--username", "alice", "--password", "secret")
 ASKED = base.commands(
