@@ -30,7 +30,7 @@ from .answers import (
     Where,
 )
 from .changes import Change
-from .errors import Denied, Error, Failed, Refused
+from .errors import Denied, Error, Failed, Refused, Unreached
 from .history import History
 from .store import Record, Revision
 
@@ -57,6 +57,7 @@ __all__ = [
     "Revision",
     "Segment",
     "Segments",
+    "Unreached",
     "Where",
 ]
 # Without pathlib, which takes longer to import than the whole file to read.

@@ -2,6 +2,7 @@
 from __future__ import annotations
 
 import contextlib
+import fcntl
 import os
 import re
 import shutil
@@ -12,6 +13,7 @@ from collections.abc import Iterator
 
 from .errors import Failed
 
+LOCK = "lock"
 # How the folders of runs begin. They are given up after a day, and others are where they were not used for 30.
 NEW = "new-"
 UNFINISHED, UNUSED = 86400, 30 * 86400
@@ -78,14 +80,21 @@ def make_room(kept: str) -> None:
             is_old = now - used > (UNFINISHED if is_of_run else UNUSED)
             is_of_before = not is_of_run and os.path.exists(os.path.join(each.path, "dump"))
             if is_old or is_of_before:
-                remove(each.path)
+                remove_unless_locked(each.path)
             else:
                 found.append((each.path != kept, used, each.path))
     left = limit()
     for is_other, _, path in sorted(found, key=lambda each: (each[0], -each[1])):
         left -= size_of(path)
         if left < 0 and is_other:
-            remove(path)
+            remove_unless_locked(path)
+
+
+def remove_unless_locked(path: str) -> None:
+    """Takes a folder out of the cache, unless another run changes it just now."""
+    with contextlib.suppress(OSError), open(os.path.join(path, LOCK), "ab") as file:
+        fcntl.flock(file, fcntl.LOCK_EX | fcntl.LOCK_NB)
+        remove(path)
 
 
 def size_of(path: str) -> int:

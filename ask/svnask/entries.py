@@ -18,7 +18,7 @@ from . import cache
 from .errors import Damaged
 from .store import Index, Kept, Store, index_of
 
-INDEX, LOCK = "index", "lock"
+INDEX = "index"
 # What came later is joined with the first file where it is longer than this, and than half of that.
 LEAST = 1 << 20
 BUFFER = 1 << 20
@@ -80,13 +80,13 @@ class Entry:
         for _ in range(9):
             cache.make(self.folder)
             with contextlib.suppress(FileNotFoundError):
-                return open(self.path(LOCK), "ab")
+                return open(self.path(cache.LOCK), "ab")
         raise FileNotFoundError(self.folder)
 
     def _is_lock(self, file: BinaryIO) -> bool:
         """Whether a file is still that of the lock. The folder may have been taken out of the cache."""
         try:
-            return os.path.samestat(os.stat(self.path(LOCK)), os.fstat(file.fileno()))
+            return os.path.samestat(os.stat(self.path(cache.LOCK)), os.fstat(file.fileno()))
         except FileNotFoundError:
             return False
 
@@ -106,7 +106,8 @@ class Entry:
             with open(path, "wb", BUFFER) as file:
                 yield file, Kept(self.kind, self.place, b"", generation)
         except BaseException:
-            os.unlink(path)
+            with contextlib.suppress(OSError):
+                os.unlink(path)
             raise
 
     @contextlib.contextmanager
@@ -118,7 +119,8 @@ class Entry:
                 file.truncate(length)
                 yield file
         except BaseException:
-            os.truncate(path, length)
+            with contextlib.suppress(OSError):
+                os.truncate(path, length)
             raise
 
     def commit(self, index: Index) -> Store:

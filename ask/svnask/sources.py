@@ -10,7 +10,7 @@ import stat
 import sys
 import tempfile
 from collections.abc import Iterable, Iterator, Sequence
-from contextlib import ExitStack, closing, contextmanager
+from contextlib import ExitStack, closing, contextmanager, suppress
 from typing import IO, BinaryIO, NamedTuple
 
 from . import cache, repositories, strip
@@ -74,7 +74,7 @@ class Source:
     def _kept(self, entry: Entry | None) -> Store:
         found = entry.load() if entry is not None else None
         if found is None:
-            raise Failed(f"nothing is kept of {self.name}, and --offline asks nothing of it", 1)
+            raise Failed(f"nothing is kept of {self.name}", 1)
         return found
 
     def _updated(self, entry: Entry, progress: Progress) -> Store:
@@ -470,7 +470,7 @@ class Address(Asked):
             with self.advised():
                 self.root = self.now.root
         elif not self.root and is_offline:
-            raise Failed(f"nothing is kept of {name}, and --offline asks nothing of it", 1)
+            raise Failed(f"nothing is kept of {name}", 1)
         elif not self.root:
             self._now = access.look_above(url)
             self.root = self._now.root
@@ -558,7 +558,10 @@ def held() -> Iterator[Held]:
     found = []
     for each in cache.folders(top) if top is not None else ():
         index = read_index(each.path)
-        if index is not None:
+        # Another run may take it out of the cache meanwhile.
+        with suppress(FileNotFoundError):
+            if index is None:
+                continue
             kind, place = index.kept.kind.decode("ascii", "replace"), index.kept.place
             size, used = cache.size_of(each.path), each.stat().st_mtime
             found.append(Held(kind, place, len(index.revisions) - 1, size, used))

@@ -345,7 +345,14 @@ class Kept(Case):
         kept = [os.path.basename(line.split(b"\t")[0]) for line in self.asked("sources").splitlines()]
         self.assertEqual(kept[:2], [b"copies.dump", b"repository"])
         self.assertLess(len(kept), 4)
+        entry = sources.source_of(str(made.folder)).entry()
+        assert entry is not None
         with mock.patch.dict(os.environ, SVNASK_CACHE_SIZE="1"):
+            with entry.locked():
+                self.asked(base.dump_of("copies"), "update")
+                self.asked(base.dump_of("branches"), "info", "--no-cache")
+                self.asked(base.dump_of("deep"), "info")
+                self.assertTrue(entry.is_there)
             self.asked(base.dump_of("names"), "info")
         self.assertIn(b"names.dump\tr7\t", self.asked("sources"))
         self.assertEqual(self.asked("sources").count(b"\n"), 1)

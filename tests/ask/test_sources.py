@@ -10,7 +10,7 @@ from dev.dumps import FILE, Dump, Revision, added
 from svnask.errors import Unreached
 from svnask.history import History
 from svnask.repositories import Access, canonical, path_below
-from tests.ask import base, beside_served, grown
+from tests.ask import base, grown, served_beside_svn
 
 ALICE = ("--username", "alice", "--password", "secret")
 ASKED = base.commands(
@@ -234,7 +234,7 @@ class Served(Case):
             Access().look(canonical(url))
 
     def test_svnask_prints_what_svn_prints(self) -> None:
-        self.assertEqual(list(beside_served.differences(self.folder, 1, 60)), [])
+        self.assertEqual(list(served_beside_svn.differences(self.folder, 1, 60)), [])
 
     def test_a_refusal_of_what_a_host_hides(self) -> None:
         made = self.repository()

@@ -1,6 +1,6 @@
 """Command lines as for svn, about repositories that are served and grow between them: svnask prints what svn prints.
 
-usage: tests/ask/beside-served SEED COUNT
+usage: tests/ask/served_beside_svn SEED COUNT
 
 It draws COUNT command lines, and prints those about which the two differ. A seed always draws the same. The status is 1
 if there are any.
@@ -112,7 +112,7 @@ def differences(folder: Path, seed: int, count: int) -> Iterator[str]:
 
 
 def main() -> int:
-    words = argparse.ArgumentParser(prog="tests/ask/beside_served", description=(__doc__ or "").partition("\n\n")[0])
+    words = argparse.ArgumentParser(prog="tests/ask/served_beside_svn", description=(__doc__ or "").partition("\n\n")[0])
     words.add_argument("seed", type=int, help="what the command lines are drawn by")
     words.add_argument("count", type=int, help="how many are drawn")
     given = words.parse_args()
