@@ -51,7 +51,7 @@ class Asked:
     def python(self, *words: str | Path) -> Words:
         """A script in Python with the program and the cache of this benchmark, and compiled once, as when installed."""
         python = [f"PYTHONPYCACHEPREFIX={self.setup.folder / 'compiled'}", f"PYTHONPATH={ROOT / 'ask'}"]
-        own = [f"SVNHIST={self.setup.program}", f"XDG_CACHE_HOME={self.cache}"]
+        own = [f"SVNHIST_LIVE={self.setup.live}", f"XDG_CACHE_HOME={self.cache}"]
         return ["/usr/bin/env", "-u", "PYTHONDONTWRITEBYTECODE", *python, *own, sys.executable, *words]
 
     def first_words(self) -> Words:

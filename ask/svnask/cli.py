@@ -121,8 +121,10 @@ def opened(name: str) -> BinaryIO:
 
 def lines_of(history: History, given: argparse.Namespace) -> Iterator[bytes]:
     verb = next(verb for verb in VERBS if verb.name == given.verb)
-    if verb.judges and not history.is_whole:
-        history.check()
+    if verb.judges:
+        history.begin()
+        if not history.is_whole:
+            history.check()
     if not given.json:
         yield from verb.text(history, given)
         return

@@ -4,14 +4,17 @@ from __future__ import annotations
 import os
 import stat
 import sys
+import threading
+import weakref
 from collections.abc import Callable, Iterable, Iterator
 from types import TracebackType
 from typing import BinaryIO
 
-from . import dates, engine
+from . import dates
 from .answers import A, Answer, Answers, Locate, Located, Log, Logged, Query, Segments, Where
 from .changes import Change, changes_of
-from .errors import Failed, Refused
+from .engine import Talk
+from .errors import Damaged, Failed, Refused
 from .store import Index, Record, Revision, Store, opened
 
 # The longest header that is looked for in a dump.
@@ -32,8 +35,12 @@ class History:
         self._store = store
         # The descriptor of the dump, where it is a file.
         self._file = file
-        # Whether svnhist has answered, so that it does not refuse the dump.
-        self._is_accepted = False
+        # What is asked, from the first question on, and what ends it where nobody closes the history.
+        self._lock = threading.Lock()
+        self._talk: Talk | None = None
+        self._end: Callable[[], object] | None = None
+        # Why svnhist refuses the dump, once it has.
+        self._refused: Refused | None = None
         self._revisions: dict[int, Revision] = {}
         self._changes: dict[int, list[Change]] = {}
 
@@ -89,7 +96,8 @@ class History:
         self.close()
 
     def close(self) -> None:
-        """Removes what was read, unless it is in the cache."""
+        """Ends the program that is asked, and removes what was read, unless it is in the cache."""
+        self.rest()
         self._store.close()
         if self._file is not None:
             os.close(self._file)
@@ -113,8 +121,33 @@ class History:
         """
         return self._store.head
 
+    def begin(self) -> None:
+        """Has svnhist read the dump meanwhile, since questions will follow."""
+        self._talking()
+
+    def rest(self) -> None:
+        """Ends the program that is asked. The next question starts it again."""
+        if self._end is not None:
+            self._end()
+        self._talk = self._end = None
+
+    def _talking(self) -> Talk:
+        """The talk with svnhist, a new one where there is none that goes on."""
+        if self._refused is not None:
+            raise self._refused
+        with self._lock:
+            if self._talk is None or self._talk.is_over:
+                self.rest()
+                self._talk = Talk(self._store.base, self._store.later)
+                self._end = weakref.finalize(self, self._talk.close)
+            return self._talk
+
     def ask(self, queries: Iterable[Query[A]]) -> Iterator[A]:
         """The answers to queries, in their order, while svnhist gives them. `Refused` where it refuses the dump.
+
+        svnhist reads the dump for the first question, and each later one costs what its answers cost. Others may be
+        asked between two answers. Where the rest of them is not taken, or svnhist fails, the next question has it read
+        the dump again.
 
         >>> for answer in history.ask([Log(b"trunk", 13, (3, 13)), Locate(b"none", 13, 1)]):
         ...     answer.status, answer.lines
@@ -125,14 +158,14 @@ class History:
         if not asked:
             self.check()
             return
+        talk = self._talking()
         try:
-            yield from engine.run(self._store.dump, asked)
+            yield from talk.ask(asked)
         except Refused as refused:
-            raise self._placed(refused) from refused
-        self._is_accepted = True
+            raise self._judged(refused) from refused
 
     def answers(self, queries: Iterable[Query[Answer]]) -> Answers:
-        """The answer to each of some queries, all in one run of svnhist.
+        """The answer to each of some queries, which are asked together.
 
         >>> query = Log(b"trunk", 13)
         >>> history.answers([query, query])[query].lines
@@ -157,15 +190,20 @@ class History:
         Traceback (most recent call last):
         svnask.errors.Refused: dump refused: 1 Magic at byte 0
         """
-        if not self._is_accepted:
-            # A program that prints no answer to this one is not svnhist.
-            one(self.ask([Locate(b"/", 0, 0)]))
+        talk = self._talking()
+        try:
+            youngest = talk.ready()
+        except Refused as refused:
+            raise self._judged(refused) from refused
+        if youngest != self.head:
+            raise Damaged
 
-    def _placed(self, refused: Refused) -> Refused:
-        """The refusal with the offset of the given dump, which is longer than the copy that svnhist read."""
-        if refused.unit != "byte":
-            return refused
-        return Refused(refused.number, refused.name, refused.unit, self._store.block_at(refused.place))
+    def _judged(self, refused: Refused) -> Refused:
+        """The refusal, which stays, with the offset of the given dump, which is longer than what svnhist reads."""
+        if self._refused is None:
+            place = self._store.block_at(refused.place) if refused.unit == "byte" else refused.place
+            self._refused = Refused(refused.number, refused.name, refused.unit, place)
+        return self._refused
 
     def locate(self, path: bytes, rev: int, at: int) -> Located:
         """Where a path of one revision was in another one.

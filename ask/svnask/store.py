@@ -117,6 +117,16 @@ class Store:
         self._is_kept = is_kept
         self._map: mmap.mmap | None = None
 
+    @property
+    def base(self) -> str:
+        """The path of what svnhist reads first."""
+        return self.dump
+
+    @property
+    def later(self) -> bytes:
+        """What it is given then."""
+        return b""
+
     def close(self) -> None:
         if self._map is not None:
             self._map.close()
