@@ -10,19 +10,14 @@ import tempfile
 import time
 from typing import BinaryIO
 
+from .places import folder as folder  # pylint: disable=useless-import-alias
+
 END = 1 << 16
 # How the folders in the making begin. They are given up after a day, and others are where they were not used for 30.
 NEW = "new-"
 UNFINISHED, UNUSED = 86400, 30 * 86400
 # The number of the administrator.
 ROOT = 0
-
-
-def folder() -> str | None:
-    """Where all folders are, or None where neither the environment nor the system names a place."""
-    named = os.environ.get("XDG_CACHE_HOME", "")
-    base = named if os.path.isabs(named) else os.path.join(os.path.expanduser("~"), ".cache")
-    return os.path.join(base, "svnhist") if os.path.isabs(base) else None
 
 
 def key_of(file: BinaryIO) -> str:

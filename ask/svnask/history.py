@@ -33,6 +33,7 @@ class History:
 
     def __init__(self, store: Store, file: int | None = None) -> None:
         self._store = store
+        self._state = os.stat(store.base)
         # The descriptor of the dump, where it is a file.
         self._file = file
         # What is asked, from the first question on, and what ends it where nobody closes the history.
@@ -124,6 +125,27 @@ class History:
     def begin(self) -> None:
         """Has svnhist read the dump meanwhile, since questions will follow."""
         self._talking()
+
+    def read_again(self, dump: BinaryIO, is_cached: bool = True) -> None:
+        """Goes on with the dump as it is now."""
+        store, file = opened(dump, is_cached, lambda read: None), of_file(dump)
+        if self._file is not None:
+            os.close(self._file)
+        self._file = file
+        self.take(store)
+
+    def take(self, store: Store) -> None:
+        """Goes on with another store of the same dump. Where only more came later, svnhist is given that."""
+        before, self._store = self._store, store
+        state, self._state = self._state, os.stat(store.base)
+        self._refused = None
+        self._revisions.clear()
+        self._changes.clear()
+        if self._talk is not None and is_longer(store, before) and os.path.samestat(state, self._state):
+            self._talk.grow(store.later[len(before.later) :])
+        else:
+            self.rest()
+        before.close()
 
     def rest(self) -> None:
         """Ends the program that is asked. The next question starts it again."""
@@ -310,6 +332,11 @@ class History:
         5
         """
         return dates.revision_at(dates.given(date), self.head, lambda rev: self.revision(rev).date)
+
+
+def is_longer(store: Store, before: Store) -> bool:
+    """Whether a store is one of before, to which more may have come: its files are only ever added to."""
+    return store.base == before.base and len(store.later) >= len(before.later)
 
 
 def of_file(file: BinaryIO) -> int | None:
