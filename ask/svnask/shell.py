@@ -57,7 +57,7 @@ def lines() -> Iterator[str]:
 def asked(kept: Kept, given: argparse.Namespace, line: str) -> int:
     """The status of one question."""
     try:
-        words = shlex.split(line)
+        words = shlex.split(line.rstrip("\n"))
         if words in (["help"], ["?"]):
             sys.stdout.write(HELP % ", ".join(verb.name for verb in VERBS))
         elif words:
