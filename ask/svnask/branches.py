@@ -8,9 +8,9 @@ from . import log, mergeinfo
 from .answers import Answer, Log, Logged, Mergeinfo, Query, Where
 from .changes import is_at_or_below
 from .history import History
-from .lives import PATTERNS, Life, all_lives, moved_lives
+from .lives import PATTERNS, Life, lives_in, moved_lives
 from .targets import Target
-from .values import Explicit, runs_of
+from .values import runs_of
 
 # How many revisions are looked through at first for the last change of a life, and how many times more at each further
 # look.
@@ -19,7 +19,7 @@ FIRST_WINDOW, WINDOW_GROWS = 64, 16
 
 def lives_of(history: History, patterns: Sequence[bytes]) -> list[Life]:
     """The lives of all paths that match a pattern, or of the trunk, the branches and the tags."""
-    lives = all_lives(history.records(), patterns or PATTERNS, history.head)
+    lives = lives_in(history.tree, patterns or PATTERNS, history.head)
     if not lives:
         # Nothing more will be asked, and the dump may be one that is refused.
         history.check()
@@ -143,7 +143,7 @@ class Left(NamedTuple):
 
 def unmerged(history: History, patterns: Sequence[bytes], into: Target) -> Iterator[Left]:
     """What of each branch of today is still to be merged into a target: `svn mergeinfo --show-revs eligible`."""
-    explicit = Explicit(history.records())
+    explicit = history.explicit
     sources = [
         Target(life.path, history.head)
         for life in lives_of(history, patterns or (b"/branches/*",))

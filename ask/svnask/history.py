@@ -15,7 +15,9 @@ from .answers import A, Answer, Answers, Locate, Located, Log, Logged, Query, Se
 from .changes import Change, changes_of
 from .engine import Talk
 from .errors import Damaged, Failed, Refused
+from .lives import Tree
 from .store import Index, Record, Revision, Store, opened
+from .values import Explicit
 
 # The longest header that is looked for in a dump.
 HEADER = 1 << 16
@@ -44,6 +46,10 @@ class History:
         self._refused: Refused | None = None
         self._revisions: dict[int, Revision] = {}
         self._changes: dict[int, list[Change]] = {}
+        # The records that make or unmake a path, or change its mergeinfo: few of all.
+        self._telling: list[Record] | None = None
+        self._tree: Tree | None = None
+        self._explicit: Explicit | None = None
 
     @classmethod
     def open(
@@ -141,6 +147,7 @@ class History:
         self._refused = None
         self._revisions.clear()
         self._changes.clear()
+        self._telling = self._tree = self._explicit = None
         if self._talk is not None and is_longer(store, before) and os.path.samestat(state, self._state):
             self._talk.grow(store.later[len(before.later) :])
         else:
@@ -287,6 +294,33 @@ class History:
         ('add', b'/branches/one-again', (b'/branches/one', 5))
         """
         return self._store.records(first, last)
+
+    def _told(self) -> list[Record]:
+        if self._telling is None:
+            self._telling = [each for each in self.records() if each.action != "change" or each.mergeinfo is not None]
+        return self._telling
+
+    @property
+    def tree(self) -> Tree:
+        """What was at each path of each revision. It is made once.
+
+        >>> history.tree.exists(b"/branches/one", 7), history.tree.exists(b"/branches/one", 8)
+        (True, False)
+        """
+        if self._tree is None:
+            self._tree = Tree(self._told())
+        return self._tree
+
+    @property
+    def explicit(self) -> Explicit:
+        """The values of mergeinfo of all paths. They are read once.
+
+        >>> history.explicit.text(b"/trunk", 13) is None
+        True
+        """
+        if self._explicit is None:
+            self._explicit = Explicit(self._told())
+        return self._explicit
 
     def blocks(self) -> Iterator[tuple[int, Record | None]]:
         """The offset of each block of the dump, and its record, if it has one.

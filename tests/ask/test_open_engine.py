@@ -10,7 +10,7 @@ from collections.abc import Sequence
 from pathlib import Path
 from unittest import mock
 
-from dev.dumps import Dump, Revision, added, changed, dump_of
+from dev.dumps import Dump, Revision, added, changed, dump_of, mergeinfo
 from svnask import engine
 from svnask.answers import Answer, Line, Locate, Log, Logged, Query, Where
 from svnask.errors import Denied, Failed, Refused
@@ -238,6 +238,20 @@ class OpenEngine(base.Case):
         )
         done = base.called(DUMP, "log", SVNHIST_LIVE=wrong)
         self.assertEqual(done, (70, b"", "svnhist: building the program\nsvnask: no rt\n"))
+
+
+class Growth(base.Case):
+    def test_what_is_known_of_a_dump_goes_when_it_has_changed(self) -> None:
+        dump = self.made("grows", FIRST)
+        with self.history(dump) as history:
+            self.assertEqual((history.tree.exists(b"/b", 2), history.explicit.text(b"/trunk", 3)), (False, None))
+            self.assertEqual(len(history.changes(2)), 1)
+            nodes = [added(b"b"), changed(b"trunk", mergeinfo(b"/b:1"))]
+            dump.write_bytes(FIRST + bytes(Revision(3, nodes)))
+            with open(dump, "rb") as file:
+                history.read_again(file)
+            self.assertEqual((history.tree.exists(b"/b", 3), history.explicit.text(b"/trunk", 3)), (True, b"/b:1"))
+            self.assertEqual((history.head, history.log(b"trunk", 3).revisions), (3, [3, 2, 1]))
 
 
 class Finding(FolderTest):

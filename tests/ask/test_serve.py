@@ -131,7 +131,7 @@ class Serve(base.Case):
         self.assertEqual([call.returncode for call in calls], [0] * 6)
 
     def test_output_that_nobody_reads_harms_nothing(self) -> None:
-        dump = self.made("long", dump_of([added(b"t" * 200)], *([changed(b"t" * 200)] for _ in range(3000))))
+        dump = self.made("long", dump_of([added(b"t" * 200)], *[[changed(b"t" * 200)]] * 3000))
         self.served(dump=dump)
         line = f"{sys.executable} {SVNASK} {dump} log -v / | head -c 10"
         for _ in range(2):
@@ -250,7 +250,7 @@ class Serve(base.Case):
             self.assertEqual((done.status, done.output, self.sockets()), (status, b"", []), done)
 
     def test_the_folder_of_the_cache_may_have_a_long_name(self) -> None:
-        os.environ["XDG_CACHE_HOME"] = str(self.folder.joinpath(*["long" * 20] * 3))
+        os.environ["XDG_CACHE_HOME"] = str(self.folder / "/".join(["long" * 20] * 3))
         self.served()
         self.assertTrue(self.is_asked(self.dump, "info"))
         shutil.copy(self.dump, self.folder / "copy")

@@ -9,7 +9,6 @@ from ..answers import Mergeinfo
 from ..errors import Denied, Usage
 from ..history import History, one
 from ..targets import decoded, range_of, target_of
-from ..values import Explicit
 from .base import Object, Verb
 
 
@@ -44,7 +43,7 @@ class MergeinfoVerb(Verb):
         target = target_of(history, given.target)
         source = target_of(history, given.source)
         question = mergeinfo.Question(given.show_revs, given.recursive, bounds)
-        explicit = Explicit(history.records())
+        explicit = history.explicit
         answers = history.answers(mergeinfo.queries_of(explicit, source, target, question))
         return mergeinfo.show_revs(history, explicit, answers, source, target, question)
 
