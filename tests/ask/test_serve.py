@@ -98,7 +98,8 @@ class Serve(base.Case):
 
     def test_what_is_not_for_it(self) -> None:
         self.served()
-        for words in (["-", "info"], ["--no-cache", self.dump, "info"], [self.dump, "stop", "--help"], [], ["--help"]):
+        rows: list[list[base.Word]] = [["-", "info"], ["--no-cache", self.dump, "info"], [self.dump, "stop", "-h"], []]
+        for words in rows:
             self.assertFalse(self.is_asked(*words), words)
         self.assertFalse(self.is_asked(base.dump_of("merges"), "info"))
         for name in client.SAME:
@@ -245,8 +246,9 @@ class Serve(base.Case):
 
     def test_what_can_not_be_served(self) -> None:
         faulty = self.made("faulty", self.dump.read_bytes().replace(b"Node-path: trunk\n", b"Node-path: other\n", 1))
-        for words, status in (([faulty, "serve"], 1), ([self.folder / "none", "serve"], 3), (["-", "serve"], 2)):
-            done = base.run(*words)
+        rows: list[tuple[base.Word, int]] = [(faulty, 1), (self.folder / "none", 3), ("-", 2)]
+        for dump, status in rows:
+            done = base.run(dump, "serve")
             self.assertEqual((done.status, done.output, self.sockets()), (status, b"", []), done)
 
     def test_the_folder_of_the_cache_may_have_a_long_name(self) -> None:
