@@ -33,8 +33,8 @@ def request(words: Sequence[str]) -> bytes:
     mask = os.umask(0)
     os.umask(mask)
     variables = {name: os.environ.get(name) for name in CARRIED + SAME}
-    asked = {"version": __version__, "words": words, "folder": os.getcwd(), "mask": mask, "variables": variables}
-    return json.dumps(asked).encode("ascii") + b"\n"
+    question = {"version": __version__, "words": words, "folder": os.getcwd(), "mask": mask, "variables": variables}
+    return json.dumps(question).encode("ascii") + b"\n"
 
 
 def places_of(source: str) -> Iterator[str]:
