@@ -110,6 +110,7 @@ class Packages(ProgramTest):
             "XDG_CACHE_HOME": str(self.folder / "cache"),
             "TZ": "UTC",
             "SVNHIST": None,
+            "SVNHIST_LIVE": None,
         }
         return run(words, b"log\ttrunk@10\n", environment=variables, folder=usr / "share" / "doc" / "svnhist")
 

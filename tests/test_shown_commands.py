@@ -104,7 +104,7 @@ class ShownCommands(ProgramTest):
             "TZ": "UTC",
             "HOME": str(self.folder),
             "XDG_CACHE_HOME": str(self.folder / "cache"),
-            "SVNHIST": str(root / "svnhist"),
+            "SVNHIST_LIVE": str(root / "svnhist-live"),
             "INTEROP": str(INTEROP),
             "PARALLEL_SHELL": "/bin/sh",
             "PERL_BADLANG": "0",

@@ -10,29 +10,32 @@
 
 Paths, names and messages are bytes, as in the dump. A dump that svnhist does not accept raises `Refused`.
 """
+import importlib
 import os
+from typing import TYPE_CHECKING
 
-from .answers import (
-    Answer,
-    Inherited,
-    Line,
-    Locate,
-    Located,
-    Log,
-    Logged,
-    Merge,
-    Mergeinfo,
-    Merges,
-    Pair,
-    Query,
-    Segment,
-    Segments,
-    Where,
-)
-from .changes import Change
-from .errors import Denied, Error, Failed, Refused, Unreached
-from .history import History
-from .store import Record, Revision
+if TYPE_CHECKING:
+    from .answers import (
+        Answer,
+        Inherited,
+        Line,
+        Locate,
+        Located,
+        Log,
+        Logged,
+        Merge,
+        Mergeinfo,
+        Merges,
+        Pair,
+        Query,
+        Segment,
+        Segments,
+        Where,
+    )
+    from .changes import Change
+    from .errors import Denied, Error, Failed, Refused, Unreached
+    from .history import History
+    from .store import Record, Revision
 
 __all__ = [
     "Answer",
@@ -60,6 +63,23 @@ __all__ = [
     "Unreached",
     "Where",
 ]
+# Where each name is. A module is imported when a name of it is used: a question to a server needs none.
+_MODULES = {
+    "answers": (
+        "Answer Inherited Line Locate Located Log Logged Merge Mergeinfo Merges Pair Query Segment Segments Where"
+    ),
+    "changes": "Change",
+    "errors": "Denied Error Failed Refused",
+    "history": "History",
+    "store": "Record Revision",
+}
+_PLACES = {name: module for module, names in _MODULES.items() for name in names.split()}
 # Without pathlib, which takes longer to import than the whole file to read.
 with open(os.path.join(os.path.dirname(__file__), "VERSION"), encoding="ascii") as _file:
     __version__ = _file.read().strip()
+
+
+def __getattr__(name: str) -> object:
+    if name not in _PLACES:
+        raise AttributeError(f"module {__name__!r} has no attribute {name!r}")
+    return getattr(importlib.import_module("." + _PLACES[name], __name__), name)

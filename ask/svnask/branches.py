@@ -9,10 +9,10 @@ from .answers import Answer, Log, Logged, Mergeinfo, Query, Where
 from .changes import components, is_at_or_below
 from .errors import Denied
 from .history import History
-from .lives import Life, Tree, is_plain, lives_in, moves_of, unmatched
+from .lives import Life, is_plain, lives_in, moves_of, unmatched
 from .targets import Target, decoded
 from .texts import say
-from .values import Explicit, runs_of
+from .values import runs_of
 
 # How many revisions are looked through at first for the last change of a life, and how many times more at each further
 # look.
@@ -22,12 +22,8 @@ FIRST_WINDOW, WINDOW_GROWS = 64, 16
 def lives_of(history: History, patterns: Sequence[bytes], default: bytes = b"/**") -> list[Life]:
     """The lives of all paths that match a pattern, or the default one. That no path ever matched one is an error where
     it is a path itself, since that is mostly a mistake."""
-    return lives_matching(history, Tree(history.records()), patterns, default)
-
-
-def lives_matching(history: History, tree: Tree, patterns: Sequence[bytes], default: bytes = b"/**") -> list[Life]:
-    lives = lives_in(tree, patterns or (default,), history.head)
-    missing = list(unmatched(tree, patterns, history.head))
+    lives = lives_in(history.tree, patterns or (default,), history.head)
+    missing = list(unmatched(history.tree, patterns, history.head))
     if missing or not lives:
         # Nothing more may be asked, and the dump may be one that is refused.
         history.check()
@@ -77,13 +73,12 @@ class Listed(NamedTuple):
 
 def listed(history: History, patterns: Sequence[bytes]) -> Iterator[Listed]:
     """The lives of all paths that match a pattern, or of the trunk, the branches and the tags."""
-    tree = Tree(history.records())
-    lives = lives_matching(history, tree, patterns)
+    lives = lives_of(history, patterns)
     changes = last_changes(history, lives)
     moves = moves_of(lives)
     moved = set(moves.values())
     for life in lives:
-        is_folder = life.source is None and tree.is_folder(life.path, tree.branches)
+        is_folder = life.source is None and history.tree.is_folder(life.path, history.tree.branches)
         yield Listed(life, changes[life], life in moved, moves.get(life), is_folder)
 
 
@@ -161,7 +156,7 @@ class Left(NamedTuple):
 
 def unmerged(history: History, patterns: Sequence[bytes], into: Target) -> Iterator[Left]:
     """What of each branch of today is still to be merged into a target: `svn mergeinfo --show-revs eligible`."""
-    explicit = Explicit(history.records())
+    explicit = history.explicit
     sources = [
         Target(life.path, history.head)
         for life in lives_of(history, patterns, b"/branches/**")

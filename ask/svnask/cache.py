@@ -12,6 +12,7 @@ import time
 from collections.abc import Iterator
 
 from .errors import Failed
+from .places import folder as folder  # pylint: disable=useless-import-alias
 
 LOCK = "lock"
 # How the folders of runs begin. They are given up after a day, and others are where they were not used for 30.
@@ -23,13 +24,6 @@ ROOT = 0
 MOST = 8 << 30
 SIZE = re.compile(r"([0-9]{1,12})([KMG]?)\Z", re.IGNORECASE)
 UNITS = {"": 0, "K": 10, "M": 20, "G": 30}
-
-
-def folder() -> str | None:
-    """Where all folders are, or None where neither the environment nor the system names a place."""
-    named = os.environ.get("XDG_CACHE_HOME", "")
-    base = named if os.path.isabs(named) else os.path.join(os.path.expanduser("~"), ".cache")
-    return os.path.join(base, "svnhist") if os.path.isabs(base) else None
 
 
 def limit() -> int:

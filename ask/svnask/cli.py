@@ -3,15 +3,16 @@ from __future__ import annotations
 
 import argparse
 import contextlib
+import functools
 import json
 import os
 import re
 import signal
 import sys
 import traceback
-from collections.abc import Iterable, Iterator
+from collections.abc import Iterator
 from contextlib import closing
-from typing import Any, NoReturn
+from typing import Any, Callable, NamedTuple, NoReturn
 
 from . import __version__
 from .command_line import REACHED, REACHED_ALONE, joined, ordered, split_access, with_source
@@ -22,7 +23,7 @@ from .refusals import about_record, explained
 from .sources import Address, Source, source_of
 from .texts import say
 from .verbs import VERBS
-from .verbs.base import Object, Verb
+from .verbs.base import Object, Verb, counted
 from .verbs.kept import KeptVerb
 
 # What JSON need not escape, but rules a terminal.
@@ -32,6 +33,24 @@ OF_HIDDEN = (16, 18, 19)
 HIDDEN = "a host hides from a user the paths that he may not read, and a history without them may have gaps"
 # The status where svnask itself is at fault.
 FAULT = 5
+
+
+def arguments_of_serve(below: argparse.ArgumentParser) -> None:
+    below.add_argument(
+        "--stop-after",
+        metavar="SECONDS",
+        type=counted,
+        default=3600,
+        help="end when nothing was asked for so long, 3600 if it is not given",
+    )
+
+
+# What is no question, with its help and its arguments.
+COMMANDS: dict[str, tuple[str, Callable[[argparse.ArgumentParser], None]]] = {
+    "serve": ("keep the history open for the questions of other calls", arguments_of_serve),
+    "stop": ("end what keeps the history open", lambda below: None),
+    "shell": ("ask question after question, a line each", lambda below: None),
+}
 
 
 class Parser(argparse.ArgumentParser):
@@ -44,6 +63,7 @@ class Parser(argparse.ArgumentParser):
         raise Usage(message)
 
 
+@functools.lru_cache(maxsize=None)
 def parser() -> Parser:
     made = Parser(
         prog="svnask",
@@ -64,7 +84,21 @@ def parser() -> Parser:
         for option in ("--json", "--no-cache", "--offline"):
             below.add_argument(option, action="store_true", default=argparse.SUPPRESS, help=argparse.SUPPRESS)
         verb.arguments(below)
+    for name, (about, arguments) in COMMANDS.items():
+        arguments(verbs.add_parser(name, help=about, description=about))
     return made
+
+
+def parsed(words: list[str]) -> argparse.Namespace:
+    """What a command line says. `SystemExit` where it is a call for help, which was printed."""
+    access, left = split_access(joined(words))
+    names = [*(verb.name for verb in VERBS), *COMMANDS]
+    return parser().parse_args(ordered(with_source(left, names)), argparse.Namespace(access=access))
+
+
+def source_in(given: argparse.Namespace) -> Source:
+    """The source that a command line names."""
+    return source_of(given.dump, given.access, given.offline)
 
 
 def verb_of(given: argparse.Namespace) -> Verb:
@@ -73,8 +107,10 @@ def verb_of(given: argparse.Namespace) -> Verb:
 
 def lines_of(history: History, given: argparse.Namespace) -> Iterator[bytes]:
     verb = verb_of(given)
-    if verb.judges and not history.is_whole:
-        history.check()
+    if verb.judges:
+        history.begin()
+        if not history.is_whole:
+            history.check()
     if not given.json:
         yield from verb.text(history, given)
         return
@@ -94,12 +130,12 @@ def answer(given: argparse.Namespace, source: Source) -> None:
     for _ in range(2):
         with read(given, source) as history:
             try:
-                write(lines_of(history, given), history)
+                tell(history, given, sys.stdout.buffer.write)
                 return
             except Stale:
                 history.forget()
-            except Refused as refused:
-                raise Failed(str(refused), refused.status, advice(refused, history, given.dump)) from refused
+            finally:
+                sys.stdout.buffer.flush()
     raise Failed("the cache is damaged again and again: --no-cache reads the dump anew")
 
 
@@ -112,24 +148,37 @@ class Stale(Exception):
     """What the cache has of a dump is refused or damaged, and nothing was printed."""
 
 
-def write(lines: Iterable[bytes], history: History) -> None:
+def tell(history: History, given: argparse.Namespace, write: Callable[[bytes], object]) -> None:
+    """Answers a question about a history."""
     is_begun = False
     try:
-        for line in lines:
+        for line in lines_of(history, given):
             is_begun = True
-            sys.stdout.buffer.write(line)
-        sys.stdout.buffer.flush()
+            write(line)
     except (Refused, Damaged) as error:
         if history.is_from_cache and not is_begun:
             raise Stale from error
-        raise
-    except Unsound:
-        sys.stdout.buffer.flush()
-        raise
+        raise explained_of(error, history, given.dump) from error
     except Denied:
         # A dump that is refused has no answer, not even that there is no such path or revision.
-        history.check()
+        check(history, given.dump)
         raise
+
+
+def check(history: History, dump: str) -> None:
+    try:
+        history.check()
+    except (Refused, Damaged) as error:
+        if history.is_from_cache:
+            raise Stale from error
+        raise explained_of(error, history, dump) from error
+
+
+def explained_of(error: Refused | Damaged, history: History, dump: str) -> Failed:
+    """The error, with what a refusal means."""
+    if isinstance(error, Refused):
+        return Failed(str(error), error.status, advice(error, history, dump))
+    return error
 
 
 def advice(refused: Refused, history: History, dump: str) -> list[str]:
@@ -154,66 +203,85 @@ def end_by(number: int) -> NoReturn:
     raise SystemExit(128 + number)
 
 
+class Ending(NamedTuple):
+    """How a question ends: a status, and lines for standard error."""
+
+    status: int
+    said: list[str]
+
+
+def ending_of(error: Exception) -> Ending:
+    """How a question ends that has no answer, or one that says what is wrong."""
+    if isinstance(error, Unsound):
+        return Ending(error.status, [])
+    if isinstance(error, Error):
+        return Ending(error.status, [f"svnask: {error}", *error.advice])
+    if isinstance(error, OSError):
+        return Ending(3, [f"svnask: cannot write: {error.strerror}"])
+    if isinstance(error, MemoryError):
+        return Ending(4, ["svnask: out of memory"])
+    shown = traceback.format_exception(type(error), error, error.__traceback__)
+    fault = "svnask: a fault of svnask: %s: %s. Please report it, with what it prints where SVNASK_DEBUG=1 is set"
+    said = "".join(shown).splitlines() if os.environ.get("SVNASK_DEBUG") == "1" else []
+    return Ending(FAULT, [*said, fault % (type(error).__name__, error)])
+
+
 def main(arguments: list[str] | None = None) -> int:
     for number in (signal.SIGINT, signal.SIGTERM, signal.SIGHUP):
         # What the caller has the command ignore, as nohup does, stays ignored.
         if signal.getsignal(number) != signal.SIG_IGN:
             signal.signal(number, stop)
     try:
-        call(sys.argv[1:] if arguments is None else arguments)
-    except Error as error:
-        if not isinstance(error, Unsound):
-            say(f"svnask: {error}", *error.advice)
-        return error.status
+        return call(sys.argv[1:] if arguments is None else arguments)
     except Stopped as stopped:
         end_by(stopped.args[0])
     except BrokenPipeError:
         # Like other filters it says nothing where nobody reads what it writes.
         end_by(signal.SIGPIPE)
-    except OSError as error:
-        say(f"svnask: cannot write: {error.strerror}")
-        drop_output()
-        return 3
-    except MemoryError:
-        say("svnask: out of memory")
-        return 4
     except Exception as error:  # pylint: disable=broad-exception-caught
-        if os.environ.get("SVNASK_DEBUG") == "1":
-            say(*traceback.format_exc().splitlines())
-        say(
-            "svnask: a fault of svnask: %s: %s. Please report it, with what it prints where SVNASK_DEBUG=1 is set"
-            % (type(error).__name__, error)
-        )
-        return FAULT
-    return 0
+        ending = ending_of(error)
+        say(*ending.said)
+        if isinstance(error, OSError):
+            drop_output()
+        return ending.status
 
 
-def call(arguments: list[str]) -> None:
+def call(arguments: list[str]) -> int:
     if sys.stdout is None:
         raise Failed("cannot write: the standard output is closed")
-    access, words = split_access(joined(arguments))
     try:
-        given = parser().parse_args(ordered(with_source(words, [verb.name for verb in VERBS])))
+        given = parsed(arguments)
     except SystemExit:
         # The help was printed, or the version.
         sys.stdout.flush()
-        return
+        return 0
+    if given.verb in COMMANDS:
+        return command(given)
     verb = verb_of(given)
     if isinstance(verb, KeptVerb):
-        for each in verb.act(given, access):
+        for each in verb.act(given, given.access):
             sys.stdout.buffer.write(object_line(each) if given.json else verb.line(each))
         sys.stdout.buffer.flush()
-        return
-    with closing(source_of(given.dump, access, given.offline)) as source:
+        return 0
+    with closing(source_in(given)) as source:
         answer(given, source)
+    return 0
 
 
-def run() -> NoReturn:
-    """The command, where the module is installed. Before `main` has its own handlers an interrupt ends it silently, as
-    it does the script `svnask`."""
-    if signal.getsignal(signal.SIGINT) is signal.default_int_handler:
-        signal.signal(signal.SIGINT, signal.SIG_DFL)
-    sys.exit(main())
+def command(given: argparse.Namespace) -> int:
+    """Does what is no question. Few calls need these modules."""
+    # pylint: disable=import-outside-toplevel, cyclic-import
+    if given.verb == "shell":
+        from .shell import run as shell
+
+        return shell(given)
+    from . import server
+
+    if given.verb == "stop":
+        server.stop(given.dump)
+    else:
+        server.serve(given)
+    return 0
 
 
 def drop_output() -> None:

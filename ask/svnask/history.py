@@ -3,19 +3,23 @@ from __future__ import annotations
 
 import os
 import stat
-import tempfile
+import threading
+import weakref
 from collections.abc import Callable, Iterable, Iterator
-from contextlib import closing, contextmanager
+from contextlib import closing
 from types import TracebackType
 from typing import BinaryIO
 
-from . import dates, engine
+from . import dates
 from .answers import A, Answer, Answers, Locate, Located, Log, Logged, Query, Segments, Where, is_askable
 from .changes import Change, Place, changes_of, place_of
-from .errors import Failed, Refused
+from .engine import Talk
+from .errors import Damaged, Failed, Refused
+from .lives import Tree
 from .progress import Progress, Told
 from .sources import Dump, Source, source_of
 from .store import Index, Record, Revision, Store
+from .values import Explicit
 
 # The longest header that is looked for in a dump.
 HEADER = 1 << 16
@@ -33,13 +37,22 @@ class History:
 
     def __init__(self, store: Store, file: int | None = None, source: Source = Source("")) -> None:
         self._store = store
+        self._state = os.stat(store.base)
         # The descriptor of the dump, where it is a file.
         self._file = file
         self.source = source
-        # Whether svnhist has answered, so that it does not refuse the dump.
-        self._is_accepted = False
+        # What is asked, from the first question on, and what ends it where nobody closes the history.
+        self._lock = threading.Lock()
+        self._talk: Talk | None = None
+        self._end: Callable[[], object] | None = None
+        # Why svnhist refuses the dump, once it has.
+        self._refused: Refused | None = None
         self._revisions: dict[int, Revision] = {}
         self._changes: dict[int, list[Change]] = {}
+        # The records that make or unmake a path, or change its mergeinfo: few of all.
+        self._telling: list[Record] | None = None
+        self._tree: Tree | None = None
+        self._explicit: Explicit | None = None
 
     @classmethod
     def open(
@@ -99,7 +112,8 @@ class History:
         self.close()
 
     def close(self) -> None:
-        """Removes what was read, unless it is in the cache."""
+        """Ends the program that is asked, and removes what was read, unless it is in the cache."""
+        self.rest()
         self._store.close()
         if self._file is not None:
             os.close(self._file)
@@ -123,8 +137,60 @@ class History:
         """
         return self._store.head
 
+    def begin(self) -> None:
+        """Has svnhist read the dump meanwhile, since questions will follow."""
+        self._talking()
+
+    def renew(self, source: Source, progress: Progress, is_cached: bool = True, is_offline: bool = False) -> None:
+        """Goes on with the source as it is now, by the name that it is given now."""
+        self.source = source
+        try:
+            if not is_offline and not source.is_as_kept(self._store):
+                self.take(source.store(progress, is_cached))
+                if self._file is not None:
+                    os.close(self._file)
+                self._file = of_file(source.file) if isinstance(source, Dump) else None
+        except OSError as error:
+            raise Failed(f"cannot read {source.name}, or copy what is needed of it: {error.strerror}") from error
+
+    def take(self, store: Store) -> None:
+        """Goes on with another store of the same dump. Where only more came later, svnhist is given that."""
+        before, self._store = self._store, store
+        state, self._state = self._state, os.stat(store.base)
+        self._refused = None
+        self._revisions.clear()
+        self._changes.clear()
+        self._telling = self._tree = self._explicit = None
+        is_same = os.path.samestat(state, self._state) and len(store.later) >= len(before.later)
+        if self._talk is not None and is_same:
+            self._talk.grow(store.later[len(before.later) :])
+        else:
+            self.rest()
+        before.close()
+
+    def rest(self) -> None:
+        """Ends the program that is asked. The next question starts it again."""
+        if self._end is not None:
+            self._end()
+        self._talk = self._end = None
+
+    def _talking(self) -> Talk:
+        """The talk with svnhist, a new one where there is none that goes on."""
+        if self._refused is not None:
+            raise self._refused
+        with self._lock:
+            if self._talk is None or self._talk.is_over:
+                self.rest()
+                self._talk = Talk(self._store.base, self._store.later)
+                self._end = weakref.finalize(self, self._talk.close)
+            return self._talk
+
     def ask(self, queries: Iterable[Query[A]]) -> Iterator[A]:
         """The answers to queries, in their order, while svnhist gives them. `Refused` where it refuses the dump.
+
+        svnhist reads the dump for the first question, and each later one costs what its answers cost. Others may be
+        asked between two answers. Where the rest of them is not taken, or svnhist fails, the next question has it read
+        the dump again.
 
         >>> for answer in history.ask([Log(b"trunk", 13, (3, 13)), Locate(b"none", 13, 1)]):
         ...     answer.status, answer.lines
@@ -135,15 +201,14 @@ class History:
         if not asked:
             self.check()
             return
+        talk = self._talking()
         try:
-            with whole(self._store) as dump:
-                yield from engine.run(dump, asked)
+            yield from talk.ask(asked)
         except Refused as refused:
-            raise self._placed(refused) from refused
-        self._is_accepted = True
+            raise self._judged(refused) from refused
 
     def answers(self, queries: Iterable[Query[Answer]]) -> Answers:
-        """The answer to each of some queries, all in one run of svnhist.
+        """The answer to each of some queries, which are asked together.
 
         >>> query = Log(b"trunk", 13)
         >>> history.answers([query, query])[query].lines
@@ -168,15 +233,20 @@ class History:
         Traceback (most recent call last):
         svnask.errors.Refused: dump refused: 1 Magic at byte 0
         """
-        if not self._is_accepted:
-            # A program that prints no answer to this one is not svnhist.
-            one(self.ask([Locate(b"/", 0, 0)]))
+        talk = self._talking()
+        try:
+            youngest = talk.ready()
+        except Refused as refused:
+            raise self._judged(refused) from refused
+        if youngest != self.head:
+            raise Damaged
 
-    def _placed(self, refused: Refused) -> Refused:
-        """The refusal with the offset of the given dump, which is longer than the copy that svnhist read."""
-        if refused.unit != "byte":
-            return refused
-        return Refused(refused.number, refused.name, refused.unit, self._store.block_at(refused.place))
+    def _judged(self, refused: Refused) -> Refused:
+        """The refusal, which stays, with the offset of the given dump, which is longer than what svnhist reads."""
+        if self._refused is None:
+            place = self._store.block_at(refused.place) if refused.unit == "byte" else refused.place
+            self._refused = Refused(refused.number, refused.name, refused.unit, place)
+        return self._refused
 
     def locate(self, path: bytes, rev: int, at: int) -> Located:
         """Where a path of one revision was in another one.
@@ -246,6 +316,33 @@ class History:
         """
         return self._store.records(first, last)
 
+    def _told(self) -> list[Record]:
+        if self._telling is None:
+            self._telling = [each for each in self.records() if each.action != "change" or each.mergeinfo is not None]
+        return self._telling
+
+    @property
+    def tree(self) -> Tree:
+        """What was at each path of each revision. It is made once.
+
+        >>> history.tree.exists(b"/branches/one", 7), history.tree.exists(b"/branches/one", 8)
+        (True, False)
+        """
+        if self._tree is None:
+            self._tree = Tree(self._told())
+        return self._tree
+
+    @property
+    def explicit(self) -> Explicit:
+        """The values of mergeinfo of all paths. They are read once.
+
+        >>> history.explicit.text(b"/trunk", 13) is None
+        True
+        """
+        if self._explicit is None:
+            self._explicit = Explicit(self._told())
+        return self._explicit
+
     def blocks(self) -> Iterator[tuple[int, Record | None]]:
         """The offset of each block of the dump, and its record, if it has one.
 
@@ -309,18 +406,6 @@ class History:
         5
         """
         return dates.revision_at(dates.given(date), self.head, lambda rev: self.revision(rev).date)
-
-
-@contextmanager
-def whole(store: Store) -> Iterator[str]:
-    """A stand-in until the program is given the two parts of a copy: the path of a file that has both."""
-    if not store.later:
-        yield store.base
-        return
-    with tempfile.NamedTemporaryFile(prefix="svnask-") as file:
-        store.write(file.file)
-        file.flush()
-        yield file.name
 
 
 def of_file(file: BinaryIO | None) -> int | None:

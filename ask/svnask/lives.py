@@ -232,6 +232,7 @@ def all_lives(records: Iterable[Record], patterns: Sequence[bytes], head: int) -
 
 
 def lives_in(tree: Tree, patterns: Sequence[bytes], head: int) -> list[Life]:
+    """The same, in a tree that is known."""
     paths = {path for pattern in patterns for path in tree.matching(pattern)}
     return [life for path in sorted(paths, key=components) for life in tree.lives(path, head)]
 

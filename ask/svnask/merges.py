@@ -165,7 +165,7 @@ class Asked(NamedTuple):
 
 def asked_of(history: History, lives: Iterable[Life]) -> list[Asked]:
     """All queries about what some lives gained."""
-    explicit = Explicit(history.records())
+    explicit = history.explicit
     return [Asked(life, query) for life in lives for query in queries_of(explicit, life)]
 
 

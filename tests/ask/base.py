@@ -14,8 +14,8 @@ from unittest import mock
 
 from dev import running
 from dev.dumps import Properties, revision_properties
-from dev.tree import INTEROP, SVNASK
-from svnask import cli, engine
+from dev.tree import INTEROP, SVNASK, programs
+from svnask import cli
 from svnask.history import History
 from tests.base import FolderTest, ProgramTest
 
@@ -101,7 +101,7 @@ def wait_for(is_so: Callable[[], object]) -> None:
 
 def refusal_of_engine(dump: Path) -> str:
     """What the engine itself says of a dump."""
-    done = running.run([engine.find_engine(), dump, NOTHING, "0", "1"], NOTHING)
+    done = running.run([programs().svnhist, dump, NOTHING, "0", "1"], NOTHING)
     return done.errors.decode().partition("svnhist: ")[2].strip()
 
 
@@ -131,9 +131,11 @@ class UtcTest(FolderTest):
 class Case(UtcTest, ProgramTest):
     """A test that asks the program."""
 
+    needed = ("svnhist", "svnhist_live")
+
     def setUp(self) -> None:
         super().setUp()
-        os.environ["SVNHIST"] = str(self.programs.svnhist)
+        os.environ["SVNHIST_LIVE"] = str(self.programs.svnhist_live)
 
     def script(self, name: str, *lines: str) -> str:
         """The path of a shell script."""

@@ -4,7 +4,7 @@ none, and it refuses what svnhist refuses.
 usage: tests/ask/fuzz FIRST LAST
 
 For each seed from FIRST to LAST it draws a dump and a command line, and prints what is wrong with what svnask does. A
-seed always draws the same. The status is 1 if anything was wrong. `$SVNHIST` names the program.
+seed always draws the same. The status is 1 if anything was wrong. `$SVNHIST_LIVE` names the program.
 """
 from __future__ import annotations
 
@@ -188,7 +188,7 @@ def main() -> int:
     given = words.parse_args()
     count = 0
     with tempfile.TemporaryDirectory(prefix="svnask-fuzz-") as folder:
-        os.environ.update(XDG_CACHE_HOME=os.path.join(folder, "cache"), SVNHIST=str(programs().svnhist))
+        os.environ.update(XDG_CACHE_HOME=os.path.join(folder, "cache"), SVNHIST_LIVE=str(programs().svnhist_live))
         for seed in range(given.first, given.last + 1):
             found = faults(seed, Path(folder))
             for each in found:

@@ -112,7 +112,9 @@ def differences(folder: Path, seed: int, count: int) -> Iterator[str]:
 
 
 def main() -> int:
-    words = argparse.ArgumentParser(prog="tests/ask/served_beside_svn", description=(__doc__ or "").partition("\n\n")[0])
+    words = argparse.ArgumentParser(
+        prog="tests/ask/served_beside_svn", description=(__doc__ or "").partition("\n\n")[0]
+    )
     words.add_argument("seed", type=int, help="what the command lines are drawn by")
     words.add_argument("count", type=int, help="how many are drawn")
     given = words.parse_args()

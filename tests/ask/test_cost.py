@@ -3,12 +3,10 @@ from __future__ import annotations
 
 import time
 import unittest
-from collections.abc import Iterator
 from unittest import mock
 
 from dev.dumps import added, dump_of
 from svnask import engine
-from svnask.answers import Answer, Query
 from svnask.lives import Life, moves_of
 from tests.ask import base
 
@@ -17,18 +15,11 @@ DUMP = base.dump_of("merges")
 
 class Runs(base.Case):
     def runs(self, *words: str) -> int:
-        """How often a question runs svnhist."""
-        run = engine.run
-        counted: list[int] = []
-
-        def counting(dump: str, queries: list[Query[Answer]]) -> Iterator[Answer]:
-            counted.append(len(queries))
-            return run(dump, queries)
-
-        with mock.patch.object(engine, "run", counting):
+        """How often a question runs svnhist-live."""
+        with mock.patch.object(engine, "started", wraps=engine.started) as started:
             done = base.called(DUMP, *words)
         self.assertEqual((done.status, done.said), (0, ""), words)
-        return len(counted)
+        return started.call_count
 
     def test_a_question_runs_svnhist_once(self) -> None:
         queries = self.made("queries", b"log\ttrunk@3\nlog\ttrunk@2\n")
@@ -45,9 +36,9 @@ class Runs(base.Case):
 
     def test_the_last_change_of_a_long_life_is_looked_for_in_its_end_first(self) -> None:
         dump = self.made("dump", dump_of([added(b"trunk"), added(b"tags")], *([] for _ in range(2, 200))))
-        with mock.patch.object(engine, "run", wraps=engine.run) as run:
+        with mock.patch.object(engine.Talk, "ask", autospec=True, side_effect=engine.Talk.ask) as ask:
             self.assertIn(b"changed in r1\n", base.called(dump, "branches").output)
-        self.assertEqual(run.call_count, 2)
+        self.assertEqual(ask.call_count, 2)
 
 
 class Growth(unittest.TestCase):

@@ -150,18 +150,18 @@ class ShowRevs(base.Case):
 
     def test_what_was_merged_is_what_svnhist_says(self) -> None:
         """Another answer of svnhist is another answer of svnask."""
-        run = engine.run
+        ask = engine.Talk.ask
         lines = {"merged": b"r4\nr5*", "eligible": b"r6\nr11"}
 
-        def other(dump: str, queries: list[Query[Answer]]) -> Iterator[Answer]:
-            for answer in run(dump, queries):
+        def other(talk: engine.Talk, queries: list[Query[Answer]]) -> Iterator[Answer]:
+            for answer in ask(talk, queries):
                 query = answer.query
                 yield query.answer("ok", lines[query.verb]) if isinstance(query, Pair) else answer
 
         pair = "trunk", "branches/two"
         self.assertEqual(self.shown("merges", "merged", *pair), ["r4", "r5", "r6"])
         self.assertEqual(self.shown("merges", "eligible", *pair), ["r11", "r12", "r14"])
-        with mock.patch.object(engine, "run", other):
+        with mock.patch.object(engine.Talk, "ask", other):
             self.assertEqual(self.shown("merges", "merged", *pair), ["r4", "r5"])
             self.assertEqual(self.shown("merges", "eligible", *pair), ["r11"])
 

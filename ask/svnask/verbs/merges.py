@@ -12,7 +12,6 @@ from ..log_forms import AUTHOR, DATE, MESSAGE, Wanted, printed
 from ..plain_log import PlainForm
 from ..soundness import findings
 from ..targets import decoded, encoded, known, place_of, range_of, target_of
-from ..values import Explicit
 from .base import Object, Verb, add_patterns, object_of_place, object_of_revision, patterns_of, shown
 
 # The options that need another one, in the order in which `svn` judges them.
@@ -73,7 +72,7 @@ class MergeinfoVerb(Verb):
         question = mergeinfo.Question(given.show_revs, given.depth == "infinity", bounds)
         if question.is_recursive and target.path == b"/":
             raise Denied("E195002", "-R is not taken for the root, where 'svn' fails itself")
-        explicit = Explicit(history.records())
+        explicit = history.explicit
         if source.rev > history.head and question.verb == "merged":
             # Without mergeinfo of the target `svn` does not look at the source.
             if mergeinfo.has_none(history, explicit, target, question.is_recursive):

@@ -1,0 +1,55 @@
+"""A history that stays open between questions, and is as new as its source at each of them."""
+from __future__ import annotations
+
+import argparse
+import os
+from contextlib import closing
+from types import TracebackType
+
+from . import cli
+from .history import History
+from .progress import Bar
+from .sources import Source
+
+
+def place_of(source: Source) -> str:
+    """What a source is known by: the URL of the root of a repository that is asked by its URL, or the path of a file or
+    a folder."""
+    return source.root if "://" in source.name else os.path.realpath(source.name)
+
+
+class Kept:
+    """The history of a source. It is read when it is first asked for, and read on when the source has changed."""
+
+    def __init__(self, given: argparse.Namespace) -> None:
+        with closing(cli.source_in(given)) as source:
+            self.place = place_of(source)
+        self._history: History | None = None
+
+    def __enter__(self) -> Kept:
+        return self
+
+    def __exit__(
+        self, kind: type[BaseException] | None, value: BaseException | None, trace: TracebackType | None
+    ) -> None:
+        self.forget()
+
+    def rest(self) -> None:
+        """Ends the program that is asked, also within a question."""
+        if self._history is not None:
+            self._history.rest()
+
+    def forget(self) -> None:
+        """Closes the history. It is opened again when it is asked for."""
+        if self._history is not None:
+            self._history.close()
+            self._history = None
+
+    def updated(self, given: argparse.Namespace, source: Source) -> History:
+        """The history, which is open, as its source is now."""
+        if self._history is None:
+            self._history = cli.read(given, source)
+        else:
+            with closing(Bar()) as bar:
+                self._history.renew(source, bar, not given.no_cache, given.offline)
+        return self._history

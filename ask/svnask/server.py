@@ -1,0 +1,248 @@
+"""`serve` and `stop`: a server keeps a history open, and answers the questions of other calls about it.
+
+It has a socket in the folder of the cache, which only its user can use. A call sends its arguments, and gets a status,
+lines for standard error, and an open file with what goes to standard output. Where it gets no such reply, it answers the
+question itself.
+"""
+from __future__ import annotations
+
+import argparse
+import contextlib
+import json
+import os
+import select
+import socket
+import sys
+import tempfile
+import threading
+import time
+from collections.abc import Iterator
+from contextlib import closing
+from types import TracebackType
+from typing import IO, Any
+
+from . import __version__, cli, engine, places
+from .client import CARRIED, SAME, connection_of
+from .errors import Damaged, Error, Failed
+from .kept import Kept, place_of
+from .verbs.kept import KeptVerb
+
+# How long a request may take to come, and how long it may be.
+PATIENCE, LONGEST = 10, 1 << 22
+STOP = b"stop\n"
+# How many links are followed.
+LINKS = 40
+
+
+def serve(given: argparse.Namespace) -> None:
+    """Answers questions until nobody has asked for long, or until it is told to stop."""
+    top = places.folder()
+    if given.dump == "-" or top is None:
+        raise Failed("only what is kept in a cache can be served, and no pipe", 2)
+    with Kept(given) as kept:
+        prepare(kept, given)
+        os.makedirs(top, mode=0o700, exist_ok=True)
+        with places.opened(top) as folder, Server(kept, folder) as server:
+            line = cli.object_line({"source": kept.place}) if given.json else b"serving %s\n" % os.fsencode(kept.place)
+            sys.stdout.buffer.write(line)
+            sys.stdout.buffer.flush()
+            server.run(given.stop_after)
+
+
+def prepare(kept: Kept, given: argparse.Namespace) -> None:
+    """Has the history be read. What the cache has of it is made anew where it is refused."""
+    for is_again in (False, True):
+        with closing(cli.source_in(given)) as source:
+            history = kept.updated(given, source)
+        try:
+            cli.check(history, given.dump)
+            return
+        except cli.Stale as stale:
+            history.forget()
+            kept.forget()
+            if is_again:
+                raise Damaged from stale
+
+
+def stop(dump: str) -> None:
+    """Ends the server of a dump, and waits until it has ended."""
+    connection = connection_of(dump)
+    if connection is None:
+        raise Failed(f"{dump} is not served", 1)
+    with connection:
+        connection.sendall(STOP)
+        connection.recv(1)
+
+
+def listener(folder: int, name: str) -> socket.socket:
+    """A socket in an open folder, which has no other one of this name."""
+    places.remove_left(folder, name)
+    with places.locked(folder):
+        found = socket.socket(socket.AF_UNIX)
+        mask = os.umask(0o177)
+        try:
+            found.bind(f"/proc/self/fd/{folder}/{name}")
+            found.listen()
+        except OSError as error:
+            found.close()
+            raise Failed(f"cannot serve: there is a server, or {name} is in the cache: {error.strerror}", 1) from error
+        finally:
+            os.umask(mask)
+    return found
+
+
+class Server:
+    """A socket, and the history about which is asked there."""
+
+    def __init__(self, kept: Kept, folder: int) -> None:
+        self._kept = kept
+        self._folder, self._name = folder, places.socket_name(kept.place)
+        # What those of a caller have to be, before the program has its own.
+        self._variables = {name: os.environ.get(name) for name in SAME}
+        os.environ["SVNHIST_LIVE"] = os.path.abspath(engine.find_engine())
+        # One question is answered at a time.
+        self._lock = threading.Lock()
+        self._stopping: socket.socket | None = None
+        # A byte comes here when a request has ended.
+        self._ended, self._end = socket.socketpair()
+        self._socket = listener(folder, self._name)
+
+    def __enter__(self) -> Server:
+        return self
+
+    def __exit__(
+        self, kind: type[BaseException] | None, value: BaseException | None, trace: TracebackType | None
+    ) -> None:
+        with contextlib.suppress(OSError):
+            os.unlink(self._name, dir_fd=self._folder)
+        self._socket.close()
+        self._kept.rest()
+        # A question that is not answered yet fails now, and gives the history free.
+        self._lock.acquire(timeout=PATIENCE)
+        self._kept.forget()
+        if self._stopping is not None:
+            self._stopping.close()
+
+    def run(self, stop_after: float) -> None:
+        """Takes requests until it is told to stop, or until nothing was asked for so many seconds."""
+        running, last = 0, time.monotonic()
+        while self._stopping is None:
+            left = None if running else last + stop_after - time.monotonic()
+            if left is not None and left <= 0:
+                return
+            ready, _, _ = select.select([self._socket, self._ended], [], [], left)
+            if self._ended in ready:
+                running, last = running - len(self._ended.recv(1 << 10)), time.monotonic()
+            if self._socket in ready:
+                connection, _ = self._socket.accept()
+                threading.Thread(target=self._take, args=(connection,), daemon=True).start()
+                running += 1
+
+    def _take(self, connection: socket.socket) -> None:
+        """Answers one request. What fails in the connection is the other end's."""
+        try:
+            with connection, contextlib.suppress(OSError, ValueError, LookupError, TypeError):
+                connection.settimeout(PATIENCE)
+                if places.peer_of(connection) == os.geteuid():
+                    self._answer(connection, line_from(connection))
+        finally:
+            self._end.send(b"\0")
+
+    def _answer(self, connection: socket.socket, line: bytes) -> None:
+        if line == STOP:
+            with self._lock:
+                self._stopping = connection.dup()
+            return
+        request = json.loads(line)
+        variables = request["variables"]
+        if request["version"] != __version__ or any(variables[name] != self._variables[name] for name in SAME):
+            return
+        with tempfile.TemporaryFile(dir=places.folder()) as output:
+            with self._lock, as_called(request):
+                ending = self._told(request["words"], output)
+            if ending is not None:
+                output.seek(0)
+                text = json.dumps({"status": ending.status, "said": ending.said}).encode("ascii") + b"\n"
+                sent = socket.send_fds(connection, [text], [output.fileno()])
+                connection.sendall(text[sent:])
+
+    def _told(self, words: list[str], output: IO[bytes]) -> cli.Ending | None:
+        """How a question ends. None where that is for the caller to find out: it is no question to this server, or
+        something failed."""
+        try:
+            given = cli.parsed(words)
+            if not is_for_server(given):
+                return None
+            with closing(cli.source_in(given)) as source:
+                if place_of(source) != self._kept.place:
+                    return None
+                cli.tell(self._kept.updated(given, source), given, output.write)
+            output.flush()
+        except Error as error:
+            output.flush()
+            return cli.ending_of(error) if error.status in (1, 2) else None
+        except cli.Stale:
+            self._kept.forget()
+            return None
+        except SystemExit:
+            return None
+        return cli.Ending(0, [])
+
+
+def is_for_server(given: argparse.Namespace) -> bool:
+    """Whether a call is a question that a server answers: one that names no file of the caller's own, as /dev/stdin
+    is."""
+    if given.verb in cli.COMMANDS or isinstance(cli.verb_of(given), KeptVerb) or given.no_cache:
+        return False
+    paths = [given.dump] if "://" not in given.dump else []
+    names = [name for name in (*paths, vars(given).get("queries"), vars(given).get("output")) if name]
+    others = [name for name in names if os.path.exists(name) and not os.path.isfile(name) and name != given.dump]
+    return not others and not any(map(is_of_process, names))
+
+
+def is_of_process(name: str) -> bool:
+    """Whether a name, or one that it is a link to, may mean another file in another process."""
+    for _ in range(LINKS):
+        folder = os.path.realpath(os.path.dirname(os.path.abspath(name)))
+        if folder.split("/")[1] in ("dev", "proc"):
+            return True
+        name = os.path.join(folder, os.path.basename(name))
+        if not os.path.islink(name):
+            return False
+        name = os.path.join(folder, os.readlink(name))
+    return True
+
+
+def line_from(connection: socket.socket) -> bytes:
+    """A request. `ValueError` where it is no line, or too long."""
+    text = b""
+    while not text.endswith(b"\n"):
+        piece = connection.recv(1 << 16)
+        if not piece or len(text) > LONGEST:
+            raise ValueError("no request")
+        text += piece
+    return text
+
+
+@contextlib.contextmanager
+def as_called(request: dict[str, Any]) -> Iterator[None]:
+    """Does something as the caller would: in its folder, and with its time zone and its mask of modes."""
+    kept = {name: os.environ.get(name) for name in CARRIED}
+    os.chdir(request["folder"])
+    mask = os.umask(request["mask"])
+    try:
+        set_variables({name: request["variables"][name] for name in CARRIED})
+        yield
+    finally:
+        set_variables(kept)
+        os.umask(mask)
+        os.chdir("/")
+
+
+def set_variables(variables: dict[str, str | None]) -> None:
+    for name, value in variables.items():
+        if value is None:
+            os.environ.pop(name, None)
+        else:
+            os.environ[name] = value
+    time.tzset()

@@ -1,0 +1,259 @@
+"""A server: what it answers is what a call without it prints, and where it has no whole reply, that is what counts."""
+from __future__ import annotations
+
+import json
+import os
+import shutil
+import signal
+import socket
+import subprocess
+import sys
+import threading
+import time
+from pathlib import Path
+from unittest import mock
+
+from dev import running
+from dev.dumps import Revision, added, changed, dump_of
+from dev.tree import SVNASK
+from svnask import client, places
+from tests.ask import base
+
+ANSWERED = base.commands(
+    "log -v; log -q trunk@4; show 3; mergeinfo trunk; mergeinfo --show-revs eligible -R trunk branches/two; branches; "
+    "where tags/one-1.0 4; segments trunk; contains 5; unmerged; changed-tags; graph; info; record 3; byte 400; "
+    "log --json -l 1; log nope; log --bogus; record 999; log -r BASE; log -q -r {2024-01-01T03:00}:{2024-01-05}"
+)
+
+
+class Serve(base.Case):
+    def setUp(self) -> None:
+        super().setUp()
+        self.dump = self.made("asked.dump", base.content_of("branches"))
+
+    def served(self, *words: base.Word, dump: Path | None = None) -> subprocess.Popen[bytes]:
+        """A server, which is there."""
+        server = subprocess.Popen(
+            base.command(dump or self.dump, "serve", *words), stdout=subprocess.PIPE, stderr=subprocess.PIPE
+        )
+        self.addCleanup(self.end, server)
+        assert server.stdout is not None
+        self.assertTrue(server.stdout.readline().startswith(b"serving /"), server.poll())
+        return server
+
+    def end(self, server: subprocess.Popen[bytes]) -> None:
+        """Ends a server, if it has not ended, and looks for what it left."""
+        server.terminate()
+        _, said = server.communicate(timeout=60)
+        self.assertEqual((said, self.sockets()), (b"", []))
+
+    def sockets(self) -> list[str]:
+        return [path.name for path in (self.cache / "svnhist").glob("socket-*")]
+
+    def is_asked(self, *words: base.Word) -> bool:
+        """Whether a server replies to a question."""
+        reply = client.asked([os.fspath(word) for word in words])
+        if reply is not None:
+            os.close(reply.output)
+        return reply is not None
+
+    def check_same(self, *words: base.Word, folder: Path | None = None, **variables: str) -> None:
+        """A call that a server answers prints what one without it prints."""
+        self.assertTrue(self.is_asked(self.dump, *words))
+        found = running.run(base.command(self.dump, *words), environment=variables, folder=folder)
+        alone = {**variables, "XDG_CACHE_HOME": str(self.folder / "other")}
+        self.assertEqual(found, running.run(base.command(self.dump, *words), environment=alone, folder=folder), words)
+
+    def test_answers_are_those_without_it(self) -> None:
+        self.served()
+        for words in ANSWERED:
+            self.check_same(*words)
+
+    def test_the_folder_and_the_zone_are_those_of_the_caller(self) -> None:
+        self.served()
+        folder = self.folder / "below"
+        folder.mkdir()
+        (folder / "queries").write_bytes(b"log\ttrunk@13\n")
+        with mock.patch.dict(os.environ), mock.patch.object(os, "getcwd", lambda: str(folder)):
+            self.check_same("ask", "queries", folder=folder)
+        for zone in ("UTC", "Asia/Tokyo", "EST5EDT", "XXX-3:30"):
+            self.check_same("log", "-l", "2", folder=folder, TZ=zone)
+        mask = os.umask(0o027)
+        try:
+            done = running.run(base.command("../asked.dump", "graph", "-o", "a.svg"), folder=folder)
+        finally:
+            os.umask(mask)
+        self.assertEqual((done.status, done.output, done.errors), (0, b"", b""))
+        self.assertEqual((folder / "a.svg").stat().st_mode & 0o777, 0o640)
+
+    def test_files_of_the_caller_himself_are_read_by_him(self) -> None:
+        self.served()
+        queries = self.made("queries", b"log\ttrunk@13\n")
+        (self.folder / "link").symlink_to("/dev/stdin")
+        for name in ("/dev/stdin", "/dev/fd/0", "/proc/self/fd/0", "link"):
+            self.assertFalse(self.is_asked(self.dump, "ask", self.folder / name))
+            done = running.run(base.command(self.dump, "ask", self.folder / name), queries)
+            self.assertEqual((done.status, done.output.count(b"\n")), (0, 3), done)
+            self.assertFalse(self.is_asked(self.dump, "graph", "-o", self.folder / name))
+
+    def test_what_is_not_for_it(self) -> None:
+        self.served()
+        rows: list[list[base.Word]] = [["-", "info"], ["--no-cache", self.dump, "info"], [self.dump, "stop", "-h"], []]
+        for words in rows:
+            self.assertFalse(self.is_asked(*words), words)
+        self.assertFalse(self.is_asked(base.dump_of("merges"), "info"))
+        for name in client.SAME:
+            with mock.patch.dict(os.environ, {name: "/other"}):
+                self.assertFalse(self.is_asked(self.dump, "info"))
+        for version in ("0.9", "99"):
+            with mock.patch.object(client, "__version__", version):
+                self.assertFalse(self.is_asked(self.dump, "info"))
+        self.assertTrue(self.is_asked(self.dump, "info"))
+
+    def test_a_dump_that_has_changed_is_read_again(self) -> None:
+        self.dump.write_bytes(dump_of([added(b"trunk")]))
+        self.served()
+        self.check_same("log", "-q", "trunk")
+        with open(self.dump, "ab") as file:
+            file.write(bytes(Revision(2, [changed(b"trunk")])))
+        self.check_same("log", "-q", "trunk")
+        self.assertEqual(base.run(self.dump, "log", "-q", "trunk").output.count(b"\nr"), 2)
+        self.dump.write_bytes(base.content_of("merges"))
+        for words in (["branches"], ["unmerged"], ["log", "-v", "-l", "3"]):
+            self.check_same(*words)
+        self.dump.write_bytes(self.dump.read_bytes()[:-40])
+        self.assertEqual(base.run(self.dump, "log").status, 1)
+
+    def test_many_ask_at_once(self) -> None:
+        self.served()
+        wanted = base.run(self.dump, "log", "-v").output
+        calls = [subprocess.Popen(base.command(self.dump, "log", "-v"), stdout=subprocess.PIPE) for _ in range(6)]
+        self.assertEqual({call.communicate()[0] for call in calls}, {wanted})
+        self.assertEqual([call.returncode for call in calls], [0] * 6)
+
+    def test_output_that_nobody_reads_harms_nothing(self) -> None:
+        dump = self.made("long", dump_of([added(b"t" * 200)], *[[changed(b"t" * 200)]] * 3000))
+        self.served(dump=dump)
+        line = f"{sys.executable} {SVNASK} {dump} log -v / | head -c 10"
+        for _ in range(2):
+            self.assertEqual(running.run(["sh", "-c", line]).output, b"----------")
+        with open("/dev/full", "wb") as full:
+            done = subprocess.run(base.command(dump, "log"), stdout=full, stderr=subprocess.PIPE, check=False)
+        self.assertEqual((done.returncode, done.stderr.count(b"\n")), (3, 1))
+        self.assertTrue(self.is_asked(dump, "info"))
+
+    def test_a_caller_that_is_killed_harms_nothing(self) -> None:
+        self.served()
+        for text in (b"", b"{", b"nonsense\n", b"{}\n", b"[]\n", b"7\n", b'{"version": 1, "variables": {}}\n'):
+            connection = client.connection_of(str(self.dump))
+            assert connection is not None
+            with connection:
+                connection.sendall(text)
+        for _ in range(3):
+            connection = client.connection_of(str(self.dump))
+            assert connection is not None
+            with connection:
+                connection.sendall(client.request([str(self.dump), "log"]))
+        self.assertTrue(self.is_asked(self.dump, "info"))
+
+    def test_a_server_that_is_killed_leaves_the_question_to_the_caller(self) -> None:
+        wanted = base.run(self.dump, "log")
+        server = self.served()
+        server.kill()
+        server.wait()
+        self.assertEqual(len(self.sockets()), 1)
+        self.assertEqual(base.run(self.dump, "log"), wanted)
+        self.assertEqual(self.sockets(), [])
+
+    def answering(self, reply: bytes, file: Path | None) -> None:
+        """A server in the place of another one, which takes a request and ends in the middle of its reply."""
+        top = str(self.cache / "svnhist")
+        os.makedirs(top, mode=0o700, exist_ok=True)
+        path = os.path.join(top, places.socket_name(str(self.dump)))
+        with socket.socket(socket.AF_UNIX) as listener, open(file or os.devnull, "rb") as output:
+            listener.bind(path)
+            listener.listen()
+
+            def answer() -> None:
+                connection, _ = listener.accept()
+                with connection:
+                    connection.recv(1 << 16)
+                    if reply:
+                        socket.send_fds(connection, [reply], [output.fileno()] if file else [])
+
+            thread = threading.Thread(target=answer)
+            thread.start()
+            try:
+                self.assertEqual(base.run(self.dump, "log", "-q", "trunk").output.count(b"\nr"), 3)
+            finally:
+                thread.join()
+                os.unlink(path)
+
+    def test_a_reply_that_is_cut_is_none(self) -> None:
+        whole = json.dumps({"status": 0, "said": []}).encode() + b"\n"
+        part = self.made("part", b"a part")
+        for reply, file in ((b"", None), (whole, None), (whole[:-1], part), (whole[:7], part), (b"{}\n", part)):
+            self.answering(reply, file)
+
+    def test_a_socket_of_another_user_is_not_used(self) -> None:
+        self.served()
+        with mock.patch.object(os, "geteuid", return_value=os.geteuid() + 1):
+            self.assertFalse(self.is_asked(self.dump, "info"))
+        self.assertTrue(self.is_asked(self.dump, "info"))
+
+    def test_a_file_in_the_place_of_the_socket_stays(self) -> None:
+        self.assertEqual(base.run(self.dump, "info").status, 0)
+        file = self.cache / "svnhist" / places.socket_name(str(self.dump))
+        file.write_bytes(b"precious")
+        self.assertEqual(base.run(self.dump, "info").status, 0)
+        done = base.run(self.dump, "serve")
+        self.assertEqual((done.status, done.output, done.said.count("\n")), (1, b"", 1))
+        self.assertEqual(file.read_bytes(), b"precious")
+        file.unlink()
+
+    def test_there_is_one_server_of_a_dump(self) -> None:
+        self.served()
+        done = base.run(self.dump, "serve")
+        self.assertEqual((done.status, done.output, done.said.count("\n")), (1, b"", 1))
+        self.assertTrue(self.is_asked(self.dump, "info"))
+
+    def test_it_ends_when_it_is_told_to(self) -> None:
+        server = self.served()
+        self.assertEqual(base.run(self.dump, "stop"), (0, b"", ""))
+        self.assertEqual((server.wait(10), self.sockets()), (0, []))
+        done = base.run(self.dump, "stop")
+        self.assertEqual((done.status, done.output, done.said.count("\n")), (1, b"", 1))
+        for number in (signal.SIGINT, signal.SIGTERM, signal.SIGHUP):
+            with base.signals_end():
+                server = self.served()
+            server.send_signal(number)
+            self.assertEqual((server.wait(10), self.sockets()), (-number, []))
+
+    def test_it_ends_when_nobody_asks(self) -> None:
+        server = self.served("--stop-after", "2")
+        begun = time.monotonic()
+        while time.monotonic() - begun < 3:
+            self.assertTrue(self.is_asked(self.dump, "info"))
+            time.sleep(0.3)
+        self.assertIsNone(server.poll())
+        self.assertEqual((server.wait(30), self.sockets()), (0, []))
+
+    def test_one_whose_program_is_killed_answers_again(self) -> None:
+        server = self.served()
+        (engine,) = Path(f"/proc/{server.pid}/task/{server.pid}/children").read_text("ascii").split()
+        os.kill(int(engine), signal.SIGKILL)
+        self.check_same("log", "-q", "trunk")
+
+    def test_what_can_not_be_served(self) -> None:
+        faulty = self.made("faulty", self.dump.read_bytes().replace(b"Node-path: trunk\n", b"Node-path: other\n", 1))
+        rows: list[tuple[base.Word, int]] = [(faulty, 1), (self.folder / "none", 3), ("-", 2)]
+        for dump, status in rows:
+            done = base.run(dump, "serve")
+            self.assertEqual((done.status, done.output, self.sockets()), (status, b"", []), done)
+
+    def test_the_folder_of_the_cache_may_have_a_long_name(self) -> None:
+        os.environ["XDG_CACHE_HOME"] = str(self.folder / "/".join(["long" * 20] * 3))
+        self.served()
+        self.assertTrue(self.is_asked(self.dump, "info"))
+        shutil.copy(self.dump, self.folder / "copy")
+        self.assertFalse(self.is_asked(self.folder / "copy", "info"))
