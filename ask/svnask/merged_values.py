@@ -106,7 +106,7 @@ class MergeinfoChanges:
                     self._add_inherited(found, path, rev)
             for path, more in changed.items():
                 if any(is_at_or_below(path, top) for top in paths):
-                    found.add(difference)
+                    found.add(more)
         return found
 
     def _changed(self, rev: int) -> dict[bytes, Difference]:
