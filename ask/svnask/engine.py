@@ -251,7 +251,7 @@ class Writer(threading.Thread):
         # Why the program reads no more is told by its end.
         with suppress(OSError), self._stream:
             for text in iter(self._left.get, None):
-                self._stream.write(text)
+                self._stream.write(memoryview(text))
                 self._stream.flush()
 
 

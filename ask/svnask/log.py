@@ -168,9 +168,11 @@ def parts(history: History, target: Target, below: Sequence[bytes], options: Opt
     ranges = options.ranges or [(target.rev, 0)]
     for bounds in ranges:
         known(history, max(bounds))
-    found = reached(history, target, max(max(bounds) for bounds in ranges))
+    youngest = max(max(bounds) for bounds in ranges)
+    found = reached(history, target, youngest)
     walk = Walk(found, listed(history, found))
-    path = target.path
+    start = found.at(youngest)
+    path = target.path if start is None else start.path or target.path
     for first, last in ranges:
         high = max(first, last)
         segment = found.at(high)
@@ -200,6 +202,6 @@ def walks_of(history: History, paths: Sequence[bytes], rev: int) -> list[Walk]:
     walks = []
     for place, found in traces(history, [(path, rev) for path in paths]):
         if found is None:
-            raise not_reached(history, Target(*place))
+            raise not_found(Target(*place), rev)
         walks.append(Walk(found, listed(history, found)))
     return walks

@@ -104,9 +104,9 @@ class MergeinfoChanges:
             for path in paths:
                 if path not in changed and self._traces.exists(path, rev):
                     self._add_inherited(found, path, rev)
-            for path, difference in changed.items():
+            for path, more in changed.items():
                 if any(is_at_or_below(path, top) for top in paths):
-                    found.add(difference)
+                    found.add(more)
         return found
 
     def _changed(self, rev: int) -> dict[bytes, Difference]:

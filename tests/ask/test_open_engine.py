@@ -7,6 +7,7 @@ import signal
 import subprocess
 import threading
 from collections.abc import Sequence
+from contextlib import closing
 from pathlib import Path
 from unittest import mock
 
@@ -15,6 +16,8 @@ from svnask import engine
 from svnask.answers import Answer, Line, Locate, Log, Logged, Query, Where
 from svnask.errors import Denied, Failed, Refused
 from svnask.history import History
+from svnask.progress import Progress
+from svnask.sources import source_of
 from tests.ask import base
 from tests.base import FolderTest
 
@@ -248,8 +251,8 @@ class Growth(base.Case):
             self.assertEqual(len(history.changes(2)), 1)
             nodes = [added(b"b"), changed(b"trunk", mergeinfo(b"/b:1"))]
             dump.write_bytes(FIRST + bytes(Revision(3, nodes)))
-            with open(dump, "rb") as file:
-                history.read_again(file)
+            with closing(source_of(str(dump))) as source:
+                history.renew(source, Progress())
             self.assertEqual((history.tree.exists(b"/b", 3), history.explicit.text(b"/trunk", 3)), (True, b"/b:1"))
             self.assertEqual((history.head, history.log(b"trunk", 3).revisions), (3, [3, 2, 1]))
 

@@ -1,0 +1,126 @@
+"""`log -g`, paths below a target, and `propget`. What they print stands beside that of `svn` in `test_beside_svn.py`."""
+from __future__ import annotations
+
+import json
+
+from dev.dumps import DIR, Node, added, dump_of, mergeinfo
+from svnask.merged_log import Searched, Walker
+from svnask.merged_parts import Part, hash_of, in_hash_order, parts_of
+from svnask.merges import Intervals
+from tests.ask import base
+
+
+def setting(path: bytes, value: bytes) -> Node:
+    return Node(path, b"change", DIR, properties=mergeinfo(value))
+
+
+class MergedLog(base.Case):
+    def test_ranges_are_cut_where_one_begins_or_ends(self) -> None:
+        rows: tuple[tuple[Intervals, list[tuple[int, int, list[bytes]]]], ...] = (
+            ({b"/a": [(1, 5)]}, [(1, 5, [b"/a"])]),
+            ({b"/a": [(1, 5)], b"/b": [(3, 9)]}, [(1, 2, [b"/a"]), (3, 5, [b"/a", b"/b"]), (6, 9, [b"/b"])]),
+            ({b"/a": [(1, 1), (4, 4)], b"/b": [(3, 3)]}, [(1, 1, [b"/a"]), (3, 3, [b"/b"]), (4, 4, [b"/a"])]),
+            # The fault: the first path of the list is dropped, and the other one goes on with nothing.
+            ({b"/a": [(1, 1), (4, 4)], b"/b": [(1, 1)]}, [(1, 1, [b"/a", b"/b"]), (2, 1, [b"/b"])]),
+            ({b"/a": [(1, 1)], b"/b": [(1, 1), (4, 4)]}, [(1, 1, [b"/a", b"/b"]), (4, 4, [b"/b"])]),
+            ({b"/a": [], b"/b": [(1, 1)]}, [(1, 1, [b"/b"])]),
+        )
+        for info, wanted in rows:
+            self.assertEqual(parts_of(info, False), [Part(lo, hi, tuple(paths), False) for lo, hi, paths in wanted])
+
+    def test_paths_are_in_the_order_of_a_hash_table(self) -> None:
+        self.assertEqual((hash_of(b""), hash_of(b"/"), hash_of(b"/a")), (0, 47, 1648))
+        paths = [b"/b/%d" % number for number in range(40)]
+        self.assertEqual(sorted(in_hash_order(paths)), sorted(paths))
+        self.assertEqual(in_hash_order([b"/b", b"/a"]), [b"/a", b"/b"])
+
+    def test_what_was_searched(self) -> None:
+        searched = Searched()
+        for low, high in ((5, 9), (10, 12), (2, 3)):
+            searched.add(b"/a", low, high)
+        rows = ((6, 8, True), (6, 12, True), (3, 5, False), (2, 3, True), (4, 4, False), (12, 13, False), (1, 2, False))
+        for low, high, wanted in rows:
+            self.assertEqual(searched.has(b"/a", low, high), wanted, (low, high))
+        self.assertEqual([searched.first_of(b"/a", rev) for rev in (4, 9, 11, 13)], [4, 5, 10, 13])
+        searched.add(b"/a", 3, 10)
+        self.assertEqual([searched.first_of(b"/a", rev) for rev in (3, 12)], [2, 2])
+
+    def test_objects_say_by_what_a_revision_was_merged(self) -> None:
+        done = base.called(base.dump_of("merges"), "log", "-g", "--json", "-r", "8", "branches/two")
+        found = [json.loads(line) for line in done.output.splitlines()]
+        self.assertEqual(
+            [(each["revision"], each["merged_via"], each["is_reverse"]) for each in found],
+            [(8, [], False), (5, [8], False)],
+        )
+
+    def test_merges_may_be_nested_deeply(self) -> None:
+        begin = [added(b"b"), *(added(b"b/%d" % number) for number in range(1500))]
+        steps = ([setting(b"b/%d" % rev, b"/b/%d:%d" % (rev - 1, rev))] for rev in range(2, 1500))
+        history = self.history(self.made("deep", dump_of(begin, [setting(b"b/1", b"")], *steps)))
+        walker = Walker(history, False)
+        # All at once, since each path is found only where the one before is walked.
+        walker.traces.find((b"/b/%d" % number, 1500) for number in range(1500))
+        items = list(walker.items([b"/b/1499"], history.head, 0, 0))
+        self.assertEqual(len([item for item in items if item.rev < 0]), 1498)
+
+    def test_what_svn_does_not_end_with_is_refused(self) -> None:
+        dump = self.made(
+            "own",
+            dump_of(
+                [added(b"a"), added(b"c")],
+                [setting(b"a", b"/c:1-2")],
+                [setting(b"c", b"/c:1-3")],
+                [setting(b"a", b"/c:1-3")],
+            ),
+        )
+        rows = (("-r 1:4 a", "E195002"), ("-r 4:1 a", ""))
+        for words, code in rows:
+            done = base.called(dump, "log", "-g", "-q", *words.split())
+            self.assertEqual((bool(done.status), done.said[8:15]), (bool(code), code), words)
+        above = self.made("above", dump_of([added(b"a"), added(b"c")], [setting(b"a", b"/c:1-99")]))
+        done = base.called(above, "log", "-g", "a")
+        self.assertEqual((done.status, done.output, done.said[:15]), (1, b"", "svnask: E160006"))
+
+    def test_paths_below_a_target(self) -> None:
+        # fmt: off
+        rows = (
+            ("trunk main.c", [2, 1]), ("trunk main.c lib", [5, 2, 1]), ("trunk -q lib/util.c", [1]), ("trunk@3 .", [2, 1]),
+            ("-r 3:13 branches/two main.c lib", [5, 9, 11]), ("/ trunk branches -l 2", [11, 10]),
+        )
+        # fmt: on
+        for words, wanted in rows:
+            done = base.called(base.dump_of("branches"), "log", *words.split())
+            self.assertEqual((done.status, done.said), (0, ""), words)
+            found = [int(line.split()[0][1:]) for line in done.output.splitlines() if line.startswith(b"r")]
+            self.assertEqual(found, wanted, words)
+        for words, code in (("trunk /lib", "E205000"), ("trunk file:///x", "E205000"), ("trunk none", "E160013")):
+            done = base.called(base.dump_of("branches"), "log", *words.split())
+            self.assertEqual((done.status, done.output, done.said[:15]), (1, b"", f"svnask: {code}"), words)
+
+
+class Propget(base.Case):
+    def test_values_are_printed(self) -> None:
+        one, below = b"/trunk:4-6\n", b"/branches/two/dir - /trunk/dir:4-6,14\n"
+        # fmt: off
+        rows = (
+            ("branches/two", one), ("branches/two --no-newline", one[:-1]), ("--strict branches/two", one[:-1]),
+            ("-R branches/two", b"/branches/two - " + one + below), ("-R trunk", b""),
+            ("-v branches/two", b"Properties on '/branches/two':\n  svn:mergeinfo\n    " + one),
+            ("branches/two branches/two@8", b"/branches/two - /trunk:4-6\n/branches/two - /trunk:5\n"),
+        )
+        # fmt: on
+        for words, wanted in rows:
+            done = base.called(base.dump_of("merges"), "propget", "svn:mergeinfo", *words.split())
+            self.assertEqual(done, (0, wanted, ""), words)
+
+    def test_what_has_no_answer(self) -> None:
+        # fmt: off
+        rows = (
+            ("svn:mergeinfo trunk", 1, "E200000"), ("svn:mergeinfo none", 1, "E150000"), ("svn:mergeinfo a@99", 1, "E160006"),
+            ("svn:mergeinfo -R --strict /", 1, "E205000"), ("svn:mergeinfo -v --strict /", 1, "E205002"), ("bug /", 2, "of the "),
+            ("svn:mergeinfo branches/two trunk", 1, "E200000"),
+        )
+        # fmt: on
+        for words, status, said in rows:
+            done = base.called(base.dump_of("merges"), "propget", *words.split())
+            self.assertEqual((done.status, done.output, done.said[8:15]), (status, b"", said), words)
