@@ -12,7 +12,7 @@ import time
 from collections.abc import Iterator
 
 from .errors import Failed
-from .places import folder as folder  # pylint: disable=useless-import-alias
+from .places import folder as folder  # pylint: disable=useless-import-alias,unused-import
 
 LOCK = "lock"
 # How the folders of runs begin. They are given up after a day, and others are where they were not used for 30.

@@ -14,7 +14,7 @@ from collections import deque
 from collections.abc import Iterator, Sequence
 from contextlib import suppress
 from dataclasses import dataclass, field
-from typing import IO, NamedTuple, Union
+from typing import IO, cast, NamedTuple, Union
 
 from .answers import A, Query
 from .errors import Denied, Failed, Refused
@@ -251,7 +251,7 @@ class Writer(threading.Thread):
         # Why the program reads no more is told by its end.
         with suppress(OSError), self._stream:
             for text in iter(self._left.get, None):
-                self._stream.write(memoryview(text))
+                self._stream.write(cast(bytes, text))
                 self._stream.flush()
 
 
