@@ -10,6 +10,8 @@
 
 Paths, names and messages are bytes, as in the dump. A dump that svnhist does not accept raises `Refused`.
 """
+from __future__ import annotations
+
 import importlib
 import os
 from typing import TYPE_CHECKING
@@ -69,7 +71,7 @@ _MODULES = {
         "Answer Inherited Line Locate Located Log Logged Merge Mergeinfo Merges Pair Query Segment Segments Where"
     ),
     "changes": "Change",
-    "errors": "Denied Error Failed Refused",
+    "errors": "Denied Error Failed Refused Unreached",
     "history": "History",
     "store": "Record Revision",
 }
@@ -83,3 +85,7 @@ def __getattr__(name: str) -> object:
     if name not in _PLACES:
         raise AttributeError(f"module {__name__!r} has no attribute {name!r}")
     return getattr(importlib.import_module("." + _PLACES[name], __name__), name)
+
+
+def __dir__() -> list[str]:
+    return sorted({*globals(), *__all__})

@@ -145,8 +145,10 @@ def is_askable(path: bytes) -> bool:
     return not any(letter in path for letter in SEPARATORS)
 
 
-def peg_text(path: bytes, rev: int) -> bytes:
-    """A path and its peg in a line of fields between tabs."""
+def peg_text(path: bytes | str, rev: int) -> bytes:
+    """A path and its peg in a line of fields between tabs. A string is taken as UTF-8."""
+    if isinstance(path, str):
+        path = path.encode("utf-8", "surrogateescape")
     for letter in SEPARATORS:
         if letter in path:
             raise Denied(
@@ -227,7 +229,12 @@ class Mergeinfo(PathQuery[Inherited]):
 
 @dataclass(frozen=True)
 class Pair(PathQuery[Merges]):
-    """What of a source was merged into a target (`merged`), or is still to be merged (`eligible`)."""
+    """What of a source was merged into a target (`merged`), or is still to be merged (`eligible`): the source first, then
+    the verb, then the target.
+
+    >>> Pair(b"trunk", 19, "eligible", b"branches/two", 19).line()
+    b'eligible\\ttrunk@19\\tbranches/two@19'
+    """
 
     verb: str
     target: bytes

@@ -3,6 +3,7 @@ from __future__ import annotations
 
 import argparse
 import contextlib
+import difflib
 import functools
 import json
 import os
@@ -31,6 +32,8 @@ HIGH_CONTROL = re.compile("[\x7f-\x9f]")
 # The refusals that come from records which lack others.
 OF_HIDDEN = (16, 18, 19)
 HIDDEN = "a host hides from a user the paths that he may not read, and a history without them may have gaps"
+# What the parser says of a word that is no verb.
+NO_VERB = re.compile("argument VERB: invalid choice: '(.*)' \\(choose from", re.DOTALL)
 # The status where svnask itself is at fault.
 FAULT = 5
 
@@ -60,7 +63,15 @@ class Parser(argparse.ArgumentParser):
         super().__init__(allow_abbrev=False, **settings)
 
     def error(self, message: str) -> NoReturn:
-        raise Usage(message)
+        found = NO_VERB.match(message)
+        raise Usage(about_verb(found[1]) if found else message)
+
+
+def about_verb(word: str) -> str:
+    """What is said of a word that is no verb."""
+    names = [*(verb.name for verb in VERBS), *COMMANDS]
+    near = difflib.get_close_matches(word, names, 1)
+    return f"there is no verb '{word}': " + (f"is '{near[0]}' meant?" if near else "svnask --help lists them")
 
 
 @functools.lru_cache(maxsize=None)

@@ -2,6 +2,7 @@
 it is asked."""
 from __future__ import annotations
 
+import errno
 import mmap
 import os
 import queue
@@ -14,7 +15,7 @@ from collections import deque
 from collections.abc import Iterator, Sequence
 from contextlib import suppress
 from dataclasses import dataclass, field
-from typing import IO, cast, NamedTuple, Union
+from typing import IO, NamedTuple, Union, cast
 
 from .answers import A, Query
 from .errors import Denied, Failed, Refused
@@ -64,6 +65,8 @@ def started(words: Sequence[str]) -> subprocess.Popen[bytes]:
     try:
         return subprocess.Popen(words, stdin=pipe, stdout=pipe, stderr=pipe, start_new_session=True)
     except (OSError, ValueError) as error:
+        if getattr(error, "errno", None) == errno.ENOMEM:
+            raise MemoryError from error
         raise Failed("cannot run %s: %s" % (words[0], getattr(error, "strerror", None) or error)) from error
 
 

@@ -5,10 +5,10 @@ import os
 import stat
 import threading
 import weakref
-from collections.abc import Callable, Iterable, Iterator
+from collections.abc import Callable, Iterable, Iterator, Sequence
 from contextlib import closing
-from types import TracebackType
-from typing import BinaryIO
+from types import ModuleType, TracebackType
+from typing import TYPE_CHECKING, BinaryIO
 
 from . import dates
 from .answers import A, Answer, Answers, Locate, Located, Log, Logged, Query, Segments, Where, is_askable
@@ -20,6 +20,10 @@ from .progress import Progress, Told
 from .sources import Dump, Source, source_of
 from .store import Index, Record, Revision, Store
 from .values import Explicit
+
+if TYPE_CHECKING:
+    from .branches import Holder, Left, Listed
+    from .graph import Graph
 
 # The longest header that is looked for in a dump.
 HEADER = 1 << 16
@@ -399,6 +403,42 @@ class History:
                 changes = self._changes[rev]
                 changes[at] = changes[at]._replace(kind=kinds.get(place))
 
+    def branches(self, patterns: Sequence[bytes] = ()) -> list[Listed]:
+        """The lives of all branches and tags, or of the paths that match a pattern, as the verb `branches` lists them.
+
+        >>> [each.life.path for each in history.branches([b"/tags/*"])]
+        [b'/tags/begun', b'/tags/lib', b'/tags/one-1.0']
+        """
+        return list(all_branches().listed(self, patterns))
+
+    def contains(self, rev: int, patterns: Sequence[bytes] = ()) -> list[Holder]:
+        """The branches and tags of today that have a revision, in their history or merged.
+
+        >>> history.contains(9)
+        [Holder(path=b'/branches/two', how='history')]
+        """
+        return list(all_branches().holders(self, patterns, rev))
+
+    def unmerged(self, into: bytes = b"/trunk", patterns: Sequence[bytes] = ()) -> list[Left]:
+        """What of each branch of today is still to be merged into a path of today, each revision with whether it was
+        merged in part.
+
+        >>> history.unmerged(b"/trunk", [b"/branches/two"])
+        [Left(path=b'/branches/two', revisions=[(9, False), (11, False)])]
+        """
+        return list(all_branches().unmerged(self, patterns, all_branches().Target(into, self.head)))
+
+    def graph(self, patterns: Sequence[bytes] = ()) -> Graph:
+        """The branches and tags with their copies and merges, as the verb `graph` draws them.
+
+        >>> len(history.graph().lanes)
+        8
+        """
+        # pylint: disable-next=import-outside-toplevel, cyclic-import
+        from .graph import graph_of
+
+        return graph_of(self, patterns)
+
     def revision_at(self, date: str) -> int:
         """The youngest revision at a date, in one of the forms that `svn` takes in braces.
 
@@ -406,6 +446,14 @@ class History:
         5
         """
         return dates.revision_at(dates.given(date), self.head, lambda rev: self.revision(rev).date)
+
+
+def all_branches() -> ModuleType:
+    """The module of questions about all branches, which stands on this one."""
+    # pylint: disable-next=import-outside-toplevel, cyclic-import
+    from . import branches
+
+    return branches
 
 
 def of_file(file: BinaryIO | None) -> int | None:

@@ -20,6 +20,7 @@ from .progress import Progress
 from .repositories import Access, Properties, Repository, canonical
 from .store import Index, Kept, Store, properties_of
 from .strip import Copy, Stripper
+from .texts import say
 from .window import Window
 
 DUMP, FOLDER, URL = b"dump", b"folder", b"url"
@@ -502,7 +503,11 @@ def opened(name: str, is_offline: bool) -> BinaryIO | None:
     if name == "-" and sys.stdin is None:
         raise Failed("cannot read the standard input: it is closed")
     try:
-        return sys.stdin.buffer if name == "-" else open(name, "rb")
+        if name != "-":
+            return open(name, "rb")
+        if sys.stdin.isatty():
+            say("svnask: waiting for a dump from the terminal, as 'svnadmin dump -q REPO | svnask - ..' gives one")
+        return sys.stdin.buffer
     except IsADirectoryError as error:
         raise Failed(f"{name} is a directory, and no repository") from error
     except (OSError, ValueError) as error:
