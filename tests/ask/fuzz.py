@@ -44,6 +44,8 @@ REVISIONS = (
 )
 PATTERNS = ("/branches/*", "*", "/*/*", "[", "[!a", "/tags/[a-z]*", "\udcff*", "/", "", "/trunk/*/*", "?", "**", "\t")
 # fmt: on
+# What is said beside an answer.
+UNMATCHED = re.compile(r"(svnask: no path matches '.*'\n)*")
 SHOWN = re.compile(r"svnask: [^\x00-\x1f\x7f-\x9f]+(?:\n[^\x00-\x1f\x7f-\x9f]+)*\n")
 
 
@@ -170,7 +172,7 @@ def judged(done: base.Done, verb: str, refusal: str) -> list[str]:
         wrong.append(f"status {done.status}")
     if done.status and done.output:
         wrong.append("there is output, but no answer")
-    if (SHOWN.fullmatch(done.said) is None) if done.status else bool(done.said):
+    if (SHOWN if done.status else UNMATCHED).fullmatch(done.said) is None:
         wrong.append("standard error is not as it should be")
     if refusal and verb not in ("record", "byte") and done.status != 2 and "svnask: %s" % refusal not in done.said:
         wrong.append("svnhist says: %s" % refusal)

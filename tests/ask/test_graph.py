@@ -137,9 +137,9 @@ class Graphs(base.Case):
                 self.assertLess(place.x + 0.8 * width_of(name), layout.width)
 
     def test_there_may_be_no_lane(self) -> None:
-        graph = self.graph("merges", [b"/nothing"])
+        graph = self.graph("merges", [b"/nothing*"])
         self.assertEqual((graph.lanes, graph.dots, graph.columns), ([], [], []))
-        svg = drawn(self.history(base.dump_of("merges")), [b"/nothing"])
+        svg = drawn(self.history(base.dump_of("merges")), [b"/nothing*"])
         self.assertIn("no path matches", "".join(svg.itertext()))
 
 
