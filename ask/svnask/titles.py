@@ -78,8 +78,13 @@ class Titles:
 
     def merge(self, merge: Merge) -> str:
         source, target = (self._graph.lanes[lane] for lane in (merge.source, merge.target))
-        names = name_at(source, merge.revisions[-1]), name_at(target, merge.rev)
+        names = (
+            name_at(source, merge.revisions[-1]) if merge.of is None else readable(merge.of),
+            name_at(target, merge.rev) if merge.into is None else readable(merge.into),
+        )
         text = "r%d: %s of %s into %s" % (merge.rev, listed(merge.revisions), *names)
+        if merge.is_record_only:
+            text += ", recorded as merged alone"
         if merge.is_carried:
             text += ", carried along by another merge"
         if merge.lost is not None:

@@ -12,7 +12,7 @@ from xml.etree import ElementTree
 from dev.dumps import FILE, Dump, Node, Revision, added, changed, copied, deleted, dump_of, mergeinfo
 from dev.tree import DOCS
 from svnask import picture
-from svnask.graph import MOST_OTHERS, Graph, graph_of
+from svnask.graph import MOST_OTHERS, Graph, Merge, View, graph_of
 from svnask.history import History
 from svnask.layout import Layout, shortened, width_of
 from svnask.texts import readable
@@ -23,8 +23,8 @@ SVG = "{http://www.w3.org/2000/svg}"
 PATTERNS: list[list[bytes]] = [[], [b"/*", b"/*/*"]]
 
 
-def drawn(history: History, patterns: Sequence[bytes] = ()) -> ElementTree.Element:
-    return ElementTree.fromstring(b"".join(picture.svg_of(history, graph_of(history, patterns))))
+def drawn(history: History, patterns: Sequence[bytes] = (), view: View = View()) -> ElementTree.Element:
+    return ElementTree.fromstring(b"".join(picture.svg_of(history, graph_of(history, patterns, view))))
 
 
 def titles(svg: ElementTree.Element) -> list[str]:
@@ -57,14 +57,15 @@ class Graphs(base.Case):
             [(copy.life.first, copy.lane, copy.source) for copy in graph.copies], [(17, 1, 0), (3, 2, 0), (2, 3, 0)]
         )
         self.assertEqual(
-            [(each.source, each.target, each.rev, each.revisions, each.lost) for each in graph.merges],
+            graph.merges,
             [
-                (0, 3, 7, [4, 5, 6], 18),
-                (0, 2, 8, [5], None),
-                (0, 2, 9, [6], None),
-                (3, 0, 11, [2, 7, 10], 12),
-                (0, 2, 13, [4], None),
-                (0, 1, 19, [14], None),
+                Merge(0, 3, 7, [4, 5, 6], 18, False),
+                Merge(0, 2, 8, [5], None, False),
+                Merge(0, 2, 9, [6], None, False, True),
+                Merge(3, 0, 11, [2, 7, 10], 12, False),
+                Merge(0, 2, 13, [4], None, False),
+                Merge(0, 2, 15, [14], None, False, False, b"/trunk/dir", b"/branches/two/dir"),
+                Merge(0, 1, 19, [14], None, False, True),
             ],
         )
         self.assertEqual(graph.columns, list(range(1, 20)))
@@ -137,10 +138,11 @@ class Graphs(base.Case):
                 self.assertLess(place.x + 0.8 * width_of(name), layout.width)
 
     def test_there_may_be_no_lane(self) -> None:
-        graph = self.graph("merges", [b"/nothing"])
-        self.assertEqual((graph.lanes, graph.dots, graph.columns), ([], [], []))
-        svg = drawn(self.history(base.dump_of("merges")), [b"/nothing"])
-        self.assertIn("no path matches", "".join(svg.itertext()))
+        for view in (View(), View(since=7), View(is_by_time=True)):
+            history = self.history(base.dump_of("merges"))
+            graph = graph_of(history, [b"/nothing*"], view)
+            self.assertEqual((graph.lanes, graph.dots, graph.columns), ([], [], []))
+            self.assertIn("no path matches", "".join(drawn(history, [b"/nothing*"], view).itertext()))
 
 
 class Pictures(base.Case):
@@ -264,7 +266,7 @@ class Verb(base.Case):
     def test_objects(self) -> None:
         lines = base.run(base.dump_of("merges"), "graph", "--json").output.splitlines()
         objects = [json.loads(line) for line in lines]
-        self.assertEqual([each["type"] for each in objects], ["lane"] * 4 + ["copy"] * 3 + ["merge"] * 6)
+        self.assertEqual([each["type"] for each in objects], ["lane"] * 4 + ["copy"] * 3 + ["merge"] * 7)
         self.assertEqual(
             objects[7],
             {
@@ -275,6 +277,16 @@ class Verb(base.Case):
                 "merged": [4, 5, 6],
                 "lost": 18,
                 "is_carried": False,
+                "is_record_only": False,
+                "of": None,
+                "into": None,
             },
         )
-        self.assertEqual(base.run(base.dump_of("merges"), "graph", "--json", "-o", "x").status, 2)
+        self.assertEqual([each["revision"] for each in objects[7:] if each["is_record_only"]], [9, 19])
+        self.assertEqual(
+            [(each["of"], each["into"]) for each in objects[7:] if each["revision"] == 15],
+            [("/trunk/dir", "/branches/two/dir")],
+        )
+        for words in (["-o", "x"], ["--by-time"], ["--width", "900"], ["--unfolded"]):
+            done = base.called(base.dump_of("merges"), "graph", "--json", *words)
+            self.assertEqual((done.status, done.output), (2, b""), words)
