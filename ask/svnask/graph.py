@@ -111,12 +111,14 @@ def graph_of(history: History, patterns: Sequence[bytes], view: View = View()) -
     chained = ordered(
         [Lane(chain, kind_of(chain[0]), [rev for life in chain for rev in operative[life]]) for chain in chains(lives)]
     )
-    drawn = [lane for lane in chained if is_since(lane.lives[-1], view.since)]
+    gains = [
+        gain for gain in parts.without_repeated(merges.gains_of(operative, asked, answers)) if gain.rev >= view.since
+    ]
+    drawn = list(lanes_since(chained, parts, gains, view.since))
     numbers = {life: number for number, lane in enumerate(drawn) for life in lane.lives}
     copies = list(copies_of(drawn, numbers, view.since))
-    gains = parts.without_repeated(merges.gains_of(operative, asked, answers))
     merging = Merging(history, explicit, parts, numbers)
-    merged = list(merging.merges(gain for gain in gains if gain.rev >= view.since))
+    merged = list(merging.merges(gains))
     lanes = [cut(lane, view.since) for lane in drawn]
     columns, places = columns_of(history, lanes, set(keys_of(lanes, copies, merged, view.since)), view)
     return Graph(view, lanes, copies, merged, list(dots_of(lanes, columns)), columns, places)
@@ -125,6 +127,22 @@ def graph_of(history: History, patterns: Sequence[bytes], view: View = View()) -
 def is_since(life: Life, since: int) -> bool:
     """Whether a life is there in a revision or a later one, or ends with the revision."""
     return life.is_alive or life.last + 1 >= since
+
+
+def lanes_since(lanes: list[Lane], parts: Parts, gains: Iterable[Gain], since: int) -> Iterator[Lane]:
+    """The lanes to which something happens from a revision on: a change, their end, a merge, or a copy of them."""
+    finder = Finder(life for lane in lanes for life in lane.lives)
+    used = {parts.whole(life) for gain in gains for life in (gain.source, gain.target)}
+    for lane in lanes:
+        first = lane.lives[0]
+        if first.first >= since and first.source is not None:
+            used.update(life for life in [finder.at(*first.source)] if life is not None)
+    for lane in lanes:
+        last = lane.lives[-1]
+        if is_since(last, since) and (
+            max(lane.revisions[-1:], default=since) >= since or not last.is_alive or not used.isdisjoint(lane.lives)
+        ):
+            yield lane
 
 
 def cut(lane: Lane, since: int) -> Lane:

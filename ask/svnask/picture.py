@@ -261,7 +261,7 @@ MARKS = (
     (
         "record-only",
         arrow_mark("recorded", '<path class="head open" d="M29 0 l-7 -3.5 v7 z"/>'),
-        "recorded as merged, nothing else changed",
+        "only recorded as merged",
     ),
     ("part", arrow_mark("part"), "merged from or into a path below"),
 )

@@ -84,7 +84,7 @@ class Titles:
         )
         text = "r%d: %s of %s into %s" % (merge.rev, listed(merge.revisions), *names)
         if merge.is_record_only:
-            text += ", recorded as merged alone"
+            text += ", only recorded as merged"
         if merge.is_carried:
             text += ", carried along by another merge"
         if merge.lost is not None:

@@ -181,7 +181,7 @@ class Pictures(base.Case):
             ]
         )
         found = titles(drawn(self.history(self.made("dump", bytes(dump))), [b"/trunk", b"/b/*"]))
-        self.assertIn("r4: r2 of /b/a<b>&\"'\\xff\u202e\\uffff]]> into /trunk", found)
+        self.assertIn("r4: r2 of /b/a<b>&\"'\\xff\u202e\\uffff]]> into /trunk, only recorded as merged", found)
         self.assertTrue(any("\n<!-- &amp;\\x07\\x80 --> ]]>" in title for title in found))
         self.assertTrue(any("\nr1 | \\x1b<& | " in title for title in found))
 
