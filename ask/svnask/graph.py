@@ -262,6 +262,7 @@ class Parts:
         of it."""
         kept = [gain for gain in gains if gain.target not in self._set or gain.rev in self._set[gain.target]]
         said: dict[tuple[bytes, bytes, int], set[int]] = {}
+        carried = self._carried(kept)
         for gain in kept if self.wholes else ():
             said.setdefault((gain.source.path, gain.target.path, gain.rev), set()).update(gain.revisions)
         for gain in kept:
@@ -270,8 +271,25 @@ class Parts:
                 continue
             pairs = [(one, other) for one in tops_of(gain.source.path) for other in tops_of(gain.target.path)][1:]
             left = set(gain.revisions).difference(*(said.get((*pair, gain.rev), ()) for pair in pairs))
-            if left:
-                yield gain._replace(revisions=sorted(left))
+            along = {rev for rev in left if (self.whole(gain.source), rev) in carried.get((gain.target, gain.rev), ())}
+            for revisions, is_carried in ((left - along, gain.is_carried), (along, True)):
+                if revisions:
+                    yield gain._replace(revisions=sorted(revisions), is_carried=is_carried)
+
+    def _carried(self, gains: Iterable[Gain]) -> dict[tuple[Life, int], set[tuple[Life, int]]]:
+        """For each part and revision what the wholes of its sources had gained themselves: it came along with them."""
+        gained: dict[tuple[Life, int], list[Gain]] = {}
+        for gain in gains:
+            if gain.source not in self.wholes and gain.target not in self.wholes:
+                gained.setdefault((gain.target, gain.rev), []).append(gain)
+        found: dict[tuple[Life, int], set[tuple[Life, int]]] = {}
+        for gain in gains:
+            if gain.target in self.wholes:
+                whole = self.whole(gain.source)
+                carriers = [each for rev in gain.revisions for each in gained.get((whole, rev), ())]
+                along = {(each.source, rev) for each in carriers for rev in each.revisions}
+                found.setdefault((gain.target, gain.rev), set()).update(along)
+        return found
 
 
 def ordered(lanes: list[Lane]) -> list[Lane]:

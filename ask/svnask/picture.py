@@ -1,7 +1,7 @@
 """Draws a graph as SVG that any browser shows: no scripts, and nothing from elsewhere."""
 from __future__ import annotations
 
-from collections.abc import Iterator
+from collections.abc import Iterable, Iterator
 from html import escape
 from typing import NamedTuple
 
@@ -84,7 +84,7 @@ class Picture:
         yield from self._guides()
         yield from map(self._copy, self._graph.copies)
         yield from (self._lane(number) for number in range(len(self._graph.lanes)))
-        yield from map(self._merge, self._graph.merges)
+        yield from map(self._merge, arrows_of(self._graph.merges))
         yield from map(self._dot, self._graph.dots)
         yield from self._ends()
         yield from self._names()
@@ -166,8 +166,9 @@ class Picture:
         )
         return element(about_lane(lane), line, tail if self._layout.is_cut(number) else "")
 
-    def _merge(self, merge: Merge) -> str:
-        """An arrow, which leaves and arrives upright."""
+    def _merge(self, merges: list[Merge]) -> str:
+        """An arrow, which leaves and arrives upright, for merges between the same places."""
+        merge = merges[0]
         start = self._layout.at(merge.source, merge.revisions[-1])
         to = self._layout.at(merge.target, merge.rev)
         way = -1 if to.y < start.y else 1
@@ -179,7 +180,7 @@ class Picture:
         colour = self._colour(merge.source)
         kind = kind_of(merge) + " part" * is_of_part(merge)
         return element(
-            self._titles.merge(merge),
+            self._titles.merges(merges),
             '<path class="hit" d="%s"/>' % path,
             '<path class="arrow %s" stroke="%s" d="%s"/>' % (kind, colour, path),
             '<path class="head open" stroke="%s" d="%s"/>' % (colour, head)
@@ -235,6 +236,15 @@ def kind_of(merge: Merge) -> str:
     if merge.is_carried:
         return "carried"
     return "lost" if merge.lost is not None else "recorded" if merge.is_record_only else "merged"
+
+
+def arrows_of(merges: Iterable[Merge]) -> Iterable[list[Merge]]:
+    """The merges that are drawn as one arrow: those of paths below between the same places."""
+    found: dict[tuple[object, ...], list[Merge]] = {}
+    for merge in merges:
+        ends = merge.source, merge.revisions[-1], merge.target, merge.rev
+        found.setdefault((*ends, kind_of(merge), merge.is_record_only, is_of_part(merge)), []).append(merge)
+    return found.values()
 
 
 def is_of_part(merge: Merge) -> bool:

@@ -91,6 +91,11 @@ class Titles:
             text += f", no longer merged from r{merge.lost} on"
         return text
 
+    def merges(self, merges: list[Merge]) -> str:
+        more = len(merges) - MOST_LISTED
+        lines = [self.merge(merge) for merge in merges[:MOST_LISTED]]
+        return "\n".join(lines + [f"and {more} more"] * (more > 0))
+
     def dot(self, dot: Dot) -> str:
         """All that is told of a dot: its newest revision, and what others share it."""
         newest = dot.revisions[-1]
