@@ -100,9 +100,8 @@ class Graph(NamedTuple):
 
 def graph_of(history: History, patterns: Sequence[bytes], view: View = View()) -> Graph:
     """The graph of the lives of all paths that match a pattern."""
-    tree = Tree(history.records())
-    lives = branches.lives_matching(history, tree, patterns)
-    explicit = Explicit(history.records())
+    tree, explicit = history.tree, history.explicit
+    lives = branches.lives_of(history, patterns)
     parts = Parts(tree, explicit, Finder(lives), history.head)
     asked = [Asked(life, query) for life in lives for query in merges.queries_of(explicit, life)] + list(parts.asked())
     known = list(dict.fromkeys([*lives, *parts.wholes]))
