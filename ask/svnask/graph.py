@@ -130,18 +130,23 @@ def is_since(life: Life, since: int) -> bool:
 
 def lanes_since(lanes: list[Lane], parts: Parts, gains: Iterable[Gain], since: int) -> Iterator[Lane]:
     """The lanes to which something happens from a revision on: a change, their end, a merge, or a copy of them."""
-    finder = Finder(life for lane in lanes for life in lane.lives)
     used = {parts.whole(life) for gain in gains for life in (gain.source, gain.target)}
-    for lane in lanes:
-        first = lane.lives[0]
-        if first.first >= since and first.source is not None:
-            used.update(life for life in [finder.at(*first.source)] if life is not None)
+    used.update(copied_since(lanes, since))
     for lane in lanes:
         last = lane.lives[-1]
         if is_since(last, since) and (
             max(lane.revisions[-1:], default=since) >= since or not last.is_alive or not used.isdisjoint(lane.lives)
         ):
             yield lane
+
+
+def copied_since(lanes: list[Lane], since: int) -> Iterator[Life]:
+    """The lives of which a lane that begins with a revision or a later one is a copy."""
+    finder = Finder(life for lane in lanes for life in lane.lives)
+    for life in (lane.lives[0] for lane in lanes):
+        source = None if life.source is None or life.first < since else finder.at(*life.source)
+        if source is not None:
+            yield source
 
 
 def cut(lane: Lane, since: int) -> Lane:
@@ -256,16 +261,18 @@ class Parts:
     def whole(self, life: Life) -> Life:
         return self.wholes.get(life, life)
 
+    def is_none(self, gain: Gain) -> bool:
+        """Whether neither side of a gain is a part."""
+        return gain.source not in self.wholes and gain.target not in self.wholes
+
     def without_repeated(self, gains: Sequence[Gain]) -> Iterator[Gain]:
         """The gains, but of parts only what is not said of what they are a part of, too. What a part inherits is no gain
         of it."""
         kept = [gain for gain in gains if gain.target not in self._set or gain.rev in self._set[gain.target]]
-        said: dict[tuple[bytes, bytes, int], set[int]] = {}
+        said = said_of(kept) if self.wholes else {}
         carried = self._carried(kept)
-        for gain in kept if self.wholes else ():
-            said.setdefault((gain.source.path, gain.target.path, gain.rev), set()).update(gain.revisions)
         for gain in kept:
-            if gain.source not in self.wholes and gain.target not in self.wholes:
+            if self.is_none(gain):
                 yield gain
                 continue
             pairs = [(one, other) for one in tops_of(gain.source.path) for other in tops_of(gain.target.path)][1:]
@@ -275,12 +282,9 @@ class Parts:
                 if revisions:
                     yield gain._replace(revisions=sorted(revisions), is_carried=is_carried)
 
-    def _carried(self, gains: Iterable[Gain]) -> dict[tuple[Life, int], set[tuple[Life, int]]]:
+    def _carried(self, gains: Sequence[Gain]) -> dict[tuple[Life, int], set[tuple[Life, int]]]:
         """For each part and revision what the wholes of its sources had gained themselves: it came along with them."""
-        gained: dict[tuple[Life, int], list[Gain]] = {}
-        for gain in gains:
-            if gain.source not in self.wholes and gain.target not in self.wholes:
-                gained.setdefault((gain.target, gain.rev), []).append(gain)
+        gained = gained_of(gain for gain in gains if self.is_none(gain))
         found: dict[tuple[Life, int], set[tuple[Life, int]]] = {}
         for gain in gains:
             if gain.target in self.wholes:
@@ -289,6 +293,22 @@ class Parts:
                 along = {(each.source, rev) for each in carriers for rev in each.revisions}
                 found.setdefault((gain.target, gain.rev), set()).update(along)
         return found
+
+
+def said_of(gains: Iterable[Gain]) -> dict[tuple[bytes, bytes, int], set[int]]:
+    """What each path gained of each other one, by the revision that gained it."""
+    found: dict[tuple[bytes, bytes, int], set[int]] = {}
+    for gain in gains:
+        found.setdefault((gain.source.path, gain.target.path, gain.rev), set()).update(gain.revisions)
+    return found
+
+
+def gained_of(gains: Iterable[Gain]) -> dict[tuple[Life, int], list[Gain]]:
+    """What each revision of each target gained."""
+    found: dict[tuple[Life, int], list[Gain]] = {}
+    for gain in gains:
+        found.setdefault((gain.target, gain.rev), []).append(gain)
+    return found
 
 
 def ordered(lanes: list[Lane]) -> list[Lane]:

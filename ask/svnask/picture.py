@@ -84,7 +84,7 @@ class Picture:
         yield from self._guides()
         yield from map(self._copy, self._graph.copies)
         yield from (self._lane(number) for number in range(len(self._graph.lanes)))
-        yield from map(self._merge, arrows_of(self._graph.merges))
+        yield from map(self._merge, arrows_of(self._graph))
         yield from map(self._dot, self._graph.dots)
         yield from self._ends()
         yield from self._names()
@@ -167,7 +167,7 @@ class Picture:
         return element(about_lane(lane), line, tail if self._layout.is_cut(number) else "")
 
     def _merge(self, merges: list[Merge]) -> str:
-        """An arrow, which leaves and arrives upright, for merges between the same places."""
+        """An arrow, which leaves and arrives upright, for some merges."""
         merge = merges[0]
         start = self._layout.at(merge.source, merge.revisions[-1])
         to = self._layout.at(merge.target, merge.rev)
@@ -238,11 +238,11 @@ def kind_of(merge: Merge) -> str:
     return "lost" if merge.lost is not None else "recorded" if merge.is_record_only else "merged"
 
 
-def arrows_of(merges: Iterable[Merge]) -> Iterable[list[Merge]]:
-    """The merges that are drawn as one arrow: those of paths below between the same places."""
+def arrows_of(graph: Graph) -> Iterable[list[Merge]]:
+    """The merges that are drawn as one arrow: those that look alike, between the same places."""
     found: dict[tuple[object, ...], list[Merge]] = {}
-    for merge in merges:
-        ends = merge.source, merge.revisions[-1], merge.target, merge.rev
+    for merge in graph.merges:
+        ends = merge.source, graph.column_of(merge.revisions[-1]), merge.target, graph.column_of(merge.rev)
         found.setdefault((*ends, kind_of(merge), merge.is_record_only, is_of_part(merge)), []).append(merge)
     return found.values()
 
