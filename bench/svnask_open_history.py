@@ -16,7 +16,7 @@ from typing import Callable
 
 from bench.histories import load_into_cache
 from bench.measure import Command, best_in_turns
-from bench.parts import Measurements, Part, Setup, Table, limits_table, most
+from bench.parts import Measurements, Part, Row, Setup, Table, limits_table, most
 from bench.svnask_calls import python_words
 from dev.dumps import FILE, Node, Revision, added, changed, copied, first_lines, mergeinfo
 from dev.running import Measured
@@ -25,7 +25,13 @@ from dev.tree import SVNASK
 REVISIONS, SERVED, BRANCHES, FILES = 100000, 120000, 200, 50
 # How many queries `unmerged` asks about each branch.
 QUERIES = 6
-VERBS = {"branches": [], "contains": ["1000"], "changed-tags": ["/branches/*"], "graph": [], "unmerged": []}
+VERBS: dict[str, list[str]] = {
+    "branches": [],
+    "contains": ["1000"],
+    "changed-tags": ["/branches/*"],
+    "graph": [],
+    "unmerged": [],
+}
 
 MOST_OF_QUESTION = most(0.15, "a question to a server, seconds")
 MOST_OF_VERB = most(3.0, "seconds beyond the reading")
@@ -95,8 +101,8 @@ def run(setup: Setup) -> Measurements:
         question = partial(served.run, "log", "-q", "-l", "1", "trunk")
         reply = best_in_turns({"": question}, 2 * setup.times)[""].wall
     python = best_in_turns({"": Command(["python3", "-c", "pass"]).run}, 2 * setup.times)[""].wall
-    rows = [["reading, and `info`", reading], *([name, seconds] for name, seconds in verbs.items())]
-    rows += [["a question to a server", reply], ["`python3 -c pass`", python]]
+    rows: list[Row] = [("reading, and `info`", reading), *verbs.items()]
+    rows += [("a question to a server", reply), ("`python3 -c pass`", python)]
     yield Table("svnask-open-history", "what runs | s:.2f", rows)
     limits = [MOST_OF_VERB.of(seconds - reading, name) for name, seconds in verbs.items()]
     queries = (verbs["unmerged"] - reading) / (BRANCHES * QUERIES / 1000)
