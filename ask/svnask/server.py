@@ -123,8 +123,9 @@ class Server:
         # A question that is not answered yet fails now, and gives the history free.
         self._lock.acquire(timeout=PATIENCE)
         self._kept.forget()
-        if self._stopping is not None:
-            self._stopping.close()
+        for each in (self._ended, self._end, self._stopping):
+            if each is not None:
+                each.close()
 
     def run(self, stop_after: float) -> None:
         """Takes requests until it is told to stop, or until nothing was asked for so many seconds."""
@@ -150,7 +151,9 @@ class Server:
                 if places.peer_of(connection) == os.geteuid():
                     self._answer(connection, line_from(connection))
         finally:
-            self._end.send(b"\0")
+            # Nobody waits for it where the server ends.
+            with contextlib.suppress(OSError):
+                self._end.send(b"\0")
 
     def _answer(self, connection: socket.socket, line: bytes) -> None:
         if line == STOP:
