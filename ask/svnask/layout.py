@@ -10,7 +10,7 @@ import unicodedata
 from collections.abc import Iterator
 from typing import NamedTuple
 
-from .graph import BRANCH, TAG, TRUNK, Copy, Graph, Lane
+from .graph import BRANCH, TAG, TRUNK, Copy, Graph, Lane, newest
 from .lives import Life
 from .texts import readable
 from .titles import span_of
@@ -63,7 +63,8 @@ class Layout:
     def __init__(self, graph: Graph) -> None:
         self._graph = graph
         self._copies = {copy.lane: copy for copy in graph.copies}
-        self.step = min(max(USUAL / (len(graph.columns) or 1), NARROWEST), WIDEST)
+        usual = min(USUAL, NARROWEST * graph.view.most)
+        self.step = min(max(usual / (max(graph.places, default=0) + 1), NARROWEST), WIDEST)
         self.left = 0.0
         self._used = uses_of(graph)
         self._ends = [self._end_of(number) for number in range(len(graph.lanes))]
@@ -87,7 +88,7 @@ class Layout:
         return self.x(max(len(self._graph.columns) - 1, 0)) + RIGHT
 
     def x(self, column: int) -> float:
-        return self.left + GAP + self.step * column
+        return self.left + GAP + self.step * (self._graph.places[column] if self._graph.places else 0)
 
     def y(self, lane: int) -> float:
         return self._middles[lane]
@@ -122,8 +123,9 @@ class Layout:
 
     def _x_of_source(self, copy: Copy) -> float:
         assert copy.source is not None and copy.life.source is not None
-        first = self._graph.column_of(self._graph.lanes[copy.source].lives[0].first)
-        return self.x(max(self._graph.column_before(copy.life.source[1]), first))
+        lane = self._graph.lanes[copy.source]
+        changed = newest(lane.revisions, copy.life.source[1]) or [lane.lives[0].first]
+        return self.x(max(self._graph.column_before(copy.life.source[1]), self._graph.column_of(changed[0])))
 
     def _start_of(self, lane: int) -> float:
         return self.x(self._graph.column_of(self._graph.lanes[lane].lives[0].first))
@@ -165,7 +167,8 @@ class Layout:
         for number, lane in enumerate(self._graph.lanes):
             source = self._copies[number].source if number in self._copies else None
             above = row_of[source] if source is not None else None
-            row_of[number] = row_for(rows, above, lane.kind, self._extent(number))
+            extent = self._extent(number) if self._graph.view.is_folded else Extent(0, float("inf"))
+            row_of[number] = row_for(rows, above, lane.kind, extent)
             row_of[number].put(number, self._extent(number))
         for row in rows:
             yield row

@@ -1,13 +1,13 @@
 """Draws a graph as SVG that any browser shows: no scripts, and nothing from elsewhere."""
 from __future__ import annotations
 
-from collections.abc import Iterator
+from collections.abc import Iterable, Iterator
 from html import escape
 from typing import NamedTuple
 
 from .graph import BRANCH, TAG, TRUNK, Copy, Dot, Graph, Merge
 from .history import History
-from .layout import GAP, SMALLER, TAIL, TOP, Layout, Place, width_of
+from .layout import GAP, TAIL, TOP, Layout, Place
 from .titles import Titles, about_copy, about_end, about_lane, dated
 
 # Colours that colour-blind people tell apart, by Okabe and Ito.
@@ -24,6 +24,9 @@ text { font: 12px sans-serif; fill: #222222 }
 .arrow { stroke-width: 1.25px; stroke-opacity: 0.85 }
 .carried { stroke-dasharray: 1 3 }
 .lost { stroke-dasharray: 6 3 }
+.recorded { stroke-dasharray: 10 3 2 3 }
+.part { stroke-width: 0.9px; stroke-opacity: 0.6 }
+.open { fill: #ffffff; stroke-width: 1.25px }
 .stub, .tail { stroke-width: 2px; stroke-dasharray: 2 2 }
 .head, .dot, .end { stroke-width: 1.5px }
 .mark { stroke: #444444; fill: #444444 }
@@ -33,6 +36,8 @@ WIDTHS = {TRUNK: 4.0, BRANCH: 2.5, TAG: 1.5}
 RADIUSES = {TRUNK: 4.0, BRANCH: 4.0, TAG: 3.0}
 # How much room a revision and a date take at the top, and how far from each other dates are.
 REVISION_ROOM, DATE_ROOM, DATES_APART = 46, 66, 240
+# How high a row of the legend is, and how much room a mark takes and each letter, which no usual font needs.
+LEGEND_ROW, MARK_ROOM, LETTER_ROOM = 18, 54, 7.7
 # With more rows than this the revisions stand at the bottom, too.
 MOST_ROWS = 25
 
@@ -68,7 +73,7 @@ class Picture:
         self._layout = Layout(graph)
         self._titles = Titles(history, graph)
         coloured = [number for number, lane in enumerate(graph.lanes) if lane.kind != TRUNK]
-        self._legend = legend_of(self._kinds(), self._layout.height - 22)
+        self._legend = legend_of(self._kinds(), self._layout.width, self._layout.height - 22)
         self._colours = {lane: COLOURS[place % len(COLOURS)] for place, lane in enumerate(coloured)}
 
     def pieces(self) -> Iterator[str]:
@@ -79,7 +84,7 @@ class Picture:
         yield from self._guides()
         yield from map(self._copy, self._graph.copies)
         yield from (self._lane(number) for number in range(len(self._graph.lanes)))
-        yield from map(self._merge, self._graph.merges)
+        yield from map(self._merge, arrows_of(self._graph))
         yield from map(self._dot, self._graph.dots)
         yield from self._ends()
         yield from self._names()
@@ -90,7 +95,7 @@ class Picture:
         return self._colours.get(lane, TRUNK_COLOUR)
 
     def _front(self) -> str:
-        size = max(self._layout.width, self._legend.width), self._layout.height
+        size = max(self._layout.width, self._legend.width), self._layout.height + self._legend.height
         return (
             '<svg xmlns="http://www.w3.org/2000/svg" width="%d" height="%d" viewBox="0 0 %d %d" role="img">\n'
             '<desc>%s</desc>\n<style>%s</style>\n<rect width="100%%" height="100%%" fill="#ffffff"/>\n'
@@ -101,9 +106,9 @@ class Picture:
         lanes = self._graph.lanes
         tags = sum(lane.kind == TAG for lane in lanes)
         merged = sum(not merge.is_carried for merge in self._graph.merges)
-        counts = len(lanes) - tags, tags, self._history.head, len(self._graph.copies), merged
+        counts = len(lanes) - tags, tags, self._graph.view.since, self._history.head, len(self._graph.copies), merged
         return (
-            "%d branches and %d tags from r0 to r%d, with %d copies and %d merges. " % counts
+            "%d branches and %d tags from r%d to r%d, with %d copies and %d merges. " % counts
             + "Each line is a branch or a tag, from left to right its revisions; curves are copies, arrows are merges."
         )
 
@@ -161,8 +166,9 @@ class Picture:
         )
         return element(about_lane(lane), line, tail if self._layout.is_cut(number) else "")
 
-    def _merge(self, merge: Merge) -> str:
-        """An arrow, which leaves and arrives upright."""
+    def _merge(self, merges: list[Merge]) -> str:
+        """An arrow, which leaves and arrives upright, for some merges."""
+        merge = merges[0]
         start = self._layout.at(merge.source, merge.revisions[-1])
         to = self._layout.at(merge.target, merge.rev)
         way = -1 if to.y < start.y else 1
@@ -172,11 +178,14 @@ class Picture:
         path = "M%s C%s" % (points(*start), points(start.x, leave, to.x, tip - way * reach, to.x, tip - way * 6))
         head = "M%s l-3.5 %d h7 z" % (points(to.x, tip), -way * 7)
         colour = self._colour(merge.source)
+        kind = kind_of(merge) + " part" * is_of_part(merge)
         return element(
-            self._titles.merge(merge),
+            self._titles.merges(merges),
             '<path class="hit" d="%s"/>' % path,
-            '<path class="arrow %s" stroke="%s" d="%s"/>' % (kind_of(merge), colour, path),
-            '<path class="head" fill="%s" d="%s"/>' % (colour, head),
+            '<path class="arrow %s" stroke="%s" d="%s"/>' % (kind, colour, path),
+            '<path class="head open" stroke="%s" d="%s"/>' % (colour, head)
+            if merge.is_record_only
+            else '<path class="head" fill="%s" d="%s"/>' % (colour, head),
         )
 
     def _dot(self, dot: Dot) -> str:
@@ -215,17 +224,35 @@ class Picture:
     def _kinds(self) -> set[str]:
         """The kinds of marks that the picture has."""
         found = {kind_of(merge) for merge in self._graph.merges}
+        found.update("record-only" for merge in self._graph.merges if merge.is_record_only)
+        found.update("part" for merge in self._graph.merges if is_of_part(merge))
         found.update("cut" for number in range(len(self._graph.lanes)) if self._layout.is_cut(number))
         found.update("ended" for lane in self._graph.lanes if not lane.lives[-1].is_alive)
         return found | {"copy" for copy in self._graph.copies} | {"dot" for dot in self._graph.dots}
 
 
 def kind_of(merge: Merge) -> str:
-    return "carried" if merge.is_carried else "lost" if merge.lost is not None else "merged"
+    """How the line of an arrow looks."""
+    if merge.is_carried:
+        return "carried"
+    return "lost" if merge.lost is not None else "recorded" if merge.is_record_only else "merged"
 
 
-def arrow_mark(kind: str) -> str:
-    return '<path class="arrow %s" d="M4 0 H22"/><path class="head" stroke="none" d="M29 0 l-7 -3.5 v7 z"/>' % kind
+def arrows_of(graph: Graph) -> Iterable[list[Merge]]:
+    """The merges that are drawn as one arrow: those that look alike, between the same places."""
+    found: dict[tuple[object, ...], list[Merge]] = {}
+    for merge in graph.merges:
+        ends = merge.source, graph.column_of(merge.revisions[-1]), merge.target, graph.column_of(merge.rev)
+        found.setdefault((*ends, kind_of(merge), merge.is_record_only, is_of_part(merge)), []).append(merge)
+    return found.values()
+
+
+def is_of_part(merge: Merge) -> bool:
+    return merge.of is not None or merge.into is not None
+
+
+def arrow_mark(kind: str, head: str = '<path class="head" stroke="none" d="M29 0 l-7 -3.5 v7 z"/>') -> str:
+    return '<path class="arrow %s" d="M4 0 H22"/>%s' % (kind, head)
 
 
 # The legend: a kind of mark, how it looks, and what it means.
@@ -241,24 +268,33 @@ MARKS = (
     ("merged", arrow_mark("merged"), "merged, from the newest revision of those"),
     ("lost", arrow_mark("lost"), "merged, and taken back later"),
     ("carried", arrow_mark("carried"), "came with another merge"),
+    (
+        "record-only",
+        arrow_mark("recorded", '<path class="head open" d="M29 0 l-7 -3.5 v7 z"/>'),
+        "only recorded as merged",
+    ),
+    ("part", arrow_mark("part"), "merged from or into a path below"),
 )
 
 
 class Legend(NamedTuple):
-    """What the marks mean, and how wide that is."""
+    """What the marks mean, in rows of as many as have room, and how much room that takes."""
 
     text: str
     width: float
+    height: float
 
 
-def legend_of(kinds: set[str], y: float) -> Legend:
-    x = float(GAP)
+def legend_of(kinds: set[str], width: float, y: float) -> Legend:
+    marks = [each for each in MARKS if each[0] in kinds]
+    cell = MARK_ROOM + max((len(says) for *_, says in marks), default=0) * LETTER_ROOM
+    in_row = max(int((width - GAP) // cell), 1)
     parts: list[str] = []
-    for _, mark, says in (each for each in MARKS if each[0] in kinds):
-        parts.append('<g class="mark" transform="translate(%s)">%s</g>' % (points(x, y), mark))
-        parts.append(text(x + 34, y + 4, says, "small"))
-        x += 34 + width_of(says) * SMALLER + 20
-    return Legend("".join(parts), x)
+    for place, (_, mark, says) in enumerate(marks):
+        at = Place(GAP + place % in_row * cell, y + place // in_row * LEGEND_ROW)
+        parts.append('<g class="mark" transform="translate(%s)">%s</g>\n' % (points(*at), mark))
+        parts.append(text(at.x + 34, at.y + 4, says, "small"))
+    return Legend("".join(parts), GAP + cell * min(in_row, len(marks)), (len(marks) - 1) // in_row * LEGEND_ROW)
 
 
 def chosen(places: list[float], room: float, apart: float) -> list[int]:

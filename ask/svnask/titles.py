@@ -78,13 +78,23 @@ class Titles:
 
     def merge(self, merge: Merge) -> str:
         source, target = (self._graph.lanes[lane] for lane in (merge.source, merge.target))
-        names = name_at(source, merge.revisions[-1]), name_at(target, merge.rev)
+        names = (
+            name_at(source, merge.revisions[-1]) if merge.of is None else readable(merge.of),
+            name_at(target, merge.rev) if merge.into is None else readable(merge.into),
+        )
         text = "r%d: %s of %s into %s" % (merge.rev, listed(merge.revisions), *names)
+        if merge.is_record_only:
+            text += ", only recorded as merged"
         if merge.is_carried:
             text += ", carried along by another merge"
         if merge.lost is not None:
             text += f", no longer merged from r{merge.lost} on"
         return text
+
+    def merges(self, merges: list[Merge]) -> str:
+        more = len(merges) - MOST_LISTED
+        lines = [self.merge(merge) for merge in merges[:MOST_LISTED]]
+        return "\n".join(lines + [f"and {more} more"] * (more > 0))
 
     def dot(self, dot: Dot) -> str:
         """All that is told of a dot: its newest revision, and what others share it."""

@@ -49,7 +49,8 @@ PATTERNS = (
 SEARCHED = ("copy", "", "*", "[", "[]", "\\", "/trunk*", "\udcff", "\u6f22", "\x1b", "*" * 40 + "x", "2024-01")
 # fmt: on
 SHOWN = re.compile(r"svnask: [^\x00-\x1f\x7f-\x9f]+(?:\n[^\x00-\x1f\x7f-\x9f]+)*\n")
-NOTES = re.compile(r"(?:svnask: no path matches '[^\x00-\x1f\x7f-\x9f]+'\n)*")
+# What is said beside an answer.
+UNMATCHED = re.compile(r"(?:svnask: no path matches '[^\x00-\x1f\x7f-\x9f]+'\n)*")
 # The verbs that say nothing of whether svnhist refuses the dump.
 UNJUDGED = ("record", "byte", "update", "forget", "sources", "stop", "shell")
 # Those that may have output where the status is not 0: what was found, and answers to other lines.
@@ -148,7 +149,7 @@ def words_of(chance: random.Random, folder: Path) -> list[str]:
             ["new", *pair, *some("-v")], ["unmerged", *patterns, "--log", *some("--into=" + target())],
             ["where", target(), revision], ["segments", target()], ["branches", *patterns],
             ["contains", revision, *patterns], ["info"], ["unmerged", *patterns, *some("--into=" + target())],
-            ["changed-tags", *patterns], ["graph", *patterns], ["record", number], ["byte", number],
+            ["changed-tags", *patterns], ["graph", *patterns, *some("--since=" + revision, "--by-time", "--width=" + number, "--unfolded")], ["record", number], ["byte", number],
             ["ask", str(folder / "queries")], ["update", *some("--properties")], ["forget"], ["sources"], ["stop"],
             ["serve", "--stop-after=0"], ["shell"],
         )
@@ -195,7 +196,7 @@ def judged(done: base.Done, verb: str, refusal: str) -> list[str]:
         wrong.append(f"status {done.status}")
     if done.status and done.output and not has_found and verb != MANY:
         wrong.append("there is output, but no answer")
-    if (SHOWN if done.status and not has_found else NOTES).fullmatch(done.said) is None:
+    if (SHOWN if done.status and not has_found else UNMATCHED).fullmatch(done.said) is None:
         wrong.append("standard error is not as it should be")
     if refusal and verb not in UNJUDGED and done.status != 2 and "svnask: %s" % refusal not in done.said:
         wrong.append("svnhist says: %s" % refusal)

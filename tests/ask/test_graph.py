@@ -9,26 +9,48 @@ from collections.abc import Sequence
 from pathlib import Path
 from xml.etree import ElementTree
 
-from dev.dumps import FILE, Dump, Node, Revision, added, changed, copied, deleted, dump_of, mergeinfo
+from dev.dumps import (
+    FILE,
+    Dump,
+    Node,
+    Revision,
+    added,
+    changed,
+    copied,
+    deleted,
+    dump_of,
+    mergeinfo,
+    revision_properties,
+    section,
+)
 from dev.tree import DOCS
 from svnask import picture
-from svnask.graph import MOST_OTHERS, Graph, graph_of
+from svnask.graph import MOST_OTHERS, Graph, Merge, View, graph_of
 from svnask.history import History
-from svnask.layout import Layout, shortened, width_of
+from svnask.layout import NARROWEST, Layout, shortened, width_of
 from svnask.texts import readable
 from tests.ask import base
 
-F = b"trunk/f"
+F, B, D = b"trunk/f", b"branches/b", b"/trunk/d"
+# The mergeinfo of all changes of the trunk since it was copied.
+M = mergeinfo(b"/trunk:4-5")
 SVG = "{http://www.w3.org/2000/svg}"
 PATTERNS: list[list[bytes]] = [[], [b"/*", b"/*/*"]]
 
 
-def drawn(history: History, patterns: Sequence[bytes] = ()) -> ElementTree.Element:
-    return ElementTree.fromstring(b"".join(picture.svg_of(history, graph_of(history, patterns))))
+def drawn(history: History, patterns: Sequence[bytes] = (), view: View = View()) -> ElementTree.Element:
+    return ElementTree.fromstring(b"".join(picture.svg_of(history, graph_of(history, patterns, view))))
 
 
 def titles(svg: ElementTree.Element) -> list[str]:
     return [each.text or "" for each in svg.iter(SVG + "title")]
+
+
+def parted(*later: list[Node]) -> bytes:
+    """A dump with a trunk, a branch of it, changes of a file and of one in a directory in r4 and r5, and these."""
+    first = [*map(added, (b"trunk", b"trunk/d", b"branches", b"tags")), added(F, FILE), added(b"trunk/d/g", FILE)]
+    change = [[changed(F, text=b"4")], [changed(b"trunk/d/g", text=b"5")]]
+    return dump_of(first, [changed(F, text=b"2")], [copied(B, b"trunk", 2)], *change, *later)
 
 
 def names(graph: Graph) -> list[list[bytes]]:
@@ -57,14 +79,15 @@ class Graphs(base.Case):
             [(copy.life.first, copy.lane, copy.source) for copy in graph.copies], [(17, 1, 0), (3, 2, 0), (2, 3, 0)]
         )
         self.assertEqual(
-            [(each.source, each.target, each.rev, each.revisions, each.lost) for each in graph.merges],
+            graph.merges,
             [
-                (0, 3, 7, [4, 5, 6], 18),
-                (0, 2, 8, [5], None),
-                (0, 2, 9, [6], None),
-                (3, 0, 11, [2, 7, 10], 12),
-                (0, 2, 13, [4], None),
-                (0, 1, 19, [14], None),
+                Merge(0, 3, 7, [4, 5, 6], 18, False),
+                Merge(0, 2, 8, [5], None, False),
+                Merge(0, 2, 9, [6], None, False, True),
+                Merge(3, 0, 11, [2, 7, 10], 12, False),
+                Merge(0, 2, 13, [4], None, False),
+                Merge(0, 2, 15, [14], None, False, False, b"/trunk/dir", b"/branches/two/dir"),
+                Merge(0, 1, 19, [14], None, False, True),
             ],
         )
         self.assertEqual(graph.columns, list(range(1, 20)))
@@ -77,6 +100,93 @@ class Graphs(base.Case):
         moved = [title for title in titles(drawn(self.history(base.dump_of("inherited")))) if "moved from" in title]
         self.assertEqual(len(moved), 1)
         self.assertTrue(moved[0].endswith("r13: moved from /branches/one to /branches/two"), moved)
+
+    def test_a_merge_of_mergeinfo_alone_is_record_only(self) -> None:
+        property_of_dir = section({b"svn:ignore": b"x"})
+        rows = (
+            ("mergeinfo alone", [changed(B, M)], True),
+            ("with a text", [changed(B, M), changed(B + b"/f", text=b"x")], False),
+            ("with an addition", [changed(B, M), added(B + b"/new", FILE)], False),
+            ("with another property below", [changed(B, M), changed(B + b"/d", property_of_dir)], False),
+            ("with mergeinfo below", [changed(B, M), changed(B + b"/d", mergeinfo(b"/trunk/d:5"))], True),
+            ("with a change elsewhere", [changed(B, M), added(b"tags/t")], True),
+            ("into a directory", [changed(B + b"/d", mergeinfo(b"/trunk/d:5"))], True),
+            (
+                "into a directory, with a text",
+                [changed(B + b"/d", mergeinfo(b"/trunk/d:5")), changed(B + b"/d/g", text=b"x")],
+                False,
+            ),
+            ("into a file", [changed(B + b"/f", mergeinfo(b"/trunk/f:4"), b"x")], False),
+        )
+        for name, nodes, is_record_only in rows:
+            with self.subTest(name):
+                history = self.history(self.made("dump", parted(nodes)))
+                (merge,) = graph_of(history, []).merges
+                self.assertEqual(merge.is_record_only, is_record_only)
+                svg = drawn(history)
+                heads = [each for each in svg.iter(SVG + "path") if each.get("class") == "head open"]
+                self.assertEqual(len(heads), 2 * is_record_only)
+                self.assertEqual("only recorded as merged" in "".join(svg.itertext()), is_record_only)
+                said = [title for title in titles(svg) if title.endswith(", only recorded as merged")]
+                self.assertEqual(bool(said), is_record_only)
+
+    def test_merges_below_a_branch(self) -> None:
+        d = B + b"/d"
+        rows: tuple[tuple[str, list[list[Node]], list[Merge]], ...] = (
+            (
+                "into a directory",
+                [[changed(d, mergeinfo(b"/trunk/d:4-5"))]],
+                [Merge(0, 1, 6, [5], None, False, True, D, b"/" + d)],
+            ),
+            (
+                "and taken back",
+                [[changed(d, mergeinfo(b"/trunk/d:5"))], [changed(d, mergeinfo(b""))]],
+                [Merge(0, 1, 6, [5], 7, False, True, D, b"/" + d)],
+            ),
+            (
+                "of a directory into a branch",
+                [[changed(B, mergeinfo(b"/trunk/d:5"))]],
+                [Merge(0, 1, 6, [5], None, False, True, D)],
+            ),
+            (
+                "of all, recorded below, too",
+                [[changed(B, M), changed(d, mergeinfo(b"/trunk/d:5"))]],
+                [Merge(0, 1, 6, [4, 5], None, False, True)],
+            ),
+            (
+                "inherited before",
+                [[changed(B, M)], [changed(d, mergeinfo(b"/trunk/d:5,7"))]],
+                [Merge(0, 1, 6, [4, 5], None, False, True)],
+            ),
+            ("of what is no branch", [[changed(d, mergeinfo(b"/vendor/d:5"))]], []),
+            ("malformed", [[changed(d, mergeinfo(b"/trunk/d"))]], []),
+            ("by an addition", [[deleted(d), added(d, properties=mergeinfo(b"/trunk/d:5"))]], []),
+        )
+        for name, later, wanted in rows:
+            with self.subTest(name):
+                graph = graph_of(self.history(self.made("dump", parted(*later))), [])
+                self.assertEqual(graph.merges, wanted)
+
+    def test_what_a_merge_of_a_directory_brings_along_is_carried(self) -> None:
+        other = b"branches/c"
+        dump = parted(
+            [copied(other, b"trunk", 2)],
+            [changed(B, M), changed(B + b"/d/g")],
+            [changed(other + b"/d", mergeinfo(b"/branches/b/d:7\n/trunk/d:5")), changed(other + b"/d/g", text=b"x")],
+        )
+        graph = graph_of(self.history(self.made("dump", dump)), [])
+        found = {(names(graph)[each.source][0], each.rev): each.is_carried for each in graph.merges}
+        self.assertEqual(found, {(b"/trunk", 7): False, (b"/trunk", 8): True, (b"/branches/b", 8): False})
+
+    def test_merges_of_many_files_are_one_arrow(self) -> None:
+        nodes = [changed(B + b"/" + name, mergeinfo(b"/trunk/%s:6" % name)) for name in (b"d", b"f")]
+        history = self.history(self.made("dump", parted([changed(F), changed(b"trunk/d/g")], nodes)))
+        self.assertEqual([each.into for each in graph_of(history, []).merges], [b"/" + B + b"/d", b"/" + B + b"/f"])
+        (said,) = [title for title in titles(drawn(history)) if title.startswith("r7: ")]
+        self.assertEqual(
+            said.splitlines(),
+            [f"r7: r6 of /trunk/{name} into /branches/b/{name}, only recorded as merged" for name in ("d", "f")],
+        )
 
     def test_a_copy_of_a_part_begins_at_the_lane_of_the_whole(self) -> None:
         graph = self.graph("inherited")
@@ -137,10 +247,94 @@ class Graphs(base.Case):
                 self.assertLess(place.x + 0.8 * width_of(name), layout.width)
 
     def test_there_may_be_no_lane(self) -> None:
-        graph = self.graph("merges", [b"/nothing"])
-        self.assertEqual((graph.lanes, graph.dots, graph.columns), ([], [], []))
-        svg = drawn(self.history(base.dump_of("merges")), [b"/nothing"])
-        self.assertIn("no path matches", "".join(svg.itertext()))
+        for view in (View(), View(since=7), View(is_by_time=True)):
+            history = self.history(base.dump_of("merges"))
+            graph = graph_of(history, [b"/nothing*"], view)
+            self.assertEqual((graph.lanes, graph.dots, graph.columns), ([], [], []))
+            self.assertIn("no path matches", "".join(drawn(history, [b"/nothing*"], view).itertext()))
+
+
+class Views(base.Case):
+    def graph(self, view: View, count: int = 60) -> Graph:
+        return graph_of(self.history(self.made("dump", repository(count))), [], view)
+
+    def test_columns_are_joined_where_there_are_too_many(self) -> None:
+        for view in (View(most=50), View(most=50, is_by_time=True), View(most=50, since=100)):
+            graph = self.graph(view)
+            self.assertLessEqual(len(graph.columns), 51)
+            self.assertEqual(graph.columns[-1], 241)
+            self.assertLess(Layout(graph).right - Layout(graph).left, 51 * NARROWEST + 60)
+            for number, lane in enumerate(graph.lanes):
+                dots = [rev for dot in graph.dots if dot.lane == number for rev in dot.revisions]
+                self.assertEqual(dots, lane.revisions)
+            drawn(self.history(self.folder / "dump"), [], view)
+        self.assertEqual(self.graph(View(), 60), self.graph(View(most=1000), 60)._replace(view=View()))
+
+    def test_only_a_part_is_drawn(self) -> None:
+        for since in (1, 2, 100, 122, 241):
+            whole, part = self.graph(View()), self.graph(View(since=since))
+            for lane in part.lanes:
+                (same,) = [each for each in whole.lanes if each.lives[-1] == lane.lives[-1]]
+                self.assertEqual(lane.revisions, [rev for rev in same.revisions if rev >= since])
+            shown = {lane.lives[-1].path for lane in part.lanes}
+            changed_since = {lane.lives[-1].path for lane in whole.lanes if lane.revisions[-1] >= since}
+            self.assertLessEqual(changed_since, shown)
+            self.assertEqual(
+                [(each.rev, each.revisions) for each in part.merges],
+                [(each.rev, each.revisions) for each in whole.merges if each.rev >= since],
+            )
+            self.assertEqual(
+                {copy.life for copy in part.copies}, {copy.life for copy in whole.copies if copy.life.first >= since}
+            )
+            self.assertEqual(part.columns[0], max(since - 1, 1))
+        self.assertLess(len(self.graph(View(since=200)).lanes), 30)
+
+    def test_a_column_is_a_part_of_the_time(self) -> None:
+        days = (1, 2, 2, 20, 21, 31)
+        revisions = [Revision(0, (), revision_properties(b"", b"", b"2024-01-01T00:00:00.000000Z"))]
+        for number, day in enumerate(days, 1):
+            nodes = [added(b"trunk"), added(F, FILE)] if number == 1 else [changed(F)]
+            date = b"2024-01-%02dT00:00:00.000000Z" % day
+            revisions.append(Revision(number, nodes, revision_properties(b"", b"", date)))
+        graph = graph_of(self.history(self.made("dump", bytes(Dump(revisions)))), [], View(is_by_time=True, most=30))
+        self.assertEqual((graph.columns, graph.places), ([3, 4, 5, 6], [0, 18, 19, 29]))
+
+    def test_dates_may_lack_or_fall(self) -> None:
+        fourth = b"2024-01-04T00:00:00.000000Z"
+        falling: list[bytes | None] = [b"2024-%02d-01T00:00:00.000000Z" % month for month in range(12, 3, -1)]
+        rows: list[list[bytes | None]] = [[None] * 9, [None, fourth, None, b"x", b"", None], [fourth] * 5, falling]
+        for dates in rows:
+            revisions = [Revision(0)]
+            for number, date in enumerate(dates, 1):
+                nodes = [added(b"trunk"), added(F, FILE)] if number == 1 else [changed(F)]
+                revisions.append(Revision(number, nodes, {} if date is None else {b"svn:date": date}))
+            graph = graph_of(self.history(self.made("dump", bytes(Dump(revisions)))), [], View(is_by_time=True))
+            self.assertEqual([rev for dot in graph.dots for rev in dot.revisions], list(range(1, len(dates) + 1)))
+            self.assertEqual(graph.columns[-1], len(dates))
+            self.assertEqual(graph.places, sorted(set(graph.places)))
+
+    def test_each_lane_has_a_row_where_none_is_folded(self) -> None:
+        layout = Layout(self.graph(View(is_folded=False)))
+        self.assertEqual([len(row.lanes) for row in layout.rows], [1] * 91)
+        self.assertGreater(len({layout.y(lane) for lane in range(91)}), 90)
+        self.assertLess(len(Layout(self.graph(View())).rows), 20)
+
+    def test_the_legend_has_room(self) -> None:
+        for name in base.names():
+            svg = drawn(self.history(base.dump_of(name)))
+            marks = [
+                tuple(map(float, str(mark.get("transform"))[10:-1].split()))
+                for mark in svg
+                if mark.get("class") == "mark"
+            ]
+            says = [each for each in svg if each.tag == SVG + "text"][-len(marks) :] if marks else []
+            for (x, y), said in zip(marks, says):
+                self.assertEqual((float(said.get("x", 0)), float(said.get("y", 0))), (x + 34, y + 4))
+                # No letter of a usual font is wider on average than 0.7 of the size, which is 11 pixels.
+                end = x + 34 + 0.7 * 11 * len(said.text or "")
+                self.assertLessEqual(end, float(svg.get("width", 0)))
+                self.assertEqual([each for each in marks if each[1] == y and x < each[0] < end], [])
+                self.assertLess(y + 5, float(svg.get("height", 0)))
 
 
 class Pictures(base.Case):
@@ -179,7 +373,7 @@ class Pictures(base.Case):
             ]
         )
         found = titles(drawn(self.history(self.made("dump", bytes(dump))), [b"/trunk", b"/b/*"]))
-        self.assertIn("r4: r2 of /b/a<b>&\"'\\xff\u202e\\uffff]]> into /trunk", found)
+        self.assertIn("r4: r2 of /b/a<b>&\"'\\xff\u202e\\uffff]]> into /trunk, only recorded as merged", found)
         self.assertTrue(any("\n<!-- &amp;\\x07\\x80 --> ]]>" in title for title in found))
         self.assertTrue(any("\nr1 | \\x1b<& | " in title for title in found))
 
@@ -261,10 +455,35 @@ class Verb(base.Case):
             self.assertEqual(base.run(faulty, *verb).status, 1, verb)
         self.assertEqual(path.read_bytes(), b"before")
 
+    def test_options(self) -> None:
+        dump = base.dump_of("merges")
+        rows: list[tuple[list[str], int, str]] = [
+            (["--since", "7"], 0, ""),
+            (["--since", "{2024-01-01T00:07:30Z}", "--by-time"], 0, ""),
+            (["--since", "HEAD", "--width", "200", "--unfolded"], 0, ""),
+            (["--since", "20"], 1, "E160006"),
+            (["--since", "x"], 1, "E205000"),
+            (["--width", "199"], 2, "--width takes 200 pixels or more"),
+            (["--width", "-5"], 2, "--width"),
+            (["--width", "99999999999999999999"], 0, ""),
+        ]
+        for words, status, said in rows:
+            done = base.called(dump, "graph", *words)
+            self.assertEqual(done.status, status, (words, done.said))
+            self.assertIn(said, done.said)
+            self.assertEqual(bool(done.output), status == 0)
+        lines = base.called(dump, "graph", "--since", "14", "--json").output.splitlines()
+        objects = [json.loads(line) for line in lines]
+        self.assertEqual([each["revision"] for each in objects if each["type"] == "merge"], [15, 19])
+        self.assertEqual(
+            [(each["lives"][0]["path"], each["revisions"]) for each in objects if each["type"] == "lane"],
+            [("/trunk", [14]), ("/branches/three", [17, 19]), ("/branches/two", [15, 16]), ("/branches/one", [18])],
+        )
+
     def test_objects(self) -> None:
         lines = base.run(base.dump_of("merges"), "graph", "--json").output.splitlines()
         objects = [json.loads(line) for line in lines]
-        self.assertEqual([each["type"] for each in objects], ["lane"] * 4 + ["copy"] * 3 + ["merge"] * 6)
+        self.assertEqual([each["type"] for each in objects], ["lane"] * 4 + ["copy"] * 3 + ["merge"] * 7)
         self.assertEqual(
             objects[7],
             {
@@ -275,6 +494,16 @@ class Verb(base.Case):
                 "merged": [4, 5, 6],
                 "lost": 18,
                 "is_carried": False,
+                "is_record_only": False,
+                "of": None,
+                "into": None,
             },
         )
-        self.assertEqual(base.run(base.dump_of("merges"), "graph", "--json", "-o", "x").status, 2)
+        self.assertEqual([each["revision"] for each in objects[7:] if each["is_record_only"]], [9, 19])
+        self.assertEqual(
+            [(each["of"], each["into"]) for each in objects[7:] if each["revision"] == 15],
+            [("/trunk/dir", "/branches/two/dir")],
+        )
+        for words in (["-o", "x"], ["--by-time"], ["--width", "900"], ["--unfolded"]):
+            done = base.called(base.dump_of("merges"), "graph", "--json", *words)
+            self.assertEqual((done.status, done.output), (2, b""), words)

@@ -8,11 +8,16 @@ import tempfile
 from argparse import ArgumentParser, Namespace
 from collections.abc import Iterable, Iterator
 
-from .. import graph, picture
+from .. import graph, layout, picture
 from ..errors import Failed, Usage
 from ..history import History
-from .base import Object, Verb, add_patterns, patterns_of
+from ..targets import known, revision_of
+from .base import Object, Verb, add_patterns, counted, patterns_of, shown
 from .branches import object_of_life
+
+
+# The most pixels that the revisions take, unless another number is given, and the fewest that may be given.
+WIDTH, NARROWEST = graph.MOST_COLUMNS * layout.NARROWEST, 200
 
 
 class GraphVerb(Verb):
@@ -22,22 +27,37 @@ class GraphVerb(Verb):
     def arguments(self, parser: ArgumentParser) -> None:
         add_patterns(parser, "/**")
         parser.add_argument("-o", "--output", metavar="FILE", help="where to write it, in place of the standard output")
+        parser.add_argument("--since", metavar="REV", help="the first revision that is drawn, or its {DATE}")
+        parser.add_argument("--by-time", action="store_true", help="from left to right the time, and not the numbers")
+        parser.add_argument(
+            "--width",
+            type=counted,
+            metavar="PIXELS",
+            help=f"how wide the revisions are at most, without the names at the left; {WIDTH} if it is not given",
+        )
+        parser.add_argument("--unfolded", action="store_true", help="a line of its own for each branch and tag")
 
     def text(self, history: History, given: Namespace) -> Iterator[bytes]:
         if given.output is not None and history.is_read_from(given.output):
             raise Usage(f"-o {given.output} would overwrite the dump")
         if given.output == "":
             raise Usage("-o takes the name of a file")
-        pieces = picture.svg_of(history, graph.graph_of(history, patterns_of(given)))
+        pieces = picture.svg_of(history, graph_of(history, given))
         if given.output is None:
             yield from pieces
         else:
             write(given.output, pieces)
 
     def objects(self, history: History, given: Namespace) -> Iterator[Object]:
-        if given.output is not None:
-            raise Usage("-o is for the picture: --json prints objects")
-        found = graph.graph_of(history, patterns_of(given))
+        for option, value in (
+            ("-o", given.output),
+            ("--by-time", given.by_time or None),
+            ("--width", given.width),
+            ("--unfolded", given.unfolded or None),
+        ):
+            if value is not None:
+                raise Usage(f"{option} is for the picture: --json prints objects")
+        found = graph_of(history, given)
         for number, lane in enumerate(found.lanes):
             lives = [object_of_life(life) for life in lane.lives]
             yield {"type": "lane", "lane": number, "kind": lane.kind, "lives": lives, "revisions": lane.revisions}
@@ -52,7 +72,19 @@ class GraphVerb(Verb):
                 "merged": merge.revisions,
                 "lost": merge.lost,
                 "is_carried": merge.is_carried,
+                "is_record_only": merge.is_record_only,
+                "of": shown(merge.of),
+                "into": shown(merge.into),
             }
+
+
+def graph_of(history: History, given: Namespace) -> graph.Graph:
+    since = 0 if given.since is None else known(history, revision_of(history, given.since))
+    width = WIDTH if given.width is None else given.width
+    if width < NARROWEST:
+        raise Usage(f"--width takes {NARROWEST} pixels or more")
+    view = graph.View(since, given.by_time, width // layout.NARROWEST, not given.unfolded)
+    return graph.graph_of(history, patterns_of(given), view)
 
 
 def write(name: str, pieces: Iterable[bytes]) -> None:

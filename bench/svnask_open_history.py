@@ -1,0 +1,106 @@
+"""svnask about a history that stays open: a question to `svnask SOURCE serve`, and the verbs about all branches.
+
+The history has 200 branches, which get changes and merges from the trunk in turns. A verb is measured as a command, and
+its limit counts what it takes more than `info`, which reads the same and asks nothing else. The times are those of a
+clock, with the start of Python, and the best of some runs.
+"""
+from __future__ import annotations
+
+import contextlib
+import itertools
+import subprocess
+from collections.abc import Iterator
+from functools import partial
+from pathlib import Path
+from typing import Callable
+
+from bench.histories import load_into_cache
+from bench.measure import Command, best_in_turns
+from bench.parts import Measurements, Part, Setup, Table, limits_table, most
+from bench.svnask_calls import python_words
+from dev.dumps import FILE, Node, Revision, added, changed, copied, first_lines, mergeinfo
+from dev.running import Measured
+from dev.tree import SVNASK
+
+REVISIONS, SERVED, BRANCHES, FILES = 100000, 120000, 200, 50
+# How many queries `unmerged` asks about each branch.
+QUERIES = 6
+VERBS = {"branches": [], "contains": ["1000"], "changed-tags": ["/branches/*"], "graph": [], "unmerged": []}
+
+MOST_OF_QUESTION = most(0.15, "a question to a server, seconds")
+MOST_OF_VERB = most(3.0, "seconds beyond the reading")
+MOST_OF_QUERIES = most(1.0, "unmerged, seconds beyond the reading for each 1,000 queries")
+
+
+def branch(number: int) -> bytes:
+    return b"branches/b%d" % number
+
+
+def changes(count: int) -> Iterator[list[Node]]:
+    """The changes of so many revisions, from the first one on."""
+    files = [b"f%d" % number for number in range(FILES)]
+    yield [*map(added, (b"trunk", b"branches")), *(added(b"trunk/" + name, FILE) for name in files)]
+    for number in range(BRANCHES):
+        yield [copied(branch(number), b"trunk", 1 + number)]
+    for rev in itertools.islice(itertools.count(BRANCHES + 2), count - BRANCHES - 1):
+        name, number = files[rev % FILES], rev // 3 % BRANCHES
+        if rev % 3 == 0:
+            yield [changed(b"trunk/" + name)]
+        elif rev % 3 == 1:
+            yield [changed(branch(number) + b"/" + name), changed(branch(number) + b"/" + files[rev % 7])]
+        else:
+            value = mergeinfo(b"/trunk:%d-%d" % (number + 2, rev - 2))
+            yield [changed(branch(number), value), changed(branch(number) + b"/" + name)]
+
+
+def written(path: Path, count: int) -> Path:
+    with open(path, "wb") as file:
+        file.write(first_lines() + bytes(Revision(0)))
+        for rev, nodes in enumerate(changes(count), 1):
+            file.write(bytes(Revision(rev, nodes)))
+    load_into_cache(path)
+    return path
+
+
+class Asked:
+    """A dump, and commands about it over one cache."""
+
+    def __init__(self, setup: Setup, dump: Path) -> None:
+        self.setup, self.dump = setup, dump
+
+    def run(self, *words: str) -> Measured:
+        return Command(python_words(self.setup, self.setup.folder / "cache", SVNASK, self.dump, *words)).run(
+            is_kept=False
+        )
+
+    @contextlib.contextmanager
+    def served(self) -> Iterator[None]:
+        words = python_words(self.setup, self.setup.folder / "cache", SVNASK, self.dump, "serve")
+        with subprocess.Popen(words, stdout=subprocess.PIPE) as server:
+            assert server.stdout is not None
+            server.stdout.readline()
+            try:
+                yield
+            finally:
+                self.run("stop")
+
+
+def run(setup: Setup) -> Measurements:
+    asked = Asked(setup, written(setup.folder / "branches", setup.scaled(REVISIONS)))
+    reading = best_in_turns({"info": partial(asked.run, "info")}, setup.times)["info"].wall
+    runs: dict[str, Callable[[], Measured]] = {name: partial(asked.run, name, *words) for name, words in VERBS.items()}
+    verbs = {name: taken.wall for name, taken in best_in_turns(runs, setup.times).items()}
+    served = Asked(setup, written(setup.folder / "served", setup.scaled(SERVED)))
+    with served.served():
+        question = partial(served.run, "log", "-q", "-l", "1", "trunk")
+        reply = best_in_turns({"": question}, 2 * setup.times)[""].wall
+    python = best_in_turns({"": Command(["python3", "-c", "pass"]).run}, 2 * setup.times)[""].wall
+    rows = [["reading, and `info`", reading], *([name, seconds] for name, seconds in verbs.items())]
+    rows += [["a question to a server", reply], ["`python3 -c pass`", python]]
+    yield Table("svnask-open-history", "what runs | s:.2f", rows)
+    limits = [MOST_OF_VERB.of(seconds - reading, name) for name, seconds in verbs.items()]
+    queries = (verbs["unmerged"] - reading) / (BRANCHES * QUERIES / 1000)
+    yield limits_table("svnask-open-history-limits", [*limits, MOST_OF_QUERIES.of(queries), MOST_OF_QUESTION.of(reply)])
+
+
+PART = Part(__name__, __doc__, run, [MOST_OF_QUESTION, MOST_OF_VERB, MOST_OF_QUERIES])
