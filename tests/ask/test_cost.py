@@ -32,7 +32,8 @@ class Runs(base.Case):
             "propget svn:mergeinfo -R / trunk; mergeinfo trunk branches/two; mergeinfo branches/two trunk; "
             "mergeinfo --show-revs merged --depth infinity --log -v trunk branches/two; branches /**; unmerged --log; "
             "mergeinfo --show-revs eligible --log --incremental trunk branches/two; log -g trunk; log -g -v --xml /; "
-            "log --xml -v trunk; log --search copy; log -v --search trunk --search-and one; log / trunk branches/two"
+            "log --xml -v trunk; log --search copy; log -v --search trunk --search-and one; log / trunk branches/two; "
+            "graph --since 5 --by-time --unfolded; graph --width 200 /**"
         )
         for words in (*asked, ["ask", str(queries)]):
             self.assertEqual(self.runs(*words), 1, words)

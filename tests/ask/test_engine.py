@@ -14,7 +14,7 @@ QUESTIONS = base.commands(
     "graph; info; show 3; heirs trunk@3; new trunk@3 branches/two; check-mergeinfo; propget svn:mergeinfo -R; "
     "mergeinfo trunk branches/two; mergeinfo --show-revs eligible --log --depth infinity trunk branches/two; "
     "log -g trunk; log --xml -v trunk; log --search copy trunk; log / trunk tags; unmerged --log; branches /**; "
-    "serve --stop-after 0"
+    "serve --stop-after 0; graph --since 5 --by-time --unfolded"
 )
 
 

@@ -96,10 +96,12 @@ class Odd(base.Case):
             ["mergeinfo", "trunk", "trunk@" + MANY],
             ["mergeinfo", "--show-revs", "eligible", "--log", "trunk@" + MANY, "trunk"],
             ["log", "-g", "-r", MANY],
+            ["graph", "--since", MANY],
             ["log", "/@" + MANY, "trunk"],
         ):
             self.check(base.called(DUMP, *words), 1)
-        self.check(base.called(DUMP, "log", "-g", "-l", MANY), 0)
+        for words in (["log", "-g", "-l", MANY], ["graph", "--width", MANY], ["graph", "--width", MANY, "--by-time"]):
+            self.check(base.called(DUMP, *words), 0)
         for words in (["record", "\u0663"], ["byte", "-1"], ["record", "1_0"], ["byte", ""], ["record", "\u00b2"]):
             self.check(base.called(DUMP, *words), 2)
         lines = "log\ttrunk@%s\nlocate\ttrunk@1\t%s\nlog\ttrunk@1\t1:%s\n" % (MANY, MANY, MANY)
