@@ -188,8 +188,8 @@ class Tree:
 def moves_of(lives: Sequence[Life]) -> dict[Life, Life]:
     """Of those of some lives that go on with another one of them under a new name, that other one."""
     ends = {(life.path, life.last): life for life in lives}
-    moved = [(ends[life.source], life) for life in lives if life.source in ends]
-    return {life: later for life, later in moved if later.continues(life)}
+    pairs = [(ends[life.source], life) for life in lives if life.source in ends]
+    return {life: later for life, later in pairs if later.continues(life)}
 
 
 def count_up_to(events: Sequence[Event], rev: int) -> int:

@@ -8,6 +8,7 @@ from __future__ import annotations
 
 import argparse
 import contextlib
+import io
 import json
 import os
 import select
@@ -29,6 +30,8 @@ from .verbs.kept import KeptVerb
 
 # How long a request may take to come, and how long it may be.
 PATIENCE, LONGEST = 10, 1 << 22
+# How long `select` is asked to wait: it takes no number of seconds of any length.
+LONGEST_WAIT = 24 * 3600
 STOP = b"stop\n"
 # How many links are followed.
 LINKS = 40
@@ -120,8 +123,9 @@ class Server:
         # A question that is not answered yet fails now, and gives the history free.
         self._lock.acquire(timeout=PATIENCE)
         self._kept.forget()
-        if self._stopping is not None:
-            self._stopping.close()
+        for each in (self._ended, self._end, self._stopping):
+            if each is not None:
+                each.close()
 
     def run(self, stop_after: float) -> None:
         """Takes requests until it is told to stop, or until nothing was asked for so many seconds."""
@@ -130,7 +134,8 @@ class Server:
             left = None if running else last + stop_after - time.monotonic()
             if left is not None and left <= 0:
                 return
-            ready, _, _ = select.select([self._socket, self._ended], [], [], left)
+            wait = None if left is None else min(left, LONGEST_WAIT)
+            ready, _, _ = select.select([self._socket, self._ended], [], [], wait)
             if self._ended in ready:
                 running, last = running - len(self._ended.recv(1 << 10)), time.monotonic()
             if self._socket in ready:
@@ -146,7 +151,9 @@ class Server:
                 if places.peer_of(connection) == os.geteuid():
                     self._answer(connection, line_from(connection))
         finally:
-            self._end.send(b"\0")
+            # Nobody waits for it where the server ends.
+            with contextlib.suppress(OSError):
+                self._end.send(b"\0")
 
     def _answer(self, connection: socket.socket, line: bytes) -> None:
         if line == STOP:
@@ -169,6 +176,7 @@ class Server:
     def _told(self, words: list[str], output: IO[bytes]) -> cli.Ending | None:
         """How a question ends. None where that is for the caller to find out: it is no question to this server, or
         something failed."""
+        notes = io.StringIO()
         try:
             given = cli.parsed(words)
             if not is_for_server(given):
@@ -176,17 +184,24 @@ class Server:
             with closing(cli.source_in(given)) as source:
                 if place_of(source) != self._kept.place:
                     return None
-                cli.tell(self._kept.updated(given, source), given, output.write)
-            output.flush()
+                history = self._kept.updated(given, source)
+                with contextlib.redirect_stderr(notes):
+                    cli.tell(history, given, output.write)
+            ending = cli.Ending(0, [])
         except Error as error:
-            output.flush()
-            return cli.ending_of(error) if error.status in (1, 2) else None
+            ending = cli.ending_of(error)
         except cli.Stale:
             self._kept.forget()
             return None
         except SystemExit:
             return None
-        return cli.Ending(0, [])
+        output.flush()
+        return cli.Ending(ending.status, noted(notes) + ending.said) if ending.status in (0, 1, 2) else None
+
+
+def noted(notes: io.StringIO) -> list[str]:
+    """The lines that were said beside an answer."""
+    return notes.getvalue().split("\n")[:-1]
 
 
 def is_for_server(given: argparse.Namespace) -> bool:

@@ -83,7 +83,7 @@ def asked(kept: Kept, given: argparse.Namespace, line: str) -> int:
 
 
 def question(given: argparse.Namespace, words: list[str]) -> argparse.Namespace:
-    options = ["--json"] * given.json + ["--offline"] * given.offline
+    options = ["--json"] * given.json + ["--no-cache"] * given.no_cache + ["--offline"] * given.offline
     found = cli.parsed([*options, given.dump, *words])
     if found.verb in cli.COMMANDS or isinstance(cli.verb_of(found), KeptVerb):
         raise Usage(f"'{found.verb}' is no question")

@@ -42,11 +42,19 @@ PEGS = ("", "@", "@3", "@13", "@99", "@HEAD", "@{2024-01-01}", "@x", "@-1", "@" 
 REVISIONS = (
     "3", "HEAD", "{2024-01-01}", "{soon}", "{" + "9" * 5000 + "}", "r5", "99", "-1", "x", "", "0", "BASE", "\u0663",
 )
-PATTERNS = ("/branches/*", "*", "/*/*", "[", "[!a", "/tags/[a-z]*", "\udcff*", "/", "", "/trunk/*/*", "?", "**", "\t")
+PATTERNS = (
+    "/branches/*", "*", "/*/*", "[", "[!a", "/tags/[a-z]*", "\udcff*", "/", "", "/trunk/*/*", "?", "**", "\t", "/**",
+    "branches/**", "/none/**", "**/x", "/*/**", "trunk",
+)
+SEARCHED = ("copy", "", "*", "[", "[]", "\\", "/trunk*", "\udcff", "\u6f22", "\x1b", "*" * 40 + "x", "2024-01")
 # fmt: on
-# What is said beside an answer.
-UNMATCHED = re.compile(r"(svnask: no path matches '.*'\n)*")
 SHOWN = re.compile(r"svnask: [^\x00-\x1f\x7f-\x9f]+(?:\n[^\x00-\x1f\x7f-\x9f]+)*\n")
+# What is said beside an answer.
+UNMATCHED = re.compile(r"(?:svnask: no path matches '[^\x00-\x1f\x7f-\x9f]+'\n)*")
+# The verbs that say nothing of whether svnhist refuses the dump.
+UNJUDGED = ("record", "byte", "update", "forget", "sources", "stop", "shell")
+# Those that may have output where the status is not 0: what was found, and answers to other lines.
+FINDING, MANY = "check-mergeinfo", "shell"
 
 
 class Drawn(NamedTuple):
@@ -121,21 +129,34 @@ def words_of(chance: random.Random, folder: Path) -> list[str]:
         "-l" + chance.choice(("1", "5", "-5", "x", "9" * 5000)),
     )
     pair = [target(), target()]
+    searched = some("--search=" + chance.choice(SEARCHED), "--search-and=" + chance.choice(SEARCHED))
     number = chance.choice(("1", "9", "40", "5000", "0", "-3", "x", "9" * 5000))
     # fmt: off
     found = chance.choice(
         (
             ["log", target(), *ranges, *some("-v", "-q", "--stop-on-copy")], ["show", revision],
-            ["mergeinfo", target()],
+            ["log", target(), *ranges, *some("-v", "-q", "--stop-on-copy", "-g", "--xml"), *searched],
+            ["log", target(), *ranges, "--xml", *some("-v", "-q", "-g", "--with-all-revprops", "--with-no-revprops",
+                                                      "--with-revprop=svn:log", "--with-revprop=\udcff")],
+            ["log", *pair, *ranges, *some("-v", "-q", "-g", "--stop-on-copy", target()), *searched],
+            ["mergeinfo", target()], ["mergeinfo", *pair, *some("-q", "-r" + bounds)],
             ["mergeinfo", "--show-revs", chance.choice(("merged", "eligible")), *pair, *some("-R", "-r" + bounds)],
+            ["mergeinfo", "--show-revs", chance.choice(("merged", "eligible", "x")), *pair,
+             *some("--log", "--log", "--depth=" + chance.choice(("empty", "infinity", "files")), "-q", "-v",
+                   "--incremental")],
+            ["propget", "svn:mergeinfo", *pair[: chance.choice((0, 1, 2))], *some("-R", "-v", "--strict")],
+            ["check-mergeinfo", *patterns], ["heirs", target(), *some(revision)],
+            ["new", *pair, *some("-v")], ["unmerged", *patterns, "--log", *some("--into=" + target())],
             ["where", target(), revision], ["segments", target()], ["branches", *patterns],
             ["contains", revision, *patterns], ["info"], ["unmerged", *patterns, *some("--into=" + target())],
-            ["changed-tags", *patterns], ["graph", *patterns], ["record", number], ["byte", number],
-            ["ask", str(folder / "queries")],
+            ["changed-tags", *patterns], ["graph", *patterns, *some("--since=" + revision, "--by-time", "--width=" + number, "--unfolded")], ["record", number], ["byte", number],
+            ["ask", str(folder / "queries")], ["update", *some("--properties")], ["forget"], ["sources"], ["stop"],
+            ["serve", "--stop-after=0"], ["shell"],
         )
     )
     # fmt: on
-    return found + some("--json", "--no-cache") + (some("--bogus", "more") if chance.random() < 0.1 else [])
+    common = some("--json", "--no-cache") + ["--offline"] * (chance.random() < 0.1)
+    return found + common + (some("--bogus", "more") if chance.random() < 0.1 else [])
 
 
 def queries_of(chance: random.Random) -> bytes:
@@ -162,19 +183,22 @@ def faults(seed: int, folder: Path) -> list[str]:
     (folder / "queries").write_bytes(queries_of(random.Random(seed)))
     with open(dump, encoding="latin-1") as given, mock.patch.object(sys, "stdin", given):
         done = base.called("-" if found.is_given else dump, *found.words)
-    return list(judged(done, found.words[0], base.refusal_of_engine(dump)))
+    # What is kept of the dump, which is asked offline, may be of another one.
+    refusal = "" if "--offline" in found.words else base.refusal_of_engine(dump)
+    return list(judged(done, found.words[0], refusal))
 
 
 def judged(done: base.Done, verb: str, refusal: str) -> list[str]:
     """What is wrong with an output, given why svnhist refuses the dump, if it does."""
     wrong = []
+    has_found = verb == FINDING and done.status == 1 and bool(done.output)
     if done.status not in (0, 1, 2):
         wrong.append(f"status {done.status}")
-    if done.status and done.output:
+    if done.status and done.output and not has_found and verb != MANY:
         wrong.append("there is output, but no answer")
-    if (SHOWN if done.status else UNMATCHED).fullmatch(done.said) is None:
+    if (SHOWN if done.status and not has_found else UNMATCHED).fullmatch(done.said) is None:
         wrong.append("standard error is not as it should be")
-    if refusal and verb not in ("record", "byte") and done.status != 2 and "svnask: %s" % refusal not in done.said:
+    if refusal and verb not in UNJUDGED and done.status != 2 and "svnask: %s" % refusal not in done.said:
         wrong.append("svnhist says: %s" % refusal)
     return ["%s: %s" % (each, done._replace(output=done.output[:200])) for each in wrong]
 

@@ -12,6 +12,8 @@ from pathlib import Path
 from dev import running
 from dev.dumps import FILE, added, dump_of, first_lines
 from dev.tree import ROOT
+from svnask import cli
+from svnask.verbs import VERBS
 from tests.ask import base
 
 DUMP = base.dump_of("branches")
@@ -42,7 +44,10 @@ class Command(base.Case):
     def test_lines_of_json_are_objects(self) -> None:
         for words in base.commands(
             "log /; branches; segments branches/two; info; record 4; show 9; contains 5; unmerged; changed-tags; "
-            "mergeinfo trunk; where trunk 3; mergeinfo --show-revs eligible trunk branches/two"
+            "mergeinfo trunk; where trunk 3; mergeinfo --show-revs eligible trunk branches/two; heirs trunk@3; "
+            "new trunk@3 branches/two; check-mergeinfo; propget svn:mergeinfo -R; mergeinfo trunk branches/two; "
+            "mergeinfo --show-revs eligible --log --depth infinity trunk branches/two; log -g --search copy /; "
+            "log / trunk tags; unmerged --log /**; graph /**; update; --offline info"
         ):
             done = base.run("--json", DUMP, *words)
             self.assertEqual((done.status, done.said), (0, ""), words)
@@ -55,7 +60,12 @@ class Command(base.Case):
         self.assertEqual(json.loads(done.output)["path"].encode("utf-8", "surrogateescape"), b"/a\xff")
 
     def test_wrong_arguments_have_status_2(self) -> None:
-        verbs = base.commands("blame; log --bogus; where trunk; record x")
+        verbs = base.commands(
+            "blame; log --bogus; where trunk; record x; heirs; heirs trunk 3 4; heirs trunk@5 3; new trunk; propget; "
+            "propget svn:ignore; log --search; log --xml --json; mergeinfo --show-revs merged trunk; mergeinfo; "
+            "unmerged --log=x; update more; update --properties=x; forget more; sources; stop more; shell more; "
+            "serve --stop-after x; serve --stop-after -1; --offline; info --offline=x; log --username"
+        )
         wrong: list[list[base.Word]] = [[], [DUMP]]
         wrong += [[DUMP, *words] for words in verbs]
         for words in wrong:
@@ -84,9 +94,11 @@ class Command(base.Case):
             self.assertEqual((done.output, done.status in (1, 2)), (b"", True), words)
 
     def test_the_help_of_a_verb_needs_no_dump(self) -> None:
-        done = base.run("where", "--help")
-        self.assertEqual((done.status, done.said), (0, ""))
-        self.assertIn(b"PATH[@PEG]", done.output)
+        for verb in (*(each.name for each in VERBS), *cli.COMMANDS):
+            done = base.called(verb, "--help")
+            self.assertEqual((done.status, done.said), (0, ""))
+            self.assertIn(b"usage: svnask SOURCE %s " % verb.encode(), done.output)
+        self.assertIn(b"PATH[@PEG]", base.run("where", "--help").output)
 
     def test_a_file_that_is_not_there_has_status_3(self) -> None:
         self.assertEqual(base.run(self.folder / "none", "info").status, 3)
@@ -102,7 +114,17 @@ class Command(base.Case):
         rows = (
             ("log nope", "E160013"), ("log trunk@99", "E160006"), ("log -l 0", "E200004"), ("log -l x", "E205000"),
             ("log -r 3:", "E205000"), ("log -r BASE", "E195002"), ("log file:///repo/trunk", "E170000"),
-            ("log -c 3 -r 3", "E195002"), ("log trunk/lib/util.c/x", "E160013"),
+            ("log -c 3 -r 3", "E195002"), ("log trunk/lib/util.c/x", "E160013"), ("log -g nope", "E160013"),
+            ("log --xml nope", "E160013"), ("log --search x nope", "E160013"), ("log / nope", "E160013"),
+            ("log / ..", "E195002"), ("log --with-all-revprops", "E205000"), ("log --with-revprop svn:log", "E205000"),
+            ("heirs nope", "E160013"), ("heirs trunk@99", "E160006"), ("heirs trunk 99", "E160006"),
+            ("new nope trunk", "E160013"), ("new trunk trunk@99", "E160006"), ("mergeinfo trunk nope", "E160013"),
+            ("mergeinfo trunk branches/two --depth empty", "E205000"), ("mergeinfo -q trunk", "E205000"),
+            ("mergeinfo --log trunk", "E205000"), ("mergeinfo --incremental trunk", "E205000"),
+            ("mergeinfo --show-revs merged --depth files trunk trunk", "E200007"),
+            ("propget svn:mergeinfo nope", "E150000"), ("propget svn:mergeinfo trunk", "E200000"),
+            ("propget svn:mergeinfo --strict -v trunk", "E205002"), ("propget svn:mergeinfo --strict -R", "E205000"),
+            ("unmerged --log --into nope", "E160013"), ("log -g trunk@99", "E160006"),
         )
         # fmt: on
         for words, code in rows:
@@ -132,7 +154,8 @@ class Command(base.Case):
         part_of_dump = self.made("part", part)
         for words in base.commands(
             "log; log trunk@13; log -r 12; where trunk 99; show 13; log -r {2024-01-01}; contains 13; "
-            "segments none; unmerged"
+            "segments none; unmerged; heirs none; new none trunk@13; check-mergeinfo; propget svn:mergeinfo none; "
+            "mergeinfo trunk none; log -g trunk@13; log --xml; log --search x; log / none; unmerged --log /**"
         ):
             done = base.called(part_of_dump, *words)
             self.assertEqual((done.status, done.output), (1, b""), words)
@@ -140,7 +163,13 @@ class Command(base.Case):
 
     def test_of_a_dump_that_is_refused_nothing_else_is_said(self) -> None:
         dump = self.made("faulty", faulty())
-        asked = base.commands("log -r 99; log trunk@99; log -c 0; where none 99; unmerged /trunk --into trunk")
+        asked = base.commands(
+            "log -r 99; log trunk@99; log -c 0; where none 99; unmerged /trunk --into trunk; heirs none; heirs trunk 99; "
+            "new none trunk@99; check-mergeinfo; propget svn:mergeinfo none; propget --strict -v svn:mergeinfo; "
+            "mergeinfo none trunk@99; mergeinfo -q trunk; mergeinfo --show-revs merged --log none none; log -g none; "
+            "log --xml -v; log --search x none; log / none; branches none/**; unmerged --log; "
+            "log --search \udcff"
+        )
         for words in (*asked, ["ask", str(self.made("queries", b""))]):
             done = base.called(dump, *words)
             self.assertEqual((done.status, done.output), (1, b""), words)
@@ -158,7 +187,10 @@ class Command(base.Case):
 
     def test_a_dump_that_is_refused_has_no_answers(self) -> None:
         dump = self.made("faulty", faulty())
-        for words in (["show", "9"], ["changed-tags"], ["unmerged"], ["contains", "1"], ["branches"], ["info"]):
+        for words in base.commands(
+            "show 9; changed-tags; unmerged; contains 1; branches; info; heirs trunk; new trunk trunk; check-mergeinfo; "
+            "propget svn:mergeinfo -R; mergeinfo trunk trunk; log -g; log --xml; log / trunk; graph; serve --stop-after 0"
+        ):
             done = base.run(dump, *words)
             self.assertEqual((done.status, done.output), (1, b""), words)
 

@@ -27,12 +27,18 @@ class Runs(base.Case):
             "log trunk; log -r 3 branches/one@17; log -c 3,5,9-7 trunk@3; log -r 18 trunk@3; show 3; mergeinfo trunk; "
             "info; mergeinfo --show-revs merged trunk branches/two; where trunk 3; segments trunk; branches; "
             "mergeinfo --show-revs eligible -R trunk branches/two; contains 5; unmerged; changed-tags /*/*; graph; "
-            "unmerged /* /*/* --into branches/two; graph /*/* --json"
+            "unmerged /* /*/* --into branches/two; graph /*/* --json; heirs trunk@1; heirs trunk@1 9; new trunk@3 trunk; "
+            "new branches/two trunk -v; check-mergeinfo; check-mergeinfo /**; propget svn:mergeinfo branches/two; "
+            "propget svn:mergeinfo -R / trunk; mergeinfo trunk branches/two; mergeinfo branches/two trunk; "
+            "mergeinfo --show-revs merged --depth infinity --log -v trunk branches/two; branches /**; unmerged --log; "
+            "mergeinfo --show-revs eligible --log --incremental trunk branches/two; log -g trunk; log -g -v --xml /; "
+            "log --xml -v trunk; log --search copy; log -v --search trunk --search-and one; log / trunk branches/two; "
+            "graph --since 5 --by-time --unfolded; graph --width 200 /**"
         )
         for words in (*asked, ["ask", str(queries)]):
             self.assertEqual(self.runs(*words), 1, words)
-        for verb in ("record", "byte"):
-            self.assertEqual(self.runs(verb, "1"), 0, verb)
+        for words in base.commands("record 1; byte 1; update; --offline update; forget"):
+            self.assertEqual(self.runs(*words), 0, words)
 
     def test_the_last_change_of_a_long_life_is_looked_for_in_its_end_first(self) -> None:
         dump = self.made("dump", dump_of([added(b"trunk"), added(b"tags")], *([] for _ in range(2, 200))))

@@ -17,7 +17,10 @@ DUMP = base.dump_of("branches")
 MANY = "9" * 5000
 ALL = base.commands(
     "log; log -v trunk; show 1; mergeinfo trunk; where trunk 1; mergeinfo --show-revs merged trunk branches/one; "
-    "segments trunk; branches; contains 1; unmerged; changed-tags; graph; info; record 1; byte 1"
+    "segments trunk; branches; contains 1; unmerged; changed-tags; graph; info; record 1; byte 1; heirs trunk; "
+    "new trunk@1 trunk; check-mergeinfo; propget svn:mergeinfo -R; mergeinfo trunk branches/one; log -g -v; log --xml -v; "
+    "log -v --search trunk; log / trunk branches; unmerged --log; branches /**; serve --stop-after 0; "
+    "mergeinfo --show-revs eligible --log --depth infinity trunk branches/one"
 )
 
 
@@ -85,8 +88,20 @@ class Odd(base.Case):
             ["mergeinfo", "--show-revs", "eligible", "-r", MANY, "trunk", "trunk"],
             ["log", "-r", "{%s-01-01}" % MANY],
             ["unmerged", "--into", "trunk@" + MANY],
+            ["heirs", "trunk@" + MANY],
+            ["heirs", "trunk", MANY],
+            ["new", "trunk@" + MANY, "trunk"],
+            ["new", "trunk", "trunk@" + MANY],
+            ["propget", "svn:mergeinfo", "trunk@" + MANY],
+            ["mergeinfo", "trunk", "trunk@" + MANY],
+            ["mergeinfo", "--show-revs", "eligible", "--log", "trunk@" + MANY, "trunk"],
+            ["log", "-g", "-r", MANY],
+            ["graph", "--since", MANY],
+            ["log", "/@" + MANY, "trunk"],
         ):
             self.check(base.called(DUMP, *words), 1)
+        for words in (["log", "-g", "-l", MANY], ["graph", "--width", MANY], ["graph", "--width", MANY, "--by-time"]):
+            self.check(base.called(DUMP, *words), 0)
         for words in (["record", "\u0663"], ["byte", "-1"], ["record", "1_0"], ["byte", ""], ["record", "\u00b2"]):
             self.check(base.called(DUMP, *words), 2)
         lines = "log\ttrunk@%s\nlocate\ttrunk@1\t%s\nlog\ttrunk@1\t1:%s\n" % (MANY, MANY, MANY)
@@ -105,7 +120,11 @@ class Odd(base.Case):
                 ),
             )
             for words in ALL:
-                self.check(base.called(dump, *words), 0, 1)
+                done = base.called(dump, *words)
+                if words == ["check-mergeinfo"]:
+                    self.assertEqual((done.status, done.output.count(b"\n"), done.said), (1, 1, ""))
+                else:
+                    self.check(done, 0, 1)
 
     def test_dates_may_be_of_any_year(self) -> None:
         for date in ("10000-01-01T00:00:00.000000Z", "99999-01-01T00:00:00.0Z", MANY + "-01-01T00:00:00.0Z"):
@@ -139,6 +158,14 @@ class Odd(base.Case):
                 ["mergeinfo", "--show-revs", "eligible", path, "trunk"],
                 ["unmerged", "--into", path],
                 ["mergeinfo", "--show-revs", "eligible", "trunk", path],
+                ["heirs", path],
+                ["new", path, "trunk"],
+                ["new", "trunk", path],
+                ["propget", "svn:mergeinfo", path],
+                ["mergeinfo", path, "trunk"],
+                ["mergeinfo", "trunk", path],
+                ["log", "-g", path],
+                ["log", "/", path],
             ):
                 done = base.called(DUMP, *words)
                 self.check(done, 1)
@@ -180,7 +207,9 @@ class Odd(base.Case):
         rows = (
             ("%s log -q trunk >&-", 3), ("- log <&-", 3), ("%s log -q trunk <&-", 0), ("%s log none 2>&-", 1),
             ("%s log -q trunk 2>&- <&-", 0), ("- info <&- >&- 2>&-", 3), ("%s log none 2>/dev/full", 1),
-            ("%s log / >/dev/full 2>/dev/full", 3), ("%s bogus >&-", 3),
+            ("%s log / >/dev/full 2>/dev/full", 3), ("%s bogus >&-", 3), ("%s log --xml / >/dev/full", 3),
+            ("sources >/dev/full", 3), ("sources >&-", 3), ("%s --json update >/dev/full", 3), ("- update <&-", 3),
+            ("%s shell <&-", 0), ("%s serve >/dev/full", 3), ("%s stop 2>&-", 1), ("%s check-mergeinfo >/dev/full", 0),
         )
         # fmt: on
         for words, status in rows:

@@ -22,7 +22,10 @@ from tests.ask import base
 ANSWERED = base.commands(
     "log -v; log -q trunk@4; show 3; mergeinfo trunk; mergeinfo --show-revs eligible -R trunk branches/two; branches; "
     "where tags/one-1.0 4; segments trunk; contains 5; unmerged; changed-tags; graph; info; record 3; byte 400; "
-    "log --json -l 1; log nope; log --bogus; record 999; log -r BASE; log -q -r {2024-01-01T03:00}:{2024-01-05}"
+    "log --json -l 1; log nope; log --bogus; record 999; log -r BASE; log -q -r {2024-01-01T03:00}:{2024-01-05}; "
+    "heirs trunk@3; new trunk@3 branches/two; check-mergeinfo; propget svn:mergeinfo -R; mergeinfo trunk branches/two; "
+    "mergeinfo --show-revs eligible --log trunk branches/two; log -g -v; log --xml -v trunk; log --search copy; "
+    "log / trunk tags; unmerged --log /**; branches none* /tags/**; --offline info; propget svn:ignore; new none trunk"
 )
 
 
@@ -120,6 +123,9 @@ class Serve(base.Case):
         self.assertEqual(base.run(self.dump, "log", "-q", "trunk").output.count(b"\nr"), 2)
         self.dump.write_bytes(base.content_of("merges"))
         for words in (["branches"], ["unmerged"], ["log", "-v", "-l", "3"]):
+            self.check_same(*words)
+        self.dump.write_bytes(base.content_of("malformed"))
+        for words in (["check-mergeinfo"], ["check-mergeinfo", "--json"], ["propget", "-R", "svn:mergeinfo"]):
             self.check_same(*words)
         self.dump.write_bytes(self.dump.read_bytes()[:-40])
         self.assertEqual(base.run(self.dump, "log").status, 1)
@@ -223,6 +229,10 @@ class Serve(base.Case):
         self.assertEqual((server.wait(10), self.sockets()), (0, []))
         done = base.run(self.dump, "stop")
         self.assertEqual((done.status, done.output, done.said.count("\n")), (1, b"", 1))
+        for seconds in ("9999999999", "9" * 5000):
+            server = self.served("--stop-after", seconds)
+            self.assertEqual(base.run(self.dump, "stop"), (0, b"", ""))
+            self.assertEqual((server.wait(10), self.sockets()), (0, []))
         for number in (signal.SIGINT, signal.SIGTERM, signal.SIGHUP):
             with base.signals_end():
                 server = self.served()

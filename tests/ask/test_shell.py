@@ -20,7 +20,20 @@ class Shell(base.Case):
         return base.run(DUMP, "shell", given="\n".join(lines).encode("utf-8", "surrogateescape"))
 
     def test_answers_are_those_of_the_command(self) -> None:
-        lines = ("log -q trunk", "where tags/one-1.0 4", "branches", "log -r 3:5 --json", "info", "graph", "unmerged")
+        lines = (
+            "log -q trunk",
+            "where tags/one-1.0 4",
+            "branches",
+            "log -r 3:5 --json",
+            "info",
+            "graph",
+            "unmerged",
+            "heirs trunk@3",
+            "new trunk@3 trunk",
+            "check-mergeinfo",
+            "log -g --xml",
+            "mergeinfo trunk branches/two",
+        )
         wanted = b"".join(base.called(DUMP, *line.split()).output for line in lines)
         for text in (lines, [*lines, ""], ["", " ", *lines, "exit", "log nope"], [*lines, "  quit ", "bogus"]):
             self.assertEqual(self.shell(*text), (0, wanted, ""))
@@ -31,13 +44,23 @@ class Shell(base.Case):
         rows = (
             ("log nope", 1), ("log --bogus", 2), ("bogus", 2), ("log 'trunk", 2), ('log "', 2), ("log trunk\\", 2),
             ("record 999", 1), ("serve", 2), ("stop", 2), ("shell", 2), ("ask /none", 3), ("log \x1b[2J", 1),
-            ("log \udcff", 1),
+            ("log \udcff", 1), ("update", 2), ("forget", 2), ("sources", 2), ("log --search '", 2), ("heirs none", 1),
+            ("propget svn:mergeinfo", 1), ("mergeinfo -q trunk", 1), ("log --search \udcff", 1), ("new trunk", 2),
         )
         # fmt: on
         for line, status in rows:
             done = self.shell(line, "log -q trunk")
             self.assertEqual((done.status, done.output, done.said.count("\n")), (status, wanted, 1), (line, done))
             self.assertTrue(done.said.startswith("svnask: ") and "\x1b" not in done.said, done)
+
+    def test_the_options_of_its_call_hold_for_each_question(self) -> None:
+        lines = b"log -q trunk\nheirs trunk@3\n"
+        wanted = base.run("--no-cache", DUMP, "shell", given=lines)
+        self.assertEqual((wanted.status, wanted.said, self.cache.exists()), (0, "", False))
+        done = base.run("--offline", DUMP, "shell", given=lines)
+        self.assertEqual((done.status, done.output, done.said.count("\n")), (1, b"", 2))
+        base.called(DUMP, "update")
+        self.assertEqual(base.run("--offline", DUMP, "shell", given=lines), wanted)
 
     def test_words_are_quoted_as_for_a_shell(self) -> None:
         dump = self.made("names", dump_of([added(b"a 'b\"", FILE), added(b"\xff", FILE)]))

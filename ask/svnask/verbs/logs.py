@@ -81,19 +81,24 @@ class Searched(Action):
     """`--search` begins a group of patterns, and `--search-and` adds to the last one."""
 
     def __call__(self, parser: ArgumentParser, given: Namespace, values: Any, option: str | None = None) -> None:
-        pattern = folded(encoded(values))
-        if pattern is None:
-            raise Denied("E000022", "a pattern is not UTF-8")
-        groups: list[Group] = list(given.groups)
+        groups: list[list[str]] = list(given.groups)
         if option == SEARCH_AND and groups:
-            groups[-1] = [*groups[-1], Glob(pattern)]
+            groups[-1] = [*groups[-1], values]
         else:
-            groups.append([Glob(pattern)])
+            groups.append([values])
         given.groups = groups
+
+
+def glob_of(word: str) -> Glob:
+    pattern = folded(encoded(word))
+    if pattern is None:
+        raise Denied("E000022", "a pattern is not UTF-8")
+    return Glob(pattern)
 
 
 def wanted_of(given: Namespace) -> Wanted:
     """What is shown of each revision. Of these three options the first one holds."""
+    groups: list[Group] = [[*map(glob_of, group)] for group in given.groups]
     if not given.xml:
         for name, value in (
             ("with-all-revprops", given.with_all_revprops),
@@ -109,7 +114,7 @@ def wanted_of(given: Namespace) -> Wanted:
         names = frozenset()
     elif given.names:
         names = frozenset(map(encoded, given.names))
-    return Wanted(names, given.verbose, given.groups)
+    return Wanted(names, given.verbose, groups)
 
 
 class ShowVerb(Verb):
