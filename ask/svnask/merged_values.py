@@ -10,7 +10,7 @@ from .history import History
 from .merges import Interval, Intervals, minus, united
 from .store import Record
 from .traces import Traces
-from .values import Explicit, line_of, lines_of
+from .values import Explicit, Run, line_of, lines_of, runs_of, source_path
 
 RECENT = 64
 
@@ -34,6 +34,8 @@ class Line(NamedTuple):
     path: bytes
     whole: list[Interval]
     inheritable: list[Interval]
+    # Whether it is as Subversion writes it: a clean path, and runs that rise.
+    is_plain: bool
 
 
 class Malformed(Exception):
@@ -41,12 +43,36 @@ class Malformed(Exception):
 
 
 class Values:
-    """Values of `svn:mergeinfo`, of which each line is read once: those of one path have most of them in common."""
+    """Values of `svn:mergeinfo`. Those of one path have most in common: each line is read once, and of one that changed
+    mostly the ranges alone that did."""
 
     def __init__(self) -> None:
         self._lines: dict[bytes, Line] = {}
+        # Those known to have a plain line for each of their paths.
+        self._plain: set[bytes] = set()
         # What a path has after a revision it mostly has before the next one.
         self.whole = functools.lru_cache(RECENT)(self._whole)
+
+    def difference(self, before: bytes, now: bytes) -> Difference:
+        """What a path gained and lost that has one text and then another one. `Malformed` where either is."""
+        # A log mostly goes back.
+        is_back = before not in self._plain
+        known, other = (now, before) if is_back else (before, now)
+        if self._is_plain(known):
+            try:
+                found = difference(*differing(known, other))
+                self._plain.add(other)
+                return Difference(found.lost, found.gained) if is_back else found
+            except ValueError:
+                pass
+        return difference(self.whole(before), self.whole(now))
+
+    def _is_plain(self, text: bytes) -> bool:
+        if text not in self._plain:
+            lines = self._of(text)
+            if len({line.path for line in lines if line.is_plain}) == len(lines):
+                self._plain.add(text)
+        return text in self._plain
 
     def _whole(self, text: bytes) -> Intervals:
         """What a text says, whether it is inherited or not."""
@@ -74,10 +100,78 @@ class Values:
 
     def _read(self, line: bytes) -> Line:
         path, runs = line_of(line)
-        inheritable = united([(run.lo, run.hi) for run in runs if run.inheritable])
-        others = united([(run.lo, run.hi) for run in runs if not run.inheritable])
-        found = self._lines[line] = Line(path, sorted(inheritable + others), inheritable)
+        inheritable = intervals_of(runs, True)
+        is_plain = line.startswith(path + b":") and is_rising(runs)
+        found = self._lines[line] = Line(path, sorted(inheritable + intervals_of(runs, False)), inheritable, is_plain)
         return found
+
+
+def intervals_of(runs: list[Run], inheritable: bool) -> list[Interval]:
+    return united([(run.lo, run.hi) for run in runs if run.inheritable == inheritable])
+
+
+def is_rising(runs: list[Run]) -> bool:
+    return all(before.hi < run.lo for before, run in zip(runs, runs[1:]))
+
+
+def differing(known: bytes, other: bytes) -> tuple[Intervals, Intervals]:
+    """The lines in which two texts differ, of those of one path the ranges from the first to the last difference. The
+    known one has a plain line for each path. `ValueError` where the other one may not have."""
+    lines = lines_of(other)
+    these, those = dict.fromkeys(lines_of(known)), dict.fromkeys(lines)
+    left = ranges_of([line for line in these if line not in those])
+    more = ranges_of([line for line in those if line not in these])
+    if len(lines) != len(these) - len(left) + len(more):
+        raise ValueError("a path has two lines")
+    for path in more:
+        if path in left:
+            left[path], more[path] = cut(left[path], more[path])
+        elif b"\n%s:" % path in b"\n" + known:
+            raise ValueError("a path has two lines")
+    return read(left), read(more)
+
+
+def ranges_of(lines: list[bytes]) -> dict[bytes, bytes]:
+    """The rangelists of plain lines, by their paths."""
+    pairs = [line.rpartition(b":") for line in lines]
+    return {path: ranges for path, _, ranges in pairs}
+
+
+def read(lines: dict[bytes, bytes]) -> Intervals:
+    """What lines say. `ValueError` where one is not plain."""
+    found = {}
+    for path, ranges in lines.items():
+        runs = runs_of(ranges)
+        if path != source_path(path) or not is_rising(runs):
+            raise ValueError("not a plain line")
+        found[path] = sorted(intervals_of(runs, True) + intervals_of(runs, False))
+    return found
+
+
+def cut(these: bytes, those: bytes) -> tuple[bytes, bytes]:
+    """The ranges in which two rangelists differ, with one on each side that they have in common."""
+    first = front(these, those)
+    these, those = these[first:], those[first:]
+    last = front(these[::-1], those[::-1])
+    return these[: len(these) - last], those[: len(those) - last]
+
+
+def front(these: bytes, those: bytes) -> int:
+    """How far two rangelists have ranges in common, but for the last one of these."""
+    end = these.rfind(b",", 0, common(these, those))
+    return these.rfind(b",", 0, max(end, 0)) + 1
+
+
+def common(these: bytes, those: bytes) -> int:
+    """How many bytes two texts have in common at their begin."""
+    low, high = 0, min(len(these), len(those))
+    while low < high:
+        middle = (low + high + 1) // 2
+        if these[low:middle] == those[low:middle]:
+            low = middle
+        else:
+            high = middle - 1
+    return low
 
 
 class MergeinfoChanges:
@@ -125,9 +219,10 @@ class MergeinfoChanges:
             base = self._base(change.path, rev) if change.letter == "M" else change.source
             before = self._explicit.text(*base) if base is not None else None
             now = self._explicit.text(change.path, rev)
-            if before != now:
-                for text in (before, now):
-                    self._values.whole(text or b"")
+            if before is not None and now is not None and before != now:
+                yield change.path, self._values.difference(before, now)
+            elif before != now:
+                self._values.whole(before or now or b"")
                 old = self._effective(*base) if base is not None else None
                 yield change.path, difference(old, self._effective(change.path, rev))
 

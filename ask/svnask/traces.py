@@ -63,7 +63,7 @@ class Traces:
             if rev <= head and self._walk(path, rev) is None and is_askable(path) and self._tree.exists(path, rev):
                 lives = self._tree.lives(path, head)
                 asked[path, next((life.last for life in lives if life.first <= rev <= life.last), rev)] = None
-        for _, found in traces(self._history, asked):
+        for _, found in traces(self._history, asked) if asked else ():
             if found is not None:
                 self.add(Walk(found, listed(self._history, found)))
 

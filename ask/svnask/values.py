@@ -64,8 +64,11 @@ def line_of(line: bytes) -> tuple[bytes, list[Run]]:
     path, colon, ranges = line.rpartition(b":")
     if not colon:
         raise ValueError("no colon")
-    source = b"/" + b"/".join(part for part in path.split(b"/") if part not in (b"", b"."))
-    return source, runs_of(ranges.strip(b" \t").rstrip(b","))
+    return source_path(path), runs_of(ranges.strip(b" \t").rstrip(b","))
+
+
+def source_path(path: bytes) -> bytes:
+    return b"/" + b"/".join(part for part in path.split(b"/") if part not in (b"", b"."))
 
 
 def value_of(text: bytes) -> Value | None:
