@@ -6,6 +6,7 @@ lists some revisions that svnhist does not, and reads some texts that are malfor
 """
 from __future__ import annotations
 
+import bisect
 from collections.abc import Iterable, Iterator
 from typing import NamedTuple
 
@@ -17,8 +18,9 @@ from .history import History
 from .targets import Target
 from .values import Explicit, Run, Value, runs_of, value_of
 
-# For each path the revisions of a history.
-Located = dict[bytes, set[int]]
+# For each path the revisions in which a history was there, and those of them that its log lists.
+Located = dict[bytes, list[range]]
+Listed = dict[bytes, set[int]]
 
 
 class Lines(NamedTuple):
@@ -26,6 +28,13 @@ class Lines(NamedTuple):
 
     inheritable: dict[bytes, set[int]]
     other: dict[bytes, set[int]]
+    # The last revision in which source and target were the same path.
+    last_shared: dict[bytes, int]
+
+    def newest(self, path: bytes) -> int:
+        """The youngest revision that counts as merged from exactly this path, or 0."""
+        revs = max(self.inheritable.get(path, ()), default=0), max(self.other.get(path, ()), default=0)
+        return max(*revs, self.last_shared.get(path, 0))
 
 
 class Question(NamedTuple):
@@ -47,11 +56,11 @@ def revisions_in(runs: Iterable[Run], most: int, inheritable: bool) -> set[int]:
 def lines_of(value: Value, most: int) -> Lines:
     """What a value says. A revision that is inheritable in one of several lines of a path is inheritable."""
     whole = {path: revisions_in(runs, most, True) for path, runs in value.items()}
-    return Lines(whole, {path: revisions_in(runs, most, False) - whole[path] for path, runs in value.items()})
+    return Lines(whole, {path: revisions_in(runs, most, False) - whole[path] for path, runs in value.items()}, {})
 
 
 def inherited(lines: Lines, rest: bytes) -> Lines:
-    return Lines({joined(path, rest): revs for path, revs in lines.inheritable.items()}, {})
+    return Lines({joined(path, rest): revs for path, revs in lines.inheritable.items()}, {}, {})
 
 
 class Catalog:
@@ -111,17 +120,38 @@ def located(history: History, answers: Answers, target: Target, bounds: tuple[in
         if segment.path is not None:
             revs = range(max(segment.lo, bounds[0], 1), min(segment.hi, bounds[1]) + 1)
             if revs:
-                found.setdefault(segment.path, set()).update(revs)
+                found.setdefault(segment.path, []).append(revs)
     return found
 
 
-def shifted(history: Located, rest: bytes) -> Located:
+def listed_in(places: Located, listed: list[int]) -> Listed:
+    """Those of the rising revisions of a log in which its path was at each place."""
+    return {
+        path: {
+            rev
+            for each in ranges
+            for rev in listed[bisect.bisect_left(listed, each.start) : bisect.bisect_left(listed, each.stop)]
+        }
+        for path, ranges in places.items()
+    }
+
+
+def shifted(history: Listed, rest: bytes) -> Listed:
     return {joined(path, rest): revs for path, revs in history.items()}
 
 
-def common(lines: dict[bytes, set[int]], source: Located) -> set[int]:
+def common(lines: dict[bytes, set[int]], source: Listed) -> set[int]:
     """The revisions that some line has at the place where the source was then."""
     return set().union(*(revs & source[path] for path, revs in lines.items() if path in source)) if lines else set()
+
+
+def shared(own: Located, source: Listed) -> Listed:
+    """The revisions in which the target was at the place of the source."""
+    return {
+        path: {rev for rev in source[path] if any(rev in each for each in ranges)}
+        for path, ranges in own.items()
+        if path in source
+    }
 
 
 class Sorted(NamedTuple):
@@ -131,7 +161,7 @@ class Sorted(NamedTuple):
     partial: set[int]
 
 
-def sort_out(catalog: Catalog, source: Located) -> Sorted:
+def sort_out(catalog: Catalog, source: Listed) -> Sorted:
     wholes: list[set[int]] = []
     partial: set[int] = set()
     for path, lines in catalog.entries.items():
@@ -143,20 +173,27 @@ def sort_out(catalog: Catalog, source: Located) -> Sorted:
     return Sorted(whole - lacking, partial | lacking)
 
 
-def add_own_history(catalog: Catalog, own: Located, source: Located) -> None:
+def last_shared(these: list[range], those: list[range]) -> int:
+    """The last revision that both have, or 0."""
+    pairs = [(max(one.start, other.start), min(one.stop, other.stop)) for one in these for other in those]
+    return max((stop - 1 for start, stop in pairs if start < stop), default=0)
+
+
+def add_own_history(catalog: Catalog, own: Located, there: Located, source: Listed) -> None:
     """What the target has of the source because it was there itself counts as merged."""
+    both = shared(own, source)
+    last = {path: last_shared(ranges, there[path]) for path, ranges in own.items() if path in there}
     for path, lines in catalog.entries.items():
         rest = rest_below(path, catalog.target.path)
-        mine, there = shifted(own, rest), shifted(source, rest)
-        for place, revs in mine.items():
-            if place in there and revs & there[place]:
-                lines.inheritable[place] = lines.inheritable.get(place, set()) | (revs & there[place])
+        for place, revs in shifted(both, rest).items():
+            lines.inheritable[place] = lines.inheritable.get(place, set()) | revs
+        lines.last_shared.update({joined(place, rest): rev for place, rev in last.items()})
 
 
 class Coverage:
     """Whether all that a revision changed of a source is merged, path by path."""
 
-    def __init__(self, history: History, catalog: Catalog, source: Located) -> None:
+    def __init__(self, history: History, catalog: Catalog, source: Iterable[bytes]) -> None:
         self._history = history
         self._catalog = catalog
         # Where one path of the source is below another one, the longer one counts.
@@ -175,10 +212,8 @@ class Coverage:
         if entry is None:
             return False
         lines = self._catalog.entries[entry]
-        if entry == place and change.letter != "M":
-            exact = lines.inheritable.get(change.path, set()) | lines.other.get(change.path, set())
-            if exact and max(exact) > rev:
-                return True
+        if entry == place and change.letter != "M" and lines.newest(change.path) > rev:
+            return True
         parts = [lines.inheritable] + ([lines.other] if entry == place else [])
         return any(rev in revs for part in parts for path, revs in part.items() if is_at_or_below(path, top))
 
@@ -246,16 +281,17 @@ def show_revs(
     if not catalog.entries:
         if is_merged:
             return []
-        catalog.entries[target.path] = Lines({}, {})
-    bounds = bounds_of(source, question)
-    there = located(history, answers, source, bounds)
+        catalog.entries[target.path] = Lines({}, {}, {})
+    there = located(history, answers, source, bounds_of(source, question))
+    listed = listed_in(there, listed_of(history, answers, source))
     if not is_merged:
-        add_own_history(catalog, own, there)
-    found = as_answered(answers, source, target, question, sort_out(catalog, there), common(own, there))
-    chosen = found.whole | found.partial if is_merged else set().union(*there.values()) - found.whole
+        add_own_history(catalog, own, there, listed)
+    same = set().union(*shared(own, listed).values())
+    found = as_answered(answers, source, target, question, sort_out(catalog, listed), same)
+    chosen = found.whole | found.partial if is_merged else set().union(*listed.values()) - found.whole
     coverage = Coverage(history, catalog, there)
     shown = []
-    for rev in sorted(chosen & set().union(*there.values()) & set(listed_of(history, answers, source))):
+    for rev in sorted(chosen & set().union(*listed.values())):
         starred = rev in found.partial
         covered = (starred or not is_merged) and coverage.is_covered(rev)
         if covered and not is_merged:
