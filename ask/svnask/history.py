@@ -53,7 +53,6 @@ class History:
         self._refused: Refused | None = None
         self._revisions: dict[int, Revision] = {}
         self._changes: dict[int, list[Change]] = {}
-        # The records that make or unmake a path, or change its mergeinfo: few of all.
         self._telling: list[Record] | None = None
         self._tree: Tree | None = None
         self._explicit: Explicit | None = None
@@ -322,7 +321,7 @@ class History:
 
     def _told(self) -> list[Record]:
         if self._telling is None:
-            self._telling = [each for each in self.records() if each.action != "change" or each.mergeinfo is not None]
+            self._telling = list(self._store.telling())
         return self._telling
 
     @property

@@ -113,7 +113,8 @@ def of_root(segments: list[Segment]) -> Iterator[int]:
 
 def listed(history: History, found: Trace) -> list[int]:
     """All revisions that `svn log` lists, rising. Revision 0 is listed for the root alone."""
-    return sorted({*found.revisions, *renewed(history, found.segments), *of_root(found.segments)})
+    others = {*renewed(history, found.segments), *of_root(found.segments)}
+    return sorted(others.union(found.revisions)) if others else found.revisions[::-1]
 
 
 def reached(history: History, target: Target, youngest: int) -> Trace:

@@ -14,15 +14,12 @@ from typing import NamedTuple, Union
 from .changes import is_at_or_below
 from .errors import Denied
 from .history import History
-from .lives import Tree
 from .log import Item, Options, parts
 from .merged_parts import Part, parts_of
 from .merged_values import MergeinfoChanges
 from .merges import Interval, Intervals, united
-from .store import Record
 from .targets import Target, known
 from .traces import Cut, Traces
-from .values import Explicit
 
 END = Item(-1)
 # What a walk gives: an item, or a part that is walked before it goes on.
@@ -86,15 +83,8 @@ class Walker:
 
     def __init__(self, history: History, stops_on_copy: bool) -> None:
         self._history = history
-        explicit = Explicit(())
-
-        def passed() -> Iterator[Record]:
-            for record in history.records():
-                explicit.apply(record)
-                yield record
-
-        self.traces = Traces(history, Tree(passed()), stops_on_copy)
-        self._changes = MergeinfoChanges(history, explicit, self.traces)
+        self.traces = Traces(history, history.tree, stops_on_copy)
+        self._changes = MergeinfoChanges(history, history.explicit, self.traces)
         # Where the targets were themselves in the range.
         self._own: Intervals = {}
         # The revisions that were sent as merged ones, and those that were left out since the last one that was sent.

@@ -184,7 +184,8 @@ class Store:
         """The blocks from an offset in the copy on."""
         for part, at in self._parts(place):
             while found := BLOCK.match(part, at):
-                at = found.end() + digits.number(found["length"] or b"0")
+                length = found["length"]
+                at = found.end() if length is None else found.end() + digits.number(length)
                 yield found
 
     def write(self, file: IO[bytes]) -> None:
@@ -227,6 +228,19 @@ class Store:
 
     def records(self, first: int = 0, last: int | None = None) -> Iterator[Record]:
         """The records of revisions, in the order of the dump. They are numbered from 1 in the first one."""
+        for found, number, rev in self._nodes(first, last):
+            yield record_of(found, number, rev, self.index.format)
+
+    def telling(self) -> Iterator[Record]:
+        """The records that make or unmake a path, or change its mergeinfo: few of all."""
+        for found, number, rev in self._nodes():
+            if found["action"] != b"change" or found["length"] is not None:
+                record = record_of(found, number, rev, self.index.format)
+                if record.action != "change" or record.mergeinfo is not None:
+                    yield record
+
+    def _nodes(self, first: int = 0, last: int | None = None) -> Iterator[tuple[re.Match[bytes], int, int]]:
+        """The blocks of records of revisions, with the number of each and its revision."""
         rev = number = 0
         for found in self._blocks(self.index.revisions[first]):
             if found["rev"] is not None:
@@ -235,7 +249,7 @@ class Store:
                     return
             elif found["path"] is not None:
                 number += 1
-                yield record_of(found, number, rev, self.index.format)
+                yield found, number, rev
 
     def blocks(self) -> Iterator[tuple[int, Record | None]]:
         """The offset in the given dump of each block, and its record, if it has one."""
