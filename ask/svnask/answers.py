@@ -229,8 +229,8 @@ class Mergeinfo(PathQuery[Inherited]):
 
 @dataclass(frozen=True)
 class Pair(PathQuery[Merges]):
-    """What of a source was merged into a target (`merged`), or is still to be merged (`eligible`): the source first, then
-    the verb, then the target.
+    """What of a source was merged into a target (`merged`), or is still to be merged (`eligible`). The source comes
+    first, then the verb, then the target.
 
     >>> Pair(b"trunk", 19, "eligible", b"branches/two", 19).line()
     b'eligible\\ttrunk@19\\tbranches/two@19'

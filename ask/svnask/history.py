@@ -30,7 +30,8 @@ HEADER = 1 << 16
 
 
 class History:
-    """A dump or a repository, read once. What is asked of it is answered by svnhist; revisions have what the dump says of them.
+    """A dump or a repository, read once. What is asked of it is answered by svnhist; revisions have what the dump says
+    of them.
 
     >>> with History.open("interop/branches.dump") as history:
     ...     history.head, history.log(b"trunk", 13).revisions
@@ -61,9 +62,10 @@ class History:
     def open(
         cls, dump: str | BinaryIO, is_cached: bool = True, seen: Callable[[int], object] = lambda read: None
     ) -> History:
-        """The history of a file, by its name or opened, or of a repository, by its folder or its URL. `-` is the standard
-        input. What is read is kept in the cache, unless `is_cached` is false. `seen` is told now and then how many bytes
-        of a dump, or up to which revision a repository was read.
+        """The history of a file, by its name or opened, or of a repository, by its folder or its URL.
+
+        `-` is the standard input. What is read is kept in the cache, unless `is_cached` is false. `seen` is told now and
+        then how many bytes of a dump, or up to which revision a repository was read.
 
         >>> with History.open("interop/merges.dump", is_cached=False) as merges:
         ...     merges.head
