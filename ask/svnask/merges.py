@@ -36,12 +36,25 @@ class Gain(NamedTuple):
 
 
 class Held(NamedTuple):
-    """A revision of a source, and when the target gained and lost it."""
+    """Rising revisions of a source, and when the target gained and lost them."""
 
     source: Life
-    rev: int
+    revisions: list[int]
     gained: int
     lost: int | None
+
+    def split(self, intervals: Sequence[Interval], lost: int) -> tuple[Held, Held]:
+        """Those that are left, and those in some intervals, which are lost."""
+        gone = {rev for lo, hi in intervals for rev in between(self.revisions, lo, hi)}
+        if not gone:
+            return self, self._replace(revisions=[])
+        left = [rev for rev in self.revisions if rev not in gone]
+        return self._replace(revisions=left), self._replace(revisions=sorted(gone), lost=lost)
+
+
+def between(revisions: list[int], lo: int, hi: int) -> list[int]:
+    """Those of rising revisions that are in an interval."""
+    return revisions[bisect.bisect_left(revisions, lo) : bisect.bisect_right(revisions, hi)]
 
 
 class Sources:
@@ -53,14 +66,12 @@ class Sources:
         for life in operative:
             self._by_path.setdefault(life.path, []).append(life)
 
-    def revisions(self, path: bytes, intervals: Iterable[Interval]) -> Iterator[tuple[Life, int]]:
-        """The operative revisions of a path that are in some intervals, and the life of each."""
-        lives = self._by_path.get(path, [])
-        for lo, hi in intervals if lives else ():
-            for life in lives:
-                revs = self._operative[life]
-                for rev in revs[bisect.bisect_left(revs, lo) : bisect.bisect_right(revs, hi)]:
-                    yield life, rev
+    def at(self, path: bytes) -> list[Life]:
+        return self._by_path.get(path, [])
+
+    def revisions(self, life: Life, intervals: Iterable[Interval]) -> list[int]:
+        """The operative revisions of a life that are in some rising intervals."""
+        return [rev for lo, hi in intervals for rev in between(self._operative[life], lo, hi)]
 
 
 class Tally:
@@ -70,7 +81,7 @@ class Tally:
         self._sources = sources
         self._own = own
         self._value: Rangelists = {}
-        self._held: dict[tuple[Life, int], int] = {}
+        self._held: dict[Life, list[Held]] = {}
         self._lost: list[Held] = []
 
     def begin(self, value: Rangelists) -> None:
@@ -83,15 +94,22 @@ class Tally:
             if self._value.get(path) == value.get(path):
                 continue
             before, after = intervals_of(self._value.get(path, "")), intervals_of(value.get(path, ""))
-            for source in self._sources.revisions(path, minus(before, after)):
-                if source in self._held:
-                    self._lost.append(Held(*source, self._held.pop(source), rev))
-            for source in self._sources.revisions(path, minus(minus(after, before), self._own.get(path, []))):
-                self._held[source] = rev
+            lost, gained = minus(before, after), minus(minus(after, before), self._own.get(path, []))
+            for source in self._sources.at(path):
+                self._lose(source, lost, rev)
+                revisions = self._sources.revisions(source, gained)
+                if revisions:
+                    self._held.setdefault(source, []).append(Held(source, revisions, rev, None))
         self._value = value
 
+    def _lose(self, source: Life, intervals: Sequence[Interval], rev: int) -> None:
+        if intervals and source in self._held:
+            parts = [each.split(intervals, rev) for each in self._held[source]]
+            self._held[source] = [left for left, _ in parts if left.revisions]
+            self._lost += [gone for _, gone in parts if gone.revisions]
+
     def all(self) -> list[Held]:
-        return self._lost + [Held(*source, rev, None) for source, rev in self._held.items()]
+        return self._lost + [each for all_of in self._held.values() for each in all_of]
 
 
 def minus(these: Sequence[Interval], those: Sequence[Interval]) -> list[Interval]:
@@ -189,7 +207,7 @@ def joined(held: dict[Life, list[Held]]) -> list[Gain]:
     """The revisions that one revision of a target gained of one source, as one gain."""
     found: dict[tuple[Life, int, Life, int | None, bool], list[int]] = {}
     for target, each, is_carried in told_apart(held):
-        found.setdefault((target, each.gained, each.source, each.lost, is_carried), []).append(each.rev)
+        found.setdefault((target, each.gained, each.source, each.lost, is_carried), []).extend(each.revisions)
     gains = [
         Gain(source, target, rev, sorted(revs), lost, is_carried)
         for (target, rev, source, lost, is_carried), revs in found.items()
@@ -198,14 +216,36 @@ def joined(held: dict[Life, list[Held]]) -> list[Gain]:
 
 
 def told_apart(held: dict[Life, list[Held]]) -> Iterator[tuple[Life, Held, bool]]:
-    """Each revision that a target gained, and whether another source carried it along."""
-    gained: dict[tuple[Life, int], list[Held]] = {}
+    """What a target gained, and whether another source carried it along."""
+    gained: dict[Life, dict[int, list[Held]]] = {}
     for target, all_of in held.items():
         for each in all_of:
-            gained.setdefault((target, each.gained), []).append(each)
-    for (target, _), together in gained.items():
-        carried = {
-            (each.source, each.rev) for carrier in together for each in gained.get((carrier.source, carrier.rev), ())
-        }
-        for each in together:
-            yield target, each, (each.source, each.rev) in carried
+            gained.setdefault(target, {}).setdefault(each.gained, []).append(each)
+    turns = {life: sorted(of_life) for life, of_life in gained.items()}
+    for target, of_target in gained.items():
+        for together in of_target.values():
+            carried: dict[Life, set[int]] = {}
+            for each in together:
+                for rev in turns_in(turns.get(each.source, []), each.revisions):
+                    for brought in gained[each.source][rev]:
+                        carried.setdefault(brought.source, set()).update(brought.revisions)
+            for each in together:
+                yield from halves(target, each, carried.get(each.source, set()))
+
+
+def turns_in(turns: list[int], revisions: list[int]) -> Iterator[int]:
+    """Those of some rising revisions that are among others."""
+    for rev in between(turns, revisions[0], revisions[-1]):
+        if between(revisions, rev, rev):
+            yield rev
+
+
+def halves(target: Life, held: Held, carried: set[int]) -> Iterator[tuple[Life, Held, bool]]:
+    """What was merged itself, and what was carried along."""
+    if carried.isdisjoint(held.revisions):
+        yield target, held, False
+        return
+    for is_carried in (False, True):
+        revisions = [rev for rev in held.revisions if (rev in carried) == is_carried]
+        if revisions:
+            yield target, held._replace(revisions=revisions), is_carried
