@@ -1,8 +1,8 @@
 """svnask about a history that stays open: a question to `svnask SOURCE serve`, and the verbs about all branches.
 
-The history has 200 branches, which get changes and merges from the trunk in turns. A verb is measured as a command, and
-its limit counts what it takes more than `info`, which reads the same and asks nothing else. The times are those of a
-clock, with the start of Python, and the best of some runs.
+The history has 200 branches, which get changes and, each some eight times, a merge from the trunk. A verb is measured
+as a command, and its limit counts what it takes more than `info`, which reads the same and asks nothing else. The times
+are those of a clock, with the start of Python, and the best of some runs.
 """
 from __future__ import annotations
 
@@ -23,7 +23,9 @@ from dev.running import Measured
 from dev.tree import SVNASK
 
 REVISIONS, SERVED, BRANCHES, FILES = 100000, 120000, 200, 50
-# How many queries `unmerged` asks about each branch.
+# One of so many revisions is a merge.
+MERGES = 61
+# How many queries `unmerged` asks about each branch; it may take a second more for each 1,000.
 QUERIES = 6
 VERBS: dict[str, list[str]] = {
     "branches": [],
@@ -35,7 +37,7 @@ VERBS: dict[str, list[str]] = {
 
 MOST_OF_QUESTION = most(0.15, "a question to a server, seconds")
 MOST_OF_VERB = most(3.0, "seconds beyond the reading")
-MOST_OF_QUERIES = most(1.0, "unmerged, seconds beyond the reading for each 1,000 queries")
+MOST_OF_UNMERGED = most(3.0 + BRANCHES * QUERIES / 1000, "unmerged, seconds beyond the reading")
 
 
 def branch(number: int) -> bytes:
@@ -50,13 +52,13 @@ def changes(count: int) -> Iterator[list[Node]]:
         yield [copied(branch(number), b"trunk", 1 + number)]
     for rev in itertools.islice(itertools.count(BRANCHES + 2), count - BRANCHES - 1):
         name, number = files[rev % FILES], rev // 3 % BRANCHES
-        if rev % 3 == 0:
-            yield [changed(b"trunk/" + name)]
-        elif rev % 3 == 1:
-            yield [changed(branch(number) + b"/" + name), changed(branch(number) + b"/" + files[rev % 7])]
-        else:
+        if rev % MERGES == 0:
             value = mergeinfo(b"/trunk:%d-%d" % (number + 2, rev - 2))
             yield [changed(branch(number), value), changed(branch(number) + b"/" + name)]
+        elif rev % 3:
+            yield [changed(b"trunk/" + name)]
+        else:
+            yield [changed(branch(number) + b"/" + name), changed(branch(number) + b"/" + files[rev % 7])]
 
 
 def written(path: Path, count: int) -> Path:
@@ -104,9 +106,10 @@ def run(setup: Setup) -> Measurements:
     rows: list[Row] = [("reading, and `info`", reading), *verbs.items()]
     rows += [("a question to a server", reply), ("`python3 -c pass`", python)]
     yield Table("svnask-open-history", "what runs | s:.2f", rows)
+    unmerged = verbs.pop("unmerged") - reading
     limits = [MOST_OF_VERB.of(seconds - reading, name) for name, seconds in verbs.items()]
-    queries = (verbs["unmerged"] - reading) / (BRANCHES * QUERIES / 1000)
-    yield limits_table("svnask-open-history-limits", [*limits, MOST_OF_QUERIES.of(queries), MOST_OF_QUESTION.of(reply)])
+    limits += [MOST_OF_UNMERGED.of(unmerged), MOST_OF_QUESTION.of(reply)]
+    yield limits_table("svnask-open-history-limits", limits)
 
 
-PART = Part(__name__, __doc__, run, [MOST_OF_QUESTION, MOST_OF_VERB, MOST_OF_QUERIES])
+PART = Part(__name__, __doc__, run, [MOST_OF_QUESTION, MOST_OF_VERB, MOST_OF_UNMERGED])
