@@ -27,6 +27,7 @@ BUILDING = r"svnhist: building the program, which happens once and takes about \
 PROVED = r"svnhist: \d+ % after (\d+ min )?\d+ s: (\w+) is proved\n"
 ON_TERMINAL = r"(\rsvnhist: \d+ % after \d+ s, proving [\w, ]+)+"
 WAITED = r"svnhist: waiting for another build to end\n"
+AWAITED = r"svnhist: waiting for a bundle from the terminal; svnhist --help says what that is\n"
 CHANGED = r"svnhist: the sources were changed meanwhile\n"
 NO_TOOLCHAIN = r"svnhist: the Rattle toolchain is needed to build: .*\n"
 UNBUILT = r"svnhist: the program was not built; the whole log is (.*)\n"
@@ -419,6 +420,21 @@ class LaterCalls(LauncherTest):
         self.tree.set_working_toolchain("sleep 1")
         found = self.svnhist.call_on_terminal(ours, theirs)
         self.fits("a terminal", found, 0, self.svnhist.printed, BUILDING + ON_TERMINAL + r" *\n")
+
+    def test_a_terminal_is_told_what_is_waited_for(self) -> None:
+        try:
+            ours, theirs = pty.openpty()
+        except OSError:
+            self.skipTest("the system gives no pseudoterminal")
+        folder, variables, pipe = self.tree.folder, self.tree.environment, subprocess.PIPE
+        process = subprocess.Popen(
+            [self.svnhist.link], cwd=folder, env=variables, stdin=theirs, stdout=pipe, stderr=pipe
+        )
+        os.close(theirs)
+        # The end of the input, as a terminal gives it.
+        os.write(ours, b"\x04")
+        self.fits("a terminal as input", end_of(process), 2, "", AWAITED + USAGE % SVNHIST_USAGE)
+        os.close(ours)
 
     def test_a_second_call_waits_for_the_first(self) -> None:
         self.tree.forget_build(self.svnhist.lowest)
