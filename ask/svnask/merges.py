@@ -43,13 +43,12 @@ class Held(NamedTuple):
     gained: int
     lost: int | None
 
-    def split(self, intervals: Sequence[Interval], lost: int) -> tuple[Held, Held]:
-        """Those that are left, and those in some intervals, which are lost."""
-        gone = {rev for lo, hi in intervals for rev in between(self.revisions, lo, hi)}
-        if not gone:
-            return self, self._replace(revisions=[])
-        left = [rev for rev in self.revisions if rev not in gone]
-        return self._replace(revisions=left), self._replace(revisions=sorted(gone), lost=lost)
+
+def split(held: Held, intervals: Sequence[Interval], lost: int) -> tuple[Held, Held]:
+    """Those that are left, and those in some intervals, which are lost."""
+    gone = {rev for lo, hi in intervals for rev in between(held.revisions, lo, hi)}
+    left = [rev for rev in held.revisions if rev not in gone] if gone else held.revisions
+    return held._replace(revisions=left), held._replace(revisions=sorted(gone), lost=lost)
 
 
 def between(revisions: list[int], lo: int, hi: int) -> list[int]:
@@ -104,7 +103,7 @@ class Tally:
 
     def _lose(self, source: Life, intervals: Sequence[Interval], rev: int) -> None:
         if intervals and source in self._held:
-            parts = [each.split(intervals, rev) for each in self._held[source]]
+            parts = [split(each, intervals, rev) for each in self._held[source]]
             self._held[source] = [left for left, _ in parts if left.revisions]
             self._lost += [gone for _, gone in parts if gone.revisions]
 
