@@ -70,7 +70,10 @@ class Sources:
 
     def revisions(self, life: Life, intervals: Iterable[Interval]) -> list[int]:
         """The operative revisions of a life that are in some rising intervals."""
-        return [rev for lo, hi in intervals for rev in between(self._operative[life], lo, hi)]
+        found: list[int] = []
+        for lo, hi in intervals:
+            found += between(self._operative[life], lo, hi)
+        return found
 
 
 class Tally:
@@ -241,7 +244,7 @@ def turns_in(turns: list[int], revisions: list[int]) -> Iterator[int]:
 
 def halves(target: Life, held: Held, carried: set[int]) -> Iterator[tuple[Life, Held, bool]]:
     """What was merged itself, and what was carried along."""
-    if carried.isdisjoint(held.revisions):
+    if not carried or carried.isdisjoint(held.revisions):
         yield target, held, False
         return
     for is_carried in (False, True):
