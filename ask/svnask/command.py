@@ -1,16 +1,23 @@
 """The command `svnask` where it begins: a server is asked before all of svnask is read."""
 from __future__ import annotations
 
+import gc
 import signal
 import sys
 from typing import NoReturn
 
 from .client import status_of_server
 
+# How many objects are made before the first collection, and how many collections before one of older objects.
+RARELY = 200000, 20, 20
+
 
 def main() -> int:
     status = status_of_server(sys.argv[1:])
     if status is None:
+        # What is read of a history lives as long as the question. To look through it for cycles again and again took a
+        # quarter of the time.
+        gc.set_threshold(*RARELY)
         from .cli import main as answer  # pylint: disable=import-outside-toplevel
 
         status = answer()
