@@ -226,13 +226,8 @@ def is_plain(part: bytes) -> bool:
     return not any(letter in part for letter in b"*?[")
 
 
-def all_lives(records: Iterable[Record], patterns: Sequence[bytes], head: int) -> list[Life]:
-    """The lives of all paths that match a pattern, in the order of paths and revisions."""
-    return lives_in(Tree(records), patterns, head)
-
-
 def lives_in(tree: Tree, patterns: Sequence[bytes], head: int) -> list[Life]:
-    """The same, in a tree that is known."""
+    """The lives of all paths that match a pattern, in the order of paths and revisions."""
     paths = {path for pattern in patterns for path in tree.matching(pattern)}
     return [life for path in sorted(paths, key=components) for life in tree.lives(path, head)]
 

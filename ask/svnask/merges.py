@@ -11,7 +11,6 @@ from typing import NamedTuple
 
 from .answers import Answer, Inherited, Mergeinfo, Query, Segments, Where
 from .changes import tops_of
-from .history import History
 from .lives import Life
 from .values import Explicit
 
@@ -181,12 +180,6 @@ class Asked(NamedTuple):
 
     life: Life
     query: Query[Answer]
-
-
-def asked_of(history: History, lives: Iterable[Life]) -> list[Asked]:
-    """All queries about what some lives gained."""
-    explicit = history.explicit
-    return [Asked(life, query) for life in lives for query in queries_of(explicit, life)]
 
 
 def gains_of(operative: dict[Life, list[int]], asked: Iterable[Asked], answers: Iterator[Answer]) -> list[Gain]:
