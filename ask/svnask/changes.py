@@ -1,13 +1,21 @@
 """The changed paths of a revision, as `svn log -v` lists them."""
 from __future__ import annotations
 
+import functools
 from collections.abc import Iterable, Iterator
 from typing import NamedTuple
 
-from .store import Record
+from .digits import number
+from .store import Node, Record
+from .strip import clean
 
 # A path and a revision.
 Place = tuple[bytes, int]
+# How `svn log -v` writes what a record does.
+LETTERS = {b"add": "A", b"change": "M", b"delete": "D", b"replace": "R"}
+MANY = 1 << 16
+# Whether a record gave a text and changed properties.
+MODS = {b"text": (True, False), b"properties": (False, True), b"text properties": (True, True)}
 
 
 class Change(NamedTuple):
@@ -55,12 +63,36 @@ def tops_of(path: bytes) -> Iterator[bytes]:
         yield path
 
 
-def changes_of(records: Iterable[Record]) -> list[Change]:
+def changes_of(nodes: Iterable[Node]) -> list[Change]:
     """What the records of one revision come to, in the order of their paths."""
     found: dict[bytes, Change] = {}
-    for record in records:
-        fold(found, record)
-    return sorted(found.values(), key=lambda change: components(change.path))
+    for node in nodes:
+        change = change_of(*node)
+        if change.letter == "M" and change.path not in found:
+            found[change.path] = change
+        else:
+            fold(found, change)
+    changes = [*found.values()]
+    if len(changes) > 1:
+        # Component by component, of which none has a NUL.
+        changes.sort(key=lambda change: change.path.replace(b"/", b"\0"))
+    return changes
+
+
+@functools.lru_cache(MANY)
+def change_of(
+    path: bytes,
+    kind: bytes | None,
+    action: bytes | None,
+    rev: bytes | None,
+    source: bytes | None,
+    mods: bytes | None,
+) -> Change:
+    """What one record does. Most paths change in the same way again and again."""
+    letter = LETTERS.get(action, "R")
+    place = (clean(source), number(rev)) if rev and source is not None and letter in "AR" else None
+    of_node = None if kind is None or letter == "D" else kind.decode("latin-1")
+    return Change(clean(path), letter, place, of_node, *MODS.get(mods, (False, False)))
 
 
 def source_of(records: Iterable[Record], path: bytes) -> Place | None:
@@ -84,25 +116,28 @@ def place_of(change: Change, rev: int, records: Iterable[Record]) -> Place:
     return (joined(source[0], name), source[1]) if source is not None else (change.path, rev - 1)
 
 
-def fold(found: dict[bytes, Change], record: Record) -> None:
-    before = found.get(record.path)
-    mods = record.has_text, record.has_properties
-    if record.action == "change":
+def fold(found: dict[bytes, Change], change: Change) -> None:
+    """Adds what one more record does, as the change that it would be alone."""
+    path, letter = change.path, change.letter
+    before = found.get(path)
+    if letter == "M":
         if before is None:
-            found[record.path] = Change(record.path, "M", None, record.kind, *mods)
+            found[path] = change
         else:
-            found[record.path] = before._replace(
-                has_text=before.has_text or mods[0], has_properties=before.has_properties or mods[1]
+            found[path] = before._replace(
+                has_text=before.has_text or change.has_text,
+                has_properties=before.has_properties or change.has_properties,
             )
         return
-    if record.action in ("delete", "replace"):
-        for path in [path for path in found if path != record.path and is_at_or_below(path, record.path)]:
-            del found[path]
-    if record.action == "delete":
+    if letter in ("D", "R"):
+        for each in [each for each in found if each != path and is_at_or_below(each, path)]:
+            del found[each]
+    if letter == "D":
         if before is not None and before.letter == "A":
-            del found[record.path]
+            del found[path]
         else:
-            found[record.path] = Change(record.path, "D", None)
-        return
-    is_new = record.action == "add" and (before is None or before.letter == "A")
-    found[record.path] = Change(record.path, "A" if is_new else "R", record.source, record.kind, *mods)
+            found[path] = change
+    elif letter == "A" and before is not None and before.letter != "A":
+        found[path] = change._replace(letter="R")
+    else:
+        found[path] = change

@@ -8,6 +8,7 @@
 from __future__ import annotations
 
 import calendar
+import functools
 import re
 import time
 from collections.abc import Callable
@@ -21,6 +22,8 @@ Moment = tuple[int, int]
 WEEKDAYS = ("Mon", "Tue", "Wed", "Thu", "Fri", "Sat", "Sun")
 MONTHS = ("Jan", "Feb", "Mar", "Apr", "May", "Jun", "Jul", "Aug", "Sep", "Oct", "Nov", "Dec")
 STORED = re.compile(rb"(\d+)-(\d+)-(\d+)T(\d+):(\d+):(\d+)\.(\d+)Z")
+# As Subversion writes it today.
+USUAL = re.compile(rb"(\d{4}-\d\d-\d\d)T(\d\d):(\d\d):(\d\d)\.(\d{6})Z")
 OLD = re.compile(rb"\w{3} (\d+) (\w{3}) (\d+) (\d+):(\d+):(\d+)\.(\d+) \(day \d+, dst \d+, gmt_off (-?\d+)\)")
 MICROS = 1000000
 # Subversion keeps each part of a date in 32 bits, and a moment in microseconds in 64. What does not fit is unreadable.
@@ -40,6 +43,24 @@ def moment(year: int, month: int, day: int, hour: int, minute: int, second: int,
 
 def read(date: bytes) -> Moment | None:
     """The moment of a value of `svn:date`."""
+    found = USUAL.match(date)
+    if found:
+        day, hour, minute, second, micros = found.groups()
+        begin = begin_of(day)
+        if begin is not None:
+            return begin + int(hour) * 3600 + int(minute) * 60 + int(second), int(micros)
+    return read_any(date)
+
+
+@functools.lru_cache(1 << 16)
+def begin_of(day: bytes) -> int | None:
+    """The first second of a day."""
+    found = read_any(b"%sT0:0:0.0Z" % day)
+    return found and found[0]
+
+
+def read_any(date: bytes) -> Moment | None:
+    """The moment of a value of any form."""
     found = STORED.match(date)
     if found:
         year, month, day, hour, minute, second, micros = map(number, found.groups())
@@ -61,20 +82,9 @@ def shown(date: bytes | None, zone: str | None = None) -> str:
     if when is None:
         return "(invalid date)"
     local = time.gmtime(when[0]) if zone == "UTC" else time.localtime(when[0])
-    minutes = local.tm_gmtoff // 60
-    sign = "-" if minutes < 0 else "+"
-    return "%04d-%02d-%02d %02d:%02d:%02d %s%02d%02d (%s, %02d %s %04d)" % (
-        local[:6]
-        + (
-            sign,
-            abs(minutes) // 60,
-            abs(minutes) % 60,
-            WEEKDAYS[local.tm_wday],
-            local.tm_mday,
-            MONTHS[local.tm_mon - 1],
-            local.tm_year,
-        )
-    )
+    # The names of days and months are those of no language of the user's.
+    form = f"%Y-%m-%d %H:%M:%S %z ({WEEKDAYS[local.tm_wday]}, %d {MONTHS[local.tm_mon - 1]} %Y)"
+    return time.strftime(form, local)
 
 
 TIME = r"(\d{1,2}):(\d\d)(?::(\d\d)(?:[.,](\d{1,6}))?)?"

@@ -382,7 +382,7 @@ class History:
         [('A', b'/branches/one-again', (b'/branches/one', 5))]
         """
         if rev not in self._changes:
-            self._changes[rev] = changes_of(self.records(rev, rev))
+            self._changes[rev] = changes_of(self._store.nodes(rev))
         return self._changes[rev]
 
     def find_kinds(self, revs: Iterable[int]) -> None:

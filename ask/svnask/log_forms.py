@@ -56,15 +56,17 @@ class Form(ABC):
 
 def cut(text: bytes) -> bytes:
     """A text up to its first NUL."""
-    return text.partition(b"\0")[0]
+    return text.partition(b"\0")[0] if b"\0" in text else text
 
 
 def as_wanted(revision: Revision, names: frozenset[bytes] | None) -> Revision:
     """A revision with the properties of these names alone. Author, date and message end at a NUL."""
-    kept = {name: value for name, value in revision.properties.items() if names is None or name in names}
-    author, date, message = (kept.get(name) for name in (AUTHOR, DATE, MESSAGE))
-    return revision._replace(
-        author=author and cut(author), date=date and cut(date), message=message and cut(message), properties=kept
+    kept = revision.properties
+    if names is not None and not kept.keys() <= names:
+        kept = {name: value for name, value in kept.items() if name in names}
+    author, date, message = kept.get(AUTHOR), kept.get(DATE), kept.get(MESSAGE)
+    return Revision(
+        revision.number, author and cut(author), date and cut(date), message and cut(message), revision.at, kept
     )
 
 
@@ -86,10 +88,10 @@ def paths_of(changes: Iterable[Change]) -> Iterator[bytes]:
 def entries(history: History, items: Iterable[Item], wanted: Wanted, form: Form) -> Iterator[Entry | None]:
     """The entries of a log, and None after those that were merged in one. Revision 0 has one where its message is
     wanted and there."""
-    via: list[int] = []
+    via: tuple[int, ...] = ()
     for item in items:
         if item.rev < 0:
-            del via[-1:]
+            via = via[:-1]
             yield None
             continue
         revision = as_wanted(history.revision(item.rev), wanted.names)
@@ -97,9 +99,9 @@ def entries(history: History, items: Iterable[Item], wanted: Wanted, form: Form)
             continue
         changes = changes_of(history, item) if wanted.is_verbose else []
         if not wanted.groups or is_found(wanted.groups, [*form.texts(revision), *paths_of(changes)]):
-            yield Entry(revision, changes, tuple(via), item.is_reverse, item.has_merges)
+            yield Entry(revision, changes, via, item.is_reverse, item.has_merges)
         if item.has_merges:
-            via.append(item.rev)
+            via = (*via, item.rev)
 
 
 def printed(history: History, items: Iterable[Item], wanted: Wanted, form: Form) -> Iterator[bytes]:

@@ -125,7 +125,7 @@ class Walker:
         found: Intervals = {}
         for path in paths:
             cut = self.traces.cut(path, asked.high)
-            for segment in cut.walk.found.segments if cut is not None else ():
+            for segment in cut.segments if cut is not None else ():
                 lo, hi = max(segment.lo, asked.low), min(segment.hi, asked.high)
                 if segment.path is not None:
                     found.setdefault(segment.path, []).extend([(lo, hi)] if lo <= hi else [])
