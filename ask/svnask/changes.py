@@ -1,21 +1,28 @@
 """The changed paths of a revision, as `svn log -v` lists them."""
 from __future__ import annotations
 
-import functools
+import re
 from collections.abc import Iterable, Iterator
+from operator import methodcaller
 from typing import NamedTuple
 
 from .digits import number
-from .store import Node, Record
+from .store import Record
 from .strip import clean
 
 # A path and a revision.
 Place = tuple[bytes, int]
 # How `svn log -v` writes what a record does.
 LETTERS = {b"add": "A", b"change": "M", b"delete": "D", b"replace": "R"}
-MANY = 1 << 16
-# Whether a record gave a text and changed properties.
-MODS = {b"text": (True, False), b"properties": (False, True), b"text properties": (True, True)}
+# Paths are ordered component by component, of which none has a NUL.
+IN_ORDER = methodcaller("replace", b"/", b"\0")
+# The offset in the block of a record, and a block without it and without a section, or with an empty one.
+OFFSET = re.compile(rb"\nAt: .*")
+PLAIN = re.compile(
+    rb"Node-path: (.*)\n(?:Node-kind: (.*)\n)?Node-action: (add|change|delete|replace)"
+    rb"(?:\nNode-copyfrom-rev: ([0-9]+)\nNode-copyfrom-path: (.*))?(?:\nProp-delta: .*)?(?:\nText-delta: .*)?"
+    rb"(?:\nMods: (text)?(?: ?(properties))?)?(?:\nProp-content-length: 10\nContent-length: 10)?"
+)
 
 
 class Change(NamedTuple):
@@ -31,8 +38,8 @@ class Change(NamedTuple):
     has_properties: bool = False
 
     def line(self) -> bytes:
-        origin = b" (from %s:%d)" % self.source if self.source else b""
-        return b"   %s %s%s" % (self.letter.encode("ascii"), self.path, origin)
+        line = b"   %s %s" % (self.letter.encode("ascii"), self.path)
+        return line + b" (from %s:%d)" % self.source if self.source else line
 
 
 def components(path: bytes) -> list[bytes]:
@@ -63,36 +70,53 @@ def tops_of(path: bytes) -> Iterator[bytes]:
         yield path
 
 
-def changes_of(nodes: Iterable[Node]) -> list[Change]:
-    """What the records of one revision come to, in the order of their paths."""
-    found: dict[bytes, Change] = {}
-    for node in nodes:
-        change = change_of(*node)
-        if change.letter == "M" and change.path not in found:
-            found[change.path] = change
-        else:
-            fold(found, change)
-    changes = [*found.values()]
-    if len(changes) > 1:
-        # Component by component, of which none has a NUL.
-        changes.sort(key=lambda change: change.path.replace(b"/", b"\0"))
-    return changes
+class KnownBlocks:
+    """The changes of records by their blocks. Most paths are changed in the same way again and again."""
+
+    def __init__(self) -> None:
+        # An empty section, and the end of the last block, are no records.
+        self._changes: dict[bytes, Change | None] = {b"": None, b"PROPS-END": None}
+
+    def changes(self, blocks: bytes) -> list[Change] | None:
+        """What the records of a revision do, one after the other, or None where one has a section that is not empty."""
+        found = []
+        for block in OFFSET.sub(b"", blocks).lstrip(b"\n").split(b"\n\n"):
+            if block not in self._changes:
+                plain = PLAIN.fullmatch(block)
+                if plain is None:
+                    return None
+                self._changes[block] = change_of(*plain.groups())
+            change = self._changes[block]
+            if change is not None:
+                found.append(change)
+        return found
 
 
-@functools.lru_cache(MANY)
 def change_of(
     path: bytes,
     kind: bytes | None,
     action: bytes | None,
     rev: bytes | None,
     source: bytes | None,
-    mods: bytes | None,
+    text: bytes | None,
+    properties: bytes | None,
 ) -> Change:
-    """What one record does. Most paths change in the same way again and again."""
+    """What one record does."""
     letter = LETTERS.get(action, "R")
     place = (clean(source), number(rev)) if rev and source is not None and letter in "AR" else None
     of_node = None if kind is None or letter == "D" else kind.decode("latin-1")
-    return Change(clean(path), letter, place, of_node, *MODS.get(mods, (False, False)))
+    return Change(clean(path), letter, place, of_node, text is not None, properties is not None)
+
+
+def folded(changes: Iterable[Change]) -> list[Change]:
+    """What the records of a revision come to, in the order of their paths."""
+    found: dict[bytes, Change] = {}
+    for change in changes:
+        if change.letter in "AM" and change.path not in found:
+            found[change.path] = change
+        else:
+            fold(found, change)
+    return [found[path] for path in sorted(found, key=IN_ORDER)] if len(found) > 1 else [*found.values()]
 
 
 def source_of(records: Iterable[Record], path: bytes) -> Place | None:

@@ -13,6 +13,7 @@ from .search import Group, is_found
 from .store import Revision
 
 AUTHOR, DATE, MESSAGE = b"svn:author", b"svn:date", b"svn:log"
+SHOWN = frozenset((AUTHOR, DATE, MESSAGE))
 
 
 @dataclass
@@ -20,7 +21,7 @@ class Wanted:
     """What is shown of each revision: the properties of these names, or all where there are none, and with
     `is_verbose` the changed paths. Of some groups of patterns one must match it."""
 
-    names: frozenset[bytes] | None = frozenset((AUTHOR, DATE, MESSAGE))
+    names: frozenset[bytes] | None = SHOWN
     is_verbose: bool = False
     groups: list[Group] = field(default_factory=list)
 
@@ -61,13 +62,15 @@ def cut(text: bytes) -> bytes:
 
 def as_wanted(revision: Revision, names: frozenset[bytes] | None) -> Revision:
     """A revision with the properties of these names alone. Author, date and message end at a NUL."""
-    kept = revision.properties
-    if names is not None and not kept.keys() <= names:
-        kept = {name: value for name, value in kept.items() if name in names}
-    author, date, message = kept.get(AUTHOR), kept.get(DATE), kept.get(MESSAGE)
-    return Revision(
-        revision.number, author and cut(author), date and cut(date), message and cut(message), revision.at, kept
-    )
+    _, author, date, message, _, kept = revision
+    if names == SHOWN and len(kept) == 3 and author and date and message:
+        # So are most revisions.
+        if b"\0" not in message and b"\0" not in author and b"\0" not in date:
+            return revision
+    if names is not None:
+        kept = {name: kept[name] for name in names if name in kept}
+    author, date, message = (value and cut(value) for value in map(kept.get, (AUTHOR, DATE, MESSAGE)))
+    return revision._replace(author=author, date=date, message=message, properties=kept)
 
 
 def changes_of(history: History, item: Item) -> list[Change]:

@@ -63,7 +63,7 @@ class PlainForm(Form):
     def entry(self, entry: Entry) -> bytes:
         text = RULE + head_line(entry.revision, self._is_quiet)
         if entry.changes:
-            text += b"Changed paths:\n" + b"".join(change.line() + b"\n" for change in entry.changes)
+            text += b"Changed paths:\n" + b"\n".join([change.line() for change in entry.changes]) + b"\n"
         if entry.via:
             text += b"Reverse merged via: " if entry.is_reverse else b"Merged via: "
             text += self._text_of(entry.via)

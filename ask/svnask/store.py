@@ -2,6 +2,7 @@
 from __future__ import annotations
 
 import bisect
+import functools
 import mmap
 import os
 import re
@@ -11,11 +12,11 @@ from typing import IO, BinaryIO, NamedTuple, Optional, Union
 
 from . import cache, digits
 from .errors import Damaged
-from .strip import MERGEINFO, Malformed, body_of, clean, entries_of
+from .strip import LAST_LINE, MERGEINFO, Malformed, body_of, clean, entries_of
 
 # A part of a copy.
 Bytes = Union[mmap.mmap, bytes]
-# Of a record the path, the kind, the action, the revision and the path of its source, and what it gives, if it says so.
+# Of a record the path, the kind, the action, the revision and the path of its source, and what it gave and changed.
 Node = tuple[Optional[bytes], ...]
 VERSION = b"svnask 3"
 FIRST_LINE = b"SVN-fs-dump-format-version: 2\n\n"
@@ -32,13 +33,6 @@ REVISION = re.compile(
     rb"Revision-number: (?P<rev>[0-9]{1,18})\nAt: (?P<at>[0-9]{1,18})\n"
     rb"(?:Prop-content-length: (?P<length>[0-9]{1,18})\nContent-length: .*\n)?\n"
 )
-# The block of a record, which may follow one with a UUID: a node, and the length of the section.
-NODE = re.compile(
-    rb"(?:\n*UUID: .*\nAt: .*\n)*\n*Node-path: (.*)\n(?:Node-kind: (.*)\n)?(?:Node-action: (.*)\n)?"
-    rb"(?:Node-copyfrom-rev: ([0-9]+)\n)?(?:Node-copyfrom-path: (.*)\n)?"
-    rb"(?:Prop-delta: .*\n)?(?:Text-delta: .*\n)?At: .*\n(?:Mods: (.*)\n)?"
-    rb"(?:Prop-content-length: ([0-9]{1,18})\nContent-length: .*\n)?\n"
-)
 # The begin of a record that does more than to change a text or other properties than mergeinfo.
 TELLING = re.compile(
     rb"Node-path: .*\n(?:Node-kind: .*\n)?(?!Node-kind: |Node-action: change\n"
@@ -46,6 +40,10 @@ TELLING = re.compile(
 )
 # The offset of a block, which follows its other headers, but for a block that is not well formed.
 MARK = re.compile(rb"\n*(?:[^\n]+\n)*?At: ([0-9]+)\n")
+# The properties that most revisions have, in the order in which Subversion writes them, up to the message.
+USUAL = re.compile(
+    rb"K 10\nsvn:author\nV ([0-9]{1,18})\n(.*)\nK 8\nsvn:date\nV 27\n(.{27})\nK 7\nsvn:log\nV ([0-9]{1,18})\n"
+)
 # A property of a revision, up to its value.
 ENTRY = re.compile(rb"K [0-9]+\n(.*)\nV ([0-9]{1,18})\n")
 
@@ -155,6 +153,8 @@ class Store:
 
     def __init__(self, folder: str, index: Index, is_kept: bool, is_loaded: bool = False) -> None:
         self.index = index
+        # What is asked of a revision is asked together.
+        self._head = functools.lru_cache(1)(self._read_head)
         # Whether another run made it.
         self.is_loaded = is_loaded
         self._folder = folder
@@ -225,9 +225,9 @@ class Store:
     def with_properties(self, rev: int, section: bytes) -> bytes:
         """The bytes of a revision with other properties."""
         head = b"Revision-number: %d\nAt: %s\n" % (rev, self._head(rev)["at"])
-        return head + (body_of(section) if section else b"\n") + self._records_of(rev)
+        return head + (body_of(section) if section else b"\n") + self.blocks_of(rev)
 
-    def _head(self, rev: int) -> re.Match[bytes]:
+    def _read_head(self, rev: int) -> re.Match[bytes]:
         """The block of a revision."""
         place, length = self.index.revisions[rev], self.index.kept.base
         found = REVISION.match(self.first, place) if place < length else REVISION.match(self.later, place - length)
@@ -240,7 +240,7 @@ class Store:
         found = self._head(rev)
         return self.index.revisions[rev] + found.end() - found.start() + int(found["length"] or 0)
 
-    def _records_of(self, rev: int) -> bytes:
+    def blocks_of(self, rev: int) -> bytes:
         """The blocks of the records of a revision."""
         (end,) = self.index.revisions[rev + 1 : rev + 2] or [self.index.length]
         return self.between(self._begin(rev), end)
@@ -256,14 +256,10 @@ class Store:
         found = self._head(rev)
         return int(found["at"]), section_of(found)
 
-    def nodes(self, rev: int) -> list[Node]:
-        """What is listed of the records of a revision. That is read more quickly than all of the records."""
-        text, at = self._records_of(rev), 0
-        found = []
-        while node := NODE.match(text, at):
-            found.append(node.group(1, 2, 3, 4, 5, 6))
-            at = node.end() + int(node[7] or 0)
-        return found
+    def nodes(self, rev: int) -> Iterator[Node]:
+        """What is listed of the records of a revision."""
+        for found, _, _ in self._nodes(rev, rev):
+            yield found.group("path", "kind", "action", "from_rev", "from_path", "text", "properties")
 
     def records(self, first: int = 0, last: int | None = None) -> Iterator[Record]:
         """The records of revisions, in the order of the dump. They are numbered from 1 in the first one."""
@@ -345,6 +341,13 @@ def section_of(found: re.Match[bytes]) -> bytes:
 
 def properties_of(section: bytes) -> dict[bytes, bytes]:
     """The properties of a revision, as far as they have their form, which svnhist does not judge."""
+    usual = USUAL.match(section)
+    if usual:
+        length, author, date, rest = usual.groups()
+        at = usual.end()
+        end = at + int(rest)
+        if len(author) == int(length) and section[end:] == b"\n" + LAST_LINE:
+            return {b"svn:author": author, b"svn:date": date, b"svn:log": section[at:end]}
     values = {}
     at = 0
     while found := ENTRY.match(section, at):
