@@ -26,7 +26,7 @@ from dev.tree import programs
 MODULES = """
 reading_bundles reading_dumps short_history_queries merged_and_eligible workers whole_runs blocks wide_directories
 plain_python long_history_queries queries_per_second mergeinfo_values long_mergeinfo ranges hostile_input
-ten_million_records svnask_calls svnask_repository svnask_open_history svnhist_live_turns
+ten_million_records svnask_calls svnask_repository svnask_open_history svnask_merge_history svnhist_live_turns
 """
 PARTS: list[Part] = [import_module(f"bench.{name}").PART for name in MODULES.split()]
 

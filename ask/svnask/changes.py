@@ -8,7 +8,7 @@ from typing import NamedTuple
 
 from .digits import number
 from .store import Record
-from .strip import clean
+from .strip import MERGEINFO, clean
 
 # A path and a revision.
 Place = tuple[bytes, int]
@@ -79,6 +79,8 @@ class KnownBlocks:
 
     def changes(self, blocks: bytes) -> list[Change] | None:
         """What the records of a revision do, one after the other, or None where one has a section that is not empty."""
+        if MERGEINFO in blocks:
+            return None
         found = []
         for block in OFFSET.sub(b"", blocks).lstrip(b"\n").split(b"\n\n"):
             if block not in self._changes:

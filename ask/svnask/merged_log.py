@@ -216,7 +216,9 @@ class Walker:
         or copied what is above it, is elsewhere then."""
         paths = [segment.path for segment in cut.segments if segment.hi >= low]
         return not any(
-            path is None or is_at_or_below(path, top) or is_at_or_below(top, path) for path in paths for top in self._own
+            path is None or is_at_or_below(path, top) or is_at_or_below(top, path)
+            for path in paths
+            for top in self._own
         )
 
     def _is_elsewhere(self, rev: int) -> bool:

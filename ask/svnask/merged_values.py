@@ -52,7 +52,8 @@ class Values:
     def __init__(self) -> None:
         self._lines: dict[bytes, Line] = {}
         # Those known to have a plain line for each of their paths.
-        self._plain: set[bytes] = set()
+        self._plain: set[bytes] = {b""}
+        self._last = b""
         # What a path has after a revision it mostly has before the next one.
         self.whole = functools.lru_cache(RECENT)(self._whole)
 
@@ -71,11 +72,22 @@ class Values:
         return difference(self.whole(before), self.whole(now))
 
     def _is_plain(self, text: bytes) -> bool:
-        if text not in self._plain:
+        if text not in self._plain and not self._is_like_last(text):
             lines = self._of(text)
             if len({line.path for line in lines if line.is_plain}) == len(lines):
                 self._plain.add(text)
-        return text in self._plain
+        is_plain = text in self._plain
+        self._last = text if is_plain else self._last
+        return is_plain
+
+    def _is_like_last(self, text: bytes) -> bool:
+        """Whether a text has plain lines where it is not as the last one that has."""
+        try:
+            differing(self._last, text)
+        except ValueError:
+            return False
+        self._plain.add(text)
+        return True
 
     def _whole(self, text: bytes) -> Intervals:
         """What a text says, whether it is inherited or not."""

@@ -9,7 +9,7 @@ from typing import NamedTuple
 from .answers import Log, Segment, Where, is_askable
 from .changes import Place
 from .history import History
-from .lives import Tree
+from .lives import Life, Tree
 from .log import Trace, Walk, copied_in, listed
 
 
@@ -84,14 +84,22 @@ class Traces:
 
     def find(self, places: Iterable[Place]) -> None:
         """Asks about those of some places that are not known, all at once."""
-        asked: dict[Place, None] = {}
-        head = self._history.head
+        asked: dict[bytes, list[Life]] = {}
         for path, rev in places:
-            if rev <= head and self._piece(path, rev) is None and is_askable(path) and self._tree.exists(path, rev):
-                lives = self._tree.lives(path, head)
-                asked[path, next((life.last for life in lives if life.first <= rev <= life.last), rev)] = None
+            if self._piece(path, rev) is None and not any(has(life, rev) for life in asked.get(path, ())):
+                life = self._life(path, rev)
+                if life is not None:
+                    asked.setdefault(path, []).append(life)
         if asked:
-            self._ask([*asked])
+            self._ask([(life.path, life.last) for lives in asked.values() for life in lives])
+
+    def _life(self, path: bytes, rev: int) -> Life | None:
+        """The life of a path that has a revision, if svnhist can be asked about it."""
+        head = self._history.head
+        if rev > head or not is_askable(path) or not self._tree.exists(path, rev):
+            return None
+        root = Life(b"/", 0, head, None, True)
+        return root if path == root.path else next(life for life in self._tree.lives(path, head) if has(life, rev))
 
     def _ask(self, places: Sequence[Place]) -> None:
         """Asks about some places, and through these about older ones of which svnhist can't be asked."""
@@ -125,6 +133,10 @@ class Traces:
             return None
         least = copied_in(self._history, piece.segments[0], rev) if self._stops_on_copy else 0
         return Cut(self, rev, piece.segments, least)
+
+
+def has(life: Life, rev: int) -> bool:
+    return life.first <= rev <= life.last
 
 
 def there(segments: Iterable[Segment]) -> list[Segment]:
