@@ -7,15 +7,14 @@ from operator import methodcaller
 from typing import NamedTuple
 
 from .digits import number
-from .store import Record
+from .store import Node, Record
 from .strip import MERGEINFO, clean
 
 # A path and a revision.
 Place = tuple[bytes, int]
 # How `svn log -v` writes what a record does.
 LETTERS = {b"add": "A", b"change": "M", b"delete": "D", b"replace": "R"}
-# Paths are ordered component by component, of which none has a NUL.
-IN_ORDER = methodcaller("replace", b"/", b"\0")
+NUL_FOR_SLASH = methodcaller("replace", b"/", b"\0")
 # The offset in the block of a record, and a block without it and without a section, or with an empty one.
 OFFSET = re.compile(rb"\nAt: .*")
 PLAIN = re.compile(
@@ -78,20 +77,29 @@ class KnownBlocks:
         self._changes: dict[bytes, Change | None] = {b"": None, b"PROPS-END": None}
 
     def changes(self, blocks: bytes) -> list[Change] | None:
-        """What the records of a revision do, one after the other, or None where one has a section that is not empty."""
+        """What the records of a revision come to, or None where one has a section that is not empty."""
         if MERGEINFO in blocks:
             return None
-        found = []
+        known = self._changes
+        found: dict[bytes, Change] = {}
         for block in OFFSET.sub(b"", blocks).lstrip(b"\n").split(b"\n\n"):
-            if block not in self._changes:
+            if block not in known:
                 plain = PLAIN.fullmatch(block)
                 if plain is None:
                     return None
-                self._changes[block] = change_of(*plain.groups())
-            change = self._changes[block]
+                known[block] = change_of(*plain.groups())
+            change = known[block]
             if change is not None:
-                found.append(change)
-        return found
+                add(found, change)
+        return in_order(found)
+
+
+def changes_of(nodes: Iterable[Node]) -> list[Change]:
+    """What the records of a revision come to, in the order of their paths."""
+    found: dict[bytes, Change] = {}
+    for node in nodes:
+        add(found, change_of(*node))
+    return in_order(found)
 
 
 def change_of(
@@ -104,21 +112,17 @@ def change_of(
     properties: bytes | None,
 ) -> Change:
     """What one record does."""
-    letter = LETTERS.get(action, "R")
-    place = (clean(source), number(rev)) if rev and source is not None and letter in "AR" else None
-    of_node = None if kind is None or letter == "D" else kind.decode("latin-1")
+    letter = LETTERS.get(action or b"", "R")
+    if letter == "D":
+        return Change(clean(path), letter, None)
+    place = (clean(source), number(rev)) if rev and source is not None and letter != "M" else None
+    of_node = None if kind is None else kind.decode("latin-1")
     return Change(clean(path), letter, place, of_node, text is not None, properties is not None)
 
 
-def folded(changes: Iterable[Change]) -> list[Change]:
-    """What the records of a revision come to, in the order of their paths."""
-    found: dict[bytes, Change] = {}
-    for change in changes:
-        if change.letter in "AM" and change.path not in found:
-            found[change.path] = change
-        else:
-            fold(found, change)
-    return [found[path] for path in sorted(found, key=IN_ORDER)] if len(found) > 1 else [*found.values()]
+def in_order(found: dict[bytes, Change]) -> list[Change]:
+    """Changes in the order of their paths, component by component, of which none has a NUL."""
+    return [found[path] for path in sorted(found, key=NUL_FOR_SLASH)] if len(found) > 1 else [*found.values()]
 
 
 def source_of(records: Iterable[Record], path: bytes) -> Place | None:
@@ -142,27 +146,20 @@ def place_of(change: Change, rev: int, records: Iterable[Record]) -> Place:
     return (joined(source[0], name), source[1]) if source is not None else (change.path, rev - 1)
 
 
-def fold(found: dict[bytes, Change], change: Change) -> None:
+def add(found: dict[bytes, Change], change: Change) -> None:
     """Adds what one more record does, as the change that it would be alone."""
     path, letter = change.path, change.letter
     before = found.get(path)
-    if letter == "M":
-        if before is None:
-            found[path] = change
-        else:
-            found[path] = before._replace(
-                has_text=before.has_text or change.has_text,
-                has_properties=before.has_properties or change.has_properties,
-            )
+    if before is not None and letter == "M":
+        found[path] = before._replace(
+            has_text=before.has_text or change.has_text, has_properties=before.has_properties or change.has_properties
+        )
         return
-    if letter in ("D", "R"):
+    if letter in "DR":
         for each in [each for each in found if each != path and is_at_or_below(each, path)]:
             del found[each]
-    if letter == "D":
-        if before is not None and before.letter == "A":
-            del found[path]
-        else:
-            found[path] = change
+    if letter == "D" and before is not None and before.letter == "A":
+        del found[path]
     elif letter == "A" and before is not None and before.letter != "A":
         found[path] = change._replace(letter="R")
     else:

@@ -12,7 +12,7 @@ from typing import TYPE_CHECKING, BinaryIO
 
 from . import dates
 from .answers import A, Answer, Answers, Locate, Located, Log, Logged, Query, Segments, Where, is_askable
-from .changes import Change, KnownBlocks, Place, change_of, folded, place_of
+from .changes import Change, KnownBlocks, Place, changes_of, place_of
 from .engine import Talk
 from .errors import Damaged, Failed, Refused
 from .lives import Tree
@@ -380,8 +380,7 @@ class History:
         """
         if rev not in self._changes:
             found = self._known_blocks.changes(self._store.blocks_of(rev))
-            nodes = self._store.nodes(rev) if found is None else ()
-            self._changes[rev] = folded(found or (change_of(*node) for node in nodes))
+            self._changes[rev] = changes_of(self._store.nodes(rev)) if found is None else found
         return self._changes[rev]
 
     def find_kinds(self, revs: Iterable[int]) -> None:

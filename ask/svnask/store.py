@@ -8,7 +8,7 @@ import os
 import re
 import shutil
 from collections.abc import Iterator
-from typing import IO, BinaryIO, NamedTuple, Optional, Union
+from typing import IO, Any, BinaryIO, NamedTuple, Union
 
 from . import cache, digits
 from .errors import Damaged
@@ -17,7 +17,7 @@ from .strip import LAST_LINE, MERGEINFO, Malformed, body_of, clean, entries_of
 # A part of a copy.
 Bytes = Union[mmap.mmap, bytes]
 # Of a record the path, the kind, the action, the revision and the path of its source, and what it gave and changed.
-Node = tuple[Optional[bytes], ...]
+Node = tuple[Any, ...]
 VERSION = b"svnask 3"
 FIRST_LINE = b"SVN-fs-dump-format-version: 2\n\n"
 # A block of the copy. `Stripper` writes the headers in this order.
