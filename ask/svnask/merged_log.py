@@ -222,9 +222,9 @@ class Walker:
         or copied what is above it, is elsewhere then."""
         paths = [segment.path for segment in cut.segments if segment.hi >= low]
         return not any(
-            path is None or is_at_or_below(path, top) or is_at_or_below(top, path)
-            for path in paths
-            for top in self._own
+            each is None or is_at_or_below(each, own) or is_at_or_below(own, each)
+            for each in paths
+            for own in self._own
         )
 
     def _is_elsewhere(self, rev: int) -> bool:
