@@ -97,7 +97,7 @@ class OpenEngine(base.Case):
                 self.assertRaisesRegex(Failed, "ended by SIGKILL", history.check)
 
     def test_pipes_may_be_full_both_ways(self) -> None:
-        queries: list[Query[Answer]] = [Log(b"trunk", 13), Where(b"tags/one-1.0", 13), Line(b"x" * 3000)] * 500
+        queries: list[Query[Answer]] = [Log(b"trunk", 13), Where(b"tags/one-1.0", 13), Line(b"", 0, b"x" * 3000)] * 500
         with self.history(DUMP) as history:
             lengths = [len(answer.text) for answer in history.ask(queries)]
             self.assertEqual((len(lengths), set(lengths[::3]), set(lengths[2::3])), (1500, {29}, {0}))
@@ -185,9 +185,11 @@ class OpenEngine(base.Case):
             b"#1 ok",
         )
         with self.history(DUMP) as history:
-            found = [answer.status for answer in history.ask([*map(Line, lines), Log(b"trunk", 13)])]
+            queries = [*(Line(b"", 0, line) for line in lines), Log(b"trunk", 13)]
+            found = [answer.status for answer in history.ask(queries)]
             self.assertEqual(found, ["bad-query"] * len(lines) + ["ok"])
-            self.assertRaises(Denied, list, history.ask([Log(b"trunk", 13), Line(b"log\ttrunk@1\nlog\ttrunk@2")]))
+            cut = Line(b"", 0, b"log\ttrunk@1\nlog\ttrunk@2")
+            self.assertRaises(Denied, list, history.ask([Log(b"trunk", 13), cut]))
             self.assertEqual(history.log(b"trunk", 13).revisions, TRUNK)
         self.assertEqual(len(self.started), 1)
 
