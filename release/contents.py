@@ -54,7 +54,7 @@ def manual(name: str) -> bytes:
 
 def module() -> list[File]:
     """The files of svnask, by their places in the module."""
-    paths = (path for path in SVNASK.rglob("*") if path.suffix == ".py" or path.name == "VERSION")
+    paths = (path for path in SVNASK.rglob("*") if path.suffix == ".py" or path.name in ("VERSION", "py.typed"))
     return sorted(File(str(path.relative_to(SVNASK)), path.read_bytes()) for path in paths)
 
 
