@@ -13,7 +13,8 @@ from collections.abc import Sequence
 
 from dev.tree import ROOT
 from release.archives import filled
-from release.contents import MANUALS, File, Parts, in_folder, manual, module, programs, read, version, with_live_links
+from release.contents import COMPLETIONS, MANUALS, File, Parts, completion, in_folder, manual, module, programs, read
+from release.contents import version, with_live_links
 
 NAME = "svnhist"
 # The programs need no library, so they run with any C library. What they need is Linux 3.2, which is older than each
@@ -63,7 +64,9 @@ def of_wheel(parts: Parts) -> list[File]:
     files = list(in_folder("svnask/", module()))
     data, about = f"{title()}.data/", f"{title()}.dist-info/"
     files += in_folder(data + "scripts/", programs(parts))
-    files += in_folder(data + "data/share/man/man1/", [File(name, manual(name)) for name in MANUALS])
+    shared = [File("man/man1/" + name, manual(name)) for name in MANUALS]
+    shared += [File(place, completion(name)) for name, (_, place) in COMPLETIONS.items()]
+    files += in_folder(data + "data/share/", shared)
     files += in_folder(about + "licenses/", licences(parts))
     files += in_folder(about, [File("METADATA", metadata(parts)), File("WHEEL", form())])
     files += [File(about + "entry_points.txt", entry_points())]

@@ -147,6 +147,13 @@ class Packages(ProgramTest):
     def test_no_link_is_dead(self) -> None:
         self.assertEqual(dead_links(self.root / "usr" / "share" / "doc" / "svnhist"), [])
 
+    def test_completion(self) -> None:
+        share = self.root / "usr" / "share"
+        for name in ("bash-completion/completions/svnask", "zsh/vendor-completions/_svnask"):
+            self.assertIn("--complete", (share / name).read_text())
+        words = (sys.executable, str(self.root / "usr" / "bin" / "svnask"), "--complete", "bash", "", DUMP, "gra")
+        self.compare("svnask --complete", Outcome(0, b"words\ngraph\n", b""), self.run_installed(*words))
+
     def test_the_programs(self) -> None:
         svnask = str(self.root / "usr" / "bin" / "svnask")
         self.compare("the Python of svnask", b"#!/usr/bin/python3", Path(svnask).read_bytes().splitlines()[0])
@@ -232,7 +239,8 @@ class Wheels(ProgramTest):
         found = self.called(sys.executable, *INSTALL, "--target", str(target), self.file)
         self.compare("pip", (0, b""), found[:2])
         self.check_installed("a folder", target / "bin", {"PYTHONPATH": str(target)})
-        self.assertTrue((target / "share" / "man" / "man1" / "svnask.1").exists())
+        for name in ("man/man1/svnask.1", "bash-completion/completions/svnask", "zsh/site-functions/_svnask"):
+            self.assertTrue((target / "share" / name).exists(), name)
 
     def test_it_is_installed_into_an_environment(self) -> None:
         made = self.folder / "environment"
