@@ -32,7 +32,7 @@ from .store import Front
 from .targets import decoded, split_peg
 
 # After how many seconds of the call branches are no more looked for.
-LONGEST = 0.18
+LONGEST = 0.16
 BASH = "bash"
 # The names that the help has for arguments: how those with a peg revision end, other paths of the repository, which
 # are names for other things where they are values of options, and files.

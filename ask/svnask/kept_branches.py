@@ -18,7 +18,7 @@ from .store import Front
 from .strip import clean
 
 # How many bytes are looked through at once, and how many more belong to a block that begins or ends there.
-PIECE, EDGE = 4 << 20, 1 << 13
+PIECE, EDGE = 1 << 20, 1 << 13
 MADE = re.compile(
     rb"\nNode-kind: dir\nNode-action: (?:add|replace)\n"
     rb"(?:Node-copyfrom-rev: [0-9]+\nNode-copyfrom-path: ([^\n]*)\n)?"
