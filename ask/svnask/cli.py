@@ -21,7 +21,9 @@ from .errors import Damaged, Denied, Error, Failed, Refused, Unsound, Usage
 from .history import History
 from .progress import Bar
 from .refusals import about_record, explained
-from .sources import Address, Source, source_of
+from .repository_source import Address
+from .source import Source
+from .sources import source_of
 from .texts import say
 from .verbs import VERBS
 from .verbs.base import Object, Verb, counted

@@ -24,10 +24,12 @@ from typing import NamedTuple
 from . import cache
 from .cli import Parser, parser
 from .command_line import OF_ALL, OF_SVN, REACHED, REACHED_ALONE, is_option
+from .dump_source import Dump
 from .entries import Entry, read_front
 from .kept_branches import kept_branches
 from .repositories import PLAIN, ancestors, canonical, path_below
-from .sources import DUMP, FOLDER, IS_URL, URL
+from .repository_source import Address, Folder
+from .sources import IS_URL
 from .store import Front
 from .targets import decoded, split_peg
 
@@ -82,11 +84,11 @@ def place_of(source: str) -> Place | None:
         return None
     if IS_URL.match(source):
         url = canonical(source)
-        found = (place_in(top, URL, root.encode("utf-8", "surrogateescape"), root) for root in ancestors(url))
+        found = (place_in(top, Address.kind, root.encode("utf-8", "surrogateescape"), root) for root in ancestors(url))
         place = next(filter(None, found), None)
         return place._replace(path=path_below(url, place.root) or b"/") if place is not None else None
     path = os.path.realpath(os.fsencode(os.path.expanduser(source)))
-    return place_in(top, DUMP, path) or place_in(top, FOLDER, path)
+    return place_in(top, Dump.kind, path) or place_in(top, Folder.kind, path)
 
 
 def place_in(top: str, kind: bytes, name: bytes, root: str = "") -> Place | None:
@@ -101,7 +103,7 @@ def kept_urls() -> Iterator[str]:
     top = cache.folder()
     for each in cache.folders(top) if top is not None else ():
         front = read_front(each.path)
-        if front is not None and front.kept.kind == URL:
+        if front is not None and front.kept.kind == Address.kind:
             yield front.kept.place.decode("utf-8", "surrogateescape")
 
 

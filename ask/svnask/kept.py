@@ -9,7 +9,7 @@ from types import TracebackType
 from . import cli
 from .history import History
 from .progress import Bar
-from .sources import Source
+from .source import Source
 
 
 def place_of(source: Source) -> str:

@@ -23,7 +23,8 @@ from svnask.entries import Entry, read_front
 from svnask.history import History
 from svnask.lives import lives_in
 from svnask.progress import Progress
-from svnask.sources import URL, source_of
+from svnask.repository_source import Address
+from svnask.sources import source_of
 from svnask.verbs import VERBS
 from svnask.verbs.places import SegmentsVerb
 from tests.ask import base
@@ -53,7 +54,7 @@ class CompletionTest(base.UtcTest):
         with closing(source_of(DUMP)) as source, closing(source.store(Progress())) as store:
             top = cache.folder()
             assert top is not None
-            entry = Entry(top, URL, ROOT_URL.encode())
+            entry = Entry(top, Address.kind, ROOT_URL.encode())
             cache.make(entry.folder)
             with entry.first_file() as (file, kept):
                 store.write(file)
