@@ -64,6 +64,11 @@ class Parser(argparse.ArgumentParser):
     def __init__(self, **settings: Any) -> None:
         super().__init__(allow_abbrev=False, **settings)
 
+    @property
+    def actions(self) -> list[argparse.Action]:
+        """The options and the arguments that it takes."""
+        return self._actions
+
     def _get_values(self, action: argparse.Action, arg_strings: list[str]) -> Any:
         # Before Python 3.12 the value -- of an option was taken for the end of the options.
         if action.option_strings and arg_strings == ["--"]:

@@ -266,7 +266,7 @@ class Finding(FolderTest):
 
     def program(self, *names: str) -> Path:
         path = self.folder.joinpath(*names)
-        path.parent.mkdir(exist_ok=True)
+        path.parent.mkdir(parents=True, exist_ok=True)
         path.touch(0o700)
         return path
 
@@ -280,3 +280,22 @@ class Finding(FolderTest):
                 program = self.program(*path)
                 self.assertEqual(self.found(**beside), str(program))
             self.assertEqual(self.found(SVNHIST_LIVE="/other", **beside), "/other")
+
+    def test_the_one_that_was_installed_with_the_module(self) -> None:
+        # In an environment or below a home, in a folder of `--target`, and in the whole system.
+        other = str(self.program("other", "svnhist-live").parent)
+        self.program("above", "svnhist-live")
+        layouts = (
+            ("one/lib/python3.9/site-packages", "one/bin"),
+            ("two/lib64/python3.13/site-packages", "two/bin"),
+            ("three/lib/python3/dist-packages", "three/bin"),
+            ("above/four", "above/four/bin"),
+        )
+        for modules, programs in layouts:
+            program = self.program(*programs.split("/"), "svnhist-live")
+            with mock.patch.dict(os.environ), mock.patch.object(engine, "HERE", str(self.folder / modules / "svnask")):
+                os.environ.pop("SVNHIST_LIVE", None)
+                os.environ.pop("SVNHIST", None)
+                self.compare(modules, str(program), self.found(PATH=other))
+                program.unlink()
+                self.compare(modules + " without it", os.path.join(other, "svnhist-live"), self.found(PATH=other))
