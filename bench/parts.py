@@ -85,6 +85,11 @@ class Table:
         return head + "|" + "---|" * len(titles) + "\n" + "".join(rows)
 
 
+def with_limit(judged: Judged | None) -> list[Cell]:
+    """A figure and its limit in words, as the last two cells of a row, which has none of them without a figure."""
+    return [None, None] if judged is None else [judged, f"{judged.limit.text}, {judged.limit}"]
+
+
 def limits_table(name: str, judged: Iterable[Judged], absent: Iterable[Limit] = ()) -> Table:
     """A table of figures that stand in no other one, and of limits whose figures need what is not installed."""
     rows: list[Row] = [[each.text, str(each.limit), each] for each in judged]
@@ -94,13 +99,14 @@ def limits_table(name: str, judged: Iterable[Judged], absent: Iterable[Limit] = 
 
 @dataclass(frozen=True)
 class Setup:
-    """What a part measures with: the programs, of which one may be an older build, a folder for its files, and how
-    often it measures."""
+    """What a part measures with: the programs, of which one may be an older build, a folder for its files, one for what
+    parts share, and how often it measures."""
 
     program: Path
     live: Path
     before: Path | None
     folder: Path
+    shared: Path
     times: int
     is_quick: bool
 

@@ -10,6 +10,7 @@ import os
 import shutil
 import subprocess
 import sys
+from collections.abc import Iterator, Mapping
 from functools import partial
 from operator import attrgetter
 from pathlib import Path
@@ -17,7 +18,7 @@ from typing import Callable
 
 from bench.histories import BENCH, generate, load_into_cache
 from bench.measure import Command, best_in_turns, words_of, written
-from bench.parts import Measurements, Part, Row, Setup, Table, limits_table, most
+from bench.parts import Cell, Measurements, Part, Row, Setup, Table, most, with_limit
 from bench.questions import Peg, line
 from dev.running import Measured, Words, peak_of
 from dev.tree import EXAMPLES, ROOT, SVNASK
@@ -30,10 +31,14 @@ LINES = 14000000
 # What a later call takes more than the program, for which its limit has room.
 MORE = 0.2
 
-MOST_OF_GREP = most(15.0, "the first call relative to grep -c")
-MOST_MEGABYTES = most(100.0, "the first call, peak MB")
-MOST_OF_PROGRAM = most(1.5, f"a later log but for {MORE} seconds, relative to svnhist")
-MOST_OF_LINES = most(3.0, "the module, many answers relative to svnhist")
+MOST_OF_GREP = most(15.0, "relative to `grep`")
+MOST_MEGABYTES = most(100.0, "the first question, peak MB")
+MOST_OF_PROGRAM = most(1.5, f"but for {MORE} s, relative to svnhist")
+MOST_OF_LINES = most(3.0, "relative to svnhist")
+GREP, FIRST = "`grep -c ^Node-path`", "svnask, the first question"
+ALONE, LATER = "svnhist, the log of the trunk", "svnask, the same as a later question"
+MANY, READ = "svnhist, many logs", "the module, the same"
+HEADING = f"what runs | processor s:.3f | peak MB, {MOST_MEGABYTES} for the first question:.0f | ratio:.2f | limit"
 
 
 def python_words(setup: Setup, cache: Path, *words: str | Path) -> Words:
@@ -80,27 +85,35 @@ class Asked:
         return Command(self.python(BENCH / "answer_reader.py", self.dump, "trunk", str(count))).run()
 
 
+def rows_of(best: Mapping[str, Measured], peak: float) -> Iterator[Row]:
+    """What is measured of each command, the last three beside the one before them."""
+    took = {name: taken.processor for name, taken in best.items()}
+    judged = {
+        FIRST: MOST_OF_GREP.of(took[FIRST] / took[GREP]),
+        LATER: MOST_OF_PROGRAM.of((took[LATER] - MORE) / took[ALONE]),
+        READ: MOST_OF_LINES.of(took[READ] / took[MANY]),
+    }
+    for name, taken in best.items():
+        memory: Cell = MOST_MEGABYTES.of(peak / 1e6) if name == FIRST else taken.peak / 1e6
+        yield [name, taken.processor, memory, *with_limit(judged.get(name))]
+
+
 def run(setup: Setup) -> Measurements:
     asked = Asked(setup)
     dump, stripped = (path.stat().st_size / 1e6 for path in (asked.dump, asked.stripped))
     grepped = Command(["grep", "-c", "-a", "^Node-path", asked.dump])
     records = int(grepped.run().outcome.output)
-    yield f"A dump of {dump:.1f} MB, {stripped:.1f} MB without texts, {records} records."
+    yield f"The dump has {dump:.0f} MB and {records:,} records; without texts it has {stripped:.0f} MB."
     count = setup.scaled(LINES) // asked.later().outcome.output.count(b"\nr")
     pairs: list[dict[str, Callable[[], Measured]]] = [
-        {"`grep -c ^Node-path`": grepped.run, "svnask, the first question": asked.first},
-        {"svnhist, the log of the trunk": partial(asked.alone, 1), "svnask, the same as a later question": asked.later},
-        {"svnhist, many logs": partial(asked.alone, count), "the module, the same": partial(asked.read, count)},
+        {GREP: grepped.run, FIRST: asked.first},
+        {ALONE: partial(asked.alone, 1), LATER: asked.later},
+        {MANY: partial(asked.alone, count), READ: partial(asked.read, count)},
     ]
     cost = attrgetter("processor")
     best = {name: taken for pair in pairs for name, taken in best_in_turns(pair, setup.times, cost).items()}
-    grep, first, alone, later, many, read = (taken.processor for taken in best.values())
-    rows: list[Row] = [[name, taken.processor, taken.peak / 1e6] for name, taken in best.items()]
-    yield Table("svnask", "what runs | processor s:.3f | peak MB:.0f", rows)
-    yield f"Lines of the many logs: {best['the module, the same'].outcome.output.decode().strip()}."
-    limits = [MOST_OF_GREP.of(first / grep), MOST_MEGABYTES.of(peak_of(asked.first_words()) / 1e6)]
-    limits += [MOST_OF_PROGRAM.of((later - MORE) / alone), MOST_OF_LINES.of(read / many)]
-    yield limits_table("svnask-limits", limits)
+    yield f"The many logs have {int(best[READ].outcome.output):,} lines."
+    yield Table("svnask", HEADING, list(rows_of(best, peak_of(asked.first_words()))))
 
 
 PART = Part(__name__, __doc__, run, [MOST_OF_GREP, MOST_MEGABYTES, MOST_OF_PROGRAM, MOST_OF_LINES])

@@ -19,7 +19,8 @@ from dev.running import Failed, Outcome
 from dev.tree import DOCS, ROOT
 
 NOTHING = Path("/nonexistent")
-SETUP = Setup(NOTHING, NOTHING, None, Path(tempfile.gettempdir()), times=1, is_quick=True)
+FOLDER = Path(tempfile.gettempdir())
+SETUP = Setup(NOTHING, NOTHING, None, FOLDER, FOLDER, times=1, is_quick=True)
 NEW = Table("new", "what | figure:.2f", [["a", 1.234], ["b", Limit(MOST, 2, "of b").of(2.5)]])
 LINES = "| what | figure |\n|---|---|\n| a | 1.23 |\n| b | 2.50 **not met** |\n"
 
