@@ -56,6 +56,7 @@ class Judged:
 
 Cell = Union[str, int, float, None, Judged]
 Row = Sequence[Cell]
+NOT_MET = "**not met**"
 # A cell in place of a figure for which Subversion, or another tool, would have to be installed.
 ABSENT = "not installed"
 
@@ -63,7 +64,7 @@ ABSENT = "not installed"
 def shown(cell: Cell, form: str) -> str:
     """A cell as words, its number in a form as of `format`."""
     if isinstance(cell, Judged):
-        return f"{shown(cell.value, form)} {'met' if cell.is_met else '**not met**'}".strip()
+        return f"{shown(cell.value, form)} {'met' if cell.is_met else NOT_MET}".strip()
     if cell is None:
         return ""
     return cell if isinstance(cell, str) else format(cell, form)

@@ -41,7 +41,7 @@ MOST_FOR_TWICE = most(2.3, "time of twice the history")
 MOST_MEMORY_FOR_TWICE = most(2.1, "memory of twice the history")
 LEAST_OF_PLAIN = least(15, "time of plain Python relative to that of the program")
 HEADING = (
-    "history | revisions:, | dump, MB:.0f | seconds:.3f | `grep`, s:.3f | reading, s:.3f | plain Python, s:.2f | "
+    "history | revisions:, | dump, MB:.0f | seconds:.3f | `grep`, s:.3f | plain Python, s:.2f | "
     f"relative to ours, {LEAST_OF_PLAIN}:.1f | peak MB:.0f | plain Python, MB:.0f | bytes of memory for a record:.0f"
 )
 LIMITS = (*MOST_TIMES.values(), *MOST_MEGABYTES.values(), MOST_FOR_TWICE, MOST_MEMORY_FOR_TWICE, LEAST_OF_PLAIN)
@@ -73,7 +73,7 @@ class History:
         return min(self.walls[kind] for kind in KINDS.values() if kind.workers == workers)
 
     def row(self) -> Row:
-        walls: list[Cell] = [self.walls[ALONE], self.walls[GREP], self.walls[READING]]
+        walls: list[Cell] = [self.walls[ALONE], self.walls[GREP]]
         memory: list[Cell] = [self.peak / 1e6, None, self.peak / (self.revisions * RECORDS)]
         if PLAIN in self.commands:
             walls += [self.walls[PLAIN], LEAST_OF_PLAIN.of(self.walls[PLAIN] / self.walls[ALONE])]
@@ -110,8 +110,9 @@ def run(setup: Setup) -> Measurements:
     found = {mix: measured(setup, mix) for mix in MIXES}
     histories = [history for each in found.values() for history in each]
     yield Table("whole-runs", HEADING, [history.row() for history in histories])
-    heading = "history | revisions:," + "".join(f" | {title}:.3f" for title in KINDS)
-    rows: list[Row] = [[each.mix, each.revisions, *(each.walls[kind] for kind in KINDS.values())] for each in histories]
+    kinds: dict[str, Kind | str] = {**KINDS, "reading alone": READING}
+    heading = "history | revisions:," + "".join(f" | {title}:.3f" for title in kinds)
+    rows: list[Row] = [[each.mix, each.revisions, *(each.walls[kind] for kind in kinds.values())] for each in histories]
     yield Table("whole-runs-by-workers", heading, rows)
     heading = "history | revisions:, | workers | BLOCK:, | relative to `grep`:.2f | relative to reading:.2f"
     rows = [history.relative_row(kind) for history in histories for kind in KINDS.values()]
