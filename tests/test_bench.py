@@ -174,7 +174,14 @@ class PageTest(unittest.TestCase):
 
     def test_on_what_all_was_measured(self) -> None:
         found = texts_of(report_of(NEW))["sentences: machine"]
-        for words in ("1.2.3", "2024-01-31", f"{machine()['cores']} cores", machine()["python"], "best of 5", "2 minutes"):
+        for words in (
+            "1.2.3",
+            "2024-01-31",
+            f"{machine()['cores']} cores",
+            machine()["python"],
+            "best of 5",
+            "2 minutes",
+        ):
             self.assertIn(words, " ".join(found.split()))
         self.assertNotIn("quick", found)
 
