@@ -22,7 +22,7 @@ from pathlib import Path
 from typing import Callable
 
 from bench.histories import BENCH, MIXES, generate
-from bench.measure import Command, best_in_turns, written
+from bench.measure import Command, SameReport, best_in_turns, words_of, written
 from bench.parts import ABSENT, Cell, Measurements, Part, Row, Setup, Table
 from bench.questions import Asked, drawn_question, later_half, pegs_at_ends, records_of
 from bench.subversion import ASKED_OF_COMMAND, LOADING_SECONDS, Repository, ask_bindings, ask_command, grown
@@ -64,11 +64,12 @@ class History:
     def whole(self) -> dict[str, float]:
         """The seconds of what reads the whole dump, the best in turns."""
         dump, queries = self.asked.dump, written(self.setup.folder / "first-query", self.lines[:1])
+        same = SameReport(dump.name, 1)
         runs: dict[str, Callable[[], Measured]] = {
-            RUN: self.asked.command(self.lines[:1]).run,
+            RUN: Command(words_of(self.setup.program, dump, queries), report=same).run,
             FIRST: self.first,
             GREP: Command(["grep", "-c", "^Node-path"], ["cat", dump]).run,
-            PLAIN: Command([sys.executable, BENCH / "plain_reader.py", dump, queries]).run,
+            PLAIN: Command([sys.executable, BENCH / "plain_reader.py", dump, queries], report=same).run,
         }
         return {name: taken.wall for name, taken in best_in_turns(runs, self.setup.times).items()}
 
@@ -93,15 +94,15 @@ class History:
 
 def repositories(setup: Setup, dump: Path) -> Iterator[tuple[int, Repository | None]]:
     """Each length with its repository. The last one is shorter where the time to load it was over."""
-    left = float(setup.scaled(LOADING_SECONDS))
+    left, before = float(setup.scaled(LOADING_SECONDS)), 0
     for length in map(setup.scaled, LENGTHS):
         began = time.perf_counter()
         repository = grown(setup, dump, length, left)
         left -= time.perf_counter() - began
         reached = repository.last if repository else length
-        yield reached, repository
-        if reached < length:
-            return
+        if reached > before:
+            yield reached, repository
+        before = reached
 
 
 def run(setup: Setup) -> Measurements:

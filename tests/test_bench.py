@@ -14,13 +14,15 @@ from typing import Any, NamedTuple
 from xml.etree import ElementTree
 
 from bench.history_lengths import MORE, PROCESS, SERIES, TABLE
-from bench.main import PARTS, machine, measure_all
+from bench.histories import revision, write_dump
+from bench.main import PARTS, machine, measure_all, options
 from bench.page import MARKED, WIDTH, Refused, texts_of, with_texts
 from bench.parts import ABSENT, MOST, Judged, Limit, Measurements, Part, Row, Setup, Table, limits_table, part_to_json
 from bench.picture import GAP, drawn, spread, time_in_words
 from bench.picture import WIDTH as PICTURE_WIDTH
-from bench.subversion import beside, command_of
+from bench.subversion import beside, command_of, grown, is_installed, shared
 from dev import running
+from dev.dumps import FILE, added, changed
 from dev.running import Failed, Outcome
 from dev.tree import DOCS, ROOT
 
@@ -97,6 +99,12 @@ class LimitTest(unittest.TestCase):
         self.assertIn(f"| {limit.text} | {limit} | {ABSENT} |\n", output.getvalue())
 
 
+class OptionsTest(unittest.TestCase):
+    def test_some_parts(self) -> None:
+        given = options().parse_args(["--only", "workers", "--only", "ranges", "program"])
+        self.assertEqual((given.only, given.program), (["workers", "ranges"], Path("program")))
+
+
 class JsonTest(unittest.TestCase):
     def test_what_is_written(self) -> None:
         part, limit = next(limits())
@@ -137,13 +145,13 @@ class Written(NamedTuple):
     text: str
 
 
-def write(command: str, report: object, text: str, *options: str) -> Written:
+def write(command: str, report: object, text: str, *words: str) -> Written:
     """Calls a command with this report and a file with this text."""
     with tempfile.TemporaryDirectory() as folder:
         measured, path = Path(folder) / "measured.json", Path(folder) / "written"
         measured.write_text(json.dumps(report), encoding="utf-8")
         path.write_text(text, encoding="utf-8")
-        done = running.run([ROOT / "bench" / command, *options, measured, path])
+        done = running.run([ROOT / "bench" / command, *words, measured, path])
         return Written(done, path.read_text(encoding="utf-8"))
 
 
@@ -309,6 +317,31 @@ class PictureTest(unittest.TestCase):
 
 
 class SubversionTest(unittest.TestCase):
+    @unittest.skipUnless(is_installed(), "Subversion is not installed")
+    def test_parts_share_a_repository(self) -> None:
+        """It grows by what it lacks, and a part that only needs one takes it as it is."""
+        with tempfile.TemporaryDirectory() as folder:
+            setup = replace(SETUP, shared=Path(folder))
+            first = revision(1, added(b"trunk"), added(b"trunk/file", FILE))
+            changes = (revision(rev, changed(b"trunk/file", text=b"%d\n" % rev)) for rev in range(2, 7))
+            dump = write_dump(Path(folder) / "dump", [first, *changes])
+            for last, wanted in ((2, 2), (5, 5), (3, 5)):
+                found = grown(setup, dump, last, 60)
+                self.assertEqual(found and found.last, wanted)
+            found = shared(setup, dump, 6)
+            assert found is not None
+            self.assertEqual(found.last, 5)
+            shown = running.run(["svnlook", "cat", "-r", "4", found.folder, "trunk/file"])
+            self.assertEqual(shown.output, b"4\n")
+
+    @unittest.skipUnless(is_installed(), "Subversion is not installed")
+    def test_a_part_that_is_first_loads_the_repository(self) -> None:
+        with tempfile.TemporaryDirectory() as folder:
+            setup = replace(SETUP, shared=Path(folder))
+            dump = write_dump(Path(folder) / "dump", [revision(1, added(b"trunk")), revision(2, added(b"tags"))])
+            found = shared(setup, dump, 2)
+            self.assertEqual(found and found.last, 2)
+
     def test_the_command_for_a_query(self) -> None:
         for query, command in (
             ("log\ta@3\n", "svn log -q U/a@3"),
