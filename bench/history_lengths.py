@@ -2,7 +2,8 @@
 
 The histories are of changes, each the beginning of the next one. The last one has as many revisions as `svnadmin load`
 loads in ten minutes, where Subversion is installed, and at most 120,000. There are 20 questions `log` about paths of
-the later half of each.
+the later half of each. Subversion has one repository, and is asked by the same peg revisions: what came after one of
+these it does not look at.
 
 - A run of the program reads the dump and answers the first question. One more answer is the time of a run with all
   questions, many times over, less that of a run without, divided by their number.
@@ -16,16 +17,13 @@ from __future__ import annotations
 import random
 import shutil
 import sys
-import time
-from collections.abc import Iterator
-from pathlib import Path
 from typing import Callable
 
 from bench.histories import BENCH, MIXES, generate
 from bench.measure import Command, SameReport, best_in_turns, words_of, written
 from bench.parts import ABSENT, Cell, Measurements, Part, Row, Setup, Table
 from bench.questions import Asked, drawn_question, later_half, pegs_at_ends, records_of
-from bench.subversion import ASKED_OF_COMMAND, LOADING_SECONDS, Repository, ask_bindings, ask_command, grown
+from bench.subversion import ASKED_OF_COMMAND, Repository, ask_bindings, ask_command, shared
 from bench.svnask_calls import python_words
 from dev.running import Measured
 from dev.tree import SVNASK
@@ -92,22 +90,17 @@ class History:
         return [self.revisions, *cells]
 
 
-def repositories(setup: Setup, dump: Path) -> Iterator[tuple[int, Repository | None]]:
-    """Each length with its repository. The last one is shorter where the time to load it was over."""
-    left, before = float(setup.scaled(LOADING_SECONDS)), 0
-    for length in map(setup.scaled, LENGTHS):
-        began = time.perf_counter()
-        repository = grown(setup, dump, length, left)
-        left -= time.perf_counter() - began
-        reached = repository.last if repository else length
-        if reached > before:
-            yield reached, repository
-        before = reached
+def lengths(setup: Setup, repository: Repository | None) -> list[int]:
+    """The lengths that are measured, none of them beyond what was loaded."""
+    wanted = list(map(setup.scaled, LENGTHS))
+    last = min(wanted[-1], repository.last) if repository else wanted[-1]
+    return [length for length in wanted if length < last] + [last]
 
 
 def run(setup: Setup) -> Measurements:
     dump = generate(setup.folder / "lengths", MIXES["changes"], setup.scaled(LENGTHS[-1]))
-    rows = [History(setup, *each).row() for each in repositories(setup, dump)]
+    repository = shared(setup, dump, setup.scaled(LENGTHS[-1]))
+    rows = [History(setup, length, repository).row() for length in lengths(setup, repository)]
     yield f"Milliseconds of one question `log` about histories of up to {rows[-1][0]:,} revisions."
     yield Table(TABLE, " | ".join(["revisions:,", *(f"{name}:,.3f" for name in SERIES)]), rows)
 

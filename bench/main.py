@@ -26,11 +26,11 @@ from bench.subversion import MEMORY
 from dev.running import Failed
 from dev.tree import ROOT, programs
 
-# The modules of the parts, in their order. The last four share a repository.
+# The modules of the parts, in their order. The last four share a repository, and the very last one lets it grow.
 MODULES = """
 reading_bundles reading_dumps short_history_queries merged_and_eligible workers whole_runs blocks wide_directories
 long_history_queries mergeinfo_values long_mergeinfo ranges hostile_input ten_million_records svnask_calls
-svnask_open_history history_lengths queries_per_second svnask_repository svnhist_live_turns
+svnask_open_history history_lengths queries_per_second svnhist_live_turns svnask_repository
 """
 PARTS: list[Part] = [import_module(f"bench.{name}").PART for name in MODULES.split()]
 

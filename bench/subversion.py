@@ -15,7 +15,6 @@ from typing import Iterator, NamedTuple
 from bench.histories import revisions_of
 from bench.parts import ABSENT, Cell, Limit, Setup
 from bench.questions import MERGES
-from dev.dumps import first_lines
 from dev.running import Failed, Limits, Words, measure, run
 from dev.tree import ROOT
 
@@ -81,26 +80,18 @@ def loaded(setup: Setup, dump: Path) -> Iterator[Repository | None]:
         yield Repository(f"file://{folder}", youngest(Path(folder)))
 
 
-def grown(setup: Setup, dump: Path, last: int, seconds: float) -> Repository | None:
-    """The repository of the history of changes, which parts share, with what it lacks up to a revision, or as much of
-    that as can be loaded in some time. None without Subversion."""
+def shared(setup: Setup, dump: Path, last: int) -> Repository | None:
+    """The repository of the history of changes that parts share, as a part before has left it. The first part loads the
+    revisions of this dump up to one, or as many as ten minutes are enough for. None without Subversion.
+
+    It is loaded as one stream: `svnadmin load` of a later piece empties mergeinfo about revisions before the piece."""
     if not is_installed():
         return None
     folder = setup.shared / "changes"
     if not folder.exists():
         create(folder)
-    has = youngest(folder)
-    if has < last:
-        # Revision 0 stands after the bytes before it, and is loaded once.
-        pieces = itertools.islice(revisions_of(dump), has + 2 if has else 1, last + 2)
-        load(folder, itertools.chain([first_lines()], pieces), seconds)
+        load(folder, itertools.islice(revisions_of(dump), last + 2), setup.scaled(LOADING_SECONDS))
     return Repository(f"file://{folder}", youngest(folder))
-
-
-def shared(setup: Setup, dump: Path, last: int) -> Repository | None:
-    """The repository that parts share, as a part before has left it, or else what can be loaded in ten minutes."""
-    is_left = (setup.shared / "changes").exists()
-    return grown(setup, dump, 0 if is_left else last, setup.scaled(LOADING_SECONDS))
 
 
 class OfBindings(NamedTuple):

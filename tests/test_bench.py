@@ -13,16 +13,16 @@ from pathlib import Path
 from typing import Any, NamedTuple
 from xml.etree import ElementTree
 
-from bench.history_lengths import MORE, PROCESS, SERIES, TABLE
+from bench.history_lengths import MORE, PROCESS, SERIES, TABLE, lengths
 from bench.histories import revision, write_dump
 from bench.main import PARTS, machine, measure_all, options
 from bench.page import MARKED, WIDTH, Refused, texts_of, with_texts
 from bench.parts import ABSENT, MOST, Judged, Limit, Measurements, Part, Row, Setup, Table, limits_table, part_to_json
 from bench.picture import GAP, drawn, spread, time_in_words
 from bench.picture import WIDTH as PICTURE_WIDTH
-from bench.subversion import beside, command_of, grown, is_installed, shared
+from bench.subversion import Repository, beside, command_of, is_installed, shared
 from dev import running
-from dev.dumps import FILE, added, changed
+from dev.dumps import added, changed, copied, mergeinfo
 from dev.running import Failed, Outcome
 from dev.tree import DOCS, ROOT
 
@@ -319,28 +319,27 @@ class PictureTest(unittest.TestCase):
 class SubversionTest(unittest.TestCase):
     @unittest.skipUnless(is_installed(), "Subversion is not installed")
     def test_parts_share_a_repository(self) -> None:
-        """It grows by what it lacks, and a part that only needs one takes it as it is."""
+        """The first part loads it, with its mergeinfo, and later ones take it as it is."""
         with tempfile.TemporaryDirectory() as folder:
             setup = replace(SETUP, shared=Path(folder))
-            first = revision(1, added(b"trunk"), added(b"trunk/file", FILE))
-            changes = (revision(rev, changed(b"trunk/file", text=b"%d\n" % rev)) for rev in range(2, 7))
-            dump = write_dump(Path(folder) / "dump", [first, *changes])
-            for last, wanted in ((2, 2), (5, 5), (3, 5)):
-                found = grown(setup, dump, last, 60)
-                self.assertEqual(found and found.last, wanted)
-            found = shared(setup, dump, 6)
-            assert found is not None
-            self.assertEqual(found.last, 5)
-            shown = running.run(["svnlook", "cat", "-r", "4", found.folder, "trunk/file"])
-            self.assertEqual(shown.output, b"4\n")
+            value = mergeinfo(b"/trunk:1-2")
+            nodes = [added(b"trunk")], [copied(b"branch", b"trunk", 1)], [changed(b"branch", value)], [added(b"tags")]
+            dump = write_dump(Path(folder) / "dump", (revision(rev, *each) for rev, each in enumerate(nodes, 1)))
+            self.assertEqual([found.last for last in (3, 4) if (found := shared(setup, dump, last))], [3, 3])
+            shown = running.run(["svnlook", "propget", setup.shared / "changes", "svn:mergeinfo", "branch"])
+            self.assertEqual(shown.output, b"/trunk:1-2")
 
-    @unittest.skipUnless(is_installed(), "Subversion is not installed")
-    def test_a_part_that_is_first_loads_the_repository(self) -> None:
-        with tempfile.TemporaryDirectory() as folder:
-            setup = replace(SETUP, shared=Path(folder))
-            dump = write_dump(Path(folder) / "dump", [revision(1, added(b"trunk")), revision(2, added(b"tags"))])
-            found = shared(setup, dump, 2)
-            self.assertEqual(found and found.last, 2)
+    def test_lengths(self) -> None:
+        """None is beyond what was loaded, which is the last one."""
+        full = replace(SETUP, is_quick=False)
+        for last, wanted in (
+            (120000, [1000, 10000, 30000, 120000]),
+            (91134, [1000, 10000, 30000, 91134]),
+            (30000, [1000, 10000, 30000]),
+            (500000, [1000, 10000, 30000, 120000]),
+        ):
+            self.assertEqual(lengths(full, Repository("", last)), wanted)
+        self.assertEqual(lengths(full, None), [1000, 10000, 30000, 120000])
 
     def test_the_command_for_a_query(self) -> None:
         for query, command in (
