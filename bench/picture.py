@@ -27,6 +27,7 @@ ABOUT = (
     "The log of one path, in histories with four records in each revision. Both axes are logarithmic.",
     "Solid lines read the whole dump. Dashed ones ask what was read before, or a repository that was loaded before.",
 )
+A_QUICK_RUN = "A quick run, for a trial alone."
 RED, PINK, BLUE, GREEN, GREY, BLACK = "#d55e00", "#aa4499", "#0072b2", "#00795a", "#777777", "#222222"
 # The colour of each line, and its dashes: what reads the whole dump has none.
 LINES = {
@@ -171,7 +172,7 @@ def source_in_words(report: Any) -> str:
         words = f"svnhist {report['version']}, {report['date']}, {machine['processor']}, {machine['cores']} cores"
     except (KeyError, TypeError):
         raise not_measured() from None
-    return f"A quick run, for a trial alone. {words}" if report["is_quick"] else words
+    return f"{A_QUICK_RUN} {words}" if report["is_quick"] else words
 
 
 def drawn(report: Any) -> str:

@@ -16,9 +16,9 @@ from xml.etree import ElementTree
 from bench.history_lengths import MORE, PROCESS, SERIES, TABLE, lengths
 from bench.histories import revision, write_dump
 from bench.main import PARTS, machine, measure_all, options
-from bench.page import MARKED, WIDTH, Refused, texts_of, with_texts
+from bench.page import MARKED, QUICK_RUN, WIDTH, Refused, texts_of, with_texts
 from bench.parts import ABSENT, MOST, Judged, Limit, Measurements, Part, Row, Setup, Table, limits_table, part_to_json
-from bench.picture import GAP, drawn, spread, time_in_words
+from bench.picture import A_QUICK_RUN, GAP, drawn, spread, time_in_words
 from bench.picture import WIDTH as PICTURE_WIDTH
 from bench.subversion import Repository, beside, command_of, is_installed, shared
 from dev import running
@@ -239,6 +239,12 @@ class PageTest(unittest.TestCase):
         self.assertEqual(len(MARKED.findall(page)), page.count("<!-- end -->"))
         self.assertLessEqual(len(re.findall("<!-- (?:table|missed): ", page)), 10)
         self.assertNotIn("\n|", MARKED.sub("", page))
+
+    def test_no_trial_is_kept(self) -> None:
+        """Neither the page nor the picture has figures of a quick run."""
+        self.assertNotIn(QUICK_RUN, (DOCS / "performance.md").read_text(encoding="utf-8"))
+        for picture in DOCS.glob("performance.svg"):
+            self.assertNotIn(A_QUICK_RUN, picture.read_text(encoding="utf-8"))
 
 
 LENGTHS = (1000, 30000, 91134)
