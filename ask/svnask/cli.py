@@ -103,13 +103,12 @@ def parser() -> Parser:
     made.add_argument("--offline", action="store_true", help="answer from what is kept, without asking the source")
     made.add_argument("-V", "--version", action="version", version="svnask " + __version__)
     verbs = made.add_subparsers(dest="verb", metavar="VERB", required=True, parser_class=Parser)
-    for verb in VERBS:
-        below = verbs.add_parser(verb.name, help=verb.help, description=verb.help)
+    words = {verb.name: (verb.help, verb.arguments) for verb in VERBS}
+    for name, (about, arguments) in {**words, **COMMANDS}.items():
+        below = verbs.add_parser(name, help=about, description=about)
         for option in ("--json", "--no-cache", "--offline"):
             below.add_argument(option, action="store_true", default=argparse.SUPPRESS, help=argparse.SUPPRESS)
-        verb.arguments(below)
-    for name, (about, arguments) in COMMANDS.items():
-        arguments(verbs.add_parser(name, help=about, description=about))
+        arguments(below)
     return made
 
 
