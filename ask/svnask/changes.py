@@ -1,13 +1,27 @@
 """The changed paths of a revision, as `svn log -v` lists them."""
 from __future__ import annotations
 
+import re
 from collections.abc import Iterable, Iterator
+from operator import methodcaller
 from typing import NamedTuple
 
-from .store import Record
+from .digits import number
+from .store import Node, Record
+from .strip import MERGEINFO, clean
 
 # A path and a revision.
 Place = tuple[bytes, int]
+# How `svn log -v` writes what a record does.
+LETTERS = {b"add": "A", b"change": "M", b"delete": "D", b"replace": "R"}
+NUL_FOR_SLASH = methodcaller("replace", b"/", b"\0")
+# The offset in the block of a record, and a block without it and without a section, or with an empty one.
+OFFSET = re.compile(rb"\nAt: .*")
+PLAIN = re.compile(
+    rb"Node-path: (.*)\n(?:Node-kind: (.*)\n)?Node-action: (add|change|delete|replace)"
+    rb"(?:\nNode-copyfrom-rev: ([0-9]+)\nNode-copyfrom-path: (.*))?(?:\nProp-delta: .*)?(?:\nText-delta: .*)?"
+    rb"(?:\nMods: (text)?(?: ?(properties))?)?(?:\nProp-content-length: 10\nContent-length: 10)?"
+)
 
 
 class Change(NamedTuple):
@@ -23,8 +37,8 @@ class Change(NamedTuple):
     has_properties: bool = False
 
     def line(self) -> bytes:
-        origin = b" (from %s:%d)" % self.source if self.source else b""
-        return b"   %s %s%s" % (self.letter.encode("ascii"), self.path, origin)
+        line = b"   %s %s" % (self.letter.encode("ascii"), self.path)
+        return line + b" (from %s:%d)" % self.source if self.source else line
 
 
 def components(path: bytes) -> list[bytes]:
@@ -55,12 +69,60 @@ def tops_of(path: bytes) -> Iterator[bytes]:
         yield path
 
 
-def changes_of(records: Iterable[Record]) -> list[Change]:
-    """What the records of one revision come to, in the order of their paths."""
+class KnownBlocks:
+    """The changes of records by their blocks. Most paths are changed in the same way again and again."""
+
+    def __init__(self) -> None:
+        # An empty section, and the end of the last block, are no records.
+        self._changes: dict[bytes, Change | None] = {b"": None, b"PROPS-END": None}
+
+    def changes(self, blocks: bytes) -> list[Change] | None:
+        """What the records of a revision come to, or None where one has a section that is not empty."""
+        if MERGEINFO in blocks:
+            return None
+        known = self._changes
+        found: dict[bytes, Change] = {}
+        for block in OFFSET.sub(b"", blocks).lstrip(b"\n").split(b"\n\n"):
+            if block not in known:
+                plain = PLAIN.fullmatch(block)
+                if plain is None:
+                    return None
+                known[block] = change_of(*plain.groups())
+            change = known[block]
+            if change is not None:
+                add(found, change)
+        return in_order(found)
+
+
+def changes_of(nodes: Iterable[Node]) -> list[Change]:
+    """What the records of a revision come to, in the order of their paths."""
     found: dict[bytes, Change] = {}
-    for record in records:
-        fold(found, record)
-    return sorted(found.values(), key=lambda change: components(change.path))
+    for node in nodes:
+        add(found, change_of(*node))
+    return in_order(found)
+
+
+def change_of(
+    path: bytes,
+    kind: bytes | None,
+    action: bytes | None,
+    rev: bytes | None,
+    source: bytes | None,
+    text: bytes | None,
+    properties: bytes | None,
+) -> Change:
+    """What one record does."""
+    letter = LETTERS.get(action or b"", "R")
+    if letter == "D":
+        return Change(clean(path), letter, None)
+    place = (clean(source), number(rev)) if rev and source is not None and letter != "M" else None
+    of_node = None if kind is None else kind.decode("latin-1")
+    return Change(clean(path), letter, place, of_node, text is not None, properties is not None)
+
+
+def in_order(found: dict[bytes, Change]) -> list[Change]:
+    """Changes in the order of their paths, component by component, of which none has a NUL."""
+    return [found[path] for path in sorted(found, key=NUL_FOR_SLASH)] if len(found) > 1 else [*found.values()]
 
 
 def source_of(records: Iterable[Record], path: bytes) -> Place | None:
@@ -84,25 +146,21 @@ def place_of(change: Change, rev: int, records: Iterable[Record]) -> Place:
     return (joined(source[0], name), source[1]) if source is not None else (change.path, rev - 1)
 
 
-def fold(found: dict[bytes, Change], record: Record) -> None:
-    before = found.get(record.path)
-    mods = record.has_text, record.has_properties
-    if record.action == "change":
-        if before is None:
-            found[record.path] = Change(record.path, "M", None, record.kind, *mods)
-        else:
-            found[record.path] = before._replace(
-                has_text=before.has_text or mods[0], has_properties=before.has_properties or mods[1]
-            )
+def add(found: dict[bytes, Change], change: Change) -> None:
+    """Adds what one more record does, as the change that it would be alone."""
+    path, letter = change.path, change.letter
+    before = found.get(path)
+    if before is not None and letter == "M":
+        found[path] = before._replace(
+            has_text=before.has_text or change.has_text, has_properties=before.has_properties or change.has_properties
+        )
         return
-    if record.action in ("delete", "replace"):
-        for path in [path for path in found if path != record.path and is_at_or_below(path, record.path)]:
-            del found[path]
-    if record.action == "delete":
-        if before is not None and before.letter == "A":
-            del found[record.path]
-        else:
-            found[record.path] = Change(record.path, "D", None)
-        return
-    is_new = record.action == "add" and (before is None or before.letter == "A")
-    found[record.path] = Change(record.path, "A" if is_new else "R", record.source, record.kind, *mods)
+    if letter in "DR":
+        for each in [each for each in found if each != path and is_at_or_below(each, path)]:
+            del found[each]
+    if letter == "D" and before is not None and before.letter == "A":
+        del found[path]
+    elif letter == "A" and before is not None and before.letter != "A":
+        found[path] = change._replace(letter="R")
+    else:
+        found[path] = change

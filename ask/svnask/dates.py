@@ -8,9 +8,11 @@
 from __future__ import annotations
 
 import calendar
+import functools
 import re
 import time
 from collections.abc import Callable
+from typing import NamedTuple
 
 from .digits import number
 from .errors import Denied
@@ -21,6 +23,8 @@ Moment = tuple[int, int]
 WEEKDAYS = ("Mon", "Tue", "Wed", "Thu", "Fri", "Sat", "Sun")
 MONTHS = ("Jan", "Feb", "Mar", "Apr", "May", "Jun", "Jul", "Aug", "Sep", "Oct", "Nov", "Dec")
 STORED = re.compile(rb"(\d+)-(\d+)-(\d+)T(\d+):(\d+):(\d+)\.(\d+)Z")
+# As Subversion writes it today: the day, the hour, and what is shown as it is.
+USUAL = re.compile(rb"(\d{4}-\d\d-\d\d)T([01]\d|2[0-3])(:[0-5]\d:[0-5]\d)\.\d{6}Z")
 OLD = re.compile(rb"\w{3} (\d+) (\w{3}) (\d+) (\d+):(\d+):(\d+)\.(\d+) \(day \d+, dst \d+, gmt_off (-?\d+)\)")
 MICROS = 1000000
 # Subversion keeps each part of a date in 32 bits, and a moment in microseconds in 64. What does not fit is unreadable.
@@ -57,23 +61,48 @@ def shown(date: bytes | None, zone: str | None = None) -> str:
     """A value of `svn:date` as `svn log` prints it, in the local time zone or in UTC."""
     if not date:
         return "(no date)"
-    when = read(date)
-    if when is None:
-        return "(invalid date)"
-    local = time.gmtime(when[0]) if zone == "UTC" else time.localtime(when[0])
+    usual = USUAL.match(date)
+    day = day_of(usual[1], zone) if usual else None
+    if usual is None or day is None:
+        when = read(date)
+        return "(invalid date)" if when is None else "%s %s %s (%s)" % parts_of(when[0], zone)
+    later, hour = divmod(int(usual[2]) + day.hours, 24)
+    front, name = day.names[later]
+    return "%s %02d%s %s (%s)" % (front, hour, usual[3].decode("ascii"), day.zone, name)
+
+
+class Day(NamedTuple):
+    """How a day of UTC is shown where local time is so many whole hours ahead all day: as itself, as the next day and as
+    the one before, each at the begin and at the end of the line."""
+
+    hours: int
+    zone: str
+    names: list[tuple[str, str]]
+
+
+@functools.lru_cache(1 << 12)
+def day_of(text: bytes, zone: str | None) -> Day | None:
+    noon = read(text + b"T12:00:00.0Z")
+    if noon is None:
+        return None
+    times = [noon[0] + seconds for seconds in (-43200, 0, 43199)]
+    offsets = {0 if zone == "UTC" else offset_at(each) for each in times}
+    hours, rest = divmod(offsets.pop(), 3600)
+    if offsets or rest:
+        return None
+    days = [parts_of(noon[0] - 3600 * hours + 86400 * each, zone) for each in (0, 1, -1)]
+    return Day(hours, days[0][2], [(front, name) for front, _, _, name in days])
+
+
+def parts_of(seconds: int, zone: str | None) -> tuple[str, str, str, str]:
+    """The date, the time, the offset from UTC, and the date once more with names."""
+    local = time.gmtime(seconds) if zone == "UTC" else time.localtime(seconds)
     minutes = local.tm_gmtoff // 60
-    sign = "-" if minutes < 0 else "+"
-    return "%04d-%02d-%02d %02d:%02d:%02d %s%02d%02d (%s, %02d %s %04d)" % (
-        local[:6]
-        + (
-            sign,
-            abs(minutes) // 60,
-            abs(minutes) % 60,
-            WEEKDAYS[local.tm_wday],
-            local.tm_mday,
-            MONTHS[local.tm_mon - 1],
-            local.tm_year,
-        )
+    return (
+        "%04d-%02d-%02d" % local[:3],
+        "%02d:%02d:%02d" % local[3:6],
+        "%s%02d%02d" % ("-" if minutes < 0 else "+", *divmod(abs(minutes), 60)),
+        "%s, %02d %s %04d" % (WEEKDAYS[local.tm_wday], local.tm_mday, MONTHS[local.tm_mon - 1], local.tm_year),
     )
 
 

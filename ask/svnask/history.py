@@ -12,7 +12,7 @@ from typing import TYPE_CHECKING, BinaryIO
 
 from . import dates
 from .answers import A, Answer, Answers, Locate, Located, Log, Logged, Query, Segments, Where, is_askable
-from .changes import Change, Place, changes_of, place_of
+from .changes import Change, KnownBlocks, Place, changes_of, place_of
 from .dump_source import Dump
 from .engine import Talk
 from .errors import Damaged, Failed, Refused
@@ -54,8 +54,8 @@ class History:
         self._end: Callable[[], object] | None = None
         # Why svnhist refuses the dump, once it has.
         self._refused: Refused | None = None
-        self._revisions: dict[int, Revision] = {}
         self._changes: dict[int, list[Change]] = {}
+        self._known_blocks = KnownBlocks()
         self._telling: list[Record] | None = None
         self._tree: Tree | None = None
         self._explicit: Explicit | None = None
@@ -165,7 +165,6 @@ class History:
         before, self._store = self._store, store
         state, self._state = self._state, os.stat(store.base)
         self._refused = None
-        self._revisions.clear()
         self._changes.clear()
         self._telling = self._tree = self._explicit = None
         is_same = os.path.samestat(state, self._state) and len(store.later) >= len(before.later)
@@ -311,9 +310,7 @@ class History:
         >>> history.revision(9).author, history.revision(9).message
         (b'alice', b'Branch and change in one revision')
         """
-        if rev not in self._revisions:
-            self._revisions[rev] = self._store.revision(rev)
-        return self._revisions[rev]
+        return self._store.revision(rev)
 
     def records(self, first: int = 0, last: int | None = None) -> Iterator[Record]:
         """The records of these revisions, in the order of the dump.
@@ -384,7 +381,8 @@ class History:
         [('A', b'/branches/one-again', (b'/branches/one', 5))]
         """
         if rev not in self._changes:
-            self._changes[rev] = changes_of(self.records(rev, rev))
+            found = self._known_blocks.changes(self._store.blocks_of(rev))
+            self._changes[rev] = changes_of(self._store.nodes(rev)) if found is None else found
         return self._changes[rev]
 
     def find_kinds(self, revs: Iterable[int]) -> None:

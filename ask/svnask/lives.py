@@ -96,6 +96,15 @@ class Tree:
         # Where a copy is not from an older revision, svnhist refuses the dump.
         return False, moved(path, place, newest.source) if newest.source[1] < newest.rev else None
 
+    def is_made(self, path: bytes, rev: int) -> bool:
+        """Whether a record of a revision made or unmade a path or one above it."""
+        for top in tops_of(path):
+            events = self._events.get(top, [])
+            at = count_up_to(events, rev)
+            if at and events[at - 1].rev == rev:
+                return True
+        return False
+
     def after(self, path: bytes, top: bytes, event: Event) -> bool:
         """Whether a path is there after an event of it or of a path above it."""
         if event.action == "delete":

@@ -13,6 +13,7 @@ from .search import Group, is_found
 from .store import Revision
 
 AUTHOR, DATE, MESSAGE = b"svn:author", b"svn:date", b"svn:log"
+SHOWN = frozenset((AUTHOR, DATE, MESSAGE))
 
 
 @dataclass
@@ -20,7 +21,7 @@ class Wanted:
     """What is shown of each revision: the properties of these names, or all where there are none, and with
     `is_verbose` the changed paths. Of some groups of patterns one must match it."""
 
-    names: frozenset[bytes] | None = frozenset((AUTHOR, DATE, MESSAGE))
+    names: frozenset[bytes] | None = SHOWN
     is_verbose: bool = False
     groups: list[Group] = field(default_factory=list)
 
@@ -56,16 +57,20 @@ class Form(ABC):
 
 def cut(text: bytes) -> bytes:
     """A text up to its first NUL."""
-    return text.partition(b"\0")[0]
+    return text.partition(b"\0")[0] if b"\0" in text else text
 
 
 def as_wanted(revision: Revision, names: frozenset[bytes] | None) -> Revision:
     """A revision with the properties of these names alone. Author, date and message end at a NUL."""
-    kept = {name: value for name, value in revision.properties.items() if names is None or name in names}
-    author, date, message = (kept.get(name) for name in (AUTHOR, DATE, MESSAGE))
-    return revision._replace(
-        author=author and cut(author), date=date and cut(date), message=message and cut(message), properties=kept
-    )
+    _, author, date, message, _, kept = revision
+    if names == SHOWN and len(kept) == 3 and author and date and message:
+        # So are most revisions.
+        if b"\0" not in message and b"\0" not in author and b"\0" not in date:
+            return revision
+    if names is not None:
+        kept = {name: kept[name] for name in names if name in kept}
+    author, date, message = (value and cut(value) for value in map(kept.get, (AUTHOR, DATE, MESSAGE)))
+    return revision._replace(author=author, date=date, message=message, properties=kept)
 
 
 def changes_of(history: History, item: Item) -> list[Change]:
@@ -86,10 +91,10 @@ def paths_of(changes: Iterable[Change]) -> Iterator[bytes]:
 def entries(history: History, items: Iterable[Item], wanted: Wanted, form: Form) -> Iterator[Entry | None]:
     """The entries of a log, and None after those that were merged in one. Revision 0 has one where its message is
     wanted and there."""
-    via: list[int] = []
+    via: tuple[int, ...] = ()
     for item in items:
         if item.rev < 0:
-            del via[-1:]
+            via = via[:-1]
             yield None
             continue
         revision = as_wanted(history.revision(item.rev), wanted.names)
@@ -97,9 +102,9 @@ def entries(history: History, items: Iterable[Item], wanted: Wanted, form: Form)
             continue
         changes = changes_of(history, item) if wanted.is_verbose else []
         if not wanted.groups or is_found(wanted.groups, [*form.texts(revision), *paths_of(changes)]):
-            yield Entry(revision, changes, tuple(via), item.is_reverse, item.has_merges)
+            yield Entry(revision, changes, via, item.is_reverse, item.has_merges)
         if item.has_merges:
-            via.append(item.rev)
+            via = (*via, item.rev)
 
 
 def printed(history: History, items: Iterable[Item], wanted: Wanted, form: Form) -> Iterator[bytes]:

@@ -125,7 +125,7 @@ class Walker:
         found: Intervals = {}
         for path in paths:
             cut = self.traces.cut(path, asked.high)
-            for segment in cut.walk.found.segments if cut is not None else ():
+            for segment in cut.segments if cut is not None else ():
                 lo, hi = max(segment.lo, asked.low), min(segment.hi, asked.high)
                 if segment.path is not None:
                     found.setdefault(segment.path, []).extend([(lo, hi)] if lo <= hi else [])
@@ -154,8 +154,9 @@ class Walker:
         cuts = self._cuts(paths, high)
         revisions = falling(cuts, low, high)
         merged = self._merged(cuts, revisions)
+        is_apart = all(self._is_apart(cut, low) for cut in cuts)
         for rev in revisions:
-            if self._is_sent(rev):
+            if self._is_sent(rev, is_apart):
                 yield self._item(rev, rev in merged, part.is_reverse)
             else:
                 self._left_out.append(rev)
@@ -203,12 +204,22 @@ class Walker:
             self._searched.add(path, min(low, high), max(low, high))
         return left, low, high
 
-    def _is_sent(self, rev: int) -> bool:
+    def _is_sent(self, rev: int, is_apart: bool) -> bool:
         """Whether a merged revision is sent: once, and not where it changed nothing but what the targets were then."""
-        if rev in self._sent or not self._is_elsewhere(rev):
+        if rev in self._sent or not (is_apart or self._is_elsewhere(rev)):
             return False
         self._sent.add(rev)
         return True
+
+    def _is_apart(self, cut: Cut, low: int) -> bool:
+        """Whether a path was, from a revision on, neither below nor above where the targets ever were. What changed it,
+        or copied what is above it, is elsewhere then."""
+        paths = [segment.path for segment in cut.segments if segment.hi >= low]
+        return not any(
+            path is None or is_at_or_below(path, top) or is_at_or_below(top, path)
+            for path in paths
+            for top in self._own
+        )
 
     def _is_elsewhere(self, rev: int) -> bool:
         """Whether a revision changed a path that is not at or below where the targets were then."""

@@ -2,6 +2,7 @@
 from __future__ import annotations
 
 import functools
+import re
 from collections.abc import Container, Iterator, Sequence
 from typing import NamedTuple
 
@@ -10,9 +11,11 @@ from .history import History
 from .merges import Interval, Intervals, minus, united
 from .store import Record
 from .traces import Traces
-from .values import Explicit, Run, line_of, lines_of, runs_of, source_path
+from .values import Explicit, Run, line_of, lines_of, source_path
 
 RECENT = 64
+SIMPLE_RUN = re.compile(rb"([0-9]{1,9})(?:-([0-9]{1,9}))?")
+SIMPLE = re.compile(rb"[0-9]{1,9}(?:-[0-9]{1,9})?(?:,[0-9]{1,9}(?:-[0-9]{1,9})?)*\Z")
 
 
 class Difference(NamedTuple):
@@ -49,7 +52,8 @@ class Values:
     def __init__(self) -> None:
         self._lines: dict[bytes, Line] = {}
         # Those known to have a plain line for each of their paths.
-        self._plain: set[bytes] = set()
+        self._plain: set[bytes] = {b""}
+        self._last = b""
         # What a path has after a revision it mostly has before the next one.
         self.whole = functools.lru_cache(RECENT)(self._whole)
 
@@ -68,11 +72,22 @@ class Values:
         return difference(self.whole(before), self.whole(now))
 
     def _is_plain(self, text: bytes) -> bool:
-        if text not in self._plain:
+        if text not in self._plain and not self._is_like_last(text):
             lines = self._of(text)
             if len({line.path for line in lines if line.is_plain}) == len(lines):
                 self._plain.add(text)
-        return text in self._plain
+        is_plain = text in self._plain
+        self._last = text if is_plain else self._last
+        return is_plain
+
+    def _is_like_last(self, text: bytes) -> bool:
+        """Whether a text has plain lines where it is not as the last one that has."""
+        try:
+            differing(self._last, text)
+        except ValueError:
+            return False
+        self._plain.add(text)
+        return True
 
     def _whole(self, text: bytes) -> Intervals:
         """What a text says, whether it is inherited or not."""
@@ -99,11 +114,38 @@ class Values:
             raise Malformed from error
 
     def _read(self, line: bytes) -> Line:
-        path, runs = line_of(line)
-        inheritable = intervals_of(runs, True)
-        is_plain = line.startswith(path + b":") and is_rising(runs)
-        found = self._lines[line] = Line(path, sorted(inheritable + intervals_of(runs, False)), inheritable, is_plain)
+        found = self._lines[line] = line_in(line)
         return found
+
+
+def line_in(text: bytes) -> Line:
+    """What a line says. `ValueError` where Subversion can't read it."""
+    name, _, ranges = text.rpartition(b":")
+    simple = simple_runs(ranges)
+    if simple is not None and name.startswith(b"/"):
+        path = source_path(name)
+        return Line(path, simple, simple, path == name)
+    path, runs = line_of(text)
+    inheritable = intervals_of(runs, True)
+    is_plain = text.startswith(path + b":") and is_rising(runs)
+    return Line(path, sorted(inheritable + intervals_of(runs, False)), inheritable, is_plain)
+
+
+def simple_runs(ranges: bytes) -> list[Interval] | None:
+    """What most rangelists say: those without `*` that rise. Runs that touch are one."""
+    if not SIMPLE.match(ranges):
+        return None
+    found: list[Interval] = []
+    end = 0
+    for first, last in SIMPLE_RUN.findall(ranges):
+        lo, hi = int(first), int(last or first)
+        if lo <= end or (last and hi <= lo):
+            return None
+        if lo == end + 1 and found:
+            lo, _ = found.pop()
+        found.append((lo, hi))
+        end = hi
+    return found
 
 
 def intervals_of(runs: list[Run], inheritable: bool) -> list[Interval]:
@@ -117,11 +159,10 @@ def is_rising(runs: list[Run]) -> bool:
 def differing(known: bytes, other: bytes) -> tuple[Intervals, Intervals]:
     """The lines in which two texts differ, of those of one path the ranges from the first to the last difference. The
     known one has a plain line for each path. `ValueError` where the other one may not have."""
-    lines = lines_of(other)
-    these, those = dict.fromkeys(lines_of(known)), dict.fromkeys(lines)
-    left = ranges_of([line for line in these if line not in those])
-    more = ranges_of([line for line in those if line not in these])
-    if len(lines) != len(these) - len(left) + len(more):
+    these, those = map(lines_of, middles(known, other))
+    left = ranges_of(without(these, those))
+    more = ranges_of(without(those, these))
+    if len(those) != len(these) - len(left) + len(more):
         raise ValueError("a path has two lines")
     for path in more:
         if path in left:
@@ -129,6 +170,21 @@ def differing(known: bytes, other: bytes) -> tuple[Intervals, Intervals]:
         elif b"\n%s:" % path in b"\n" + known:
             raise ValueError("a path has two lines")
     return read(left), read(more)
+
+
+def middles(these: bytes, those: bytes) -> tuple[bytes, bytes]:
+    """Two texts without the lines that they have in common at their begins and at their ends."""
+    first = these.rfind(b"\n", 0, common(these, those)) + 1
+    these, those = these[first:], those[first:]
+    back, other = these[::-1], those[::-1]
+    # The newline before the last lines stays: it ends a line of these texts.
+    last = max(back.rfind(b"\n", 0, common(back, other)), 0)
+    return these[: len(these) - last], those[: len(those) - last]
+
+
+def without(lines: list[bytes], others: list[bytes]) -> list[bytes]:
+    known = set(others)
+    return [line for line in lines if line not in known]
 
 
 def ranges_of(lines: list[bytes]) -> dict[bytes, bytes]:
@@ -141,10 +197,10 @@ def read(lines: dict[bytes, bytes]) -> Intervals:
     """What lines say. `ValueError` where one is not plain."""
     found = {}
     for path, ranges in lines.items():
-        runs = runs_of(ranges)
-        if path != source_path(path) or not is_rising(runs):
+        line = line_in(b"%s:%s" % (path, ranges))
+        if not line.is_plain:
             raise ValueError("not a plain line")
-        found[path] = sorted(intervals_of(runs, True) + intervals_of(runs, False))
+        found[path] = line.whole
     return found
 
 
@@ -193,7 +249,7 @@ class MergeinfoChanges:
     def of_paths(self, paths: Sequence[bytes], rev: int) -> Difference:
         """What the mergeinfo at and below some paths gained and lost in a revision that has any."""
         found = Difference({}, {})
-        changed = self._changed(rev)
+        changed = self._changed(rev) if any(self._may_change(path, rev) for path in paths) else {}
         if changed:
             for path in paths:
                 if path not in changed and self._traces.exists(path, rev):
@@ -202,6 +258,11 @@ class MergeinfoChanges:
                 if any(is_at_or_below(path, top) for top in paths):
                     found.add(more)
         return found
+
+    def _may_change(self, path: bytes, rev: int) -> bool:
+        """Whether a revision gave mergeinfo to a path below or above one or to itself, or made one of these."""
+        near = (is_at_or_below(each, path) or is_at_or_below(path, each) for each in self._explicit.settings[rev])
+        return any(near) or self._history.tree.is_made(path, rev)
 
     def _changed(self, rev: int) -> dict[bytes, Difference]:
         """What each changed path gained and lost: none where any of their values is malformed."""
@@ -229,7 +290,8 @@ class MergeinfoChanges:
     def _base(self, path: bytes, rev: int) -> Place:
         """Where a path was before a revision, or what it was copied from in it."""
         if rev not in self._copies:
-            records = self._history.records(rev, rev)
+            is_new = any(change.letter in ("A", "R") for change in self._history.changes(rev))
+            records = self._history.records(rev, rev) if is_new else ()
             self._copies[rev] = [record for record in records if record.action in ("add", "replace")]
         return source_of(self._copies[rev], path) or (path, rev - 1)
 

@@ -21,6 +21,10 @@ def first_line(revision: Revision) -> bytes:
     return LINE_END.split(cut(revision.message or b"").lstrip(), 1)[0]
 
 
+def count_of_lines(message: bytes) -> int:
+    return 1 + (len(LINE_END.findall(message)) if b"\r" in message else message.count(b"\n"))
+
+
 def summary_of(revision: Revision) -> bytes:
     """The author and the first line of the message."""
     return author_of(revision) + b"\t" + first_line(revision)
@@ -29,7 +33,7 @@ def summary_of(revision: Revision) -> bytes:
 def head_line(revision: Revision, is_quiet: bool) -> bytes:
     line = b"r%d | %s | %s" % (revision.number, author_of(revision), dates.shown(revision.date).encode("ascii"))
     if not is_quiet:
-        count = 1 + len(LINE_END.findall(cut(revision.message or b"")))
+        count = count_of_lines(cut(revision.message or b""))
         line += b" | %d line%s" % (count, b"" if count == 1 else b"s")
     return line + b"\n"
 
@@ -40,6 +44,8 @@ class PlainForm(Form):
     def __init__(self, is_quiet: bool = False, is_incremental: bool = False) -> None:
         self._is_quiet = is_quiet
         self.end = b"" if is_incremental else RULE
+        self._via: tuple[int, ...] = ()
+        self._via_text = b""
 
     def texts(self, revision: Revision) -> Iterator[bytes]:
         """Author and date as they are printed."""
@@ -48,13 +54,19 @@ class PlainForm(Form):
         if not self._is_quiet:
             yield revision.message or b""
 
+    def _text_of(self, via: tuple[int, ...]) -> bytes:
+        """A list of revisions. Entries that follow each other mostly have the same one."""
+        if via is not self._via:
+            self._via, self._via_text = via, b", ".join(b"r%d" % rev for rev in via) + b"\n"
+        return self._via_text
+
     def entry(self, entry: Entry) -> bytes:
         text = RULE + head_line(entry.revision, self._is_quiet)
         if entry.changes:
-            text += b"Changed paths:\n" + b"".join(change.line() + b"\n" for change in entry.changes)
+            text += b"Changed paths:\n" + b"\n".join([change.line() for change in entry.changes]) + b"\n"
         if entry.via:
             text += b"Reverse merged via: " if entry.is_reverse else b"Merged via: "
-            text += b", ".join(b"r%d" % rev for rev in entry.via) + b"\n"
+            text += self._text_of(entry.via)
         if not self._is_quiet:
             text += b"\n" + (entry.revision.message or b"") + b"\n"
         return text

@@ -1,19 +1,23 @@
 """A dump without its texts, with what is asked of its revisions, in a folder of a cache or of a run."""
 from __future__ import annotations
 
+import bisect
+import functools
 import mmap
 import os
 import re
 import shutil
 from collections.abc import Iterator
-from typing import IO, BinaryIO, NamedTuple, Union
+from typing import IO, Any, BinaryIO, NamedTuple, Union
 
 from . import cache, digits
 from .errors import Damaged
-from .strip import MERGEINFO, Malformed, body_of, clean, entries_of
+from .strip import LAST_LINE, MERGEINFO, Malformed, body_of, clean, entries_of
 
 # A part of a copy.
 Bytes = Union[mmap.mmap, bytes]
+# Of a record the path, the kind, the action, the revision and the path of its source, and what it gave and changed.
+Node = tuple[Any, ...]
 VERSION = b"svnask 3"
 FIRST_LINE = b"SVN-fs-dump-format-version: 2\n\n"
 # A block of the copy. `Stripper` writes the headers in this order.
@@ -24,10 +28,24 @@ BLOCK = re.compile(
     rb"(?:Text-delta: [^\n]*\n)?|UUID: [^\n]*\n)At: (?P<at>[0-9]+)\n(?:Mods: (?P<text>text)?(?: ?(?P<properties>properties))?\n)?"
     rb"(?:Prop-content-length: (?P<length>[0-9]+)\nContent-length: [0-9]+\n)?\n"
 )
+# The block of a revision.
+REVISION = re.compile(
+    rb"Revision-number: (?P<rev>[0-9]{1,18})\nAt: (?P<at>[0-9]{1,18})\n"
+    rb"(?:Prop-content-length: (?P<length>[0-9]{1,18})\nContent-length: .*\n)?\n"
+)
+# The begin of a record that does more than to change a text or other properties than mergeinfo.
+TELLING = re.compile(
+    rb"Node-path: .*\n(?:Node-kind: .*\n)?(?!Node-kind: |Node-action: change\n"
+    rb"(?:Prop-delta: .*\n)?(?:Text-delta: .*\n)?At: .*\n(?:Mods: .*\n)?\n)"
+)
 # The offset of a block, which follows its other headers, but for a block that is not well formed.
 MARK = re.compile(rb"\n*(?:[^\n]+\n)*?At: ([0-9]+)\n")
+# The properties that most revisions have, in the order in which Subversion writes them, up to the message.
+USUAL = re.compile(
+    rb"K 10\nsvn:author\nV ([0-9]{1,18})\n(.*)\nK 8\nsvn:date\nV 27\n(.{27})\nK 7\nsvn:log\nV ([0-9]{1,18})\n"
+)
 # A property of a revision, up to its value.
-ENTRY = re.compile(rb"K [0-9]+\n([^\n]*)\nV ([0-9]+)\n")
+ENTRY = re.compile(rb"K [0-9]+\n(.*)\nV ([0-9]{1,18})\n")
 
 
 class Setting(NamedTuple):
@@ -156,6 +174,8 @@ class Store:
 
     def __init__(self, folder: str, index: Index, is_kept: bool, is_loaded: bool = False) -> None:
         self.index = index
+        # What is asked of a revision is asked together.
+        self._head = functools.lru_cache(1)(self._read_head)
         # Whether another run made it.
         self.is_loaded = is_loaded
         self._folder = folder
@@ -218,34 +238,49 @@ class Store:
     def between(self, first: int, last: int) -> bytes:
         """The bytes of the copy from one offset to another one."""
         length = self.index.kept.base
-        later = self.later[max(first - length, 0) : max(last - length, 0)]
-        return self.first[first:last] + later if first < length else later
+        if last <= length:
+            return self.first[first:last]
+        later = self.later[max(first - length, 0) : last - length]
+        return self.first[first:length] + later if first < length else later
 
     def with_properties(self, rev: int, section: bytes) -> bytes:
         """The bytes of a revision with other properties."""
-        found, begin = self._block_of(rev), self.index.revisions[rev]
-        end = (*self.index.revisions[rev + 1 : rev + 2], self.index.length)[0]
-        head = b"Revision-number: %d\nAt: %s\n" % (rev, found["at"])
-        after = begin + found.end() - found.start() + len(section_of(found))
-        return head + (body_of(section) if section else b"\n") + self.between(after, end)
+        head = b"Revision-number: %d\nAt: %s\n" % (rev, self._head(rev)["at"])
+        return head + (body_of(section) if section else b"\n") + self.blocks_of(rev)
 
-    def _block_of(self, rev: int) -> re.Match[bytes]:
-        part, at = next(self._parts(self.index.revisions[rev]))
-        found = BLOCK.match(part, at)
-        if found is None or found["rev"] is None or digits.number(found["rev"]) != rev:
+    def _read_head(self, rev: int) -> re.Match[bytes]:
+        """The block of a revision."""
+        place, length = self.index.revisions[rev], self.index.kept.base
+        found = REVISION.match(self.first, place) if place < length else REVISION.match(self.later, place - length)
+        if found is None or int(found["rev"]) != rev:
             raise Damaged
         return found
 
+    def _begin(self, rev: int) -> int:
+        """The offset in the copy at which the section of a revision ends."""
+        found = self._head(rev)
+        return self.index.revisions[rev] + found.end() - found.start() + int(found["length"] or 0)
+
+    def blocks_of(self, rev: int) -> bytes:
+        """The blocks of the records of a revision."""
+        (end,) = self.index.revisions[rev + 1 : rev + 2] or [self.index.length]
+        return self.between(self._begin(rev), end)
+
     def revision(self, rev: int) -> Revision:
-        found = self._block_of(rev)
+        found = self._head(rev)
         values = properties_of(section_of(found))
-        author, date, message = (values.get(name) for name in (b"svn:author", b"svn:date", b"svn:log"))
-        return Revision(rev, author, date, message, digits.number(found["at"]), values)
+        get = values.get
+        return Revision(rev, get(b"svn:author"), get(b"svn:date"), get(b"svn:log"), int(found["at"]), values)
 
     def section(self, rev: int) -> tuple[int, bytes]:
         """The offset of a revision in the given dump, and its property section."""
-        found = self._block_of(rev)
-        return digits.number(found["at"]), section_of(found)
+        found = self._head(rev)
+        return int(found["at"]), section_of(found)
+
+    def nodes(self, rev: int) -> Iterator[Node]:
+        """What is listed of the records of a revision."""
+        for found, _, _ in self._nodes(rev, rev):
+            yield found.group("path", "kind", "action", "from_rev", "from_path", "text", "properties")
 
     def records(self, first: int = 0, last: int | None = None) -> Iterator[Record]:
         """The records of revisions, in the order of the dump. They are numbered from 1 in the first one."""
@@ -253,12 +288,26 @@ class Store:
             yield record_of(found, number, rev, self.index.format)
 
     def telling(self) -> Iterator[Record]:
-        """The records that make or unmake a path, or change its mergeinfo: few of all."""
-        for found, number, rev in self._nodes():
-            if found["action"] != b"change" or found["length"] is not None:
-                record = record_of(found, number, rev, self.index.format)
-                if record.action != "change" or record.mergeinfo is not None:
-                    yield record
+        """The records that make or unmake a path, or change its mergeinfo: few of all. They are numbered by themselves."""
+        for number, (found, rev) in enumerate(self._telling(), 1):
+            record = record_of(found, number, rev, self.index.format)
+            if record.action != "change" or record.mergeinfo is not None:
+                yield record
+
+    def _telling(self) -> Iterator[tuple[re.Match[bytes], int]]:
+        """The blocks of records that may tell something, with their revisions. Each that has a section is one of them,
+        so that what only looks like one, in the section of a revision or of a record, is known by its place."""
+        rev, end = -1, 0
+        for part, begin in (self.first, 0), (self.later, self.index.kept.base):
+            for told in TELLING.finditer(part):
+                place = begin + told.start()
+                of_place = bisect.bisect_right(self.index.revisions, place) - 1
+                if of_place > rev:
+                    rev, end = of_place, self._begin(of_place)
+                found = BLOCK.match(part, told.start()) if place >= end else None
+                if found is not None and rev >= 0:
+                    end = begin + found.end() + digits.number(found["length"] or b"0")
+                    yield found, rev
 
     def _nodes(self, first: int = 0, last: int | None = None) -> Iterator[tuple[re.Match[bytes], int, int]]:
         """The blocks of records of revisions, with the number of each and its revision."""
@@ -313,31 +362,36 @@ def section_of(found: re.Match[bytes]) -> bytes:
 
 def properties_of(section: bytes) -> dict[bytes, bytes]:
     """The properties of a revision, as far as they have their form, which svnhist does not judge."""
+    usual = USUAL.match(section)
+    if usual:
+        length, author, date, rest = usual.groups()
+        at = usual.end()
+        end = at + int(rest)
+        if len(author) == int(length) and section[end:] == b"\n" + LAST_LINE:
+            return {b"svn:author": author, b"svn:date": date, b"svn:log": section[at:end]}
     values = {}
     at = 0
     while found := ENTRY.match(section, at):
-        at = found.end() + digits.number(found[2])
-        values[found[1]] = section[found.end() : at]
-        at += 1
+        begin = found.end()
+        end = begin + int(found[2])
+        values[found[1]] = section[begin:end]
+        at = end + 1
     return values
 
 
 def record_of(found: re.Match[bytes], number: int, rev: int, version: int) -> Record:
-    section = section_of(found)
-    source = None
-    if found["from_path"] is not None and found["from_rev"]:
-        source = clean(found["from_path"]), digits.number(found["from_rev"])
+    _, path, kind, action, from_rev, from_path, delta, at, text, properties, _ = found.groups()
     return Record(
         number,
         rev,
-        clean(found["path"]),
-        (found["action"] or b"").decode("latin-1"),
-        None if found["kind"] is None else found["kind"].decode("latin-1"),
-        source,
-        setting_of(section, version == 3 and found["delta"] is not None),
-        digits.number(found["at"]),
-        found["text"] is not None,
-        found["properties"] is not None,
+        clean(path),
+        (action or b"").decode("latin-1"),
+        None if kind is None else kind.decode("latin-1"),
+        (clean(from_path), digits.number(from_rev)) if from_rev and from_path is not None else None,
+        setting_of(section_of(found), version == 3 and delta is not None),
+        digits.number(at),
+        text is not None,
+        properties is not None,
     )
 
 

@@ -98,6 +98,9 @@ class Copy:
 
 def clean(path: bytes) -> bytes:
     """A path as svnhist prints it."""
+    whole = b"/%s/" % path
+    if b"//" not in whole:
+        return whole[:-1]
     return b"/" + b"/".join(filter(None, path.split(b"/")))
 
 
