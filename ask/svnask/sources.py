@@ -44,18 +44,25 @@ def opened(name: str, is_offline: bool) -> BinaryIO | None:
             say("svnask: waiting for a dump from the terminal, as 'svnadmin dump -q REPO | svnask - ..' gives one")
         return sys.stdin.buffer
     except IsADirectoryError as error:
-        raise Failed(f"{name} is a directory, and no repository") from error
+        raise Failed(about_folder(name)) from error
     except (OSError, ValueError) as error:
         if is_offline:
             return None
         raise Failed("cannot read %s: %s" % (name, getattr(error, "strerror", error))) from error
 
 
+def about_folder(name: str) -> str:
+    """Why a folder is not a source, and for a working copy what to name in its place."""
+    if os.path.isdir(os.path.join(name, ".svn")):
+        return f"{name} is a working copy: give its URL, which 'svn info --show-item url' prints"
+    return f"{name} is a directory, but not a repository"
+
+
 def with_properties(source: Source, progress: Progress) -> None:
     """Has the copy of a repository in the cache have the properties that all revisions have now."""
     entry = source.entry()
     if not isinstance(source, Asked) or entry is None:
-        raise Usage("--properties is for a repository, and a dump has those that it has")
+        raise Usage("--properties is for a repository: those of a dump do not change")
     with entry.locked(lambda: progress.waits(source.name)):
         kept = entry.load()
         if kept is None:
