@@ -20,6 +20,8 @@ class Options:
     ranges: list[tuple[int, int]] | None = None
     limit: int | None = None
     stops_on_copy: bool = False
+    # Whether what was merged is asked for, too. Then another error says that a path is not there.
+    has_merges: bool = False
 
 
 class Item(NamedTuple):
@@ -51,15 +53,21 @@ def not_found(target: Target, rev: int) -> Denied:
     return Denied("E160013", f"File not found: revision {rev}, path '{decoded(target.path)}'")
 
 
+def file_above(history: History, path: bytes, rev: int) -> bytes | None:
+    """The file in the middle of a path that is not there, if there is one."""
+    _, *above = tops_of(path)
+    for top in above:
+        kind = history.kind(top, rev)
+        if kind is not None:
+            return top if kind == "file" else None
+    return None
+
+
 def not_reached(history: History, target: Target) -> Denied:
     """The error where a path is not there: another one where a file is in its middle."""
-    _, *above = tops_of(target.path)
-    for path in above:
-        kind = history.kind(path, target.rev)
-        if kind == "file":
-            return Denied("E160016", f"'{decoded(path)}' is not a directory in revision {target.rev}")
-        if kind is not None:
-            break
+    file = file_above(history, *target)
+    if file is not None:
+        return Denied("E160016", f"'{decoded(file)}' is not a directory in revision {target.rev}")
     return not_found(target, target.rev)
 
 
@@ -181,11 +189,11 @@ def parts(history: History, target: Target, below: Sequence[bytes], options: Opt
         path = segment.path or path if segment is not None else path
         if below and (segment is not None or found.is_gap(high)):
             paths = [joined(path, rest) for rest in below]
-            yield Part(first, last, paths, walks_of(history, paths, high))
+            yield Part(first, last, paths, walks_of(history, paths, high, options))
         elif segment is not None:
             yield Part(first, last, [path], [walk])
         elif found.is_gap(high):
-            yield Part(first, last, [path], walks_of(history, [path], high))
+            yield Part(first, last, [path], walks_of(history, [path], high, options))
 
 
 def entries(history: History, target: Target, below: Sequence[bytes], options: Options) -> list[int]:
@@ -198,11 +206,14 @@ def entries(history: History, target: Target, below: Sequence[bytes], options: O
     return revisions[: options.limit]
 
 
-def walks_of(history: History, paths: Sequence[bytes], rev: int) -> list[Walk]:
+def walks_of(history: History, paths: Sequence[bytes], rev: int, options: Options) -> list[Walk]:
     """The walks of paths of a revision, which must be there."""
     walks = []
     for place, found in traces(history, [(path, rev) for path in paths]):
         if found is None:
+            file = file_above(history, *place) if options.has_merges else None
+            if file is not None:
+                raise Denied("E160016", f"Failure opening '{decoded(file)}' in revision {rev}")
             raise not_found(Target(*place), rev)
         walks.append(Walk(found, listed(history, found)))
     return walks

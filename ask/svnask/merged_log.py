@@ -18,10 +18,11 @@ from .log import Item, Options, parts
 from .merged_parts import Part, parts_of
 from .merged_values import MergeinfoChanges
 from .merges import Interval, Intervals, united
-from .targets import Target, known
+from .targets import Target, decoded, known
 from .traces import Cut, Traces
 
 END = Item(-1)
+NO_RUN = 0, -1
 # What a walk gives: an item, or a part that is walked before it goes on.
 Step = Union[Item, Part]
 
@@ -36,41 +37,36 @@ class Range(NamedTuple):
 
 
 class Searched:
-    """What was walked below some merge: for each path its ranges, of which those that have a revision in common are one.
-    A range that only touches another one is another."""
+    """What was walked below some merge: for each path the rising runs of its revisions, of which none touches another."""
 
     def __init__(self) -> None:
         self._runs: dict[bytes, list[Interval]] = {}
 
     def has(self, path: bytes, low: int, high: int) -> bool:
         """Whether all of a range of a path was walked."""
-        runs = self._runs.get(path, [])
-        at = bisect.bisect_right(runs, (low, high)) - 1
-        if at >= 0 and runs[at][0] <= low and high <= runs[at][1]:
-            return True
-        at = bisect.bisect_left(runs, (low + 1,)) - 1
-        while 0 <= at < len(runs) and runs[at][0] <= low <= runs[at][1]:
-            low, at = runs[at][1] + 1, at + 1
-            if low > high:
-                return True
-        return False
+        return high <= self._run(path, low)[1]
 
-    def first_of(self, path: bytes, rev: int) -> int:
-        """Where the range of a path begins that has a revision, or that revision where there is none."""
+    def last_left(self, path: bytes, low: int, high: int) -> int:
+        """Where a walk of a range of a path begins that goes back: at the first revision of the run that has the end of
+        the range, unless another run has its begin."""
+        begin, end = self._run(path, low), self._run(path, high)
+        return high if begin != NO_RUN or end == NO_RUN else end[0]
+
+    def _run(self, path: bytes, rev: int) -> Interval:
+        """The run that has a revision."""
         runs = self._runs.get(path, [])
         at = bisect.bisect_left(runs, (rev + 1,)) - 1
-        return runs[at][0] if at >= 0 and rev <= runs[at][1] else rev
+        return runs[at] if at >= 0 and rev <= runs[at][1] else NO_RUN
 
     def add(self, path: bytes, low: int, high: int) -> None:
         runs = self._runs.setdefault(path, [])
-        first = bisect.bisect_left(runs, (low,))
-        if first and runs[first - 1][1] >= low:
+        first = last = bisect.bisect_left(runs, (low,))
+        if first and low <= runs[first - 1][1] + 1:
             first -= 1
-        last = first
-        while last < len(runs) and runs[last][0] <= high:
-            low, high = min(low, runs[last][0]), max(high, runs[last][1])
+        while last < len(runs) and runs[last][0] <= high + 1:
             last += 1
-        runs[first:last] = [(low, high)]
+        joined = [*runs[first:last], (low, high)]
+        runs[first:last] = [(min(lo for lo, _ in joined), max(hi for _, hi in joined))]
 
 
 def has(intervals: list[Interval], rev: int) -> bool:
@@ -123,13 +119,23 @@ class Walker:
 
     def _own_of(self, paths: list[bytes], asked: Range) -> Intervals:
         found: Intervals = {}
-        for path in paths:
-            cut = self.traces.cut(path, asked.high)
-            for segment in cut.segments if cut is not None else ():
+        # The paths at which one of the targets was, went and came again.
+        broken: set[bytes] = set()
+        for cut in self._cuts(paths, asked.high):
+            own: Intervals = {}
+            for segment in cut.segments:
                 lo, hi = max(segment.lo, asked.low), min(segment.hi, asked.high)
-                if segment.path is not None:
-                    found.setdefault(segment.path, []).extend([(lo, hi)] if lo <= hi else [])
-        return {path: united(intervals) for path, intervals in found.items()}
+                if segment.path is not None and lo <= hi:
+                    own.setdefault(segment.path, []).append((lo, hi))
+            broken.update(path for path, intervals in own.items() if len(intervals) > 1)
+            for path in own:
+                if path in found and path in broken:
+                    raise Denied(
+                        "E195002",
+                        f"-g is not taken where 'svn' fails: two targets were at '{decoded(path)}', with a break",
+                    )
+                found[path] = united([*found.get(path, []), *own[path]])
+        return found
 
     def _cuts(self, paths: Iterable[bytes], rev: int) -> list[Cut]:
         return [cut for cut in (self.traces.cut(path, rev) for path in paths) if cut is not None]
@@ -199,7 +205,7 @@ class Walker:
             if not self._searched.has(path, min(low, high), max(low, high)):
                 left.append(path)
                 if len(part.paths) == 1:
-                    high = self._searched.first_of(path, high)
+                    high = self._searched.last_left(path, low, high)
         for path in left:
             self._searched.add(path, min(low, high), max(low, high))
         return left, low, high

@@ -3,7 +3,7 @@ from __future__ import annotations
 
 import json
 
-from dev.dumps import DIR, Node, added, dump_of, mergeinfo
+from dev.dumps import DIR, Node, added, copied, dump_of, mergeinfo
 from svnask.merged_log import Searched, Walker
 from svnask.merged_parts import Part, hash_of, in_hash_order, parts_of
 from svnask.merges import Intervals
@@ -36,14 +36,17 @@ class MergedLog(base.Case):
 
     def test_what_was_searched(self) -> None:
         searched = Searched()
-        for low, high in ((5, 9), (10, 12), (2, 3)):
+        for low, high in ((5, 9), (10, 12), (2, 3), (20, 21)):
             searched.add(b"/a", low, high)
         rows = ((6, 8, True), (6, 12, True), (3, 5, False), (2, 3, True), (4, 4, False), (12, 13, False), (1, 2, False))
         for low, high, wanted in rows:
             self.assertEqual(searched.has(b"/a", low, high), wanted, (low, high))
-        self.assertEqual([searched.first_of(b"/a", rev) for rev in (4, 9, 11, 13)], [4, 5, 10, 13])
-        searched.add(b"/a", 3, 10)
-        self.assertEqual([searched.first_of(b"/a", rev) for rev in (3, 12)], [2, 2])
+        # Where runs touch they are one, and a range that begins in a run is walked to its end.
+        for low, high, last in ((4, 11, 5), (1, 2, 2), (4, 13, 13), (1, 21, 20), (11, 21, 21), (4, 4, 4)):
+            self.assertEqual(searched.last_left(b"/a", low, high), last, (low, high))
+        searched.add(b"/a", 4, 4)
+        self.assertEqual([searched.has(b"/a", 2, 12), searched.has(b"/b", 2, 2)], [True, False])
+        self.assertEqual(searched.last_left(b"/a", 1, 12), 2)
 
     def test_objects_say_by_what_a_revision_was_merged(self) -> None:
         done = base.called(base.dump_of("merges"), "log", "-g", "--json", "-r", "8", "branches/two")
@@ -81,6 +84,19 @@ class MergedLog(base.Case):
         done = base.called(above, "log", "-g", "a")
         self.assertEqual((done.status, done.output, done.said[:15]), (1, b"", "svnask: E160006"))
 
+    def test_two_targets_that_were_at_one_path_with_a_break_are_refused(self) -> None:
+        gone = Node(b"a", b"delete")
+        dump = self.made("again", dump_of([added(b"a"), added(b"c")], [gone], [copied(b"a", b"a", 1)]))
+        # fmt: off
+        rows = (
+            ("/ a a", "E195002"), ("/ a c a", "E195002"), ("/ a", ""), ("/ c c", ""), ("-r 3:3 / a a", ""), ("-r 1:3 / a a", "E195002"),
+        )
+        # fmt: on
+        for words, code in rows:
+            done = base.called(dump, "log", "-g", "-q", *words.split())
+            self.assertEqual((bool(done.status), done.said[8:15]), (bool(code), code), words)
+            self.assertEqual(base.called(dump, "log", "-q", *words.split()).status, 0, words)
+
     def test_paths_below_a_target(self) -> None:
         # fmt: off
         rows = (
@@ -93,7 +109,13 @@ class MergedLog(base.Case):
             self.assertEqual((done.status, done.said), (0, ""), words)
             found = [int(line.split()[0][1:]) for line in done.output.splitlines() if line.startswith(b"r")]
             self.assertEqual(found, wanted, words)
-        for words, code in (("trunk /lib", "E205000"), ("trunk file:///x", "E205000"), ("trunk none", "E160013")):
+        # fmt: off
+        refused = (
+            ("trunk /lib", "E205000"), ("trunk file:///x", "E205000"), ("trunk none", "E160013"), ("trunk main.c/x", "E160013"),
+            ("-g trunk main.c/x", "E160016"), ("-g trunk none", "E160013"),
+        )
+        # fmt: on
+        for words, code in refused:
             done = base.called(base.dump_of("branches"), "log", *words.split())
             self.assertEqual((done.status, done.output, done.said[:15]), (1, b"", f"svnask: {code}"), words)
 

@@ -69,7 +69,7 @@ class LogVerb(Verb):
             limit = number(found[2])
             if limit == 0 or found[1] == "-":
                 raise Denied("E200004", "Argument to --limit must be positive")
-        return log.Options(ranges_of(history, given.ranges, given.changes), limit, given.stop_on_copy)
+        return log.Options(ranges_of(history, given.ranges, given.changes), limit, given.stop_on_copy, given.merges)
 
     def items(self, history: History, given: Namespace) -> list[log.Item]:
         asked = target_of(history, given.target), paths_below(given.paths), self.options(history, given)
