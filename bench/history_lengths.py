@@ -1,7 +1,7 @@
 """One question about longer and longer histories: the program, svnask, Subversion and other readers of the same bytes.
 
 The histories are of changes, each the beginning of the next one. The last one has as many revisions as `svnadmin load`
-loads in ten minutes, where Subversion is installed, and at most 120,000. There are 20 questions `log` about paths of
+loads in five minutes, where Subversion is installed, and at most 120,000. There are 20 questions `log` about paths of
 the later half of each. Subversion has one repository, and is asked by the same peg revisions: what came after one of
 these it does not look at.
 

@@ -22,7 +22,7 @@ from dev.tree import ROOT
 BINDINGS = Path("/usr/bin/python3")
 READER = "bench.bindings_reader"
 MEMORY = Path("/dev/shm")
-LOADING_SECONDS = 600
+LOADING_SECONDS = 300
 ASKED_OF_COMMAND = 20
 
 
@@ -82,7 +82,7 @@ def loaded(setup: Setup, dump: Path) -> Iterator[Repository | None]:
 
 def shared(setup: Setup, dump: Path, last: int) -> Repository | None:
     """The repository of the history of changes that parts share, as a part before has left it. The first part loads the
-    revisions of this dump up to one, or as many as ten minutes are enough for. None without Subversion.
+    revisions of this dump up to one, or as many as five minutes are enough for. None without Subversion.
 
     It is loaded as one stream: `svnadmin load` of a later piece empties mergeinfo about revisions before the piece."""
     if not is_installed():
