@@ -1,7 +1,7 @@
 """How many queries of each verb the program answers in a second, beside the Python bindings of Subversion.
 
 The history is one of changes, and there are 3,000 queries of each verb. `svnadmin load` is fed with the same dump until
-it has taken five minutes, and the bindings answer from what it loaded, so all pegs are of that part. The program has the
+five minutes are over, and the bindings answer from what it loaded, so all pegs are of that part. The program has the
 whole history. Its time is that of a run with the queries, many times over, less that of a run without. The bindings get
 fewer queries of the slow verbs; the ratio is that of the times for the queries that both got. A few queries are asked
 by a process of `svn` each, too, where that has a command for the verb.

@@ -6,7 +6,7 @@ read, and so it includes the ways of both through pipes. Questions are asked in 
 times, of which the best counts; the replies must be the same.
 
 Where Subversion is installed, `svn log -q` answers questions, too, from the repository that parts share, with as much
-of the same dump as ten minutes are enough for. Its time includes its start.
+of the same dump as five minutes are enough for. Its time includes its start.
 """
 from __future__ import annotations
 
