@@ -15,8 +15,9 @@ Place = tuple[bytes, int]
 # How `svn log -v` writes what a record does.
 LETTERS = {b"add": "A", b"change": "M", b"delete": "D", b"replace": "R"}
 NUL_FOR_SLASH = methodcaller("replace", b"/", b"\0")
-# The offset in the block of a record, and a block without it and without a section, or with an empty one.
+# The offset in the block of a record, what stands before a section, and a block without these.
 OFFSET = re.compile(rb"\nAt: .*")
+SECTION = re.compile(rb"\nProp-content-length: ([0-9]{1,18})\nContent-length: .*\n\n")
 PLAIN = re.compile(
     rb"Node-path: (.*)\n(?:Node-kind: (.*)\n)?Node-action: (add|change|delete|replace)"
     rb"(?:\nNode-copyfrom-rev: ([0-9]+)\nNode-copyfrom-path: (.*))?(?:\nProp-delta: .*)?(?:\nText-delta: .*)?"
@@ -77,9 +78,9 @@ class KnownBlocks:
         self._changes: dict[bytes, Change | None] = {b"": None, b"PROPS-END": None}
 
     def changes(self, blocks: bytes) -> list[Change] | None:
-        """What the records of a revision come to, or None where one has a section that is not empty."""
+        """What the records of a revision come to, or None where one has not the form that Subversion writes."""
         if MERGEINFO in blocks:
-            return None
+            blocks = without_sections(blocks)
         known = self._changes
         found: dict[bytes, Change] = {}
         for block in OFFSET.sub(b"", blocks).lstrip(b"\n").split(b"\n\n"):
@@ -92,6 +93,15 @@ class KnownBlocks:
             if change is not None:
                 add(found, change)
         return in_order(found)
+
+
+def without_sections(blocks: bytes) -> bytes:
+    """The blocks of records without their property sections."""
+    kept, at = b"", 0
+    while found := SECTION.search(blocks, at):
+        kept += blocks[at : found.start()] + b"\n\n"
+        at = found.end() + int(found[1]) + 1
+    return kept + blocks[at:]
 
 
 def changes_of(nodes: Iterable[Node]) -> list[Change]:

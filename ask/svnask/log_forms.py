@@ -45,6 +45,8 @@ class Form(ABC):
     end = b""
     # What stands after the entries that were merged in one.
     end_of_merges = b""
+    # Whether messages are printed, where they are wanted.
+    has_messages = True
 
     @abstractmethod
     def entry(self, entry: Entry) -> bytes:
@@ -98,7 +100,7 @@ def entries(history: History, items: Iterable[Item], wanted: Wanted, form: Form)
             yield None
             continue
         revision = as_wanted(history.revision(item.rev), wanted.names)
-        if item.rev == 0 and revision.message is None:
+        if item.rev == 0 and (revision.message is None or not form.has_messages):
             continue
         changes = changes_of(history, item) if wanted.is_verbose else []
         if not wanted.groups or is_found(wanted.groups, [*form.texts(revision), *paths_of(changes)]):

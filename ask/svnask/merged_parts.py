@@ -53,6 +53,9 @@ def hash_of(path: bytes) -> int:
 
 def in_hash_order(paths: Iterable[bytes]) -> list[bytes]:
     """Paths in the order of a hash table of Subversion, into which they were put in this order."""
+    paths = [*paths]
+    if len(paths) < 2:
+        return paths
     size, count = FIRST_SIZE, 0
     chains: list[list[tuple[int, bytes]]] = [[] for _ in range(size)]
     for path in paths:

@@ -42,7 +42,7 @@ class PlainForm(Form):
     """The form without `--xml`; with `is_quiet` it has no messages, and with `is_incremental` no last line."""
 
     def __init__(self, is_quiet: bool = False, is_incremental: bool = False) -> None:
-        self._is_quiet = is_quiet
+        self.has_messages = not is_quiet
         self.end = b"" if is_incremental else RULE
         self._via: tuple[int, ...] = ()
         self._via_text = b""
@@ -51,7 +51,7 @@ class PlainForm(Form):
         """Author and date as they are printed."""
         yield author_of(revision)
         yield dates.shown(revision.date).encode("ascii")
-        if not self._is_quiet:
+        if self.has_messages:
             yield revision.message or b""
 
     def _text_of(self, via: tuple[int, ...]) -> bytes:
@@ -61,12 +61,12 @@ class PlainForm(Form):
         return self._via_text
 
     def entry(self, entry: Entry) -> bytes:
-        text = RULE + head_line(entry.revision, self._is_quiet)
+        text = RULE + head_line(entry.revision, not self.has_messages)
         if entry.changes:
             text += b"Changed paths:\n" + b"\n".join([change.line() for change in entry.changes]) + b"\n"
         if entry.via:
             text += b"Reverse merged via: " if entry.is_reverse else b"Merged via: "
             text += self._text_of(entry.via)
-        if not self._is_quiet:
+        if self.has_messages:
             text += b"\n" + (entry.revision.message or b"") + b"\n"
         return text

@@ -20,23 +20,27 @@ Bytes = Union[mmap.mmap, bytes]
 Node = tuple[Any, ...]
 VERSION = b"svnask 3"
 FIRST_LINE = b"SVN-fs-dump-format-version: 2\n\n"
-# A block of the copy. `Stripper` writes the headers in this order.
-BLOCK = re.compile(
-    rb"\n*(?:Revision-number: (?P<rev>[0-9]+)\n|Node-path: (?P<path>[^\n]*)\n(?:Node-kind: (?P<kind>[^\n]*)\n)?"
+# The parts of a block of the copy. `Stripper` writes the headers in this order.
+PLACE = rb"Node-path: (?P<path>[^\n]*)\n(?:Node-kind: (?P<kind>[^\n]*)\n)?"
+OF_RECORD = (
     rb"(?:Node-action: (?P<action>[^\n]*)\n)?(?:Node-copyfrom-rev: (?P<from_rev>[0-9]+)\n)?"
     rb"(?:Node-copyfrom-path: (?P<from_path>[^\n]*)\n)?(?P<delta>Prop-delta: true\n)?(?:Prop-delta: [^\n]*\n)?"
-    rb"(?:Text-delta: [^\n]*\n)?|UUID: [^\n]*\n)At: (?P<at>[0-9]+)\n(?:Mods: (?P<text>text)?(?: ?(?P<properties>properties))?\n)?"
+    rb"(?:Text-delta: [^\n]*\n)?"
+)
+OF_ALL = (
+    rb"At: (?P<at>[0-9]+)\n(?:Mods: (?P<text>text)?(?: ?(?P<properties>properties))?\n)?"
     rb"(?:Prop-content-length: (?P<length>[0-9]+)\nContent-length: [0-9]+\n)?\n"
+)
+BLOCK = re.compile(rb"\n*(?:Revision-number: (?P<rev>[0-9]+)\n|%s%s|UUID: [^\n]*\n)%s" % (PLACE, OF_RECORD, OF_ALL))
+# The block of a record that does more than to change a text or other properties than mergeinfo.
+TELLING = re.compile(
+    rb"%s(?!Node-kind: |Node-action: change\n"
+    rb"(?:Prop-delta: .*\n)?(?:Text-delta: .*\n)?At: .*\n(?:Mods: .*\n)?\n)%s%s" % (PLACE, OF_RECORD, OF_ALL)
 )
 # The block of a revision.
 REVISION = re.compile(
     rb"Revision-number: (?P<rev>[0-9]{1,18})\nAt: (?P<at>[0-9]{1,18})\n"
     rb"(?:Prop-content-length: (?P<length>[0-9]{1,18})\nContent-length: .*\n)?\n"
-)
-# The begin of a record that does more than to change a text or other properties than mergeinfo.
-TELLING = re.compile(
-    rb"Node-path: .*\n(?:Node-kind: .*\n)?(?!Node-kind: |Node-action: change\n"
-    rb"(?:Prop-delta: .*\n)?(?:Text-delta: .*\n)?At: .*\n(?:Mods: .*\n)?\n)"
 )
 # The offset of a block, which follows its other headers, but for a block that is not well formed.
 MARK = re.compile(rb"\n*(?:[^\n]+\n)*?At: ([0-9]+)\n")
@@ -299,13 +303,12 @@ class Store:
         so that what only looks like one, in the section of a revision or of a record, is known by its place."""
         rev, end = -1, 0
         for part, begin in (self.first, 0), (self.later, self.index.kept.base):
-            for told in TELLING.finditer(part):
-                place = begin + told.start()
+            for found in TELLING.finditer(part):
+                place = begin + found.start()
                 of_place = bisect.bisect_right(self.index.revisions, place) - 1
                 if of_place > rev:
                     rev, end = of_place, self._begin(of_place)
-                found = BLOCK.match(part, told.start()) if place >= end else None
-                if found is not None and rev >= 0:
+                if place >= end and rev >= 0:
                     end = begin + found.end() + digits.number(found["length"] or b"0")
                     yield found, rev
 
@@ -380,7 +383,7 @@ def properties_of(section: bytes) -> dict[bytes, bytes]:
 
 
 def record_of(found: re.Match[bytes], number: int, rev: int, version: int) -> Record:
-    _, path, kind, action, from_rev, from_path, delta, at, text, properties, _ = found.groups()
+    path, kind, action, from_rev, from_path, delta, at, text, properties, _ = found.groups()[-10:]
     return Record(
         number,
         rev,

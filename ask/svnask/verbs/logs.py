@@ -10,7 +10,7 @@ from .. import log, merged_log
 from ..digits import number
 from ..errors import Denied, Usage
 from ..history import History
-from ..log_forms import AUTHOR, DATE, MESSAGE, Entry, Wanted, as_wanted, entries, printed
+from ..log_forms import AUTHOR, DATE, SHOWN, Entry, Wanted, as_wanted, entries, printed
 from ..plain_log import RULE, PlainForm
 from ..search import Glob, Group, folded
 from ..targets import encoded, known, paths_below, ranges_of, revision_of, target_of
@@ -124,7 +124,7 @@ def wanted_of(given: Namespace) -> Wanted:
         ):
             if value:
                 raise Denied("E205000", f"'{name}' option only valid in XML mode")
-    names: frozenset[bytes] | None = frozenset((AUTHOR, DATE) if given.quiet else (AUTHOR, DATE, MESSAGE))
+    names: frozenset[bytes] | None = frozenset((AUTHOR, DATE)) if given.quiet and given.xml else SHOWN
     if given.with_all_revprops:
         names = None
     elif given.with_no_revprops:

@@ -8,7 +8,7 @@ from .. import diagram, log, mergeinfo
 from ..answers import Mergeinfo
 from ..errors import Denied, Unsound, Usage
 from ..history import History, one
-from ..log_forms import AUTHOR, DATE, MESSAGE, Wanted, printed
+from ..log_forms import Wanted, printed
 from ..plain_log import PlainForm
 from ..soundness import findings
 from ..targets import decoded, encoded, known, place_of, range_of, target_of
@@ -93,8 +93,7 @@ class MergeinfoVerb(Verb):
 
     def log(self, history: History, given: Namespace) -> Iterator[bytes]:
         items = [log.Item(rev) for rev, _ in self.revisions(history, given)]
-        wanted = Wanted(frozenset((AUTHOR, DATE) if given.quiet else (AUTHOR, DATE, MESSAGE)), given.verbose)
-        return printed(history, items, wanted, PlainForm(given.quiet, given.incremental))
+        return printed(history, items, Wanted(is_verbose=given.verbose), PlainForm(given.quiet, given.incremental))
 
     def text(self, history: History, given: Namespace) -> Iterator[bytes]:
         self.judge(given)
