@@ -27,7 +27,7 @@ from bench.colliding import Finder
 from bench.histories import PIECE
 from bench.hostile_dumps import MOST_WORKERS, Maker, Pieces
 from bench.measure import NOTHING, REFUSED, words_of
-from bench.parts import Cell, Limit, Measurements, Part, Row, Setup, Table, most
+from bench.parts import Cell, Judged, Limit, Measurements, Part, Row, Setup, Table, most
 from dev.running import Failed, Limits, Measured, Outcome, Words, started
 
 # What a run may take, also one of a dump that claims a length, and the seconds from which on it is not repeated.
@@ -240,7 +240,10 @@ def run(setup: Setup) -> Measurements:
     base = Input(setup, Shape(dumps.WITHOUT_RECORDS, 0), 0, "once")
     base.run_first()
     yield f"A run on a dump without records takes {base.peak / 1e6:.1f} MB."
-    yield Table("hostile-input", SHAPES_HEADING, [shape_row(setup, shape, base.peak + DIFFERENCE) for shape in SHAPES])
+    rows = [shape_row(setup, shape, base.peak + DIFFERENCE) for shape in SHAPES]
+    missed = sum(any(isinstance(cell, Judged) and not cell.is_met for cell in row) for row in rows)
+    yield f"{missed} of {len(rows)} shapes miss a limit."
+    yield Table("hostile-input", SHAPES_HEADING, rows)
     finder = Finder(setup.folder)
     rows = [
         *colliding_rows(setup, finder.path, "names", dumps.new_names, finder.names, range),

@@ -13,7 +13,7 @@ from pathlib import Path
 from bench.histories import revision, write_dump
 from bench.measure import Command, compiled
 from bench.parts import ABSENT, Measurements, Part, Row, Setup, Table, least, most
-from bench.questions import Asked, Peg, Question, line
+from bench.questions import Asked, Peg, line
 from bench.subversion import ASKED_OF_COMMAND, ask_bindings, ask_command, beside, loaded
 from dev.dumps import FILE, Node, Source, added
 from dev.running import best_of
@@ -67,8 +67,7 @@ def of_subversion(setup: Setup) -> dict[str, float]:
         for verb in ("locate", "segments"):
             if answered := ask_bindings(repository, [query(verb, LOADED)] * ASKED_OF_BINDINGS):
                 found[verb] = answered.seconds
-        question = Question(Peg(LAST, LOADED), 0)
-        if repository and (log := ask_command(repository, [question] * ASKED_OF_COMMAND, "log")):
+        if repository and (log := ask_command(repository, [query("log", LOADED)] * ASKED_OF_COMMAND)):
             found["log"] = log
     return found
 

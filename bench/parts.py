@@ -56,6 +56,7 @@ class Judged:
 
 Cell = Union[str, int, float, None, Judged]
 Row = Sequence[Cell]
+NOT_MET = "**not met**"
 # A cell in place of a figure for which Subversion, or another tool, would have to be installed.
 ABSENT = "not installed"
 
@@ -63,7 +64,7 @@ ABSENT = "not installed"
 def shown(cell: Cell, form: str) -> str:
     """A cell as words, its number in a form as of `format`."""
     if isinstance(cell, Judged):
-        return f"{shown(cell.value, form)} {'met' if cell.is_met else '**not met**'}".strip()
+        return f"{shown(cell.value, form)} {'met' if cell.is_met else NOT_MET}".strip()
     if cell is None:
         return ""
     return cell if isinstance(cell, str) else format(cell, form)
@@ -85,6 +86,11 @@ class Table:
         return head + "|" + "---|" * len(titles) + "\n" + "".join(rows)
 
 
+def with_limit(judged: Judged | None) -> list[Cell]:
+    """A figure and its limit in words, as the last two cells of a row, which has none of them without a figure."""
+    return [None, None] if judged is None else [judged, f"{judged.limit.text}, {judged.limit}"]
+
+
 def limits_table(name: str, judged: Iterable[Judged], absent: Iterable[Limit] = ()) -> Table:
     """A table of figures that stand in no other one, and of limits whose figures need what is not installed."""
     rows: list[Row] = [[each.text, str(each.limit), each] for each in judged]
@@ -94,13 +100,14 @@ def limits_table(name: str, judged: Iterable[Judged], absent: Iterable[Limit] = 
 
 @dataclass(frozen=True)
 class Setup:
-    """What a part measures with: the programs, of which one may be an older build, a folder for its files, and how
-    often it measures."""
+    """What a part measures with: the programs, of which one may be an older build, a folder for its files, one for what
+    parts share, and how often it measures."""
 
     program: Path
     live: Path
     before: Path | None
     folder: Path
+    shared: Path
     times: int
     is_quick: bool
 

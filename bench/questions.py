@@ -95,11 +95,6 @@ class Question(NamedTuple):
     def line(self, verb: str) -> str:
         return line(verb, self.peg, *([self.earlier] if verb == "locate" else []))
 
-    def to_subversion(self, verb: str, url: str) -> list[str] | None:
-        """The same query as a command of Subversion, which has none for location segments."""
-        peg = f"{url}/{self.peg}"
-        return {"locate": ["svn", "info", "-r", str(self.earlier), peg], "log": ["svn", "log", "-q", peg]}.get(verb)
-
 
 def drawn_question(lot: random.Random, pegs: Sequence[Peg]) -> Question:
     peg = lot.choice(pegs)

@@ -14,7 +14,7 @@ from bench.histories import SMALL, SMALL_REVISIONS, generate, load_into_cache
 from bench.measure import REFUSED, Command, best_of_groups
 from bench.parts import Judged, Limit, Measurements, Part, Row, Setup, Table, limits_table, most
 from bench.questions import records_of
-from bench.subversion import loading
+from bench.subversion import create, loading
 from dev.running import Measured, Words
 
 NOT_A_BUNDLE = 2
@@ -128,7 +128,8 @@ def load_once(setup: Setup) -> str:
     """`svnadmin load` of a valid dump, once, and the program on the same dump with the faulty end, in words."""
     revisions = setup.scaled(SMALL_REVISIONS) // 2
     path = generate(setup.folder / "valid", SMALL, revisions)
-    taken = Command(loading(setup.folder / "repository"), file=path).run()
+    create(repository := setup.folder / "repository")
+    taken = Command(loading(repository), file=path).run()
     SMALL_RECORDS.make(path, revisions)
     beside = Command([setup.program], ["cat", path], status=REFUSED).run()
     size = path.stat().st_size / 1e6

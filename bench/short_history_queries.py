@@ -23,7 +23,7 @@ def row(asked: Asked, repository: Repository | None, verb: str, questions: Seque
     cost = asked.cost(lines)
     other: Cell = ABSENT
     if repository:
-        seconds = ask_command(repository, questions, verb)
+        seconds = ask_command(repository, lines)
         other = seconds and seconds * 1e3
     return [verb, len(lines), cost.lines, cost.seconds * 1e3, other]
 

@@ -1,27 +1,28 @@
 """Subversion beside the program, where it is installed: its commands and its Python bindings."""
 from __future__ import annotations
 
+import itertools
 import math
 import shutil
 import subprocess
 import tempfile
 import time
-from collections.abc import Sequence
+from collections.abc import Iterable, Sequence
 from contextlib import contextmanager
 from pathlib import Path
-from typing import IO, Iterator, NamedTuple
+from typing import Iterator, NamedTuple
 
 from bench.histories import revisions_of
 from bench.parts import ABSENT, Cell, Limit, Setup
-from bench.questions import Question
-from dev.running import Failed, Limits, measure, run
+from bench.questions import MERGES
+from dev.running import Failed, Limits, Words, measure, run
 from dev.tree import ROOT
 
 # Debian's bindings are built for Debian's own Python.
 BINDINGS = Path("/usr/bin/python3")
 READER = "bench.bindings_reader"
 MEMORY = Path("/dev/shm")
-LOADING_SECONDS = 600
+LOADING_SECONDS = 300
 ASKED_OF_COMMAND = 20
 
 
@@ -31,38 +32,66 @@ class Repository(NamedTuple):
     url: str
     last: int
 
+    @property
+    def folder(self) -> Path:
+        return Path(self.url.partition("://")[2])
 
-def loading(repository: Path) -> list[str | Path]:
-    """The command that loads a dump into a new repository."""
+
+def is_installed() -> bool:
+    return all(map(shutil.which, ("svn", "svnadmin", "svnlook")))
+
+
+def create(repository: Path) -> None:
     subprocess.run(["svnadmin", "create", repository], check=True)
+
+
+def youngest(repository: Path) -> int:
+    return int(subprocess.run(["svnlook", "youngest", repository], stdout=subprocess.PIPE, check=True).stdout)
+
+
+def loading(repository: Path) -> Words:
+    """The command that loads a dump into a repository."""
     return ["svnadmin", "load", "-q", "--no-flush-to-disk", repository]
 
 
-def feed(taker: IO[bytes], dump: Path, seconds: float) -> int:
-    """Writes a dump up to the end of the revision at which the time is over. Returns that revision."""
+def load(repository: Path, pieces: Iterable[bytes], seconds: float = math.inf) -> None:
+    """Loads a dump into a repository, piece by piece, up to the piece at which the time is over."""
     began = time.perf_counter()
-    number = -1
-    for number, piece in enumerate(revisions_of(dump), -1):
-        taker.write(piece)
-        if time.perf_counter() - began > seconds:
-            break
-    return number
+    with subprocess.Popen(loading(repository), stdin=subprocess.PIPE) as child:
+        assert child.stdin is not None
+        for piece in pieces:
+            child.stdin.write(piece)
+            if time.perf_counter() - began > seconds:
+                break
+    if child.returncode != 0:
+        raise Failed(f"svnadmin load ended with {child.returncode}")
 
 
 @contextmanager
-def loaded(setup: Setup, dump: Path, seconds: float = math.inf) -> Iterator[Repository | None]:
-    """What can be loaded of a dump in some time, or None without Subversion. It is in memory where that is a folder:
-    loading into a repository on a disk may take several times as long."""
-    if not all(map(shutil.which, ("svn", "svnadmin"))):
+def loaded(setup: Setup, dump: Path) -> Iterator[Repository | None]:
+    """A repository of a dump, or None without Subversion. It is in memory where that is a folder: loading into a
+    repository on a disk may take several times as long."""
+    if not is_installed():
         yield None
         return
     with tempfile.TemporaryDirectory(dir=MEMORY if MEMORY.is_dir() else setup.folder) as folder:
-        with subprocess.Popen(loading(Path(folder)), stdin=subprocess.PIPE) as child:
-            assert child.stdin is not None
-            last = feed(child.stdin, dump, seconds)
-        if child.returncode != 0:
-            raise Failed(f"svnadmin load ended with {child.returncode}")
-        yield Repository(f"file://{folder}", last)
+        create(Path(folder))
+        load(Path(folder), revisions_of(dump))
+        yield Repository(f"file://{folder}", youngest(Path(folder)))
+
+
+def shared(setup: Setup, dump: Path, last: int) -> Repository | None:
+    """The repository of the history of changes that parts share, as a part before has left it. The first part loads the
+    revisions of this dump up to one, or as many as five minutes are enough for. None without Subversion.
+
+    It is loaded as one stream: `svnadmin load` of a later piece empties mergeinfo about revisions before the piece."""
+    if not is_installed():
+        return None
+    folder = setup.shared / "changes"
+    if not folder.exists():
+        create(folder)
+        load(folder, itertools.islice(revisions_of(dump), last + 2), setup.scaled(LOADING_SECONDS))
+    return Repository(f"file://{folder}", youngest(folder))
 
 
 class OfBindings(NamedTuple):
@@ -86,12 +115,21 @@ def ask_bindings(repository: Repository | None, lines: Sequence[str]) -> OfBindi
     return OfBindings(float(seconds) / len(lines), answers)
 
 
-def ask_command(repository: Repository, questions: Sequence[Question], verb: str) -> float | None:
-    """The seconds of a command of Subversion for a query, with its start. None without a command for the verb."""
-    asked = [question.to_subversion(verb, repository.url) for question in questions[:ASKED_OF_COMMAND]]
-    commands = [words for words in asked if words is not None]
+def command_of(url: str, query: str) -> Words | None:
+    """The command of Subversion for a query. It has none for location segments and for the mergeinfo of a path."""
+    verb, *fields = query.rstrip("\n").split("\t")
+    if verb == "locate":
+        return ["svn", "info", "-r", fields[1], f"{url}/{fields[0]}"]
+    words = {"log": ["log", "-q"], **{merges: ["mergeinfo", "--show-revs", merges] for merges in MERGES}}.get(verb)
+    return words and ["svn", *words, *(f"{url}/{peg}" for peg in fields)]
+
+
+def ask_command(repository: Repository, lines: Sequence[str]) -> float | None:
+    """The seconds of a command of Subversion for one of these queries, with its start. None without a command."""
+    commands = [command_of(repository.url, line) for line in lines[:: -(-len(lines) // ASKED_OF_COMMAND)]]
     # If the path did not exist, svn reports that and ends with status 1.
-    return sum(measure(words).wall for words in commands) / len(commands) if commands else None
+    walls = [measure(words).wall for words in commands if words]
+    return sum(walls) / len(walls) if walls else None
 
 
 def beside(seconds: float | None, ours: float, limit: Limit | None = None) -> list[Cell]:

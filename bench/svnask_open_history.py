@@ -16,7 +16,7 @@ from typing import Callable
 
 from bench.histories import load_into_cache
 from bench.measure import Command, best_in_turns
-from bench.parts import Measurements, Part, Row, Setup, Table, limits_table, most
+from bench.parts import Measurements, Part, Row, Setup, Table, most, with_limit
 from bench.svnask_calls import python_words
 from dev.dumps import FILE, Node, Revision, added, changed, copied, first_lines, mergeinfo
 from dev.running import Measured
@@ -35,9 +35,9 @@ VERBS: dict[str, list[str]] = {
     "unmerged": [],
 }
 
-MOST_OF_QUESTION = most(0.15, "a question to a server, seconds")
+MOST_OF_QUESTION = most(0.15, "seconds")
 MOST_OF_VERB = most(3.0, "seconds beyond the reading")
-MOST_OF_UNMERGED = most(3.0 + BRANCHES * QUERIES / 1000, "unmerged, seconds beyond the reading")
+MOST_OF_UNMERGED = most(3.0 + BRANCHES * QUERIES / 1000, "seconds beyond the reading")
 
 
 def branch(number: int) -> bytes:
@@ -103,13 +103,13 @@ def run(setup: Setup) -> Measurements:
         question = partial(served.run, "log", "-q", "-l", "1", "trunk")
         reply = best_in_turns({"": question}, 2 * setup.times)[""].wall
     python = best_in_turns({"": Command(["python3", "-c", "pass"]).run}, 2 * setup.times)[""].wall
-    rows: list[Row] = [("reading, and `info`", reading), *verbs.items()]
-    rows += [("a question to a server", reply), ("`python3 -c pass`", python)]
-    yield Table("svnask-open-history", "what runs | s:.2f", rows)
-    unmerged = verbs.pop("unmerged") - reading
-    limits = [MOST_OF_VERB.of(seconds - reading, name) for name, seconds in verbs.items()]
-    limits += [MOST_OF_UNMERGED.of(unmerged), MOST_OF_QUESTION.of(reply)]
-    yield limits_table("svnask-open-history-limits", limits)
+    rows: list[Row] = [("reading, and `info`", reading, *with_limit(None))]
+    for name, seconds in verbs.items():
+        limit = MOST_OF_UNMERGED if name == "unmerged" else MOST_OF_VERB
+        rows.append([f"`{name}`", seconds, *with_limit(limit.of(seconds - reading))])
+    rows.append(["a question to a server", reply, *with_limit(MOST_OF_QUESTION.of(reply))])
+    rows.append(["`python3 -c pass`", python, *with_limit(None)])
+    yield Table("svnask-open-history", "what runs | s:.2f | measured:.2f | limit", rows)
 
 
 PART = Part(__name__, __doc__, run, [MOST_OF_QUESTION, MOST_OF_VERB, MOST_OF_UNMERGED])

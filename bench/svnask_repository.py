@@ -1,7 +1,7 @@
 """svnask about a repository: its first question, a later one, and one after ten new revisions, by folder and by URL.
 
-The history is one of changes. As much of it as ten minutes are enough for is loaded into a repository, where Subversion
-is installed. The first question reads all of it; beside it the same is dumped to /dev/null. The times are those of a
+The history is one of changes, of which parts share a repository, where Subversion is installed. It has as much as ten
+minutes are enough for. The first question reads all of it; beside it the same is dumped to /dev/null. The times are those of a
 clock, with the start of all commands, and the best of some runs, but for the first question after new revisions, which
 is asked once for each ten of them.
 """
@@ -9,23 +9,24 @@ from __future__ import annotations
 
 import itertools
 import shutil
-import subprocess
 from functools import partial
 from pathlib import Path
 from typing import Callable
 
 from bench.histories import MIXES, generate, revisions_of
 from bench.measure import Command, best_in_turns
-from bench.parts import Judged, Measurements, Part, Row, Setup, Table, limits_table, most
-from bench.subversion import LOADING_SECONDS, Repository, loaded
+from bench.parts import Measurements, Part, Row, Setup, Table, limits_table, most, with_limit
+from bench.subversion import Repository, load, shared
 from bench.svnask_calls import python_words
 from dev.dumps import first_lines
 from dev.running import Measured, Words
 from dev.tree import SVNASK
 
 REVISIONS, TEN = 120000, 10
-MOST_OF_DUMP = most(1.2, "the first question, relative to the dump to /dev/null")
-MOST_MORE = most(0.5, "a question after ten new revisions, seconds more than without them")
+MOST_OF_DUMP = most(1.2, "relative to the dump")
+MOST_MORE = most(0.5, "seconds more than a later question")
+DUMP, FIRST = "the dump to /dev/null", "the first question"
+LATER, GROWN = "a later question", "a question after ten new revisions"
 
 
 class Asked:
@@ -33,7 +34,7 @@ class Asked:
 
     def __init__(self, setup: Setup, dump: Path, repository: Repository) -> None:
         self.setup, self.repository = setup, repository
-        self.folder = repository.url.partition("://")[2]
+        self.folder = str(repository.folder)
         self.cache = setup.folder / "cache"
         self.left = itertools.islice(revisions_of(dump), repository.last + 2, None)
 
@@ -46,8 +47,7 @@ class Asked:
 
     def grow(self) -> None:
         """Gives the repository ten revisions."""
-        given = first_lines() + b"".join(itertools.islice(self.left, TEN))
-        subprocess.run(["svnadmin", "load", "-q", self.folder], input=given, check=True)
+        load(self.repository.folder, [first_lines(), *itertools.islice(self.left, TEN)])
 
     def grown(self, source: str) -> Measured:
         """The question after ten new revisions."""
@@ -59,37 +59,35 @@ class Asked:
         return [command, "dump", "-q", source]
 
 
-def rows_of(asked: Asked, name: str, source: str) -> tuple[list[Row], list[Judged]]:
-    """What is measured of a source, and its figures with limits."""
+def rows_of(asked: Asked, name: str, source: str) -> list[Row]:
+    """What is measured of a source."""
     first: dict[str, Callable[[], Measured]] = {
-        "the dump": partial(Command(asked.dumped(source)).run, is_kept=False),
-        "the first question": partial(asked.first, source),
+        DUMP: partial(Command(asked.dumped(source)).run, is_kept=False),
+        FIRST: partial(asked.first, source),
     }
     later: dict[str, Callable[[], Measured]] = {
-        "a later question": partial(asked.question, source),
-        "a question after ten new revisions": partial(asked.grown, source),
+        LATER: partial(asked.question, source),
+        GROWN: partial(asked.grown, source),
     }
-    best = {key: taken.wall for runs in (first, later) for key, taken in best_in_turns(runs, asked.setup.times).items()}
-    dump, whole, again, grown = best.values()
-    limits = [MOST_OF_DUMP.of(whole / dump, f"by {name}"), MOST_MORE.of(grown - again, f"by {name}")]
-    return [[f"by {name}: {key}", seconds] for key, seconds in best.items()], limits
+    walls = {
+        key: taken.wall for runs in (first, later) for key, taken in best_in_turns(runs, asked.setup.times).items()
+    }
+    judged = {FIRST: MOST_OF_DUMP.of(walls[FIRST] / walls[DUMP]), GROWN: MOST_MORE.of(walls[GROWN] - walls[LATER])}
+    return [[f"by {name}: {key}", seconds, *with_limit(judged.get(key))] for key, seconds in walls.items()]
 
 
 def run(setup: Setup) -> Measurements:
     count = setup.scaled(REVISIONS)
     dump = generate(setup.folder / "whole", MIXES["changes"], count + 2 * TEN * setup.times)
-    front = setup.folder / "front"
-    with open(front, "wb") as file:
-        file.writelines(itertools.islice(revisions_of(dump), count + 2))
-    with loaded(setup, front, LOADING_SECONDS) as repository:
-        if repository is None or not shutil.which("svnrdump"):
-            yield limits_table("svnask-repository-limits", [], [MOST_OF_DUMP, MOST_MORE])
-            return
-        yield f"A repository of {repository.last} revisions."
-        asked = Asked(setup, dump, repository)
-        found = [rows_of(asked, *each) for each in (("folder", asked.folder), ("URL", repository.url))]
-        yield Table("svnask-repository", "what runs | s:.2f", [row for rows, _ in found for row in rows])
-        yield limits_table("svnask-repository-limits", [each for _, limits in found for each in limits])
+    repository = shared(setup, dump, count)
+    if repository is None or not shutil.which("svnrdump"):
+        yield limits_table("svnask-repository-limits", [], [MOST_OF_DUMP, MOST_MORE])
+        return
+    yield f"The repository has {repository.last:,} revisions."
+    asked = Asked(setup, dump, repository)
+    sources = {"folder": asked.folder, "URL": repository.url}
+    rows = [row for name, source in sources.items() for row in rows_of(asked, name, source)]
+    yield Table("svnask-repository", "what runs | s:.2f | measured:.2f | limit", rows)
 
 
 PART = Part(__name__, __doc__, run, [MOST_OF_DUMP, MOST_MORE])

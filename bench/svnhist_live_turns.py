@@ -5,8 +5,8 @@ one is about the same history, read at once. A time is that from before a turn i
 read, and so it includes the ways of both through pipes. Questions are asked in both talks in turns, each of them some
 times, of which the best counts; the replies must be the same.
 
-Where Subversion is installed, `svn log -q` answers questions, too, from a repository into which as much of the same
-dump was loaded as ten minutes are enough for. Its time includes its start.
+Where Subversion is installed, `svn log -q` answers questions, too, from the repository that parts share, with as much
+of the same dump as five minutes are enough for. Its time includes its start.
 """
 from __future__ import annotations
 
@@ -22,9 +22,9 @@ from contextlib import contextmanager
 from pathlib import Path
 
 from bench.histories import MIXES, generate, revisions_of
-from bench.parts import Measurements, Part, Row, Setup, Table, limits_table, most
+from bench.parts import Measurements, Part, Row, Setup, Table, most
 from bench.questions import Question, drawn_question, later_half, pegs_at_ends, records_of
-from bench.subversion import ASKED_OF_COMMAND, LOADING_SECONDS, Repository, ask_command, loaded
+from bench.subversion import ASKED_OF_COMMAND, Repository, ask_command, shared
 from dev.running import Failed, Words
 
 # The revisions before the first piece, the pieces, and the revisions of each.
@@ -37,6 +37,10 @@ VERBS = ("log", "mergeinfo", "segments")
 READ = 1 << 16
 MOST_OF_MEDIAN, MOST_OF_WORST = (most(20, f"a piece, {name} of the first {TIMED}, ms") for name in ("median", "worst"))
 MOST_OF_AT_ONCE = {verb: most(1.5, f"`{verb}` after all pieces, relative to the same read at once") for verb in VERBS}
+HEADING = (
+    f"what is replied to | median, ms, {MOST_OF_MEDIAN} of the first:.3f | worst, ms, {MOST_OF_WORST} of the first:.3f | "
+    f"relative to read at once, {MOST_OF_AT_ONCE[VERBS[0]]}:.2f"
+)
 
 
 class Talk:
@@ -134,7 +138,8 @@ def beside_subversion(talks: Sequence[Talk], history: History, repository: Repos
     if repository is None:
         return "Subversion is not installed, so no `svn log` stands beside `log`."
     same = history.questions(repository.last, ASKED_OF_COMMAND)
-    ours, other = asked(talks, "log", same, times)[0], (ask_command(repository, same, "log") or 0) * 1e3
+    lines = [question.line("log") for question in same]
+    ours, other = asked(talks, "log", same, times)[0], (ask_command(repository, lines) or 0) * 1e3
     return (
         f"{len(same)} questions `log` about the {repository.last:,} revisions that Subversion has loaded take "
         f"{ours:.3f} ms each. `svn log -q` takes {other:.3f} ms, {other / ours:.0f} times as long."
@@ -152,14 +157,12 @@ def measured(setup: Setup, history: History, repository: Repository | None) -> M
             (f"the last {TIMED}", pieces[-TIMED:]),
             (f"all {len(pieces):,}", pieces),
         ]
-        rows: list[Row] = [[f"one of {name} pieces", statistics.median(each), max(each)] for name, each in kinds]
+        rows: list[Row] = [[f"one of {name} pieces", statistics.median(each), max(each), None] for name, each in kinds]
+        rows[0] = [rows[0][0], MOST_OF_MEDIAN.of(statistics.median(first)), MOST_OF_WORST.of(max(first)), None]
         for verb, (one, other) in found.items():
-            rows.append([f"`{verb}` after all pieces", one, None])
-            rows.append([f"`{verb}` on the same history, read at once", other, None])
-        yield Table("svnhist-live", "what is replied to | median, ms:.3f | worst, ms:.3f", rows)
-        limits = [MOST_OF_MEDIAN.of(statistics.median(first)), MOST_OF_WORST.of(max(first))]
-        limits += [MOST_OF_AT_ONCE[verb].of(one / other) for verb, (one, other) in found.items()]
-        yield limits_table("svnhist-live-limits", limits)
+            rows.append([f"`{verb}` after all pieces", one, None, MOST_OF_AT_ONCE[verb].of(one / other)])
+            rows.append([f"`{verb}` on the same history, read at once", other, None, None])
+        yield Table("svnhist-live", HEADING, rows)
         yield beside_subversion((after, at_once), history, repository, setup.times)
 
 
@@ -170,8 +173,7 @@ def run(setup: Setup) -> Measurements:
     history = History(setup)
     pieces = f"{history.first:,} revisions, then pieces of {TEN} up to {history.last:,}"
     yield f"{pieces}, and {TIMED} questions of each verb."
-    with loaded(setup, history.whole, setup.scaled(LOADING_SECONDS)) as repository:
-        yield from measured(setup, history, repository)
+    yield from measured(setup, history, shared(setup, history.whole, history.first))
 
 
 PART = Part(__name__, __doc__, run, [MOST_OF_MEDIAN, MOST_OF_WORST, *MOST_OF_AT_ONCE.values()])

@@ -13,6 +13,11 @@ SVNASK = ROOT / "ask" / "svnask"
 # The pages for those who change svnhist. All other ones are for its users.
 FOR_DEVELOPERS = ["DECISIONS.md", "code-map.md", "developing.md", "glossary.md", "releasing.md"]
 MANUALS = ["svnhist.1", "svnhist-live.1", "svnask.1"]
+# The scripts of completion, where each of them stands in the package below /usr/share, and where pip puts it there.
+COMPLETIONS = {
+    "svnask.bash": ("bash-completion/completions/svnask", "bash-completion/completions/svnask"),
+    "_svnask": ("zsh/vendor-completions/_svnask", "zsh/site-functions/_svnask"),
+}
 MODULE = "usr/lib/python3/dist-packages/svnask/"
 PAGES = "usr/share/doc/svnhist/"
 EXAMPLE = re.compile(r"(?:examples|interop)/[\w-]+\.(?:dump|bundle|queries|report)")
@@ -52,9 +57,13 @@ def manual(name: str) -> bytes:
     return head + b'"svnhist %s"' % version().encode("ascii") + rest
 
 
+def completion(name: str) -> bytes:
+    return read("completions/" + name)
+
+
 def module() -> list[File]:
     """The files of svnask, by their places in the module."""
-    paths = (path for path in SVNASK.rglob("*") if path.suffix == ".py" or path.name == "VERSION")
+    paths = (path for path in SVNASK.rglob("*") if path.suffix == ".py" or path.name in ("VERSION", "py.typed"))
     return sorted(File(str(path.relative_to(SVNASK)), path.read_bytes()) for path in paths)
 
 
@@ -102,6 +111,7 @@ def of_tarball(parts: Parts) -> list[File]:
     files += [File(name, read(name)) for name in others] + [File("COPYRIGHT", read("release/copyright"))]
     files += [File("ask/svnask/" + file.path, file.content) for file in module()]
     files += [File("man/man1/" + name, manual(name)) for name in MANUALS]
+    files += [File("completions/" + name, completion(name)) for name in COMPLETIONS]
     files += [File("licenses/" + name, content) for name, content in parts.licences.items()]
     return sorted(in_folder(f"svnhist-{version()}/", files + pages(others)))
 
@@ -134,6 +144,7 @@ def of_package(parts: Parts, debian_changelog: bytes) -> list[File]:
     files = list(in_folder("usr/bin/", programs(parts) + [File("svnask", of_system(read("svnask")), 0o755)]))
     files += in_folder(MODULE, module())
     files += [File(f"usr/share/man/man1/{name}.gz", packed(manual(name))) for name in MANUALS]
+    files += [File("usr/share/" + place, completion(name)) for name, (place, _) in COMPLETIONS.items()]
     files += in_folder(PAGES, pages([]))
     files += [
         File(PAGES + "copyright", read("release/copyright")),

@@ -1,4 +1,4 @@
-"""Makes a release in dist/: a tarball, a Debian package, what links the programs anew, and their checksums.
+"""Makes a release in dist/: a tarball, a Debian package, a wheel, what links the programs anew, and their checksums.
 
 It makes it of the tree that `./test` passed on: that tree is committed, nothing is changed since, and the programs are
 still those that were tested. All checks of the programs run on the very files that are released. The same tree gives
@@ -21,6 +21,7 @@ from release.archives import NotMade, filled, package, tarball
 from release.contents import Parts, of_package, of_tarball, version
 from release.program import PROGRAMS, Program, built_using, content
 from release.program import licences, link, make_object, of_relink, printed
+from release.wheel import name_of_wheel, of_wheel, wheel
 
 DIST = ROOT / "dist"
 TESTED = ROOT / "out" / "tested"
@@ -73,6 +74,7 @@ def made_of(paths: Mapping[str, Path]) -> dict[str, bytes]:
         f"svnhist-{version()}-linux-x86_64.tar.gz": tarball(of_tarball(parts), when),
         f"svnhist-{version()}-relink.tar.gz": tarball(of_relink(parts), when),
         f"svnhist_{version()}-1_amd64.deb": package(of_package(parts, changelog), built_using(), when),
+        name_of_wheel(): wheel(of_wheel(parts), when),
     }
 
 

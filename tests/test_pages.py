@@ -18,7 +18,8 @@ PAGES = ["README.md", "CONTRIBUTING.md", "SECURITY.md", *sorted(f"docs/{path.nam
 OTHER_PAGES = ["interop/README.md", "model/README.md"]
 # fmt: off
 FOLDERS = (
-    "ask", "bench", "crates", "dev", "docs", "examples", "interop", "model", "release", "scripts", "tests", ".ci",
+    "ask", "bench", "completions", "crates", "dev", "docs", "examples", "interop", "model", "release", "scripts",
+    "tests", ".ci",
 )
 # fmt: on
 BUILT = ("out", "__pycache__", ".mypy_cache")

@@ -1,25 +1,30 @@
 """Packs the built programs as a release has them, without root and without the toolchain, and runs what was packed: the
-commands of the pages in the folder of the tarball, and the programs that the Debian package installs. It also has
-`scripts/release` refuse what is not tested."""
+commands of the pages in the folder of the tarball, and the programs that the Debian package and the wheel install. It
+also has `scripts/release` refuse what is not tested."""
 from __future__ import annotations
 
+import base64
+import csv
 import gzip
+import hashlib
 import io
 import os
 import re
 import shutil
 import sys
 import tarfile
+import zipfile
 from collections.abc import Mapping
 from pathlib import Path
 from typing import Optional
 
 from dev.checks import Checks
-from dev.running import Outcome, run
+from dev.running import Limits, Outcome, run
 from dev.tree import ROOT, Programs
 from release.archives import package, tarball
 from release.contents import LINK, MANUALS, Parts, of_package, of_tarball, version
 from release.program import PROGRAMS, Program
+from release.wheel import name_of_wheel, of_wheel, title, wheel
 from tests.base import ProgramTest
 from tests.copies import PARTS, copied_tree
 from tests.test_shown_commands import ShownCommands
@@ -34,6 +39,18 @@ NAMED = re.compile(r"svnhist[-_](\d+(?:\.\d+)+)")
 NEWEST = re.compile(r"^## \[(.*)\] - \d{4}-\d\d-\d\d$", re.MULTILINE)
 LOG = b"r5 /trunk\nr2 /trunk\nr1 /trunk\n"
 DUMP = "interop/branches.dump"
+# pip asks nobody and takes no settings.
+OFFLINE = {"PIP_NO_INDEX": "1", "PIP_CONFIG_FILE": os.devnull, "PIP_DISABLE_PIP_VERSION_CHECK": "1"}
+INSTALL = ("-m", "pip", "--quiet", "--no-cache-dir", "install", "--no-deps")
+# What a caller has of the module, with types.
+CALLER = """
+import os, svnask
+from svnask import History
+with History.open(%r, is_cached=False) as history:
+    print(history.head, history.log(b"trunk", 13).revisions, os.path.exists(os.path.dirname(svnask.__file__) + "/py.typed"))
+""" % str(
+    ROOT / DUMP
+)
 
 
 def parts_of(programs: Programs) -> Parts:
@@ -130,6 +147,13 @@ class Packages(ProgramTest):
     def test_no_link_is_dead(self) -> None:
         self.assertEqual(dead_links(self.root / "usr" / "share" / "doc" / "svnhist"), [])
 
+    def test_completion(self) -> None:
+        share = self.root / "usr" / "share"
+        for name in ("bash-completion/completions/svnask", "zsh/vendor-completions/_svnask"):
+            self.assertIn("--complete", (share / name).read_text())
+        words = (sys.executable, str(self.root / "usr" / "bin" / "svnask"), "--complete", "bash", "", DUMP, "gra")
+        self.compare("svnask --complete", Outcome(0, b"words\ngraph\n", b""), self.run_installed(*words))
+
     def test_the_programs(self) -> None:
         svnask = str(self.root / "usr" / "bin" / "svnask")
         self.compare("the Python of svnask", b"#!/usr/bin/python3", Path(svnask).read_bytes().splitlines()[0])
@@ -142,6 +166,93 @@ class Packages(ProgramTest):
         }
         for words, output in wanted.items():
             self.compare(" ".join(words), Outcome(0, output, b""), self.run_installed(*words))
+
+
+class Wheels(ProgramTest):
+    needed = ("svnhist", "svnhist_live")
+
+    def setUp(self) -> None:
+        super().setUp()
+        self.packed = self.wheel()
+        self.file = str(self.made(name_of_wheel(), self.packed))
+
+    def wheel(self) -> bytes:
+        return wheel(of_wheel(parts_of(self.programs)), WHEN)
+
+    def text_in(self, name: str) -> str:
+        """A file about the wheel."""
+        with zipfile.ZipFile(self.file) as archive:
+            return archive.read(f"{title()}.dist-info/{name}").decode("utf-8")
+
+    def test_a_wheel_has_the_same_bytes_each_time(self) -> None:
+        self.assertTrue(self.wheel() == self.packed)
+
+    def test_the_list_has_each_file_with_its_checksum(self) -> None:
+        found = []
+        with zipfile.ZipFile(self.file) as archive:
+            for name in archive.namelist():
+                content = archive.read(name)
+                digest = base64.urlsafe_b64encode(hashlib.sha256(content).digest()).decode("ascii").rstrip("=")
+                found.append([name, "sha256=" + digest, str(len(content))])
+        self.assertEqual(found[-1][0], f"{title()}.dist-info/RECORD")
+        found[-1][1:] = ["", ""]
+        self.assertEqual(list(csv.reader(io.StringIO(self.text_in("RECORD")))), found)
+
+    def test_what_it_says_of_itself(self) -> None:
+        head, _, page = self.text_in("METADATA").partition("\n\n")
+        lines = head.splitlines()
+        self.compare("the name and the version", ["Name: svnhist", f"Version: {version()}"], lines[1:3])
+        self.compare("the page", "# svnhist", page.splitlines()[0])
+        name, _, tags = name_of_wheel()[: -len(".whl")].partition("-py3-none-")
+        self.compare("the name of the file", title(), name)
+        wanted = [f"Tag: py3-none-{tag}" for tag in tags.split(".")]
+        self.compare("tags", wanted, [line for line in self.text_in("WHEEL").splitlines() if line.startswith("Tag")])
+        for line in lines:
+            if line.startswith("License-File: "):
+                self.assertTrue(self.text_in("licenses/" + line.partition(": ")[2]))
+        self.compare("commands", "[console_scripts]\nsvnask = svnask.command:run\n", self.text_in("entry_points.txt"))
+
+    def check_installed(self, name: str, programs: Path, variables: Mapping[str, Optional[str]]) -> None:
+        """Asks the first questions, by programs that are not on the path."""
+        environment: dict[str, Optional[str]] = dict.fromkeys(("SVNHIST", "SVNHIST_LIVE", "PYTHONPATH"))
+        environment["XDG_CACHE_HOME"] = str(self.folder / "cache")
+        environment.update(variables)
+        python = str(programs / "python3") if (programs / "python3").exists() else sys.executable
+        wanted: Mapping[tuple[str, ...], bytes] = {
+            (str(programs / "svnhist"), DUMP, "/dev/stdin", "0", "1"): b"#1 ok\n" + LOG,
+            (str(programs / "svnhist-live"), DUMP, "1"): b"ready 13\n\n#1 ok\n" + LOG + b"\n",
+            (str(programs / "svnask"), DUMP, "where", "tags/one-1.0", "4"): b"/branches/one\n",
+            (str(programs / "svnask"), "--version"): f"svnask {version()}\n".encode(),
+            (python, "-c", CALLER): b"13 [5, 2, 1] True\n",
+        }
+        for words, output in wanted.items():
+            found = run(words, b"log\ttrunk@10\n", environment=environment, folder=ROOT)
+            self.compare(f"{name}: {words[0]} {words[-1]}", Outcome(0, output, b""), found)
+
+    def called(self, *words: str) -> Outcome:
+        return run(words, environment=OFFLINE, folder=self.folder, limits=Limits(seconds=600))
+
+    def test_it_is_installed_into_a_folder(self) -> None:
+        if self.called(sys.executable, "-m", "pip", "--version").status != 0:
+            self.skipTest("pip is not installed")
+        target = self.folder / "target"
+        found = self.called(sys.executable, *INSTALL, "--target", str(target), self.file)
+        self.compare("pip", (0, b""), found[:2])
+        self.check_installed("a folder", target / "bin", {"PYTHONPATH": str(target)})
+        for name in ("man/man1/svnask.1", "bash-completion/completions/svnask", "zsh/site-functions/_svnask"):
+            self.assertTrue((target / "share" / name).exists(), name)
+
+    def test_it_is_installed_into_an_environment(self) -> None:
+        made = self.folder / "environment"
+        if self.called(sys.executable, "-m", "venv", str(made)).status != 0:
+            self.skipTest("venv is not installed, or pip is not for it")
+        programs = made / "bin"
+        found = self.called(str(programs / "python3"), *INSTALL, self.file)
+        self.compare("pip", (0, b""), found[:2])
+        self.check_installed("an environment", programs, {})
+        found = self.called(str(programs / "python3"), "-m", "pip", "uninstall", "--yes", "svnhist")
+        self.compare("pip uninstall", 0, found.status)
+        self.compare("what is left", [], [path.name for path in made.rglob("*svn*")])
 
 
 class Refusals(ProgramTest):

@@ -1,4 +1,4 @@
-"""Questions about the history of a Subversion repository, answered by svnhist from a dump.
+"""Questions about the history of a Subversion repository, answered by svnhist from the repository or a dump.
 
 >>> from svnask import History, Log, Refused
 >>> with History.open("interop/branches.dump") as history:

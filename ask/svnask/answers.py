@@ -250,10 +250,14 @@ class Pair(PathQuery[Merges]):
 
 
 @dataclass(frozen=True)
-class Line(Query[Answer]):
-    """A line that a user wrote. It is asked as it is."""
+class Line(PathQuery[Answer]):
+    """A line that a user wrote. It is asked as it is, whatever path and revision are given.
 
-    text: bytes
+    >>> Line(b"", 0, b"log\\ttrunk@8").line()
+    b'log\\ttrunk@8'
+    """
+
+    text: bytes = b""
 
     def line(self) -> bytes:
         return self.text

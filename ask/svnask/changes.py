@@ -97,11 +97,12 @@ class KnownBlocks:
 
 def without_sections(blocks: bytes) -> bytes:
     """The blocks of records without their property sections."""
-    kept, at = b"", 0
+    kept: list[bytes] = []
+    at = 0
     while found := SECTION.search(blocks, at):
-        kept += blocks[at : found.start()] + b"\n\n"
+        kept += [blocks[at : found.start()], b"\n\n"]
         at = found.end() + int(found[1]) + 1
-    return kept + blocks[at:]
+    return b"".join((*kept, blocks[at:]))
 
 
 def changes_of(nodes: Iterable[Node]) -> list[Change]:

@@ -16,12 +16,14 @@ from contextlib import closing
 from typing import Any, Callable, NamedTuple, NoReturn
 
 from . import __version__
-from .command_line import REACHED, REACHED_ALONE, joined, ordered, split_access, with_source
+from .command_line import OF_ALL, REACHED, REACHED_ALONE, joined, ordered, places, split_access, with_source
 from .errors import Damaged, Denied, Error, Failed, Refused, Unsound, Usage
 from .history import History
 from .progress import Bar
 from .refusals import about_record, explained
-from .sources import Address, Source, source_of
+from .repository_source import Address
+from .source import Source
+from .sources import source_of
 from .texts import say
 from .verbs import VERBS
 from .verbs.base import Object, Verb, counted
@@ -34,6 +36,8 @@ OF_HIDDEN = (16, 18, 19)
 HIDDEN = "a host hides from a user the paths that he may not read, and a history without them may have gaps"
 # What the parser says of a word that is no verb.
 NO_VERB = re.compile("argument VERB: invalid choice: '(.*)' \\(choose from", re.DOTALL)
+# What it says of arguments that are not there.
+MISSING = "the following arguments are required: "
 # The status where svnask itself is at fault.
 FAULT = 5
 
@@ -44,15 +48,30 @@ def arguments_of_serve(below: argparse.ArgumentParser) -> None:
         metavar="SECONDS",
         type=counted,
         default=3600,
-        help="end when nothing was asked for so long, 3600 if it is not given",
+        help="end after this time without a question; 3600 if it is not given",
     )
+
+
+ABOUT = """\
+Answers a question about the history of a Subversion repository, and prints
+what 'svn' would print. SOURCE is read once, and later only what is new."""
+EXAMPLES = f"""\
+'svnask VERB --help' says what a verb takes. Examples:
+  svnask https://svn.example.org/repo log -v -l 5 trunk
+  svnask /srv/repo mergeinfo --show-revs eligible trunk branches/two
+  svnadmin dump -q /srv/repo | svnask - branches
+
+These options are passed on to svn:
+  {" ".join(sorted(REACHED_ALONE))}
+  {" ".join(sorted(REACHED)[:3])}
+  {" ".join(sorted(REACHED)[3:])}"""
 
 
 # What is no question, with its help and its arguments.
 COMMANDS: dict[str, tuple[str, Callable[[argparse.ArgumentParser], None]]] = {
-    "serve": ("keep the history open for the questions of other calls", arguments_of_serve),
-    "stop": ("end what keeps the history open", lambda below: None),
-    "shell": ("ask question after question, a line each", lambda below: None),
+    "serve": ("keep the history open, and answer the questions of other calls", arguments_of_serve),
+    "stop": ("end a 'serve' that runs", lambda below: None),
+    "shell": ("answer question after question, one per line", lambda below: None),
 }
 
 
@@ -62,6 +81,11 @@ class Parser(argparse.ArgumentParser):
     def __init__(self, **settings: Any) -> None:
         super().__init__(allow_abbrev=False, **settings)
 
+    @property
+    def actions(self) -> list[argparse.Action]:
+        """The options and the arguments that it takes."""
+        return self._actions
+
     def _get_values(self, action: argparse.Action, arg_strings: list[str]) -> Any:
         # Before Python 3.12 the value -- of an option was taken for the end of the options.
         if action.option_strings and arg_strings == ["--"]:
@@ -70,6 +94,9 @@ class Parser(argparse.ArgumentParser):
 
     def error(self, message: str) -> NoReturn:
         found = NO_VERB.match(message)
+        help_of = f"{self.prog.replace(' SOURCE', '')} --help"
+        if message.startswith(MISSING):
+            message += f": '{help_of}' says what they are"
         raise Usage(about_verb(found[1]) if found else message)
 
 
@@ -83,26 +110,27 @@ def about_verb(word: str) -> str:
 @functools.lru_cache(maxsize=None)
 def parser() -> Parser:
     made = Parser(
-        prog="svnask",
-        description="Answers a question about the history of a Subversion repository, as 'svn' would print it, from "
-        "its dump or from what is kept of the repository itself.",
-        epilog=f"A repository is reached by the options of svn: {', '.join(sorted((*REACHED, *REACHED_ALONE)))}.",
+        prog="svnask", description=ABOUT, epilog=EXAMPLES, formatter_class=argparse.RawDescriptionHelpFormatter
     )
     made.add_argument(
-        "dump", metavar="SOURCE", help="a dump, - for the standard input, the folder of a repository or its URL"
+        "dump", metavar="SOURCE", help="a dump, - for one from the standard input, the folder of a repository, or a URL"
     )
-    made.add_argument("--json", action="store_true", help="print one object a line, for scripts")
+    made.add_argument("--json", action="store_true", help="print one object per line, for scripts")
     made.add_argument("--no-cache", action="store_true", help="read the source anew, and keep nothing of it")
-    made.add_argument("--offline", action="store_true", help="answer from what is kept, without asking the source")
+    made.add_argument("--offline", action="store_true", help="answer from what is kept, without asking the repository")
     made.add_argument("-V", "--version", action="version", version="svnask " + __version__)
     verbs = made.add_subparsers(dest="verb", metavar="VERB", required=True, parser_class=Parser)
-    for verb in VERBS:
-        below = verbs.add_parser(verb.name, help=verb.help, description=verb.help)
+
+    def added(name: str, about: str, usage: str | None = None) -> Parser:
+        below = verbs.add_parser(name, help=about, description=about, usage=usage)
         for option in ("--json", "--no-cache", "--offline"):
             below.add_argument(option, action="store_true", default=argparse.SUPPRESS, help=argparse.SUPPRESS)
-        verb.arguments(below)
+        return below
+
+    for verb in VERBS:
+        verb.arguments(added(verb.name, verb.help, verb.usage))
     for name, (about, arguments) in COMMANDS.items():
-        arguments(verbs.add_parser(name, help=about, description=about))
+        arguments(added(name, about))
     return made
 
 
@@ -110,7 +138,22 @@ def parsed(words: list[str]) -> argparse.Namespace:
     """What a command line says. `SystemExit` where it is a call for help, which was printed."""
     access, left = split_access(joined(words))
     names = [*(verb.name for verb in VERBS), *COMMANDS]
-    return parser().parse_args(ordered(with_source(left, names)), argparse.Namespace(access=access))
+    ready = with_source(left, names)
+    need_source(ready, names)
+    return parser().parse_args(ordered(ready), argparse.Namespace(access=access))
+
+
+def need_source(words: list[str], names: list[str]) -> None:
+    """Refuses words in which a verb stands where a source should, if there is no file of that name."""
+    plain = [words[at] for at in places(words)[:2]]
+    if (
+        plain
+        and plain[0] in names
+        and plain[0] != OF_ALL
+        and not set(plain[1:]) & set(names)
+        and not os.path.lexists(plain[0])
+    ):
+        raise Usage(f"a source is missing: svnask SOURCE {plain[0]} ..")
 
 
 def source_in(given: argparse.Namespace) -> Source:

@@ -4,21 +4,31 @@ from __future__ import annotations
 import gc
 import signal
 import sys
+import time
 from typing import NoReturn
 
 from .client import status_of_server
 
 # How many objects are made before the first collection, and how many collections before one of older objects.
 RARELY = 200000, 20, 20
+# By what the completion of a shell calls the command.
+COMPLETE = "--complete"
 
 
 def main() -> int:
+    # pylint: disable=import-outside-toplevel
+    if sys.argv[1:2] == [COMPLETE]:
+        begun = time.monotonic()
+        gc.set_threshold(*RARELY)
+        from .completion import complete
+
+        return complete(sys.argv[2:], begun)
     status = status_of_server(sys.argv[1:])
     if status is None:
         # What is read of a history lives as long as the question. To look through it for cycles again and again took a
         # quarter of the time.
         gc.set_threshold(*RARELY)
-        from .cli import main as answer  # pylint: disable=import-outside-toplevel
+        from .cli import main as answer
 
         status = answer()
     return status

@@ -18,8 +18,8 @@ VALUED = frozenset(
     + ("--since", "--width")
 )
 NUMBER = re.compile("-[0-9]")
-# The verbs that svn has, too.
-OF_SVN = ("log", "mergeinfo")
+# The verbs that svn has, too, and the one that is about all sources.
+OF_SVN, OF_ALL = ("log", "mergeinfo"), "sources"
 
 
 def joined(arguments: Iterable[str]) -> list[str]:
@@ -64,7 +64,7 @@ def with_source(words: list[str], verbs: Iterable[str]) -> list[str]:
     plain = [words[at] for at in found]
     if not plain:
         return words
-    if plain == ["sources"] or plain == words[:1] and plain[0] in verbs and words[1:] in (["-h"], ["--help"]):
+    if plain == [OF_ALL] or plain == words[:1] and plain[0] in verbs and words[1:] in (["-h"], ["--help"]):
         return [*words[: found[0]], "-", *words[found[0] :]]
     urls = [word for word in plain[1:] if IS_URL.match(word)]
     if not urls or plain[0] not in OF_SVN:

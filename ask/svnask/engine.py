@@ -28,6 +28,8 @@ MOST_WORKERS = 64
 ENDING = 5
 # How the program is called, in a release and in the folder where it is built.
 NAMES = ("svnhist-live", "svnhist_live")
+# The folder of the module in a release and in the source tree, and those in which modules are installed.
+OF_TREE, PACKAGES = "ask", ("site-packages", "dist-packages")
 BUILDING = re.compile(r"svnhist: (?:building|\d+ %)")
 # The reply to a dump or a piece, and the first line of the reply to a query.
 READY = re.compile(rb"ready ([0-9]{1,18})\Z")
@@ -36,15 +38,27 @@ REFUSED = re.compile(r"svnhist: dump refused: (\d+) (\w+) at (byte|record) (\d+)
 Buffer = Union[bytes, memoryview, mmap.mmap]
 
 
+def folders_of_programs(modules: str) -> Iterator[str]:
+    """Where the programs are that belong to a folder of modules: above it in the tree, in the folder for programs of
+    the prefix, or in that of the folder itself, as `pip install --target` has it."""
+    above, name = os.path.split(modules)
+    if name == OF_TREE:
+        yield above
+    prefix, library = os.path.split(os.path.dirname(above))
+    if name in PACKAGES and library.startswith("lib"):
+        yield os.path.join(prefix, "bin")
+    yield os.path.join(modules, "bin")
+
+
 def find_engine() -> str:
-    """The program: `$SVNHIST_LIVE`, the one beside `$SVNHIST`, the one beside this module's tree, or the one on the
-    path."""
+    """The program: `$SVNHIST_LIVE`, the one beside `$SVNHIST`, the one beside this module's tree, the one that was
+    installed with this module, or the one on the path."""
     named = os.environ.get("SVNHIST_LIVE")
     if named:
         return shutil.which(named) or named
     other = os.environ.get("SVNHIST")
     folders = [os.path.dirname(os.path.abspath(shutil.which(other) or other))] if other else []
-    for folder in (*folders, os.path.dirname(os.path.dirname(HERE))):
+    for folder in (*folders, *folders_of_programs(os.path.dirname(HERE))):
         for name in NAMES:
             beside = os.path.join(folder, name)
             if os.path.isfile(beside) and os.access(beside, os.X_OK):

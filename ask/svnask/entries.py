@@ -12,11 +12,11 @@ import hashlib
 import os
 import time
 from collections.abc import Callable, Iterator
-from typing import BinaryIO
+from typing import BinaryIO, TypeVar
 
 from . import cache
 from .errors import Damaged
-from .store import Index, Kept, Store, index_of
+from .store import Front, Index, Kept, Store, front_of, index_of
 
 INDEX = "index"
 # What came later is joined with the first file where it is longer than this, and than half of that.
@@ -158,12 +158,25 @@ class Entry:
         cache.remove(self.folder)
 
 
-def read_index(folder: str) -> Index | None:
-    """The index in a folder of the cache, if that is this user's and it is one of this version."""
+T = TypeVar("T")
+
+
+def read_by(reader: Callable[[BinaryIO], T], folder: str) -> T | None:
+    """What is read of the index in a folder of the cache, if that is this user's and it is one of this version."""
     try:
         if not cache.is_own(folder):
             return None
         with open(os.path.join(folder, INDEX), "rb") as file:
-            return index_of(file.read())
+            return reader(file)
     except (OSError, ValueError, IndexError):
         return None
+
+
+def read_index(folder: str) -> Index | None:
+    """The index in a folder of the cache."""
+    return read_by(lambda file: index_of(file.read()), folder)
+
+
+def read_front(folder: str) -> Front | None:
+    """The front of the index in a folder of the cache."""
+    return read_by(front_of, folder)

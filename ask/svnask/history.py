@@ -13,11 +13,13 @@ from typing import TYPE_CHECKING, BinaryIO
 from . import dates
 from .answers import A, Answer, Answers, Locate, Located, Log, Logged, Query, Segments, Where, is_askable
 from .changes import Change, KnownBlocks, Place, changes_of, place_of
+from .dump_source import Dump
 from .engine import Talk
 from .errors import Damaged, Failed, Refused
 from .lives import Tree
 from .progress import Progress, Told
-from .sources import Dump, Source, source_of
+from .source import Source
+from .sources import source_of
 from .store import Index, Record, Revision, Store
 from .values import Explicit
 

@@ -9,7 +9,7 @@ from types import TracebackType
 from . import cli
 from .history import History
 from .progress import Bar
-from .sources import Source
+from .source import Source
 
 
 def place_of(source: Source) -> str:
@@ -24,6 +24,7 @@ class Kept:
     def __init__(self, given: argparse.Namespace) -> None:
         with closing(cli.source_in(given)) as source:
             self.place = place_of(source)
+        self._no_cache = given.no_cache
         self._history: History | None = None
 
     def __enter__(self) -> Kept:
@@ -46,7 +47,8 @@ class Kept:
             self._history = None
 
     def updated(self, given: argparse.Namespace, source: Source) -> History:
-        """The history, which is open, as its source is now."""
+        """The history, which is open, as its source is now. It uses no cache if it began without one."""
+        given.no_cache = given.no_cache or self._no_cache
         if self._history is None:
             self._history = cli.read(given, source)
         else:

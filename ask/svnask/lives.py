@@ -182,8 +182,8 @@ class Tree:
         return found
 
     def lives(self, path: bytes, head: int) -> Iterator[Life]:
-        """The lives of a path, the first one first."""
-        life: Life | None = None
+        """The lives of a path, the first one first. That of the root begins with revision 0."""
+        life = Life(path, 0, head, None, True) if path == b"/" else None
         for top, event in self.events(path):
             is_there = self.after(path, top, event)
             if life is not None and life.first < event.rev:

@@ -16,7 +16,8 @@ from .texts import say
 from .verbs import VERBS
 from .verbs.kept import KeptVerb
 
-HELP = "a question, as after 'svnask DUMP': log trunk; VERB --help; exit\nverbs: %s\n"
+HELP = "type a question, as after 'svnask SOURCE': log trunk; or VERB --help, or exit\nverbs: %s\n"
+QUESTIONS = [verb.name for verb in VERBS if not isinstance(verb, KeptVerb)]
 
 
 def run(given: argparse.Namespace) -> int:
@@ -62,7 +63,7 @@ def asked(kept: Kept, given: argparse.Namespace, line: str) -> int:
     try:
         words = shlex.split(line.rstrip("\n"))
         if words in (["help"], ["?"]):
-            sys.stdout.write(HELP % ", ".join(verb.name for verb in VERBS))
+            sys.stdout.write(HELP % ", ".join(QUESTIONS))
         elif words:
             tell(kept, question(given, words))
         sys.stdout.flush()
@@ -86,7 +87,7 @@ def question(given: argparse.Namespace, words: list[str]) -> argparse.Namespace:
     options = ["--json"] * given.json + ["--no-cache"] * given.no_cache + ["--offline"] * given.offline
     found = cli.parsed([*options, given.dump, *words])
     if found.verb in cli.COMMANDS or isinstance(cli.verb_of(found), KeptVerb):
-        raise Usage(f"'{found.verb}' is no question")
+        raise Usage(f"'{found.verb}' is not a question")
     found.access = given.access
     return found
 

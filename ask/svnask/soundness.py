@@ -74,8 +74,6 @@ class Paths:
         self._operative: dict[bytes, list[int]] = {}
 
     def lives(self, path: bytes) -> list[Span]:
-        if path == b"/":
-            return [Span(0, self._history.head)]
         if path not in self._lives:
             found = self._tree.lives(path, self._history.head)
             self._lives[path] = [Span(life.first, life.last) for life in found]

@@ -148,6 +148,27 @@ def index_of(text: bytes) -> Index:
     )
 
 
+class Front(NamedTuple):
+    """What an index says of a copy as a whole."""
+
+    kept: Kept
+    length: int
+
+
+def front_of(file: BinaryIO) -> Front:
+    """The front of an index in a file, read without what the index has for each revision. `ValueError` or `IndexError`
+    where it is not one."""
+    head = file.readline().rstrip(b"\n")
+    begin = file.tell()
+    counts, _, kind, state = (file.readline().rstrip(b"\n") for _ in range(4))
+    end = file.seek(0, os.SEEK_END)
+    if head != b"%s %d" % (VERSION, end - begin):
+        raise ValueError("another version, or not the whole of an index")
+    _, _, _, length, _, generation, base, named = map(int, counts.split())
+    file.seek(max(begin, end - named))
+    return Front(Kept(kind, file.read(), state, generation, base), length)
+
+
 class Store:
     """The copy of a dump, which has two parts, and its index. No block is in both.
 

@@ -97,7 +97,8 @@ class Command(base.Case):
         for verb in (*(each.name for each in VERBS), *cli.COMMANDS):
             done = base.called(verb, "--help")
             self.assertEqual((done.status, done.said), (0, ""))
-            self.assertIn(b"usage: svnask SOURCE %s " % verb.encode(), done.output)
+            front = "" if verb == "sources" else "SOURCE "
+            self.assertIn(f"usage: svnask {front}{verb} ".encode(), done.output)
         self.assertIn(b"PATH[@PEG]", base.run("where", "--help").output)
 
     def test_a_file_that_is_not_there_has_status_3(self) -> None:
@@ -107,7 +108,32 @@ class Command(base.Case):
         (self.folder / "db").mkdir()
         done = base.run(self.folder, "info")
         self.assertEqual((done.status, done.output), (3, b""))
-        self.assertIn("is a directory, and no repository", done.said)
+        self.assertIn("is a directory, but not a repository", done.said)
+        (self.folder / ".svn").mkdir()
+        done = base.run(self.folder, "info")
+        self.assertEqual((done.status, done.output), (3, b""))
+        self.assertIn("is a working copy: give its URL", done.said)
+
+    def test_what_is_missing_is_named(self) -> None:
+        rows: tuple[tuple[list[base.Word], str], ...] = (
+            ([], "required: SOURCE, VERB: 'svnask --help' says"),
+            ([DUMP], "required: VERB: 'svnask --help' says"),
+            ([DUMP, "contains"], "required: REV: 'svnask contains --help' says"),
+            ([DUMP, "propget"], "required: svn:mergeinfo: 'svnask propget --help' says"),
+            (["log"], "a source is missing: svnask SOURCE log .."),
+            (["log", "-l", "3", "trunk"], "a source is missing: svnask SOURCE log .."),
+            (["sources", "more"], "there is no verb 'more'"),
+        )
+        for words, said in rows:
+            done = base.run(*words)
+            self.assertEqual((done.status, done.output), (2, b""), words)
+            self.assertIn(said, done.said)
+
+    def test_a_dump_may_have_the_name_of_a_verb(self) -> None:
+        self.made("log", DUMP.read_bytes())
+        for words, wanted in ((["log", "-q"], base.run(DUMP, "log", "-q")), (["trunk"], base.run(DUMP, "trunk"))):
+            done = running.run(base.command("log", *words), folder=self.folder)
+            self.assertEqual((done.status, done.output, done.errors.decode()), wanted)
 
     def test_questions_without_an_answer_have_status_1(self) -> None:
         # fmt: off

@@ -13,7 +13,7 @@ from unittest import mock
 from dev.dumps import Dump, Properties, Revision
 from dev.running import run
 from dev.tree import ROOT
-from svnask import entries, sources
+from svnask import entries, repository_source, sources
 from svnask.history import History
 from svnask.strip import Stripper
 from tests.ask import base, grown
@@ -118,7 +118,7 @@ class Growth(Case):
             grown.svn("svnadmin", "load-revprops", "-q", "--bypass-prop-validation", made.folder, given=given)
             for source in made.sources:
                 self.asked(source, "info")
-                with mock.patch.object(sources.Asked, "first", side_effect=AssertionError(message)):
+                with mock.patch.object(repository_source.Asked, "first", side_effect=AssertionError(message)):
                     self.asked(source, "info")
 
     def test_what_came_later_is_joined(self) -> None:

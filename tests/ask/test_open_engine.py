@@ -97,7 +97,7 @@ class OpenEngine(base.Case):
                 self.assertRaisesRegex(Failed, "ended by SIGKILL", history.check)
 
     def test_pipes_may_be_full_both_ways(self) -> None:
-        queries: list[Query[Answer]] = [Log(b"trunk", 13), Where(b"tags/one-1.0", 13), Line(b"x" * 3000)] * 500
+        queries: list[Query[Answer]] = [Log(b"trunk", 13), Where(b"tags/one-1.0", 13), Line(b"", 0, b"x" * 3000)] * 500
         with self.history(DUMP) as history:
             lengths = [len(answer.text) for answer in history.ask(queries)]
             self.assertEqual((len(lengths), set(lengths[::3]), set(lengths[2::3])), (1500, {29}, {0}))
@@ -185,9 +185,11 @@ class OpenEngine(base.Case):
             b"#1 ok",
         )
         with self.history(DUMP) as history:
-            found = [answer.status for answer in history.ask([*map(Line, lines), Log(b"trunk", 13)])]
+            queries = [*(Line(b"", 0, line) for line in lines), Log(b"trunk", 13)]
+            found = [answer.status for answer in history.ask(queries)]
             self.assertEqual(found, ["bad-query"] * len(lines) + ["ok"])
-            self.assertRaises(Denied, list, history.ask([Log(b"trunk", 13), Line(b"log\ttrunk@1\nlog\ttrunk@2")]))
+            cut = Line(b"", 0, b"log\ttrunk@1\nlog\ttrunk@2")
+            self.assertRaises(Denied, list, history.ask([Log(b"trunk", 13), cut]))
             self.assertEqual(history.log(b"trunk", 13).revisions, TRUNK)
         self.assertEqual(len(self.started), 1)
 
@@ -264,7 +266,7 @@ class Finding(FolderTest):
 
     def program(self, *names: str) -> Path:
         path = self.folder.joinpath(*names)
-        path.parent.mkdir(exist_ok=True)
+        path.parent.mkdir(parents=True, exist_ok=True)
         path.touch(0o700)
         return path
 
@@ -278,3 +280,22 @@ class Finding(FolderTest):
                 program = self.program(*path)
                 self.assertEqual(self.found(**beside), str(program))
             self.assertEqual(self.found(SVNHIST_LIVE="/other", **beside), "/other")
+
+    def test_the_one_that_was_installed_with_the_module(self) -> None:
+        # In an environment or below a home, in a folder of `--target`, and in the whole system.
+        other = str(self.program("other", "svnhist-live").parent)
+        self.program("above", "svnhist-live")
+        layouts = (
+            ("one/lib/python3.9/site-packages", "one/bin"),
+            ("two/lib64/python3.13/site-packages", "two/bin"),
+            ("three/lib/python3/dist-packages", "three/bin"),
+            ("above/four", "above/four/bin"),
+        )
+        for modules, programs in layouts:
+            program = self.program(*programs.split("/"), "svnhist-live")
+            with mock.patch.dict(os.environ), mock.patch.object(engine, "HERE", str(self.folder / modules / "svnask")):
+                os.environ.pop("SVNHIST_LIVE", None)
+                os.environ.pop("SVNHIST", None)
+                self.compare(modules, str(program), self.found(PATH=other))
+                program.unlink()
+                self.compare(modules + " without it", os.path.join(other, "svnhist-live"), self.found(PATH=other))

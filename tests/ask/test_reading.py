@@ -9,7 +9,7 @@ from unittest import mock
 
 from dev.dumps import FILE, Revision, added, first_lines
 from dev.tree import INTEROP
-from svnask import cache, entries, sources
+from svnask import cache, dump_source, entries
 from svnask.answers import Line
 from svnask.errors import Failed, Refused
 from svnask.history import History
@@ -43,7 +43,7 @@ class Reading(base.Case):
         for dump in sorted(INTEROP.glob("*.dump")):
             recorded = INTEROP / dump.stem.partition("-")[0]
             lines = recorded.with_suffix(".queries").read_bytes().splitlines()
-            answers = self.history(dump).ask([Line(line) for line in lines])
+            answers = self.history(dump).ask([Line(b"", 0, line) for line in lines])
             report = b"".join(
                 b"#%d %s\n" % (number, answer.status.encode()) + b"".join(line + b"\n" for line in answer.lines)
                 for number, answer in enumerate(answers, 1)
@@ -143,7 +143,7 @@ class Reading(base.Case):
         whole = base.content_of("branches")
         dump = self.made("dump", whole)
         status = os.stat(dump)
-        with mock.patch.object(sources, "END", 8):
+        with mock.patch.object(dump_source, "END", 8):
             self.assertEqual(self.history(dump).revision(9).author, b"alice")
             with open(dump, "r+b") as file:
                 file.write(whole.replace(b"alice", b"malic"))

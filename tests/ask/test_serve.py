@@ -72,6 +72,13 @@ class Serve(base.Case):
         for words in ANSWERED:
             self.check_same(*words)
 
+    def test_without_a_cache_nothing_is_kept(self) -> None:
+        self.served("--no-cache")
+        self.assertTrue(self.is_asked(self.dump, "info"))
+        os.utime(self.dump)
+        self.assertTrue(self.is_asked(self.dump, "log", "-q"))
+        self.assertEqual([path for path in (self.cache / "svnhist").rglob("*") if path.name.startswith("index")], [])
+
     def test_the_folder_and_the_zone_are_those_of_the_caller(self) -> None:
         self.served()
         folder = self.folder / "below"

@@ -73,6 +73,8 @@ class Shell(base.Case):
         self.assertEqual((done.status, done.said), (0, ""))
         self.assertIn(b"changed-tags", done.output)
         self.assertIn(b"PATH[@PEG]", done.output)
+        for verb in (b"update", b"forget", b"sources", b"serve"):
+            self.assertNotIn(verb, done.output)
 
     def test_it_asks_one_program(self) -> None:
         counter = self.folder / "count"

@@ -27,7 +27,7 @@ class AskVerb(Verb):
             raise Failed(f"cannot read {given.queries}: {error.strerror}") from error
         if lines[-1] == b"":
             lines.pop()
-        for answer in history.ask([Line(line) for line in lines]):
+        for answer in history.ask([Line(b"", 0, line) for line in lines]):
             yield answer.query.line(), answer
 
     def text(self, history: History, given: Namespace) -> Iterator[bytes]:

@@ -20,6 +20,8 @@ class Verb:
 
     name = ""
     help = ""
+    # How it is called, if not after a SOURCE.
+    usage: str | None = None
     # Whether a dump that is refused has no answer.
     judges = True
 
@@ -44,8 +46,9 @@ def add_patterns(parser: ArgumentParser, default: str) -> None:
         "patterns",
         metavar="PATTERN",
         nargs="*",
-        help="paths, in which *, ? and [..] stand for letters of a name, and ** at the end for the trunk, the branches "
-        f"and the tags at any depth; {default} if none is given",
+        default=[],
+        help="a path, in which *, ? and [..] stand for characters of a name, and ** at the end for the trunk, the "
+        f"branches and the tags at any depth; {default} if none is given",
     )
 
 

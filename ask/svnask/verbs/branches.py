@@ -50,7 +50,7 @@ class BranchesVerb(Verb):
 
 class ContainsVerb(Verb):
     name = "contains"
-    help = "the branches and tags of today that have a revision, in their history or merged"
+    help = "the branches and tags of HEAD that have a revision, in their history or merged"
 
     def arguments(self, parser: ArgumentParser) -> None:
         parser.add_argument("revision", metavar="REV")
@@ -70,7 +70,7 @@ class ContainsVerb(Verb):
 
 class UnmergedVerb(Verb):
     name = "unmerged"
-    help = "what of each branch is still to be merged, as 'svn mergeinfo --show-revs eligible' says"
+    help = "what is still to be merged from each branch, as 'svn mergeinfo --show-revs eligible' says"
 
     def arguments(self, parser: ArgumentParser) -> None:
         add_patterns(parser, "/branches/**")

@@ -23,7 +23,7 @@ class RecordVerb(Verb):
     judges = False
 
     def arguments(self, parser: ArgumentParser) -> None:
-        parser.add_argument("number", metavar="K", type=counted)
+        parser.add_argument("number", metavar="K", type=counted, help="the number of a record")
 
     def record(self, history: History, given: Namespace) -> Record:
         for _, record in history.blocks():
@@ -45,7 +45,7 @@ class ByteVerb(Verb):
     judges = False
 
     def arguments(self, parser: ArgumentParser) -> None:
-        parser.add_argument("offset", metavar="B", type=counted)
+        parser.add_argument("offset", metavar="B", type=counted, help="an offset in the dump")
 
     def block(self, history: History, given: Namespace) -> tuple[int, Record | None]:
         if not 0 <= given.offset <= history.index.size:

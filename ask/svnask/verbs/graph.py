@@ -28,12 +28,12 @@ class GraphVerb(Verb):
         add_patterns(parser, "/**")
         parser.add_argument("-o", "--output", metavar="FILE", help="where to write it, in place of the standard output")
         parser.add_argument("--since", metavar="REV", help="the first revision that is drawn, or its {DATE}")
-        parser.add_argument("--by-time", action="store_true", help="from left to right the time, and not the numbers")
+        parser.add_argument("--by-time", action="store_true", help="place revisions by their time, not by their number")
         parser.add_argument(
             "--width",
             type=counted,
             metavar="PIXELS",
-            help=f"how wide the revisions are at most, without the names at the left; {WIDTH} if it is not given",
+            help=f"the greatest width of the revisions, without the names at the left; {WIDTH} if it is not given",
         )
         parser.add_argument("--unfolded", action="store_true", help="a line of its own for each branch and tag")
 

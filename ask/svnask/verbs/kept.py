@@ -39,10 +39,10 @@ class KeptVerb(Verb):
 
 class UpdateVerb(KeptVerb):
     name = "update"
-    help = "bring what is kept of the source up to date"
+    help = "read what is new in the source"
 
     def arguments(self, parser: ArgumentParser) -> None:
-        parser.add_argument("--properties", action="store_true", help="read the properties of all revisions again")
+        parser.add_argument("--properties", action="store_true", help="also read the properties of all revisions again")
 
     def act(self, given: Namespace, access: Access) -> Iterator[Object]:
         with closing(source_of(given.dump, access)) as source, closing(Bar()) as bar:
@@ -74,6 +74,7 @@ class ForgetVerb(KeptVerb):
 class SourcesVerb(KeptVerb):
     name = "sources"
     help = "list the sources of which something is kept"
+    usage = "svnask sources [-h]"
     form = "{source}\tr{youngest}\t{bytes} bytes\tused {last_use}\n"
 
     def act(self, given: Namespace, access: Access) -> Iterator[Object]:

@@ -18,6 +18,11 @@ from ..xml_log import XmlForm
 from .base import Object, Verb, object_of_revision
 
 SEARCH, SEARCH_AND = "--search", "--search-and"
+OF_RANGES = "the revisions from LO to HI, in this order; may be repeated"
+OF_CHANGES = "the revision N, or several, as in 3,9-7; may be repeated"
+OF_PROPERTY = "with this property of revisions, as XML; may be repeated"
+OF_SEARCH = "only revisions whose author, date, message or, with -v, paths match; or another --search"
+OF_SEARCH_AND = "only those that match this, too"
 LIMIT = re.compile(r"\s*([-+]?)([0-9]+)\Z")
 
 
@@ -26,21 +31,33 @@ class LogVerb(Verb):
     help = "the log of a path, as 'svn log' prints it"
 
     def arguments(self, parser: ArgumentParser) -> None:
-        parser.add_argument("target", metavar="PATH[@PEG]", nargs="?", default="")
-        parser.add_argument("paths", metavar="PATH", nargs="*", help="paths below the first one, in its place")
-        parser.add_argument("-r", "--revision", dest="ranges", metavar="LO:HI", action="append", default=[])
-        parser.add_argument("-c", "--change", dest="changes", metavar="N", action="append", default=[])
-        parser.add_argument("-l", "--limit", metavar="N")
-        parser.add_argument("-q", "--quiet", action="store_true")
-        parser.add_argument("-v", "--verbose", action="store_true")
-        parser.add_argument("-g", "--use-merge-history", dest="merges", action="store_true")
-        parser.add_argument("--stop-on-copy", action="store_true")
-        parser.add_argument("--xml", action="store_true")
-        parser.add_argument("--with-all-revprops", action="store_true")
-        parser.add_argument("--with-no-revprops", action="store_true")
-        parser.add_argument("--with-revprop", dest="names", metavar="NAME", action="append", default=[])
-        for option in (SEARCH, SEARCH_AND):
-            parser.add_argument(option, dest="groups", metavar="PATTERN", action=Searched, default=[])
+        parser.add_argument("target", metavar="PATH[@PEG]", nargs="?", default="", help="/ if none is given")
+        parser.add_argument("paths", metavar="PATH", nargs="*", help="paths below the first one: the log is of these")
+        parser.add_argument(
+            "-r", "--revision", dest="ranges", metavar="LO:HI", action="append", default=[], help=OF_RANGES
+        )
+        parser.add_argument("-c", "--change", dest="changes", metavar="N", action="append", default=[], help=OF_CHANGES)
+        parser.add_argument("-l", "--limit", metavar="N", help="at most N revisions")
+        parser.add_argument("-q", "--quiet", action="store_true", help="without messages")
+        parser.add_argument("-v", "--verbose", action="store_true", help="with changed paths")
+        parser.add_argument(
+            "-g", "--use-merge-history", dest="merges", action="store_true", help="with merged revisions"
+        )
+        parser.add_argument("--stop-on-copy", action="store_true", help="only revisions since the path was copied")
+        self.more_arguments(parser)
+
+    @staticmethod
+    def more_arguments(parser: ArgumentParser) -> None:
+        parser.add_argument("--xml", action="store_true", help="as XML")
+        parser.add_argument("--with-all-revprops", action="store_true", help="with all properties of revisions, as XML")
+        parser.add_argument(
+            "--with-no-revprops", action="store_true", help="without the properties of revisions, as XML"
+        )
+        parser.add_argument(
+            "--with-revprop", dest="names", metavar="NAME", action="append", default=[], help=OF_PROPERTY
+        )
+        for option, about in ((SEARCH, OF_SEARCH), (SEARCH_AND, OF_SEARCH_AND)):
+            parser.add_argument(option, dest="groups", metavar="PATTERN", action=Searched, default=[], help=about)
 
     def options(self, history: History, given: Namespace) -> log.Options:
         """Which revisions are asked for."""
@@ -122,7 +139,7 @@ class ShowVerb(Verb):
     help = "a revision, as 'svn log -v -c REV' prints it"
 
     def arguments(self, parser: ArgumentParser) -> None:
-        parser.add_argument("revision", metavar="REV")
+        parser.add_argument("revision", metavar="REV", help="a number, HEAD or a {DATE}")
 
     def revision(self, history: History, given: Namespace) -> int:
         history.check()

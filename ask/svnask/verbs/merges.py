@@ -23,21 +23,27 @@ OF_SHOW_REVS = (
 )
 
 
+OF_DEPTH = "also by the mergeinfo of paths below the target"
+OF_RANGES = "only these revisions of the source"
+
+
 class MergeinfoVerb(Verb):
     name = "mergeinfo"
     help = "the mergeinfo of a path, or what 'svn mergeinfo' prints of a source and a target"
 
     def arguments(self, parser: ArgumentParser) -> None:
-        parser.add_argument("source", metavar="PATH[@PEG]", help="a path, or with a target the source")
+        parser.add_argument("source", metavar="PATH[@PEG]", help="a path; the source, if there is a target")
         parser.add_argument("target", metavar="TARGET[@PEG]", nargs="?")
-        parser.add_argument("--show-revs", metavar="merged|eligible")
-        parser.add_argument("-R", "--recursive", dest="depth", action="store_const", const="infinity")
-        parser.add_argument("--depth", metavar="empty|infinity")
-        parser.add_argument("-r", "--revision", dest="ranges", metavar="LO:HI", action="append", default=[])
-        parser.add_argument("--log", action="store_true")
-        parser.add_argument("-q", "--quiet", action="store_true")
-        parser.add_argument("-v", "--verbose", action="store_true")
-        parser.add_argument("--incremental", action="store_true")
+        parser.add_argument("--show-revs", metavar="merged|eligible", help="what was merged, or is still to be")
+        parser.add_argument("-R", "--recursive", dest="depth", action="store_const", const="infinity", help=OF_DEPTH)
+        parser.add_argument("--depth", metavar="empty|infinity", help="infinity is -R")
+        parser.add_argument(
+            "-r", "--revision", dest="ranges", metavar="LO:HI", action="append", default=[], help=OF_RANGES
+        )
+        parser.add_argument("--log", action="store_true", help="the revisions as a log")
+        parser.add_argument("-q", "--quiet", action="store_true", help="a log without messages")
+        parser.add_argument("-v", "--verbose", action="store_true", help="a log with changed paths")
+        parser.add_argument("--incremental", action="store_true", help="a log without the line at its end")
 
     def judge(self, given: Namespace) -> None:
         """Refuses options without the one that they belong to."""

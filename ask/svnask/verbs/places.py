@@ -18,7 +18,7 @@ class WhereVerb(Verb):
 
     def arguments(self, parser: ArgumentParser) -> None:
         parser.add_argument("target", metavar="PATH[@PEG]")
-        parser.add_argument("revision", metavar="REV")
+        parser.add_argument("revision", metavar="REV", help="the other revision")
 
     def answer(self, history: History, given: Namespace) -> bytes | None:
         """Where the target was in a revision. In a later one it is at its own path, if what is there comes from it."""
@@ -63,11 +63,13 @@ class SegmentsVerb(Verb):
 
 class HeirsVerb(Verb):
     name = "heirs"
-    help = "each path of a later revision that was a path, itself or by copies, and the way there"
+    help = "each path of a later revision that comes from a path, itself or by copies, and the way there"
 
     def arguments(self, parser: ArgumentParser) -> None:
         parser.add_argument("target", metavar="PATH[@PEG]")
-        parser.add_argument("revision", metavar="REV", nargs="?", default="HEAD")
+        parser.add_argument(
+            "revision", metavar="REV", nargs="?", default="HEAD", help="the later revision; HEAD if none is given"
+        )
 
     def heirs(self, history: History, given: Namespace) -> list[heirs.Heir]:
         target = target_of(history, given.target)

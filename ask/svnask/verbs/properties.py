@@ -33,10 +33,12 @@ class PropgetVerb(Verb):
 
     def arguments(self, parser: ArgumentParser) -> None:
         parser.add_argument("property", metavar=MERGEINFO)
-        parser.add_argument("targets", metavar="TARGET[@PEG]", nargs="*")
-        parser.add_argument("-R", "--recursive", action="store_true")
-        parser.add_argument("-v", "--verbose", action="store_true")
-        parser.add_argument("--no-newline", "--strict", dest="bare", action="store_true")
+        parser.add_argument("targets", metavar="TARGET[@PEG]", nargs="*", default=[], help="/ if none is given")
+        parser.add_argument("-R", "--recursive", action="store_true", help="also of paths below")
+        parser.add_argument("-v", "--verbose", action="store_true", help="with the path and the name of the property")
+        parser.add_argument(
+            "--no-newline", "--strict", dest="bare", action="store_true", help="without a newline at the end"
+        )
 
     def found(self, history: History, given: Namespace) -> list[Found]:
         """All that is printed. A target without a value has one below it, or the question has no answer."""
