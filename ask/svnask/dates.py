@@ -80,6 +80,12 @@ class Day(NamedTuple):
     names: list[tuple[str, str]]
 
 
+def set_zone() -> None:
+    """Has local time be that of the environment as it is now."""
+    time.tzset()
+    day_of.cache_clear()
+
+
 @functools.lru_cache(1 << 12)
 def day_of(text: bytes, zone: str | None) -> Day | None:
     noon = read(text + b"T12:00:00.0Z")
