@@ -8,7 +8,6 @@
 from __future__ import annotations
 
 import calendar
-import functools
 import re
 import time
 from collections.abc import Callable
@@ -59,16 +58,7 @@ def read(date: bytes) -> Moment | None:
 
 def shown(date: bytes | None, zone: str | None = None) -> str:
     """A value of `svn:date` as `svn log` prints it, in the local time zone or in UTC."""
-    if not date:
-        return "(no date)"
-    usual = USUAL.match(date)
-    day = day_of(usual[1], zone) if usual else None
-    if usual is None or day is None:
-        when = read(date)
-        return "(invalid date)" if when is None else "%s %s %s (%s)" % parts_of(when[0], zone)
-    later, hour = divmod(int(usual[2]) + day.hours, 24)
-    front, name = day.names[later]
-    return "%s %02d%s %s (%s)" % (front, hour, usual[3].decode("ascii"), day.zone, name)
+    return Clock(zone).shown(date)
 
 
 class Day(NamedTuple):
@@ -80,24 +70,38 @@ class Day(NamedTuple):
     names: list[tuple[str, str]]
 
 
-def set_zone() -> None:
-    """Has local time be that of the environment as it is now."""
-    time.tzset()
-    day_of.cache_clear()
+class Clock:
+    """How dates are shown, as long as the time zone stays the same. Each day is looked up once."""
 
+    def __init__(self, zone: str | None = None) -> None:
+        self._zone = zone
+        self._days: dict[bytes, Day | None] = {}
 
-@functools.lru_cache(1 << 12)
-def day_of(text: bytes, zone: str | None) -> Day | None:
-    noon = read(text + b"T12:00:00.0Z")
-    if noon is None:
-        return None
-    times = [noon[0] + seconds for seconds in (-43200, 0, 43199)]
-    offsets = {0 if zone == "UTC" else offset_at(each) for each in times}
-    hours, rest = divmod(offsets.pop(), 3600)
-    if offsets or rest:
-        return None
-    days = [parts_of(noon[0] - 3600 * hours + 86400 * each, zone) for each in (0, 1, -1)]
-    return Day(hours, days[0][2], [(front, name) for front, _, _, name in days])
+    def shown(self, date: bytes | None) -> str:
+        if not date:
+            return "(no date)"
+        usual = USUAL.match(date)
+        day = self._day(usual[1]) if usual else None
+        if usual is None or day is None:
+            when = read(date)
+            return "(invalid date)" if when is None else "%s %s %s (%s)" % parts_of(when[0], self._zone)
+        later, hour = divmod(int(usual[2]) + day.hours, 24)
+        front, name = day.names[later]
+        return "%s %02d%s %s (%s)" % (front, hour, usual[3].decode("ascii"), day.zone, name)
+
+    def _day(self, text: bytes) -> Day | None:
+        if text not in self._days:
+            noon = read(text + b"T12:00:00.0Z")
+            self._days[text] = None if noon is None else self._found(noon[0])
+        return self._days[text]
+
+    def _found(self, noon: int) -> Day | None:
+        offsets = {0 if self._zone == "UTC" else offset_at(noon + each) for each in (-43200, 0, 43199)}
+        hours, rest = divmod(offsets.pop(), 3600)
+        if offsets or rest:
+            return None
+        days = [parts_of(noon - 3600 * hours + 86400 * each, self._zone) for each in (0, 1, -1)]
+        return Day(hours, days[0][2], [(front, name) for front, _, _, name in days])
 
 
 def parts_of(seconds: int, zone: str | None) -> tuple[str, str, str, str]:

@@ -2,7 +2,7 @@
 from __future__ import annotations
 
 import re
-from collections.abc import Iterator
+from collections.abc import Callable, Iterator
 
 from . import dates
 from .log_forms import Entry, Form, cut
@@ -30,8 +30,8 @@ def summary_of(revision: Revision) -> bytes:
     return author_of(revision) + b"\t" + first_line(revision)
 
 
-def head_line(revision: Revision, is_quiet: bool) -> bytes:
-    line = b"r%d | %s | %s" % (revision.number, author_of(revision), dates.shown(revision.date).encode("ascii"))
+def head_line(revision: Revision, is_quiet: bool, shown: Callable[[bytes | None], str] = dates.shown) -> bytes:
+    line = b"r%d | %s | %s" % (revision.number, author_of(revision), shown(revision.date).encode("ascii"))
     if not is_quiet:
         count = count_of_lines(cut(revision.message or b""))
         line += b" | %d line%s" % (count, b"" if count == 1 else b"s")
@@ -43,6 +43,7 @@ class PlainForm(Form):
 
     def __init__(self, is_quiet: bool = False, is_incremental: bool = False) -> None:
         self.has_messages = not is_quiet
+        self._shown = dates.Clock().shown
         self.end = b"" if is_incremental else RULE
         self._via: tuple[int, ...] = ()
         self._via_text = b""
@@ -50,7 +51,7 @@ class PlainForm(Form):
     def texts(self, revision: Revision) -> Iterator[bytes]:
         """Author and date as they are printed."""
         yield author_of(revision)
-        yield dates.shown(revision.date).encode("ascii")
+        yield self._shown(revision.date).encode("ascii")
         if self.has_messages:
             yield revision.message or b""
 
@@ -61,7 +62,7 @@ class PlainForm(Form):
         return self._via_text
 
     def entry(self, entry: Entry) -> bytes:
-        text = RULE + head_line(entry.revision, not self.has_messages)
+        text = RULE + head_line(entry.revision, not self.has_messages, self._shown)
         if entry.changes:
             text += b"Changed paths:\n" + b"\n".join([change.line() for change in entry.changes]) + b"\n"
         if entry.via:

@@ -22,7 +22,7 @@ from contextlib import closing
 from types import TracebackType
 from typing import IO, Any
 
-from . import __version__, cli, dates, engine, places
+from . import __version__, cli, engine, places
 from .client import CARRIED, SAME, connection_of
 from .errors import Damaged, Error, Failed
 from .kept import Kept, place_of
@@ -260,4 +260,4 @@ def set_variables(variables: dict[str, str | None]) -> None:
             os.environ.pop(name, None)
         else:
             os.environ[name] = value
-    dates.set_zone()
+    time.tzset()

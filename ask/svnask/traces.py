@@ -98,8 +98,7 @@ class Traces:
         head = self._history.head
         if rev > head or not is_askable(path) or not self._tree.exists(path, rev):
             return None
-        root = Life(b"/", 0, head, None, True)
-        return root if path == root.path else next(life for life in self._tree.lives(path, head) if has(life, rev))
+        return next(life for life in self._tree.lives(path, head) if has(life, rev))
 
     def _ask(self, places: Sequence[Place]) -> None:
         """Asks about some places, and through these about older ones of which svnhist can't be asked."""

@@ -46,6 +46,17 @@ class Dates(UtcTest):
         ):
             self.assertEqual(dates.shown(date), wanted)
 
+    def test_hours_of_a_day_are_shown_as_its_seconds_are(self) -> None:
+        """Also around midnight, where clocks are put forward and back, and where local time is half an hour ahead."""
+        for zone in (*RULES.values(), "UTC0", "A-14", "B11", "C3:30", "D-5:30", "E-0:20", "F-1F-2,M3.5.0/0,M10.5.0/0"):
+            with mock.patch.dict(os.environ, TZ=zone):
+                time.tzset()
+                clock = dates.Clock()
+                for seconds in (*range(1711756800, 1711929600, 3599), *range(1729900800, 1730073600, 3599)):
+                    date = time.strftime("%Y-%m-%dT%H:%M:%S.000000Z", time.gmtime(seconds)).encode("ascii")
+                    wanted = time.strftime("%Y-%m-%d %H:%M:%S %z (%a, %d %b %Y)", time.localtime(seconds))
+                    self.assertEqual(clock.shown(date), wanted, (zone, date))
+
     def test_given_dates_are_read(self) -> None:
         # fmt: off
         rows = (
