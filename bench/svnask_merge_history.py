@@ -1,8 +1,9 @@
 """svnask: a log with what was merged (`log -g`), of a long history that another call has read before.
 
 The history has a trunk and 200 branches, and one revision in eleven merges a branch into the trunk as a whole: the trunk
-has a value of up to 200 lines, of which each merge changes one. The log has nearly all revisions. The times are those of
-a clock, with the start of Python, and the best of some runs.
+has a value of up to 200 lines, of which each merge changes one. The log has nearly all revisions. The dump has kinds of
+nodes and an order of properties as `svnadmin dump` writes them. The times are those of a clock, with the start of
+Python, and the best of some runs.
 """
 from __future__ import annotations
 
@@ -16,13 +17,13 @@ from bench.measure import best_in_turns
 from bench.parts import Measurements, Part, Row, Setup, Table, limits_table, most
 from bench.svnask_open_history import Asked, branch
 from dev.dumps import (
+    DIR,
     FILE,
     Node,
     Properties,
     Revision,
+    Source,
     added,
-    changed,
-    copied,
     first_lines,
     mergeinfo,
     revision_properties,
@@ -42,18 +43,22 @@ def changes(count: int) -> Iterator[list[Node]]:
     files = [b"f%d" % number for number in range(FILES)]
     yield [*map(added, (b"trunk", b"branches")), *(added(b"trunk/" + name, FILE) for name in files)]
     for number in range(BRANCHES):
-        yield [copied(branch(number), b"trunk", 1 + number)]
+        yield [Node(branch(number), b"add", DIR, Source(b"trunk", 1 + number))]
     merged: dict[bytes, bytes] = {}
     for rev in range(BRANCHES + 2, count + 1):
         name, number = files[rev % FILES], rev // MERGES % BRANCHES
         if rev % MERGES == 0:
             merged[branch(number)] = b"/%s:%d-%d\n" % (branch(number), number + 2, rev - 1)
             value = mergeinfo(b"".join(merged[path] for path in sorted(merged)))
-            yield [changed(b"trunk", value), changed(b"trunk/" + name)]
+            yield [Node(b"trunk", b"change", DIR, properties=value), changed_file(b"trunk/" + name)]
         elif rev % 3:
-            yield [changed(branch(rev // 3 % BRANCHES) + b"/" + name)]
+            yield [changed_file(branch(rev // 3 % BRANCHES) + b"/" + name)]
         else:
-            yield [changed(b"trunk/" + name)]
+            yield [changed_file(b"trunk/" + name)]
+
+
+def changed_file(path: bytes) -> Node:
+    return Node(path, b"change", FILE, text=b"")
 
 
 def properties_of(rev: int) -> Properties:
@@ -67,7 +72,8 @@ def properties_of(rev: int) -> Properties:
         minute,
         rev % 60,
     )
-    return revision_properties(b"Change %d\n\nand why it was made\n" % rev, b"author-%d" % (rev % 20), date)
+    found = revision_properties(b"Change %d\n\nand why it was made\n" % rev, b"author-%d" % (rev % 20), date)
+    return dict(sorted(found.items()))
 
 
 def written(path: Path, count: int) -> Path:
