@@ -19,11 +19,11 @@ from .errors import Denied
 # Seconds since 1970, and microseconds.
 Moment = tuple[int, int]
 
-WEEKDAYS = ("Mon", "Tue", "Wed", "Thu", "Fri", "Sat", "Sun")
-MONTHS = ("Jan", "Feb", "Mar", "Apr", "May", "Jun", "Jul", "Aug", "Sep", "Oct", "Nov", "Dec")
+WEEKDAYS = (b"Mon", b"Tue", b"Wed", b"Thu", b"Fri", b"Sat", b"Sun")
+MONTHS = (b"Jan", b"Feb", b"Mar", b"Apr", b"May", b"Jun", b"Jul", b"Aug", b"Sep", b"Oct", b"Nov", b"Dec")
 STORED = re.compile(rb"(\d+)-(\d+)-(\d+)T(\d+):(\d+):(\d+)\.(\d+)Z")
-# As Subversion writes it today: the day, the hour, and what is shown as it is.
-USUAL = re.compile(rb"(\d{4}-\d\d-\d\d)T([01]\d|2[0-3])(:[0-5]\d:[0-5]\d)\.\d{6}Z")
+# As Subversion writes it today: the hour, and what is shown as it is.
+USUAL = re.compile(rb"(\d{4}-\d\d-\d\dT(?:[01]\d|2[0-3]))(:[0-5]\d:[0-5]\d)\.\d{6}Z")
 OLD = re.compile(rb"\w{3} (\d+) (\w{3}) (\d+) (\d+):(\d+):(\d+)\.(\d+) \(day \d+, dst \d+, gmt_off (-?\d+)\)")
 MICROS = 1000000
 # Subversion keeps each part of a date in 32 bits, and a moment in microseconds in 64. What does not fit is unreadable.
@@ -48,17 +48,17 @@ def read(date: bytes) -> Moment | None:
         year, month, day, hour, minute, second, micros = map(number, found.groups())
         return moment(year, month, day, hour, minute, second, micros)
     found = OLD.match(date)
-    if found and found[2].decode("ascii") in MONTHS:
+    if found and found[2] in MONTHS:
         day, year, hour, minute, second, micros = (number(found[each]) for each in (1, 3, 4, 5, 6, 7))
         offset = number(found[8].lstrip(b"-")) * (-1 if found[8].startswith(b"-") else 1)
-        when = moment(year, MONTHS.index(found[2].decode("ascii")) + 1, day, hour, minute, second, micros)
+        when = moment(year, MONTHS.index(found[2]) + 1, day, hour, minute, second, micros)
         return None if when is None or abs(offset) > MOST_OF_PART else (when[0] - offset, when[1])
     return None
 
 
 def shown(date: bytes | None, zone: str | None = None) -> str:
     """A value of `svn:date` as `svn log` prints it, in the local time zone or in UTC."""
-    return Clock(zone).shown(date)
+    return Clock(zone).shown(date).decode("ascii")
 
 
 class Day(NamedTuple):
@@ -66,8 +66,8 @@ class Day(NamedTuple):
     the one before, each at the begin and at the end of the line."""
 
     hours: int
-    zone: str
-    names: list[tuple[str, str]]
+    zone: bytes
+    names: list[tuple[bytes, bytes]]
 
 
 class Clock:
@@ -76,18 +76,31 @@ class Clock:
     def __init__(self, zone: str | None = None) -> None:
         self._zone = zone
         self._days: dict[bytes, Day | None] = {}
+        # What stands before the minutes of an hour, and after its seconds.
+        self._hours: dict[bytes, tuple[bytes, bytes] | None] = {}
 
-    def shown(self, date: bytes | None) -> str:
+    def shown(self, date: bytes | None) -> bytes:
         if not date:
-            return "(no date)"
+            return b"(no date)"
         usual = USUAL.match(date)
-        day = self._day(usual[1]) if usual else None
-        if usual is None or day is None:
-            when = read(date)
-            return "(invalid date)" if when is None else "%s %s %s (%s)" % parts_of(when[0], self._zone)
-        later, hour = divmod(int(usual[2]) + day.hours, 24)
-        front, name = day.names[later]
-        return "%s %02d%s %s (%s)" % (front, hour, usual[3].decode("ascii"), day.zone, name)
+        if usual:
+            hour, rest = usual.groups()
+            around = self._hours[hour] if hour in self._hours else self._hour(hour)
+            if around is not None:
+                return around[0] + rest + around[1]
+        when = read(date)
+        return b"(invalid date)" if when is None else b"%s %s %s (%s)" % parts_of(when[0], self._zone)
+
+    def _hour(self, text: bytes) -> tuple[bytes, bytes] | None:
+        date, _, hour = text.partition(b"T")
+        day = self._day(date)
+        around = None
+        if day is not None:
+            later, shown_hour = divmod(int(hour) + day.hours, 24)
+            front, name = day.names[later]
+            around = b"%s %02d" % (front, shown_hour), b" %s (%s)" % (day.zone, name)
+        self._hours[text] = around
+        return around
 
     def _day(self, text: bytes) -> Day | None:
         if text not in self._days:
@@ -104,15 +117,15 @@ class Clock:
         return Day(hours, days[0][2], [(front, name) for front, _, _, name in days])
 
 
-def parts_of(seconds: int, zone: str | None) -> tuple[str, str, str, str]:
+def parts_of(seconds: int, zone: str | None) -> tuple[bytes, bytes, bytes, bytes]:
     """The date, the time, the offset from UTC, and the date once more with names."""
     local = time.gmtime(seconds) if zone == "UTC" else time.localtime(seconds)
     minutes = local.tm_gmtoff // 60
     return (
-        "%04d-%02d-%02d" % local[:3],
-        "%02d:%02d:%02d" % local[3:6],
-        "%s%02d%02d" % ("-" if minutes < 0 else "+", *divmod(abs(minutes), 60)),
-        "%s, %02d %s %04d" % (WEEKDAYS[local.tm_wday], local.tm_mday, MONTHS[local.tm_mon - 1], local.tm_year),
+        b"%04d-%02d-%02d" % local[:3],
+        b"%02d:%02d:%02d" % local[3:6],
+        b"%s%02d%02d" % (b"-" if minutes < 0 else b"+", *divmod(abs(minutes), 60)),
+        b"%s, %02d %s %04d" % (WEEKDAYS[local.tm_wday], local.tm_mday, MONTHS[local.tm_mon - 1], local.tm_year),
     )
 
 

@@ -2,7 +2,7 @@
 from __future__ import annotations
 
 import re
-from collections.abc import Callable, Iterator
+from collections.abc import Iterator
 
 from . import dates
 from .log_forms import Entry, Form, cut
@@ -30,12 +30,9 @@ def summary_of(revision: Revision) -> bytes:
     return author_of(revision) + b"\t" + first_line(revision)
 
 
-def head_line(revision: Revision, is_quiet: bool, shown: Callable[[bytes | None], str] = dates.shown) -> bytes:
-    line = b"r%d | %s | %s" % (revision.number, author_of(revision), shown(revision.date).encode("ascii"))
-    if not is_quiet:
-        count = count_of_lines(cut(revision.message or b""))
-        line += b" | %d line%s" % (count, b"" if count == 1 else b"s")
-    return line + b"\n"
+def head_line(revision: Revision) -> bytes:
+    """The line of a revision without its message."""
+    return b"r%d | %s | %s" % (revision.number, author_of(revision), dates.shown(revision.date).encode("ascii"))
 
 
 class PlainForm(Form):
@@ -51,23 +48,24 @@ class PlainForm(Form):
     def texts(self, revision: Revision) -> Iterator[bytes]:
         """Author and date as they are printed."""
         yield author_of(revision)
-        yield self._shown(revision.date).encode("ascii")
+        yield self._shown(revision.date)
         if self.has_messages:
             yield revision.message or b""
 
-    def _text_of(self, via: tuple[int, ...]) -> bytes:
-        """A list of revisions. Entries that follow each other mostly have the same one."""
+    def _text_of(self, via: tuple[int, ...], is_reverse: bool) -> bytes:
+        """Where an entry was merged. Entries that follow each other mostly have the same list."""
         if via is not self._via:
-            self._via, self._via_text = via, b", ".join(b"r%d" % rev for rev in via) + b"\n"
-        return self._via_text
+            self._via, self._via_text = via, b", ".join([b"r%d" % rev for rev in via])
+        return b"%s via: %s\n" % (b"Reverse merged" if is_reverse else b"Merged", self._via_text)
 
     def entry(self, entry: Entry) -> bytes:
-        text = RULE + head_line(entry.revision, not self.has_messages, self._shown)
-        if entry.changes:
-            text += b"Changed paths:\n" + b"\n".join([change.line() for change in entry.changes]) + b"\n"
-        if entry.via:
-            text += b"Reverse merged via: " if entry.is_reverse else b"Merged via: "
-            text += self._text_of(entry.via)
-        if self.has_messages:
-            text += b"\n" + (entry.revision.message or b"") + b"\n"
-        return text
+        (number, author, date, message, _, _), changes, via, is_reverse, _ = entry
+        author = b"(no author)" if author is None else author
+        about = b"%sr%d | %s | %s" % (RULE, number, author, self._shown(date))
+        paths = b"Changed paths:\n%s\n" % b"\n".join([change.line() for change in changes]) if changes else b""
+        merges = self._text_of(via, is_reverse) if via else b""
+        if not self.has_messages:
+            return b"%s\n%s%s" % (about, paths, merges)
+        message = message or b""
+        count = count_of_lines(message)
+        return b"%s | %d line%s\n%s%s\n%s\n" % (about, count, b"" if count == 1 else b"s", paths, merges, message)

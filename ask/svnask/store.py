@@ -37,17 +37,17 @@ TELLING = re.compile(
     rb"%s(?!Node-kind: |Node-action: change\n"
     rb"(?:Prop-delta: .*\n)?(?:Text-delta: .*\n)?At: .*\n(?:Mods: .*\n)?\n)%s%s" % (PLACE, OF_RECORD, OF_ALL)
 )
-# The block of a revision.
+# The block of a revision, and up to its message the properties that most have, in the order in which Subversion writes
+# them.
 REVISION = re.compile(
     rb"Revision-number: (?P<rev>[0-9]{1,18})\nAt: (?P<at>[0-9]{1,18})\n"
-    rb"(?:Prop-content-length: (?P<length>[0-9]{1,18})\nContent-length: .*\n)?\n"
+    rb"(?:Prop-content-length: (?P<length>[0-9]{1,18})\nContent-length: .*\n)?\n(?P<section>)"
+    rb"(?:K 10\nsvn:author\nV ([0-9]{1,18})\n(.*)\nK 8\nsvn:date\nV 27\n(.{27})\nK 7\nsvn:log\nV ([0-9]{1,18})\n)?"
 )
 # The offset of a block, which follows its other headers, but for a block that is not well formed.
 MARK = re.compile(rb"\n*(?:[^\n]+\n)*?At: ([0-9]+)\n")
-# The properties that most revisions have, in the order in which Subversion writes them, up to the message.
-USUAL = re.compile(
-    rb"K 10\nsvn:author\nV ([0-9]{1,18})\n(.*)\nK 8\nsvn:date\nV 27\n(.{27})\nK 7\nsvn:log\nV ([0-9]{1,18})\n"
-)
+# The end of a property section after a value.
+END = b"\n" + LAST_LINE
 # A property of a revision, up to its value.
 ENTRY = re.compile(rb"K [0-9]+\n(.*)\nV ([0-9]{1,18})\n")
 
@@ -263,7 +263,7 @@ class Store:
     def _begin(self, rev: int) -> int:
         """The offset in the copy at which the section of a revision ends."""
         found = self._head(rev)
-        return self.index.revisions[rev] + found.end() - found.start() + int(found["length"] or 0)
+        return self.index.revisions[rev] + found.start("section") - found.start() + int(found["length"] or 0)
 
     def blocks_of(self, rev: int) -> bytes:
         """The blocks of the records of a revision."""
@@ -271,15 +271,12 @@ class Store:
         return self.between(self._begin(rev), end)
 
     def revision(self, rev: int) -> Revision:
-        found = self._head(rev)
-        values = properties_of(section_of(found))
-        get = values.get
-        return Revision(rev, get(b"svn:author"), get(b"svn:date"), get(b"svn:log"), int(found["at"]), values)
+        return revision_of(self._head(rev))
 
     def section(self, rev: int) -> tuple[int, bytes]:
         """The offset of a revision in the given dump, and its property section."""
         found = self._head(rev)
-        return int(found["at"]), section_of(found)
+        return int(found["at"]), section_of_revision(found)
 
     def nodes(self, rev: int) -> Iterator[Node]:
         """What is listed of the records of a revision."""
@@ -363,15 +360,29 @@ def section_of(found: re.Match[bytes]) -> bytes:
     return found.string[found.end() : found.end() + digits.number(found["length"] or b"0")]
 
 
+def section_of_revision(found: re.Match[bytes]) -> bytes:
+    begin = found.start("section")
+    return found.string[begin : begin + int(found["length"] or 0)]
+
+
+def revision_of(found: re.Match[bytes]) -> Revision:
+    """What the block of a revision says."""
+    rev, at, length, _, length_of_author, author, date, length_of_message = found.groups()
+    if author is not None and len(author) == int(length_of_author):
+        begin = found.end()
+        end = begin + int(length_of_message)
+        end_of_section = found.start("section") + int(length or 0)
+        if found.string[end:end_of_section] == END:
+            message = found.string[begin:end]
+            values = {b"svn:author": author, b"svn:date": date, b"svn:log": message}
+            return Revision(int(rev), author, date, message, int(at), values)
+    values = properties_of(section_of_revision(found))
+    get = values.get
+    return Revision(int(rev), get(b"svn:author"), get(b"svn:date"), get(b"svn:log"), int(at), values)
+
+
 def properties_of(section: bytes) -> dict[bytes, bytes]:
     """The properties of a revision, as far as they have their form, which svnhist does not judge."""
-    usual = USUAL.match(section)
-    if usual:
-        length, author, date, rest = usual.groups()
-        at = usual.end()
-        end = at + int(rest)
-        if len(author) == int(length) and section[end:] == b"\n" + LAST_LINE:
-            return {b"svn:author": author, b"svn:date": date, b"svn:log": section[at:end]}
     values = {}
     at = 0
     while found := ENTRY.match(section, at):

@@ -30,7 +30,7 @@ def dated(history: History, rev: int) -> str:
 def about_revision(history: History, rev: int) -> str:
     """A revision in two lines: who committed it and when, and the first line of the message."""
     revision = history.revision(rev)
-    return "%s\n%s" % (readable(head_line(revision, True)[:-1]), readable(first_line(revision)))
+    return "%s\n%s" % (readable(head_line(revision)), readable(first_line(revision)))
 
 
 def about_copy(copy: Copy) -> str:

@@ -55,7 +55,7 @@ class Dates(UtcTest):
                 for seconds in (*range(1711756800, 1711929600, 3599), *range(1729900800, 1730073600, 3599)):
                     date = time.strftime("%Y-%m-%dT%H:%M:%S.000000Z", time.gmtime(seconds)).encode("ascii")
                     wanted = time.strftime("%Y-%m-%d %H:%M:%S %z (%a, %d %b %Y)", time.localtime(seconds))
-                    self.assertEqual(clock.shown(date), wanted, (zone, date))
+                    self.assertEqual(clock.shown(date), wanted.encode("ascii"), (zone, date))
 
     def test_given_dates_are_read(self) -> None:
         # fmt: off
