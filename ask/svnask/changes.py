@@ -18,6 +18,8 @@ NUL_FOR_SLASH = methodcaller("replace", b"/", b"\0")
 # The offset in the block of a record, what stands before a section, and a block without these.
 OFFSET = re.compile(rb"\nAt: .*")
 SECTION = re.compile(rb"\nProp-content-length: ([0-9]{1,18})\nContent-length: .*\n\n")
+# The block of a record without a kind, as that of a deletion is.
+WITHOUT_KIND = re.compile(rb"Node-path: .*\n(?!Node-kind: )")
 PLAIN = re.compile(
     rb"Node-path: (.*)\n(?:Node-kind: (.*)\n)?Node-action: (add|change|delete|replace)"
     rb"(?:\nNode-copyfrom-rev: ([0-9]+)\nNode-copyfrom-path: (.*))?(?:\nProp-delta: .*)?(?:\nText-delta: .*)?"
@@ -70,28 +72,36 @@ def tops_of(path: bytes) -> Iterator[bytes]:
         yield path
 
 
-class KnownBlocks:
+class Unusual(Exception):
+    """A record has not the form that Subversion writes."""
+
+
+class KnownBlocks(dict[bytes, "Change | None"]):
     """The changes of records by their blocks. Most paths are changed in the same way again and again."""
 
     def __init__(self) -> None:
         # An empty section, and the end of the last block, are no records.
-        self._changes: dict[bytes, Change | None] = {b"": None, b"PROPS-END": None}
+        super().__init__({b"": None, b"PROPS-END": None})
+
+    def __missing__(self, block: bytes) -> Change:
+        plain = PLAIN.fullmatch(block)
+        if plain is None:
+            raise Unusual
+        found = self[block] = change_of(*plain.groups())
+        return found
 
     def changes(self, blocks: bytes) -> list[Change] | None:
         """What the records of a revision come to, or None where one has not the form that Subversion writes."""
         if MERGEINFO in blocks:
             blocks = without_sections(blocks)
-        known = self._changes
         found: dict[bytes, Change] = {}
-        for block in OFFSET.sub(b"", blocks).lstrip(b"\n").split(b"\n\n"):
-            if block not in known:
-                plain = PLAIN.fullmatch(block)
-                if plain is None:
-                    return None
-                known[block] = change_of(*plain.groups())
-            change = known[block]
-            if change is not None:
-                add(found, change)
+        try:
+            for block in OFFSET.sub(b"", blocks).lstrip(b"\n").split(b"\n\n"):
+                change = self[block]
+                if change is not None:
+                    add(found, change)
+        except Unusual:
+            return None
         return in_order(found)
 
 
@@ -161,17 +171,16 @@ def add(found: dict[bytes, Change], change: Change) -> None:
     """Adds what one more record does, as the change that it would be alone."""
     path, letter = change.path, change.letter
     before = found.get(path)
-    if before is not None and letter == "M":
+    if before is None and letter in "AM":
+        found[path] = change
+    elif before is not None and letter == "M":
         found[path] = before._replace(
             has_text=before.has_text or change.has_text, has_properties=before.has_properties or change.has_properties
         )
-        return
-    if letter in "DR":
-        for each in [each for each in found if each != path and is_at_or_below(each, path)]:
-            del found[each]
-    if letter == "D" and before is not None and before.letter == "A":
-        del found[path]
-    elif letter == "A" and before is not None and before.letter != "A":
-        found[path] = change._replace(letter="R")
+    elif letter == "A":
+        found[path] = change if before is None or before.letter == "A" else change._replace(letter="R")
     else:
-        found[path] = change
+        for each in [each for each in found if is_at_or_below(each, path)]:
+            del found[each]
+        if letter == "R" or before is None or before.letter != "A":
+            found[path] = change

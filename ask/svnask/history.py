@@ -12,7 +12,7 @@ from typing import TYPE_CHECKING, BinaryIO
 
 from . import dates
 from .answers import A, Answer, Answers, Locate, Located, Log, Logged, Query, Segments, Where, is_askable
-from .changes import Change, KnownBlocks, Place, changes_of, place_of
+from .changes import WITHOUT_KIND, Change, KnownBlocks, Place, changes_of, place_of
 from .dump_source import Dump
 from .engine import Talk
 from .errors import Damaged, Failed, Refused
@@ -395,6 +395,7 @@ class History:
         lacking = {
             (rev, at): place_of(change, rev, self.records(rev, rev))
             for rev in revs
+            if WITHOUT_KIND.search(self._store.blocks_of(rev))
             for at, change in enumerate(self.changes(rev))
             if change.kind is None
         }

@@ -6,18 +6,22 @@ each run of `svn`. Here it is always the same.
 from __future__ import annotations
 
 import base64
+import functools
 import re
 from collections.abc import Iterator, Sequence
 
 from .changes import Change
-from .log_forms import AUTHOR, DATE, MESSAGE, Entry, Form
+from .log_forms import SHOWN, Entry, Form
 from .store import Revision
 
 CONTROL = re.compile(rb"[\x00-\x08\x0b\x0c\x0e-\x1f\x7f]")
+SPECIAL = re.compile(rb"[\x00-\x08\x0b-\x1f\x7f&<>]")
 # What is escaped in a text, and in an attribute besides.
 IN_TEXT = ((b"&", b"&amp;"), (b"<", b"&lt;"), (b">", b"&gt;"), (b"\r", b"&#13;"))
 IN_ATTRIBUTE = ((b'"', b"&quot;"), (b"'", b"&apos;"), (b"\n", b"&#10;"), (b"\t", b"&#9;"))
 Attribute = tuple[bytes, bytes]
+# The texts of so many changed paths are kept. The same ones come again and again.
+MANY = 1 << 16
 
 
 def escaped(text: bytes) -> bytes:
@@ -35,7 +39,7 @@ def attribute(text: bytes) -> bytes:
 
 def opening(tag: bytes, attributes: Sequence[Attribute]) -> bytes:
     """A tag with each of its attributes on a line."""
-    return b"<%s%s>" % (tag, b"".join(b'\n   %s="%s"' % (name, attribute(value)) for name, value in attributes))
+    return b"<%s%s>" % (tag, b"".join([b'\n   %s="%s"' % (name, attribute(value)) for name, value in attributes]))
 
 
 def numbered(text: bytes) -> bytes:
@@ -44,7 +48,11 @@ def numbered(text: bytes) -> bytes:
 
 
 def tagged(tag: bytes, text: bytes | None) -> bytes:
-    return b"" if text is None else b"<%s>%s</%s>\n" % (tag, escaped(numbered(text)), tag)
+    if text is None:
+        return b""
+    if SPECIAL.search(text):
+        text = escaped(numbered(text))
+    return b"<%s>%s</%s>\n" % (tag, text, tag)
 
 
 def word(is_so: bool) -> bytes:
@@ -90,27 +98,31 @@ class XmlForm(Form):
     end = b"</log>\n"
     end_of_merges = b"</logentry>\n"
 
+    def __init__(self) -> None:
+        self._path_text = functools.lru_cache(MANY)(path_text)
+
     def texts(self, revision: Revision) -> Iterator[bytes]:
         """What is there, as it is."""
         return (text for text in (revision.author, revision.date, revision.message) if text is not None)
 
     def entry(self, entry: Entry) -> bytes:
-        revision = entry.revision
-        attributes = [(b"revision", b"%d" % revision.number)]
-        if entry.via:
-            attributes.append((b"reverse-merge", word(entry.is_reverse)))
+        (number, author, date, message, _, properties), changes, via, is_reverse, has_merges = entry
+        attributes = [(b"revision", b"%d" % number)]
+        if via:
+            attributes.append((b"reverse-merge", word(is_reverse)))
         pieces = [
             opening(b"logentry", attributes),
             b"\n",
-            tagged(b"author", revision.author),
-            tagged(b"date", revision.date or None),
+            tagged(b"author", author),
+            tagged(b"date", date or None),
         ]
-        if entry.changes:
-            pieces += [b"<paths>\n", *map(path_text, entry.changes), b"</paths>\n"]
-        pieces.append(tagged(b"msg", revision.message))
-        others = sorted(each for each in revision.properties.items() if each[0] not in (AUTHOR, DATE, MESSAGE))
+        if changes:
+            pieces += [b"<paths>\n", *map(self._path_text, changes), b"</paths>\n"]
+        pieces.append(tagged(b"msg", message))
+        others = properties.keys() - SHOWN
         if others:
-            pieces += [b"<revprops>\n", *(property_text(*each) for each in others), b"</revprops>\n"]
-        if not entry.has_merges:
+            texts = [property_text(name, properties[name]) for name in sorted(others)]
+            pieces += [b"<revprops>\n", *texts, b"</revprops>\n"]
+        if not has_merges:
             pieces.append(self.end_of_merges)
         return b"".join(pieces)
