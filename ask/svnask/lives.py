@@ -51,8 +51,11 @@ class Tree:
         self._events: dict[bytes, list[Event]] = {}
         self._names: dict[bytes, set[bytes]] = {}
         self._known: dict[Place, bool] = {}
+        # The revisions that made or unmade a path.
+        self.revisions: set[int] = set()
         for record in records:
             if record.action != "change":
+                self.revisions.add(record.rev)
                 self._events.setdefault(record.path, []).append(
                     Event(record.rev, record.number, record.action, record.source)
                 )

@@ -23,8 +23,8 @@ from .traces import Cut, Traces
 
 END = Item(-1)
 NO_RUN = 0, -1
-# What a walk gives: an item, or a part that is walked before it goes on.
-Step = Union[Item, Part]
+# What a walk gives: some items, or a part that is walked before it goes on.
+Step = Union[list[Item], Part]
 
 
 class Range(NamedTuple):
@@ -89,19 +89,20 @@ class Walker:
         # Subversion keeps this for a falling range alone.
         self._searched: Searched | None = None
 
-    def items(self, paths: list[bytes], first: int, last: int, limit: int) -> Iterator[Item]:
+    def items(self, paths: list[bytes], first: int, last: int, limit: int) -> list[Item]:
         """The revisions between two, with those that were merged in them."""
         asked = Range(min(first, last), max(first, last), first >= last, limit)
         self._own = self._own_of(paths, asked)
         self._sent = set()
         self._searched = Searched() if asked.is_falling else None
+        found: list[Item] = []
         # Walks in walks may be deeper than calls of Python.
         walks: list[Iterator[Step]] = [self._top(paths, asked)]
         begun: list[Part] = []
         while walks:
             step = next(walks[-1], None)
-            if isinstance(step, Item):
-                yield step
+            if isinstance(step, list):
+                found += step
             elif step is not None:
                 self._check(step, begun)
                 begun.append(step)
@@ -109,6 +110,7 @@ class Walker:
             else:
                 walks.pop()
                 del begun[-1:]
+        return found
 
     def _check(self, part: Part, begun: list[Part]) -> None:
         if self._searched is None and part in begun:
@@ -147,10 +149,14 @@ class Walker:
         most = max(asked.limit, 1) if asked.limit else len(revisions)
         revisions = revisions[:most] if asked.is_falling else revisions[::-1][:most]
         merged = self._merged(cuts, revisions)
+        items: list[Item] = []
         for rev in revisions:
-            yield self._item(rev, rev in merged, False)
+            items.append(Item(rev, rev in merged))
             if rev in merged:
+                yield items
+                items = []
                 yield from self._below(merged[rev])
+        yield items
 
     def _walk(self, part: Part) -> Iterator[Step]:
         """The revisions of a part that was merged, the youngest one first."""
@@ -161,25 +167,26 @@ class Walker:
         revisions = falling(cuts, low, high)
         merged = self._merged(cuts, revisions)
         is_apart = all(self._is_apart(cut, low) for cut in cuts)
+        items: list[Item] = []
         for rev in revisions:
             if self._is_sent(rev, is_apart):
-                yield self._item(rev, rev in merged, part.is_reverse)
+                items.append(Item(rev, rev in merged, part.is_reverse, tuple(self._left_out)))
+                self._left_out.clear()
             else:
                 self._left_out.append(rev)
             if rev in merged:
+                yield items
+                items = []
                 yield from self._below(merged[rev])
-
-    def _item(self, rev: int, has_merges: bool, is_reverse: bool) -> Item:
-        left_out = tuple(self._left_out)
-        self._left_out.clear()
-        return Item(rev, has_merges, is_reverse, left_out)
+        yield items
 
     def _merged(self, cuts: list[Cut], revisions: list[int]) -> dict[int, list[Part]]:
         """What was merged in each of some revisions, if anything was. It is looked up where each path goes on before
         the revision, but as of the revision itself."""
         found: dict[int, list[Part]] = {}
+        changing = self._changes.revisions
         for rev in revisions:
-            if rev in self._changes.revisions:
+            if rev in changing:
                 paths = [path for path in (cut.path_before(rev) for cut in cuts) if path is not None]
                 gained, lost = self._changes.of_paths(paths, rev)
                 if gained or lost:
@@ -190,9 +197,8 @@ class Walker:
         return found
 
     def _below(self, merged: list[Part]) -> Iterator[Step]:
-        for part in reversed(merged):
-            yield part
-        yield END
+        yield from reversed(merged)
+        yield [END]
         self._left_out.clear()
 
     def _not_searched(self, part: Part) -> tuple[Sequence[bytes], int, int]:

@@ -6,7 +6,7 @@ import re
 from collections.abc import Container, Iterator, Sequence
 from typing import NamedTuple
 
-from .changes import Place, is_at_or_below, joined, rest_below, source_of, tops_of
+from .changes import NUL_FOR_SLASH, Place, is_at_or_below, joined, rest_below, source_of, tops_of
 from .history import History
 from .merges import Interval, Intervals, minus, united
 from .store import Record
@@ -51,8 +51,8 @@ class Values:
 
     def __init__(self) -> None:
         self._lines: dict[bytes, Line] = {}
-        # Those known to have a plain line for each of their paths.
-        self._plain: set[bytes] = {b""}
+        # Those known to have a plain line for each of their paths, by their identity: long texts are slow to hash.
+        self._plain: dict[int, bytes] = {}
         self._last = b""
         # What a path has after a revision it mostly has before the next one.
         self.whole = functools.lru_cache(RECENT)(self._whole)
@@ -60,24 +60,24 @@ class Values:
     def difference(self, before: bytes, now: bytes) -> Difference:
         """What a path gained and lost that has one text and then another one. `Malformed` where either is."""
         # A log mostly goes back.
-        is_back = before not in self._plain
+        is_back = id(before) not in self._plain
         known, other = (now, before) if is_back else (before, now)
         if self._is_plain(known):
             try:
                 found = difference(*differing(known, other))
-                self._plain.add(other)
+                self._plain[id(other)] = other
                 return Difference(found.lost, found.gained) if is_back else found
             except ValueError:
                 pass
         return difference(self.whole(before), self.whole(now))
 
     def _is_plain(self, text: bytes) -> bool:
-        if text not in self._plain and not self._is_like_last(text):
+        is_plain = id(text) in self._plain or self._is_like_last(text)
+        if not is_plain:
             lines = self._of(text)
-            if len({line.path for line in lines if line.is_plain}) == len(lines):
-                self._plain.add(text)
-        is_plain = text in self._plain
-        self._last = text if is_plain else self._last
+            is_plain = len({line.path for line in lines if line.is_plain}) == len(lines)
+        if is_plain:
+            self._plain[id(text)] = self._last = text
         return is_plain
 
     def _is_like_last(self, text: bytes) -> bool:
@@ -86,7 +86,6 @@ class Values:
             differing(self._last, text)
         except ValueError:
             return False
-        self._plain.add(text)
         return True
 
     def _whole(self, text: bytes) -> Intervals:
@@ -176,9 +175,9 @@ def middles(these: bytes, those: bytes) -> tuple[bytes, bytes]:
     """Two texts without the lines that they have in common at their begins and at their ends."""
     first = these.rfind(b"\n", 0, common(these, those)) + 1
     these, those = these[first:], those[first:]
-    back, other = these[::-1], those[::-1]
     # The newline before the last lines stays: it ends a line of these texts.
-    last = max(back.rfind(b"\n", 0, common(back, other)), 0)
+    newline = these.find(b"\n", len(these) - common_at_end(these, those))
+    last = len(these) - 1 - newline if newline >= 0 else 0
     return these[: len(these) - last], those[: len(those) - last]
 
 
@@ -206,6 +205,8 @@ def read(lines: dict[bytes, bytes]) -> Intervals:
 
 def cut(these: bytes, those: bytes) -> tuple[bytes, bytes]:
     """The ranges in which two rangelists differ, with one on each side that they have in common."""
+    if b"," not in these or b"," not in those:
+        return these, those
     first = front(these, those)
     these, those = these[first:], those[first:]
     last = front(these[::-1], those[::-1])
@@ -224,6 +225,19 @@ def common(these: bytes, those: bytes) -> int:
     while low < high:
         middle = (low + high + 1) // 2
         if these[low:middle] == those[low:middle]:
+            low = middle
+        else:
+            high = middle - 1
+    return low
+
+
+def common_at_end(these: bytes, those: bytes) -> int:
+    """How many bytes two texts have in common at their end."""
+    length, other = len(these), len(those)
+    low, high = 0, min(length, other)
+    while low < high:
+        middle = (low + high + 1) // 2
+        if these[length - middle : length - low] == those[other - middle : other - low]:
             low = middle
         else:
             high = middle - 1
@@ -268,24 +282,33 @@ class MergeinfoChanges:
         """What each changed path gained and lost: none where any of their values is malformed."""
         if rev not in self._known:
             try:
-                self._known[rev] = dict(self._differences(rev, self._explicit.settings[rev]))
+                self._known[rev] = dict(self._differences(rev))
             except Malformed:
                 self._known[rev] = {}
         return self._known[rev]
 
-    def _differences(self, rev: int, paths: set[bytes]) -> Iterator[tuple[bytes, Difference]]:
-        for change in self._history.changes(rev):
-            if change.letter == "D" or change.path not in paths:
-                continue
-            base = self._base(change.path, rev) if change.letter == "M" else change.source
+    def _differences(self, rev: int) -> Iterator[tuple[bytes, Difference]]:
+        for path, base in self._bases(rev):
             before = self._explicit.text(*base) if base is not None else None
-            now = self._explicit.text(change.path, rev)
+            now = self._explicit.text(path, rev)
             if before is not None and now is not None and before != now:
-                yield change.path, self._values.difference(before, now)
+                yield path, self._values.difference(before, now)
             elif before != now:
                 self._values.whole(before or now or b"")
                 old = self._effective(*base) if base is not None else None
-                yield change.path, difference(old, self._effective(change.path, rev))
+                yield path, difference(old, self._effective(path, rev))
+
+    def _bases(self, rev: int) -> Iterator[tuple[bytes, Place | None]]:
+        """The paths to which a revision gave another text, in their order, and where each was before or what it was
+        copied from."""
+        paths = self._explicit.settings[rev]
+        if rev not in self._history.tree.revisions:
+            for path in sorted(paths, key=NUL_FOR_SLASH):
+                yield path, (path, rev - 1)
+            return
+        for change in self._history.changes(rev):
+            if change.letter != "D" and change.path in paths:
+                yield change.path, self._base(change.path, rev) if change.letter == "M" else change.source
 
     def _base(self, path: bytes, rev: int) -> Place:
         """Where a path was before a revision, or what it was copied from in it."""

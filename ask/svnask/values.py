@@ -68,6 +68,8 @@ def line_of(line: bytes) -> tuple[bytes, list[Run]]:
 
 
 def source_path(path: bytes) -> bytes:
+    if path.startswith(b"/") and b"//" not in path and b"/." not in path and not path.endswith(b"/"):
+        return path
     return b"/" + b"/".join(part for part in path.split(b"/") if part not in (b"", b"."))
 
 
