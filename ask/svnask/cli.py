@@ -189,6 +189,7 @@ def answer(given: argparse.Namespace, source: Source) -> None:
     changed it."""
     for _ in range(2):
         with read(given, source) as history:
+            history.is_last_question = True
             try:
                 tell(history, given, sys.stdout.buffer.write)
                 return

@@ -48,6 +48,8 @@ class History:
         # The descriptor of the dump, where it is a file.
         self._file = file
         self.source = source
+        # Whether nothing is asked after what is asked now.
+        self.is_last_question = False
         # What is asked, from the first question on, and what ends it where nobody closes the history.
         self._lock = threading.Lock()
         self._talk: Talk | None = None

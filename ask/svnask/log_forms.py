@@ -2,18 +2,21 @@
 from __future__ import annotations
 
 from abc import ABC, abstractmethod
-from collections.abc import Iterable, Iterator
+from collections.abc import Iterable, Iterator, Sequence
 from dataclasses import dataclass, field
 from typing import NamedTuple
 
 from .changes import Change, components
 from .history import History
 from .log import Item
+from .processes import count_of_processes, made
 from .search import Group, is_found
 from .store import Revision
 
 AUTHOR, DATE, MESSAGE = b"svn:author", b"svn:date", b"svn:log"
 SHOWN = frozenset((AUTHOR, DATE, MESSAGE))
+# How many items a log has that several processes print, and how many they print at once.
+LONG, LENGTH_OF_PART = 8000, 1000
 
 
 @dataclass
@@ -90,10 +93,11 @@ def paths_of(changes: Iterable[Change]) -> Iterator[bytes]:
             yield change.source[0]
 
 
-def entries(history: History, items: Iterable[Item], wanted: Wanted, form: Form) -> Iterator[Entry | None]:
+def entries(
+    history: History, items: Iterable[Item], wanted: Wanted, form: Form, via: tuple[int, ...] = ()
+) -> Iterator[Entry | None]:
     """The entries of a log, and None after those that were merged in one. Revision 0 has one where its message is
     wanted and there."""
-    via: tuple[int, ...] = ()
     for item in items:
         if item.rev < 0:
             via = via[:-1]
@@ -109,9 +113,38 @@ def entries(history: History, items: Iterable[Item], wanted: Wanted, form: Form)
             via = (*via, item.rev)
 
 
-def printed(history: History, items: Iterable[Item], wanted: Wanted, form: Form) -> Iterator[bytes]:
-    """A log, piece after piece."""
+class Part(NamedTuple):
+    """Some items of a log, and the revisions in which the first of them was merged."""
+
+    items: Sequence[Item]
+    via: tuple[int, ...]
+
+
+def parts_of(items: Sequence[Item]) -> Iterator[Part]:
+    """Parts of a log, which can be printed each by itself."""
+    via: tuple[int, ...] = ()
+    for begin in range(0, len(items), LENGTH_OF_PART):
+        part = items[begin : begin + LENGTH_OF_PART]
+        yield Part(part, via)
+        for item in part:
+            if item.rev < 0:
+                via = via[:-1]
+            elif item.has_merges:
+                via = (*via, item.rev)
+
+
+def printed(history: History, items: Sequence[Item], wanted: Wanted, form: Form) -> Iterator[bytes]:
+    """A log, piece after piece. One that is long is printed by several processes, unless something else is asked of the
+    history later."""
+
+    def text_of(part: Part) -> bytes:
+        found = entries(history, part.items, wanted, form, part.via)
+        return b"".join([form.end_of_merges if entry is None else form.entry(entry) for entry in found])
+
     yield form.begin
-    for entry in entries(history, items, wanted, form):
-        yield form.end_of_merges if entry is None else form.entry(entry)
+    count = 1
+    if history.is_last_question and len(items) >= LONG:
+        history.rest()
+        count = count_of_processes()
+    yield from made(text_of, [*parts_of(items)], count)
     yield form.end
