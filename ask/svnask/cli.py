@@ -2,7 +2,6 @@
 from __future__ import annotations
 
 import argparse
-import contextlib
 import difflib
 import functools
 import json
@@ -24,7 +23,7 @@ from .refusals import about_record, explained
 from .repository_source import Address
 from .source import Source
 from .sources import source_of
-from .texts import say
+from .texts import drop, say
 from .verbs import VERBS
 from .verbs.base import Object, Verb, counted
 from .verbs.kept import KeptVerb
@@ -303,7 +302,7 @@ def main(arguments: list[str] | None = None) -> int:
         ending = ending_of(error)
         say(*ending.said)
         if isinstance(error, OSError):
-            drop_output()
+            drop(sys.stdout)
         return ending.status
 
 
@@ -343,9 +342,3 @@ def command(given: argparse.Namespace) -> int:
     else:
         server.serve(given)
     return 0
-
-
-def drop_output() -> None:
-    """Has what could not be written not be tried again at the end."""
-    with contextlib.suppress(OSError, ValueError):
-        os.dup2(os.open(os.devnull, os.O_WRONLY), sys.stdout.fileno())

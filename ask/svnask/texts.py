@@ -1,8 +1,11 @@
 """Texts of a repository, which may be any bytes, for a file of XML or a line on a terminal."""
 from __future__ import annotations
 
+import os
 import re
 import sys
+from contextlib import suppress
+from typing import IO
 
 # What turns the direction in which a terminal writes.
 DIRECTIONS = re.compile("[\u200e\u200f\u202a-\u202e\u2066-\u2069]")
@@ -30,4 +33,10 @@ def say(*lines: str) -> None:
         sys.stderr.flush()
     except OSError:
         # There is no other place to say that.
-        pass
+        drop(sys.stderr)
+
+
+def drop(stream: IO[str]) -> None:
+    """Has what could not be written not be tried again at the end, where Python would change the status."""
+    with suppress(OSError, ValueError):
+        os.dup2(os.open(os.devnull, os.O_WRONLY), stream.fileno())

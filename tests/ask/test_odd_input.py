@@ -214,7 +214,8 @@ class Odd(base.Case):
         # fmt: on
         for words, status in rows:
             line = f"{sys.executable} {SVNASK} " + (words % DUMP if "%s" in words else words)
-            done = running.run(["sh", "-c", line])
+            # What was written is tried again at the end, unless the caller of the tests has Python not hold it back.
+            done = running.run(["sh", "-c", f"unset PYTHONUNBUFFERED; {line}"])
             said = done.errors.decode()
             self.check(base.Done(done.status, b"" if status == 0 else done.output, said or "svnask: "), status)
             self.assertLessEqual(said.count("\n"), 1, (words, done))
