@@ -12,7 +12,7 @@ from typing import IO, Any, BinaryIO, NamedTuple, Union
 
 from . import cache, digits
 from .errors import Damaged
-from .strip import LAST_LINE, MERGEINFO, Malformed, body_of, clean, entries_of
+from .strip import LAST_LINE, MERGEINFO, ONE_MERGEINFO, Malformed, body_of, clean, entries_of, is_one_mergeinfo
 
 # A part of a copy.
 Bytes = Union[mmap.mmap, bytes]
@@ -413,6 +413,8 @@ def setting_of(section: bytes, is_delta: bool) -> Setting | None:
     """What a property section does to mergeinfo."""
     if not section:
         return None
+    if is_one_mergeinfo(section):
+        return Setting(section[section.index(b"\n", len(ONE_MERGEINFO)) + 1 : -len(END)])
     try:
         values = [value for name, value in entries_of(section, is_delta) if name == MERGEINFO]
     except Malformed:
