@@ -14,7 +14,7 @@ from typing import Callable
 
 from bench.histories import load_into_cache
 from bench.measure import best_in_turns
-from bench.parts import Measurements, Part, Row, Setup, Table, limits_table, most
+from bench.parts import Measurements, Part, Row, Setup, Table, most
 from bench.svnask_open_history import Asked, branch
 from dev.dumps import (
     DIR,
@@ -33,7 +33,7 @@ from dev.running import Measured
 REVISIONS, BRANCHES, FILES = 100000, 200, 50
 # One of so many revisions is a merge.
 MERGES = 11
-LOGS = ["log trunk", "log -g trunk", "log -g -q trunk", "log -g -v trunk", "log -g --xml trunk"]
+LOGS = ["log trunk", *(f"log -g{options} trunk" for options in ("", " -q", " -v", " --xml", " --xml -v"))]
 
 MOST_OF_LOG = most(3.0, "seconds")
 
@@ -88,11 +88,9 @@ def written(path: Path, count: int) -> Path:
 def run(setup: Setup) -> Measurements:
     asked = Asked(setup, written(setup.folder / "merges", setup.scaled(REVISIONS)))
     runs: dict[str, Callable[[], Measured]] = {each: partial(asked.run, *each.split()) for each in LOGS}
-    taken = {name: each.wall for name, each in best_in_turns(runs, setup.times).items()}
-    rows: list[Row] = [(f"`{name}`", seconds) for name, seconds in taken.items()]
-    yield Table("svnask-merge-history", "what runs | s:.2f", rows)
-    limits = [MOST_OF_LOG.of(seconds, f"`{name}`") for name, seconds in taken.items()]
-    yield limits_table("svnask-merge-history-limits", limits)
+    taken = best_in_turns(runs, setup.times)
+    rows: list[Row] = [(f"`{name}`", MOST_OF_LOG.of(each.wall)) for name, each in taken.items()]
+    yield Table("svnask-merge-history", f"what runs | s, {MOST_OF_LOG}:.2f", rows)
 
 
 PART = Part(__name__, __doc__, run, [MOST_OF_LOG])
