@@ -200,9 +200,10 @@ def entries(history: History, target: Target, below: Sequence[bytes], options: O
     """The revisions of a log, range after range."""
     revisions: list[int] = []
     for part in parts(history, target, below, options):
+        revisions += part.revisions(history, options.stops_on_copy)
+        # Subversion does not look at the ranges after that.
         if options.limit is not None and len(revisions) >= options.limit:
             break
-        revisions += part.revisions(history, options.stops_on_copy)
     return revisions[: options.limit]
 
 

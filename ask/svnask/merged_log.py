@@ -14,7 +14,7 @@ from typing import NamedTuple, Union
 from .changes import is_at_or_below
 from .errors import Denied
 from .history import History
-from .log import Item, Options, parts
+from .log import Item, Options, copied_in, parts
 from .merged_parts import Part, parts_of
 from .merged_values import MergeinfoChanges
 from .merges import Interval, Intervals, united
@@ -121,7 +121,7 @@ class Walker:
 
     def _own_of(self, paths: list[bytes], asked: Range) -> Intervals:
         found: Intervals = {}
-        # The paths at which one of the targets was, went and came again.
+        # The paths at which one of the targets was, went and came again, or was copied onto itself.
         broken: set[bytes] = set()
         for cut in self._cuts(paths, asked.high):
             own: Intervals = {}
@@ -129,6 +129,8 @@ class Walker:
                 lo, hi = max(segment.lo, asked.low), min(segment.hi, asked.high)
                 if segment.path is not None and lo <= hi:
                     own.setdefault(segment.path, []).append((lo, hi))
+                    if copied_in(self._history, segment, hi) > lo:
+                        broken.add(segment.path)
             broken.update(path for path, intervals in own.items() if len(intervals) > 1)
             for path in own:
                 if path in found and path in broken:

@@ -96,6 +96,10 @@ class Log(base.Case):
             done = base.called(base.dump_of("branches"), "log", "-q", *words.split())
             self.assertEqual((done.status, done.output, done.said[:15]), (1, b"", "svnask: " + code), words)
 
+    def test_a_range_after_the_limit_is_not_looked_at(self) -> None:
+        words = "-c 10,9 -l 1 branches/one-again/new.c".split()
+        self.assertEqual(self.revisions(base.dump_of("branches"), *words), [10])
+
     def test_ranges_that_svn_refuses(self) -> None:
         # fmt: off
         rows = (

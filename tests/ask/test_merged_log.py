@@ -3,7 +3,7 @@ from __future__ import annotations
 
 import json
 
-from dev.dumps import DIR, Node, added, copied, dump_of, mergeinfo
+from dev.dumps import DIR, Node, added, changed, copied, dump_of, mergeinfo
 from svnask.merged_log import Searched, Walker
 from svnask.merged_parts import Part, hash_of, in_hash_order, parts_of
 from svnask.merges import Intervals
@@ -85,16 +85,21 @@ class MergedLog(base.Case):
         self.assertEqual((done.status, done.output, done.said[:15]), (1, b"", "svnask: E160006"))
 
     def test_two_targets_that_were_at_one_path_with_a_break_are_refused(self) -> None:
-        gone = Node(b"a", b"delete")
-        dump = self.made("again", dump_of([added(b"a"), added(b"c")], [gone], [copied(b"a", b"a", 1)]))
+        """As `svn` 1.14 fails. A copy of a path onto itself is a break, too."""
+        gone, first = Node(b"a", b"delete"), [added(b"a"), added(b"c")]
+        again = self.made("again", dump_of(first, [gone], [copied(b"a", b"a", 1)]))
+        onto_itself = self.made("onto-itself", dump_of(first, [copied(b"a", b"a", 1, b"replace")], [changed(b"c")]))
         # fmt: off
         rows = (
-            ("/ a a", "E195002"), ("/ a c a", "E195002"), ("/ a", ""), ("/ c c", ""), ("-r 3:3 / a a", ""), ("-r 1:3 / a a", "E195002"),
+            (again, "/ a a", "E195002"), (again, "/ a c a", "E195002"), (again, "/ a", ""), (again, "/ c c", ""),
+            (again, "-r 3:3 / a a", ""), (again, "-r 1:3 / a a", "E195002"), (onto_itself, "/ a a", "E195002"),
+            (onto_itself, "/ a c a", "E195002"), (onto_itself, "/ a c", ""), (onto_itself, "-r 3:2 / a a", ""),
+            (onto_itself, "-r 2:1 / a a", "E195002"),
         )
         # fmt: on
-        for words, code in rows:
+        for dump, words, code in rows:
             done = base.called(dump, "log", "-g", "-q", *words.split())
-            self.assertEqual((bool(done.status), done.said[8:15]), (bool(code), code), words)
+            self.assertEqual((bool(done.status), done.said[8:15]), (bool(code), code), (dump, words))
             self.assertEqual(base.called(dump, "log", "-q", *words.split()).status, 0, words)
 
     def test_paths_below_a_target(self) -> None:
