@@ -14,7 +14,7 @@ from typing import Callable
 
 from bench.histories import load_into_cache
 from bench.measure import best_in_turns
-from bench.parts import Measurements, Part, Row, Setup, Table, most
+from bench.parts import Measurements, Part, Row, Setup, Table, most, shown
 from bench.svnask_open_history import Asked, branch
 from dev.dumps import (
     DIR,
@@ -88,9 +88,11 @@ def written(path: Path, count: int) -> Path:
 def run(setup: Setup) -> Measurements:
     asked = Asked(setup, written(setup.folder / "merges", setup.scaled(REVISIONS)))
     runs: dict[str, Callable[[], Measured]] = {each: partial(asked.run, *each.split()) for each in LOGS}
-    taken = best_in_turns(runs, setup.times)
-    rows: list[Row] = [(f"`{name}`", MOST_OF_LOG.of(each.wall)) for name, each in taken.items()]
+    taken = {name: MOST_OF_LOG.of(each.wall) for name, each in best_in_turns(runs, setup.times).items()}
+    rows: list[Row] = [(f"`{name}`", judged) for name, judged in taken.items()]
     yield Table("svnask-merge-history", f"what runs | s, {MOST_OF_LOG}:.2f", rows)
+    named = ", ".join(f"{shown(judged, '.2f')} for `{name}`" for name, judged in taken.items())
+    yield f"The seconds, {MOST_OF_LOG}: {named}."
 
 
 PART = Part(__name__, __doc__, run, [MOST_OF_LOG])
