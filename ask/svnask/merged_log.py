@@ -46,11 +46,18 @@ class Searched:
         """Whether all of a range of a path was walked."""
         return high <= self._run(path, low)[1]
 
-    def last_left(self, path: bytes, low: int, high: int) -> int:
-        """Where a walk of a range of a path begins that goes back: at the first revision of the run that has the end of
-        the range, unless another run has its begin."""
-        begin, end = self._run(path, low), self._run(path, high)
-        return high if begin != NO_RUN or end == NO_RUN else end[0]
+    def left(self, path: bytes, low: int, high: int) -> Interval:
+        """What Subversion walks of a range of which not all was walked. The first run that reaches into it from before
+        has it begin with the last revision of that run, which is walked again. Else one that reaches out of its end has
+        it end with the first revision of that run."""
+        is_empty = low > high
+        first, last = (high, low) if is_empty else (low, high)
+        begin, end = self._run(path, first), self._run(path, last)
+        if begin != NO_RUN:
+            first = begin[1]
+        elif end != NO_RUN:
+            last = end[0]
+        return (last, first) if is_empty else (first, last)
 
     def _run(self, path: bytes, rev: int) -> Interval:
         """The run that has a revision."""
@@ -204,16 +211,17 @@ class Walker:
         self._left_out.clear()
 
     def _not_searched(self, part: Part) -> tuple[Sequence[bytes], int, int]:
-        """The paths of a part that were not walked already, and the range that is left of it."""
+        """The paths of a part that were not walked already, and the range that is left of it. Of the only path that is
+        left a part of the range may be left."""
         low, high = part.first, part.last
         if self._searched is None:
             return part.paths, low, high
-        left = []
+        left = list(part.paths)
         for path in part.paths:
-            if not self._searched.has(path, min(low, high), max(low, high)):
-                left.append(path)
-                if len(part.paths) == 1:
-                    high = self._searched.last_left(path, low, high)
+            if self._searched.has(path, min(low, high), max(low, high)):
+                left.remove(path)
+            elif len(left) == 1:
+                low, high = self._searched.left(path, low, high)
         for path in left:
             self._searched.add(path, min(low, high), max(low, high))
         return left, low, high

@@ -26,7 +26,7 @@ from interop.outputs import as_url
 from interop.repository import Repository
 from interop.tools import ENVIRONMENT, Tools, url_of
 from tests.ask import base
-from tests.ask.drawn_repositories import drawn
+from tests.ask.drawn_repositories import drawn, synchronized
 
 ERROR = re.compile(r"^svn(?:ask)?: (E[0-9]+):", re.MULTILINE)
 URL = re.compile(rb"file://[^\n' ]*?/loaded/repository([^\n' ]*)")
@@ -64,7 +64,11 @@ def loaded(number: int, folder: Path) -> Place:
     folder.mkdir()
     tools = Tools(folder)
     chance = random.Random(number)
-    dump = base.content_of(chance.choice(NAMES)) if chance.random() < 0.3 else drawn(number)
+    sort = chance.random()
+    if sort < 0.3:
+        dump = base.content_of(chance.choice(NAMES))
+    else:
+        dump = synchronized(number) if sort < 0.55 else drawn(number)
     tools.load(folder / "repository", dump)
     made = folder / "dump"
     made.write_bytes(tools.run("svnadmin", "dump", "-q", folder / "repository"))
@@ -138,6 +142,9 @@ def pattern(chance: random.Random) -> str:
 def merge_history(chance: random.Random, place: Place) -> list[str]:
     options = some(chance, verbose=0.5, quiet=0.3, xml=0.3, stop_on_copy=0.15)
     patterns = [f"--search={pattern(chance)}"] if chance.random() < 0.1 else []
+    if chance.random() < 0.3:
+        rev = chance.randint(1, max(len(place.trees) - 1, 1))
+        return ["log", "-g", f"/trunk@{rev}", *options, "-c", str(rev)]
     return ["log", "-g", target(chance, place), *options, *patterns, *ranges(chance, place)]
 
 

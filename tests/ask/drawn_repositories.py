@@ -1,10 +1,11 @@
-"""Draws dumps of repositories with renames, replacements, nested and reverse merges, and malformed mergeinfo."""
+"""Draws dumps of repositories: with renames, replacements, nested and reverse merges, and malformed mergeinfo, or with
+features that are synchronized with what they were copied from, and come back to it."""
 from __future__ import annotations
 
 import random
 from typing import NamedTuple, Optional
 
-from dev.dumps import DIR, FILE, MERGEINFO, Dump, Node, Revision, Source, section
+from dev.dumps import DIR, FILE, MERGEINFO, Dump, Node, Revision, Source, added, changed, copied, deleted, mergeinfo, section
 
 PATHS = (
     b"trunk",
@@ -232,4 +233,61 @@ def drawn(seed: int) -> bytes:
             chance.choice((*adding, *changing, draft.remove))()
         revisions.append(Revision(rev, draft.nodes, properties_of(chance, rev)))
         trees.append(draft.tree)
+    return bytes(Dump(revisions))
+
+
+class Feature:
+    """A branch that takes all of another one in, again and again."""
+
+    def __init__(self, path: bytes, parent: Optional[Feature], first: int) -> None:
+        self.path, self.parent, self.first = path, parent, first
+        self.merged: dict[bytes, set[int]] = {} if parent is None else {**parent.merged}
+
+    def take(self, other: Feature, revisions: range) -> None:
+        """Records revisions of another branch as merged, with all that was merged there."""
+        for path, revs in [(other.path, set(revisions)), *other.merged.items()]:
+            if path != self.path and revs:
+                self.merged[path] = self.merged.get(path, set()) | revs
+
+    def text(self) -> bytes:
+        return b"\n".join(b"/%s:%s" % (path, rangelist(self.merged[path])) for path in sorted(self.merged))
+
+
+def rangelist(revisions: set[int]) -> bytes:
+    """A rangelist that has some revisions."""
+    firsts = sorted(rev for rev in revisions if rev - 1 not in revisions)
+    lasts = sorted(rev for rev in revisions if rev + 1 not in revisions)
+    return b",".join(b"%d-%d" % pair if pair[0] < pair[1] else b"%d" % pair[0] for pair in zip(firsts, lasts))
+
+
+def step_of_features(chance: random.Random, branches: list[Feature], rev: int) -> list[Node]:
+    """What a revision does: it changes a branch, makes a feature or deletes one, or merges all or some of another one."""
+    branch = chance.choice(branches)
+    what = chance.random()
+    if what < 0.1 and len(branches) < 7:
+        feature = Feature(b"branches/f%d" % rev, branch, rev)
+        branches.append(feature)
+        return [copied(feature.path, branch.path, rev - 1)]
+    parent = branch.parent
+    if what < 0.75 and parent is not None and rev - 1 > branch.first:
+        target, source = (branch, parent) if chance.random() < 0.65 or parent not in branches else (parent, branch)
+        first = branch.first if chance.random() < 0.8 else chance.randint(branch.first, rev - 1)
+        target.take(source, range(first, rev if chance.random() < 0.8 else chance.randint(first, rev - 1) + 1))
+        text = b"merged %d\n" % rev if chance.random() < 0.7 else None
+        nodes = [changed(target.path, mergeinfo(target.text()))]
+        return nodes if text is None else [*nodes, changed(target.path + b"/f", text=text)]
+    if what < 0.77 and parent is not None:
+        branches.remove(branch)
+        return [deleted(branch.path)]
+    return [changed(branch.path + chance.choice((b"/f", b"/g")), text=b"text %d\n" % rev)]
+
+
+def synchronized(seed: int) -> bytes:
+    """The dump of a seed, of features that take the trunk in several times and come back, and of features of these."""
+    chance = random.Random(f"features {seed}")
+    branches = [Feature(b"trunk", None, 1)]
+    files = [added(b"trunk/" + name, FILE, text=b"new\n") for name in (b"f", b"g")]
+    revisions = [Revision(0), Revision(1, [added(b"trunk"), added(b"branches"), *files], properties_of(chance, 1))]
+    for rev in range(2, chance.choice((30, 60, 120))):
+        revisions.append(Revision(rev, step_of_features(chance, branches, rev), properties_of(chance, rev)))
     return bytes(Dump(revisions))
