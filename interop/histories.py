@@ -172,6 +172,31 @@ def merges(shop: Workshop) -> None:
     )  # 19
 
 
+def projects(shop: Workshop) -> None:
+    """Three projects, each with a trunk, branches and tags: merges, tags that were changed, made again and renamed."""
+    for project in ("alpha", "beta", "group/gamma"):
+        shop.make(*(f"{project}/{name}" for name in ("trunk", "branches", "tags")))
+        shop.write({f"{project}/trunk/f": f"{project}\n", f"{project}/trunk/g": "g\n"})
+    shop.commit("Begin")  # 1
+    shop.server("copy", "HEAD", "alpha/trunk", "alpha/branches/one")  # 2
+    shop.server("copy", "HEAD", "alpha/trunk", "alpha/branches/two")  # 3
+    shop.server("copy", "HEAD", "group/gamma/trunk", "group/gamma/branches/old")  # 4
+    shop.commit("Fix a fault", {"alpha/trunk/f": "fixed\n"})  # 5
+    shop.merge("Take the fix", "-c", "5", "^/alpha/trunk", "alpha/branches/one")  # 6
+    shop.merge("Do without the fix", "--record-only", "-c", "5", "^/alpha/trunk", "alpha/branches/two")  # 7
+    shop.commit("Work on a branch", {"alpha/branches/one/g": "one\n"})  # 8
+    shop.commit("Work on another one", {"group/gamma/branches/old/g": "old\n"})  # 9
+    shop.server("copy", "HEAD", "alpha/branches/one", "alpha/tags/r1")  # 10
+    shop.server("copy", "HEAD", "beta/trunk", "beta/tags/b1")  # 11
+    shop.commit("Change a tag", {"beta/tags/b1/f": "changed\n"})  # 12
+    shop.server("delete", "alpha/tags/r1")  # 13
+    shop.server("copy", "HEAD", "alpha/branches/two", "alpha/tags/r1")  # 14, made again, without the fix
+    shop.move({"beta/tags/b1": "beta/tags/b1-old"})
+    shop.commit("Rename a tag")  # 15
+    shop.server("copy", "HEAD", "alpha", "delta")  # 16, a fourth project, with all that the first one has
+    shop.commit("Work there", {"delta/branches/one/f": "delta\n"})  # 17
+
+
 def properties(shop: Workshop) -> None:
     """Properties that look like parts of a dump, with newlines and all bytes; set, changed and deleted."""
     shop.make("d", "dup")
@@ -341,4 +366,4 @@ def malformed(shop: Workshop) -> None:
 
 
 OF_VALUES = [inherited, written, malformed]
-ALL = [branches, renames, copies, replaced, again, merges, properties, names, roots, deep, drawn, *OF_VALUES]
+ALL = [branches, renames, copies, replaced, again, merges, projects, properties, names, roots, deep, drawn, *OF_VALUES]

@@ -4,34 +4,61 @@ from __future__ import annotations
 from collections.abc import Iterable, Iterator, Sequence
 from typing import NamedTuple
 
-from . import log, mergeinfo
+from . import log, mergeinfo, projects
 from .answers import Answer, Log, Logged, Mergeinfo, Query, Where
-from .changes import components, is_at_or_below
+from .changes import Place, components, is_at_or_below
 from .errors import Denied
 from .history import History
-from .lives import Life, is_plain, lives_in, moves_of, unmatched
+from .lives import Life, is_plain, lives_at, lives_in, moved, moves_of, unmatched
+from .merges import Intervals, has
+from .recorded import Recorded
 from .targets import Target, decoded
-from .texts import say
 from .values import runs_of
 
 # How many revisions are looked through at first for the last change of a life, and how many times more at each further
 # look.
 FIRST_WINDOW, WINDOW_GROWS = 64, 16
+# How a branch or a tag has a revision.
+HISTORY, MERGED, IN_PART, RECORDED = "history", "merged", "merged in part", "recorded"
+# What happens to a tag.
+CHANGED, AGAIN, DELETED, RENAMED = "changed", "made again", "deleted", "renamed"
 
 
-def lives_of(history: History, patterns: Sequence[bytes], default: bytes = b"/**") -> list[Life]:
-    """The lives of all paths that match a pattern, or the default one. That no path ever matched one is an error where
-    it is a path itself, since that is mostly a mistake."""
-    lives = lives_in(history.tree, patterns or (default,), history.head)
-    missing = list(unmatched(history.tree, patterns, history.head))
+def lives_of(history: History, patterns: Sequence[bytes], kinds: Sequence[str] = projects.KINDS) -> list[Life]:
+    """The lives of all paths that match a pattern, or else those of the trunks, the branches and the tags at and below
+    the path at which the source begins. That no path ever matched a pattern is an error where it is a path itself, since
+    that is mostly a mistake. Where nothing matches, the history gives notice of it."""
+    tree, top = history.tree, history.source.path
+    if patterns:
+        lives = lives_in(tree, patterns, history.head)
+    else:
+        paths = [path for path in tree.branches if is_at_or_below(path, top) and projects.kind_of(path) in kinds]
+        lives = lives_at(tree, paths, history.head)
+    missing = list(unmatched(tree, patterns, history.head))
     if missing or not lives:
         # Nothing more may be asked, and the dump may be one that is refused.
         history.check()
     for pattern in missing:
         if all(map(is_plain, components(pattern))):
             raise Denied("E160013", f"Path not found in any revision: '{decoded(pattern)}'")
-        say(f"svnask: no path matches '{decoded(pattern)}'")
+        history.notice(f"no path matches '{decoded(pattern)}'")
+    if not lives and not patterns:
+        history.notice(f"there is no {' or '.join(kinds)} {place_text(top)}, so name paths by a PATTERN")
     return lives
+
+
+def place_text(top: bytes) -> str:
+    return "in this history" if top == b"/" else f"at or below '{decoded(top)}'"
+
+
+def alive_in(history: History, lives: Iterable[Life]) -> list[Life]:
+    """The lives that are there today."""
+    lives = list(lives)
+    alive = [life for life in lives if life.is_alive]
+    if lives and not alive:
+        history.check()
+        history.notice("of what matches, nothing is there any more")
+    return alive
 
 
 def answered(answer: Answer) -> list[int]:
@@ -78,7 +105,7 @@ def listed(history: History, patterns: Sequence[bytes]) -> Iterator[Listed]:
     moves = moves_of(lives)
     moved = set(moves.values())
     for life in lives:
-        is_folder = life.source is None and history.tree.is_folder(life.path, history.tree.branches)
+        is_folder = life.source is None and history.tree.is_folder(life.path)
         yield Listed(life, changes[life], life in moved, moves.get(life), is_folder)
 
 
@@ -100,7 +127,7 @@ def operative(lives: Iterable[Life], answers: Iterator[Answer]) -> dict[Life, li
 
 
 class Holder(NamedTuple):
-    """A path that has a revision, in its own history or by a merge, whole or in part."""
+    """A path that has a revision: in its own history, by a merge, whole or in part, or by a record of one alone."""
 
     path: bytes
     how: str
@@ -117,7 +144,7 @@ class Asked(NamedTuple):
 def holders(history: History, patterns: Sequence[bytes], rev: int) -> Iterator[Holder]:
     """The branches and tags of today that have a revision of one of them."""
     changed = [change.path for change in history.changes(rev)]
-    alive = [life for life in lives_of(history, patterns) if life.is_alive]
+    alive = alive_in(history, lives_of(history, patterns))
     asked = [
         Asked(
             Where(life.path, history.head), Log(life.path, history.head, (rev, rev)), Mergeinfo(life.path, history.head)
@@ -125,71 +152,177 @@ def holders(history: History, patterns: Sequence[bytes], rev: int) -> Iterator[H
         for life in alive
     ]
     answers = history.answers(query for each in asked for query in each)
+    found: dict[bytes, str] = {}
+    named: dict[bytes, list[Naming]] = {}
     for life, each in zip(alive, asked):
         segments, value = answers[each.where].segments, answers[each.value]
         if rev in log.listed(history, log.Trace(segments, answered(answers[each.log]))):
-            yield Holder(life.path, "history")
+            found[life.path] = HISTORY
         elif value.ok:
-            how = merged_how(value.value, changed, rev)
-            if how is not None:
-                yield Holder(life.path, how)
+            named[life.path] = list(namings(value.value, changed, rev))
+    paths = [path for path, namings_of in named.items() if namings_of]
+    for path, recorded in zip(paths, Recorded(history).of((path, history.head) for path in paths)):
+        found[path] = how_merged(named[path], recorded, rev)
+    yield from (Holder(life.path, found[life.path]) for life in alive if life.path in found)
 
 
-def merged_how(value: dict[bytes, str], changed: Sequence[bytes], rev: int) -> str | None:
-    """Whether mergeinfo has a revision of a source that the revision changed, and if so whether as a whole."""
-    found = [
-        run.inheritable
-        for source, ranges in value.items()
-        for run in runs_of(ranges.encode("ascii"))
-        if run.lo <= rev <= run.hi
-        and any(is_at_or_below(path, source) or is_at_or_below(source, path) for path in changed)
-    ]
-    return None if not found else "merged" if any(found) else "merged in part"
+class Naming(NamedTuple):
+    """A source path of which mergeinfo has a revision, and whether as a whole."""
+
+    source: bytes
+    is_whole: bool
+
+
+def namings(value: dict[bytes, str], changed: Sequence[bytes], rev: int) -> Iterator[Naming]:
+    """The sources of which mergeinfo has a revision, and which the revision changed."""
+    for source, ranges in value.items():
+        for run in runs_of(ranges.encode("ascii")):
+            if run.lo <= rev <= run.hi and any(
+                is_at_or_below(path, source) or is_at_or_below(source, path) for path in changed
+            ):
+                yield Naming(source, run.inheritable)
+
+
+def how_merged(named: Sequence[Naming], recorded: Intervals, rev: int) -> str:
+    """Whether a revision was merged, and if so whether as a whole, or only recorded."""
+    found = [each.is_whole for each in named if not has(recorded.get(each.source, ()), rev)]
+    return RECORDED if not found else MERGED if any(found) else IN_PART
 
 
 class Left(NamedTuple):
-    """The revisions of a branch that are still to be merged."""
+    """The revisions of a branch that are still to be merged, each with whether a part of it was merged."""
 
     path: bytes
     revisions: list[tuple[int, bool]]
 
 
-def unmerged(history: History, patterns: Sequence[bytes], into: Target) -> Iterator[Left]:
-    """What of each branch of today is still to be merged into a target: `svn mergeinfo --show-revs eligible`."""
+class Compared(NamedTuple):
+    """What is left of a branch, the target into which it is to be merged, and where the branch was."""
+
+    left: Left
+    target: Target
+    trace: log.Trace
+
+
+def unmerged(history: History, patterns: Sequence[bytes], into: Target | None) -> Iterator[Compared]:
+    """What of each branch of today is still to be merged into a target, or into the trunk of its own project:
+    `svn mergeinfo --show-revs eligible`."""
     explicit = history.explicit
-    sources = [
-        Target(life.path, history.head)
-        for life in lives_of(history, patterns, b"/branches/**")
-        if life.is_alive and life.path != into.path
-    ]
+    alive = alive_in(history, lives_of(history, patterns, (projects.BRANCH,)))
+    targets = targets_of(history, alive, into)
+    sources = {Target(life.path, history.head): targets[life] for life in alive if life in targets}
     question = mergeinfo.Question("eligible")
     answers = history.answers(
-        query for source in sources for query in mergeinfo.queries_of(explicit, source, into, question)
+        query
+        for source, target in sources.items()
+        for query in mergeinfo.queries_of(explicit, source, target, question)
     )
-    for source in sources:
-        yield Left(source.path, mergeinfo.show_revs(history, explicit, answers, source, into, question))
+    for source, target in sources.items():
+        revisions = mergeinfo.show_revs(history, explicit, answers, source, target, question)
+        trace = log.Trace(answers[Where(*source)].segments, answers[Log(*source)].revisions)
+        yield Compared(Left(source.path, revisions), target, trace)
+
+
+def recorded_of(history: History, compared: Iterable[Compared]) -> Iterator[tuple[Left, list[int]]]:
+    """What is left of branches, and of each the revisions that were only recorded as merged."""
+    recorded = Recorded(history)
+    for left, target, trace in compared:
+        (of_target,) = recorded.of([target])
+        yield left, [rev for rev in log.listed(history, trace) if is_recorded(of_target, trace, rev)]
+
+
+def is_recorded(recorded: Intervals, trace: log.Trace, rev: int) -> bool:
+    """Whether a revision of a source was only recorded, at the path where the source was then."""
+    segment = trace.at(rev)
+    return segment is not None and has(recorded.get(segment.path or b"", ()), rev)
+
+
+def targets_of(history: History, alive: Sequence[Life], into: Target | None) -> dict[Life, Target]:
+    """The target into which each branch is to be merged, but for the branch that is that target."""
+    if into is not None:
+        return {life: into for life in alive if life.path != into.path}
+    trunks = {life: trunk_of(history, life) for life in alive}
+    found = {life: Target(trunk, history.head) for life, trunk in trunks.items() if trunk is not None}
+    missing = [life.path for life in alive if life not in found]
+    if missing and not found:
+        history.check()
+        raise Denied("E160013", f"There is no trunk beside '{decoded(missing[0])}': --into names a target")
+    for path in missing:
+        history.notice(f"there is no trunk beside '{decoded(path)}', which is left out: --into names a target")
+    return {life: target for life, target in found.items() if life.path != target.path}
+
+
+def trunk_of(history: History, life: Life) -> bytes | None:
+    """The trunk of the project that a branch is of by its name, or by that of what it was copied from, if there is one
+    today."""
+    place: Place | None = (life.path, life.last)
+    while place is not None:
+        trunk = projects.trunk_of(place[0])
+        if trunk is not None:
+            return trunk if history.tree.exists(trunk, history.head) else None
+        place = history.tree.source(*place)
+    return None
+
+
+class Event(NamedTuple):
+    """What happened to a tag after it was made. For a tag that was renamed `other` is where it is, for one that was made
+    again what it is a copy of."""
+
+    what: str
+    rev: int
+    other: Place | None = None
 
 
 class Touched(NamedTuple):
-    """A life that was changed after it was made, or by the revision that made it."""
+    """A life to which something happened: what changed it, beside what made it, and that it ended or was made again."""
 
     life: Life
     is_changed_when_made: bool
     revisions: list[int]
+    events: list[Event]
 
 
 def touched(history: History, patterns: Sequence[bytes]) -> Iterator[Touched]:
-    """The tags that are not what they were copied from."""
-    lives = lives_of(history, patterns, b"/tags/**")
+    """The tags that are not what they were copied from, that were made again, and those that were deleted or renamed."""
+    lives = lives_of(history, patterns, (projects.TAG,))
     later = [life for life in lives if life.last > life.first]
     answers = list(history.ask([Log(life.path, life.last, (life.first + 1, life.last)) for life in later]))
     changed: dict[Life, list[int]] = {}
     for life, answer in zip(later, answers):
         changed[life] = answered(answer)[::-1]
+    copies: dict[int, list[tuple[bytes, Place]]] = {}
+    for path, copy in history.tree.copies():
+        if copy.source is not None:
+            copies.setdefault(copy.rev, []).append((path, copy.source))
+    before: Life | None = None
     for life in lives:
         below = any(
             change.path != life.path and is_at_or_below(change.path, life.path)
             for change in history.changes(life.first)
         )
-        if below or changed.get(life):
-            yield Touched(life, below, changed.get(life, []))
+        of_path = before if before is not None and before.path == life.path else None
+        events = begin_of(life, of_path) + [Event(CHANGED, rev) for rev in [life.first] * below + changed.get(life, [])]
+        events += end_of(history, life, copies.get(life.last + 1, []))
+        before = life
+        if events:
+            yield Touched(life, below, changed.get(life, []), events)
+
+
+def begin_of(life: Life, before: Life | None) -> list[Event]:
+    """That a tag was made again, unless it goes on as a copy of itself."""
+    return [] if before is None or life.continues(before) else [Event(AGAIN, life.first, life.source)]
+
+
+def end_of(history: History, life: Life, copies: Iterable[tuple[bytes, Place]]) -> list[Event]:
+    """How a tag ended, given the copies of the revision that ended it."""
+    if life.is_alive:
+        return []
+    end = life.last + 1
+    for path, source in copies:
+        if source[1] == life.last and is_at_or_below(life.path, source[0]):
+            place, _ = moved(life.path, source[0], (path, end))
+            if place == life.path:
+                return []
+            if history.tree.exists(place, end):
+                return [Event(RENAMED, end, (place, end))]
+    return [Event(DELETED, end)]

@@ -23,6 +23,7 @@ from .refusals import about_record, explained
 from .repository_source import Address
 from .source import Source
 from .sources import source_of
+from .targets import below, path_of
 from .texts import drop, say
 from .verbs import VERBS
 from .verbs.base import Object, Verb, counted
@@ -117,6 +118,9 @@ def parser() -> Parser:
     made.add_argument("--json", action="store_true", help="print one object per line, for scripts")
     made.add_argument("--no-cache", action="store_true", help="read the source anew, and keep nothing of it")
     made.add_argument("--offline", action="store_true", help="answer from what is kept, without asking the repository")
+    made.add_argument(
+        "--below", metavar="PATH", default="", help="have targets and patterns begin at a path of the source"
+    )
     made.add_argument("-V", "--version", action="version", version="svnask " + __version__)
     verbs = made.add_subparsers(dest="verb", metavar="VERB", required=True, parser_class=Parser)
 
@@ -124,6 +128,7 @@ def parser() -> Parser:
         below = verbs.add_parser(name, help=about, description=about, usage=usage)
         for option in ("--json", "--no-cache", "--offline"):
             below.add_argument(option, action="store_true", default=argparse.SUPPRESS, help=argparse.SUPPRESS)
+        below.add_argument("--below", metavar="PATH", default=argparse.SUPPRESS, help=argparse.SUPPRESS)
         return below
 
     for verb in VERBS:
@@ -156,8 +161,10 @@ def need_source(words: list[str], names: list[str]) -> None:
 
 
 def source_in(given: argparse.Namespace) -> Source:
-    """The source that a command line names."""
-    return source_of(given.dump, given.access, given.offline)
+    """The source that a command line names, with the path in it that is asked about."""
+    source = source_of(given.dump, given.access, given.offline)
+    source.path = below(source.path, path_of(given.below))
+    return source
 
 
 def verb_of(given: argparse.Namespace) -> Verb:
@@ -211,6 +218,7 @@ class Stale(Exception):
 def tell(history: History, given: argparse.Namespace, write: Callable[[bytes], object]) -> None:
     """Answers a question about a history."""
     is_begun = False
+    history.notice = note
     try:
         for line in lines_of(history, given):
             is_begun = True
@@ -223,6 +231,10 @@ def tell(history: History, given: argparse.Namespace, write: Callable[[bytes], o
         # A dump that is refused has no answer, not even that there is no such path or revision.
         check(history, given.dump)
         raise
+
+
+def note(text: str) -> None:
+    say(f"svnask: {text}")
 
 
 def check(history: History, dump: str) -> None:

@@ -15,7 +15,7 @@ REACHED = frozenset(("--username", "--password", "--config-dir", "--config-optio
 REACHED_ALONE = frozenset(("--non-interactive", "--no-auth-cache"))
 VALUED = frozenset(
     (*LONG.values(), *REACHED, "--into", "--show-revs", "--depth", "--with-revprop", "--search", "--search-and")
-    + ("--since", "--width")
+    + ("--since", "--width", "--below")
 )
 NUMBER = re.compile("-[0-9]")
 # The verbs that svn has, too, and the one that is about all sources.

@@ -31,7 +31,7 @@ from .repositories import PLAIN, ancestors, canonical, path_below
 from .repository_source import Address, Folder
 from .sources import IS_URL
 from .store import Front
-from .targets import decoded, split_peg
+from .targets import below, decoded, path_of, split_peg
 
 # After how many seconds of the call branches are no more looked for.
 LONGEST = 0.16
@@ -40,6 +40,7 @@ BASH = "bash"
 # are names for other things where they are values of options, and files.
 PEG, PATTERN = "[@PEG]", "PATTERN"
 PATHS, FILES = ("PATH", PATTERN), ("FILE", "QUERIES")
+BELOW = "--below"
 # Words that stand for themselves.
 LITERAL = re.compile(r"[a-z:|]+\Z")
 CONTROL = re.compile("[\x00-\x1f\x7f-\x9f]")
@@ -108,12 +109,13 @@ def kept_urls() -> Iterator[str]:
 
 
 class Typed(NamedTuple):
-    """The words before the cursor: those that are no options, the option of which the value is at the cursor, and
-    whether `--` has ended the options."""
+    """The words before the cursor: those that are no options, the option of which the value is at the cursor, whether
+    `--` has ended the options, and the path at which targets and patterns begin."""
 
     plain: list[str]
     option: str
     has_ended: bool
+    below: str = ""
 
     @property
     def is_as_svn(self) -> bool:
@@ -146,17 +148,21 @@ def verb_of(plain: Sequence[str]) -> str:
 
 def typed_of(words: Iterable[str]) -> Typed:
     plain: list[str] = []
-    option, has_ended = "", False
+    option, has_ended, top = "", False, ""
     for word in words:
+        name, sign, value = word.partition("=")
         if option:
+            top = word if option == BELOW else top
             option = ""
+        elif sign and name == BELOW and not has_ended:
+            top = value
         elif has_ended or not is_option(word):
             plain.append(word)
         elif word == "--":
             has_ended = True
         elif takes_value(verb_of(plain), word):
             option = word
-    return Typed(plain, option, has_ended)
+    return Typed(plain, option, has_ended, top)
 
 
 def verbs() -> dict[str, Parser]:
@@ -237,7 +243,9 @@ class Completion:
         if IS_URL.match(part) or typed.is_as_svn and not typed.source:
             return self._urls(part, True)
         place = place_of(typed.source)
-        return self._paths(place, part, is_pattern) if place is not None else iter(())
+        if place is None:
+            return iter(())
+        return self._paths(place._replace(path=below(place.path, path_of(typed.below))), part, is_pattern)
 
     def _urls(self, part: str, is_target: bool) -> Iterator[str]:
         """The URLs of repositories, as the front of a target, too, or those of the branches and tags of the one in
@@ -252,8 +260,8 @@ class Completion:
 
     def _paths(self, place: Place, part: str, is_pattern: bool) -> Iterator[str]:
         """The branches and tags in the form in which a word begins: with `^/`, with a slash, or with neither. A pattern
-        has no peg revision, and one without a slash is of the root."""
-        base = b"" if is_pattern or part[:1] in ("^", "/") or place.path == b"/" else place.path
+        has no peg revision."""
+        base = b"" if part[:1] in ("^", "/") or place.path == b"/" else place.path
         for path in self._branches(place):
             if path.startswith(base + b"/"):
                 text = decoded(path[len(base) :]) + "@" * (not is_pattern and b"@" in path.rpartition(b"/")[2])

@@ -10,6 +10,8 @@ from .changes import is_at_or_below
 from .errors import Denied
 from .history import History
 from .lives import Tree
+from .merges import Intervals, has
+from .recorded import Recorded
 from .targets import Target, decoded
 from .values import Run, runs_of
 
@@ -17,12 +19,14 @@ from .values import Run, runs_of
 class Part(NamedTuple):
     """Revisions of a source path that a value names, as far as one life of that path has them."""
 
+    path: bytes
     query: Log
     inheritable: bool
 
 
 class Held(NamedTuple):
-    """The revisions that a path has: in its own history, and by its mergeinfo as a whole or in part."""
+    """The revisions that a path has: in its own history, and by its mergeinfo as a whole or in part, but for those that
+    were only recorded as merged."""
 
     own: set[int]
     merged: set[int]
@@ -54,7 +58,7 @@ def parts_of(tree: Tree, head: int, path: bytes, runs: Iterable[Run]) -> Iterato
         for life in lives:
             lo, hi = max(run.lo, life.first), min(run.hi, life.last)
             if lo <= hi:
-                yield Part(Log(path, hi, (lo, hi)), run.inheritable)
+                yield Part(path, Log(path, hi, (lo, hi)), run.inheritable)
 
 
 def held(history: History, targets: Sequence[Target]) -> list[Held]:
@@ -63,7 +67,7 @@ def held(history: History, targets: Sequence[Target]) -> list[Held]:
     for target in targets:
         if not answers[Where(*target)].ok:
             raise log.not_reached(history, target)
-    tree = Tree(history.records())
+    tree = history.tree
     parts = {
         target: [
             part
@@ -73,14 +77,17 @@ def held(history: History, targets: Sequence[Target]) -> list[Held]:
         for target in targets
     }
     answers.update(history.answers(part.query for each in parts.values() for part in each))
-    return [held_by(history, answers, target, parts[target]) for target in targets]
+    recorded = Recorded(history).of(targets)
+    return [held_by(history, answers, target, parts[target], of_target) for target, of_target in zip(targets, recorded)]
 
 
-def held_by(history: History, answers: Answers, target: Target, parts: Iterable[Part]) -> Held:
+def held_by(history: History, answers: Answers, target: Target, parts: Iterable[Part], recorded: Intervals) -> Held:
     trace = log.Trace(answers[Where(*target)].segments, answers[Log(*target)].revisions)
     found = Held(set(log.listed(history, trace)), set(), set())
-    for query, inheritable in parts:
-        (found.merged if inheritable else found.partial).update(answers[query].revisions)
+    for path, query, inheritable in parts:
+        alone = recorded.get(path, [])
+        revisions = (rev for rev in answers[query].revisions if not has(alone, rev))
+        (found.merged if inheritable else found.partial).update(revisions)
     return found
 
 

@@ -15,17 +15,18 @@ from typing import NamedTuple
 
 from . import branches, dates, merges
 from .answers import Answer, Mergeinfo, Query, Where, is_askable
-from .changes import components, is_at_or_below, tops_of
+from .changes import tops_of
 from .history import History
 from .lives import Life, Tree
 from .merges import Asked, Gain
+from .projects import TAG, TRUNK, kind_of
+from .recorded import is_mergeinfo_alone
 from .values import Explicit, line_of, lines_of
 
 MOST_OTHERS, MOST_COLUMNS = 400, 500
 # The fewest parts of the time.
 FEWEST_PARTS = 175
 OLDEST = b"1970-01-01T00:00:00.000000Z"
-TRUNK, BRANCH, TAG = "trunk", "branch", "tag"
 
 
 class Lane(NamedTuple):
@@ -108,7 +109,10 @@ def graph_of(history: History, patterns: Sequence[bytes], view: View = View()) -
     answers = history.ask(branches.logs_of(known) + [query for _, query in asked])
     operative = branches.operative(known, answers)
     chained = ordered(
-        [Lane(chain, kind_of(chain[0]), [rev for life in chain for rev in operative[life]]) for chain in chains(lives)]
+        [
+            Lane(chain, kind_of(chain[0].path), [rev for life in chain for rev in operative[life]])
+            for chain in chains(lives)
+        ]
     )
     gains = [
         gain for gain in parts.without_repeated(merges.gains_of(operative, asked, answers)) if gain.rev >= view.since
@@ -163,19 +167,13 @@ def copies_of(lanes: list[Lane], numbers: dict[Life, int], since: int) -> Iterat
             yield Copy(life, number, finder.lane(life, numbers))
 
 
-def kind_of(life: Life) -> str:
-    """What a life is, by its path."""
-    parts = components(life.path)
-    return TAG if b"tags" in parts[:-1] else TRUNK if parts[-1:] == [b"trunk"] else BRANCH
-
-
 def chains(lives: Iterable[Life]) -> list[list[Life]]:
     """Lives that go on in one lane: each is the one before it, moved to another place of the same kind."""
     found: list[list[Life]] = []
     ends: dict[tuple[bytes, int], list[Life]] = {}
     for life in sorted(lives, key=lambda life: life.first):
         chain = ends.get(life.source) if life.source is not None else None
-        if chain is not None and life.continues(chain[-1]) and kind_of(life) == kind_of(chain[-1]):
+        if chain is not None and life.continues(chain[-1]) and kind_of(life.path) == kind_of(chain[-1].path):
             del ends[(chain[-1].path, chain[-1].last)]
         else:
             chain = []
@@ -333,17 +331,6 @@ def ordered(lanes: list[Lane]) -> list[Lane]:
 def by_source(lane: Lane) -> tuple[int, int, bytes]:
     life = lane.lives[0]
     return (life.source[1] if life.source is not None else 0), life.first, life.path
-
-
-def is_mergeinfo_alone(history: History, explicit: Explicit, life: Life, rev: int) -> bool:
-    """Whether a revision changed nothing but mergeinfo at and below a life, by its records. Of other properties that
-    change along with it they say nothing."""
-    changed = explicit.settings.get(rev, set())
-    return life.first < rev and all(
-        record.action == "change" and not record.has_text and record.path in changed
-        for record in history.records(rev, rev)
-        if is_at_or_below(record.path, life.path)
-    )
 
 
 class Merging:

@@ -4,6 +4,7 @@ from __future__ import annotations
 import os
 import stat
 import threading
+import warnings
 import weakref
 from collections.abc import Callable, Iterable, Iterator, Sequence
 from contextlib import closing
@@ -50,6 +51,8 @@ class History:
         self.source = source
         # Whether nothing is asked after what is asked now.
         self.is_last_question = False
+        # Takes what is to be known beside an answer, such as that no path matches a pattern.
+        self.notice: Callable[[str], object] = warn
         # What is asked, from the first question on, and what ends it where nobody closes the history.
         self._lock = threading.Lock()
         self._talk: Talk | None = None
@@ -423,14 +426,15 @@ class History:
         """
         return list(all_branches().holders(self, patterns, rev))
 
-    def unmerged(self, into: bytes = b"/trunk", patterns: Sequence[bytes] = ()) -> list[Left]:
-        """What of each branch of today is still to be merged into a path of today, each revision with whether it was
-        merged in part.
+    def unmerged(self, into: bytes | None = None, patterns: Sequence[bytes] = ()) -> list[Left]:
+        """What of each branch of today is still to be merged into a path of today, or else into the trunk of its own
+        project, each revision with whether it was merged in part.
 
         >>> history.unmerged(b"/trunk", [b"/branches/two"])
         [Left(path=b'/branches/two', revisions=[(9, False), (11, False)])]
         """
-        return list(all_branches().unmerged(self, patterns, all_branches().Target(into, self.head)))
+        target = None if into is None else all_branches().Target(into, self.head)
+        return [each.left for each in all_branches().unmerged(self, patterns, target)]
 
     def graph(self, patterns: Sequence[bytes] = ()) -> Graph:
         """The branches and tags with their copies and merges, as the verb `graph` draws them.
@@ -450,6 +454,10 @@ class History:
         5
         """
         return dates.revision_at(dates.given(date), self.head, lambda rev: self.revision(rev).date)
+
+
+def warn(text: str) -> None:
+    warnings.warn(text, stacklevel=3)
 
 
 def all_branches() -> ModuleType:

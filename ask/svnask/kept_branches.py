@@ -13,7 +13,8 @@ from collections import Counter
 from collections.abc import Iterable, Iterator
 from typing import NamedTuple
 
-from .changes import is_at_or_below, tops_of
+from .changes import is_at_or_below, joined, rest_below, tops_of
+from .projects import TRUNK, is_in_named, is_named, kind_of
 from .store import Front
 from .strip import clean
 
@@ -25,8 +26,6 @@ MADE = re.compile(
 )
 GONE = re.compile(rb"\nNode-action: (?:delete|replace)\n")
 PATH, KIND = b"Node-path: ", b"Node-kind: "
-# Where a trunk, branches and tags are: also below the folder of a project.
-PLACE = re.compile(rb"(?:/[^/]+)*/(?:trunk|(?:branches|tags)/[^/]+)\Z")
 
 
 class Event(NamedTuple):
@@ -75,7 +74,7 @@ def events_in(text: bytes) -> Iterator[Event]:
     for found in MADE.finditer(text):
         path = path_before(text, found.start())
         # With a path that is replaced what was below it goes first.
-        if path and (found[1] is not None or PLACE.match(path)):
+        if path and (found[1] is not None or is_named(path)):
             yield Event(found.end(), True, path, clean(found[1]) if found[1] is not None else b"")
 
 
@@ -92,18 +91,35 @@ class Branches:
     """The branches and tags that are there after some events."""
 
     def __init__(self, events: Iterable[Event]) -> None:
-        self.paths: set[bytes] = set()
-        # All that ever were, and how many there are below each folder.
+        self._paths: set[bytes] = set()
+        # All that ever were, those that were never copied, and how many there are at and below each folder.
         self._known: set[bytes] = set()
+        self._made: set[bytes] = set()
         self._below: Counter[bytes] = Counter()
         for event in events:
-            if not event.is_made:
+            if event.is_made:
+                self._make(event)
+            else:
                 self._remove(event.path)
-            elif event.path not in self.paths and (event.source in self._known or PLACE.match(event.path)):
-                self._count(event.path, 1)
+
+    def _make(self, event: Event) -> None:
+        path, source = event.path, event.source
+        if source and source not in self._known and self._below[source] and not is_in_named(path):
+            # A project, or a folder of branches, with those in it.
+            for each in [each for each in self._paths if is_at_or_below(each, source)]:
+                self._add(joined(path, rest_below(each, source)))
+        elif source in self._known or is_named(path):
+            self._add(path)
+            if not source and kind_of(path) != TRUNK:
+                self._made.add(path)
+
+    def _add(self, path: bytes) -> None:
+        if path not in self._paths:
+            self._count(path, 1)
+            self._made.discard(path)
 
     def _count(self, path: bytes, number: int) -> None:
-        self.paths ^= {path}
+        self._paths ^= {path}
         self._known.add(path)
         for top in tops_of(path):
             self._below[top] += number
@@ -111,8 +127,12 @@ class Branches:
     def _remove(self, path: bytes) -> None:
         """Takes away a path and those below it."""
         if self._below[path]:
-            for each in [each for each in self.paths if is_at_or_below(each, path)]:
+            for each in [each for each in self._paths if is_at_or_below(each, path)]:
                 self._count(each, -1)
+
+    def paths(self) -> list[bytes]:
+        """Those that are no directories of others."""
+        return sorted(path for path in self._paths if path not in self._made or self._below[path] == 1)
 
 
 def kept_branches(folder: str, front: Front, until: float) -> list[bytes]:
@@ -124,4 +144,4 @@ def kept_branches(folder: str, front: Front, until: float) -> list[bytes]:
         if len(found) > 1 and time.monotonic() > until:
             break
         found[place] = events_of(spans[place])
-    return sorted(Branches(event for place in sorted(found) for event in found[place]).paths)
+    return Branches(event for place in sorted(found) for event in found[place]).paths()

@@ -10,7 +10,8 @@ import unicodedata
 from collections.abc import Iterator
 from typing import NamedTuple
 
-from .graph import BRANCH, TAG, TRUNK, Copy, Graph, Lane, newest
+from .graph import Copy, Graph, Lane, newest
+from .projects import BRANCH, TAG, TRUNK
 from .lives import Life
 from .texts import readable
 from .titles import span_of

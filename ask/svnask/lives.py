@@ -5,18 +5,21 @@ moved or deleted, of which no record names the path.
 """
 from __future__ import annotations
 
+import bisect
 import fnmatch
 import functools
 from collections.abc import Iterable, Iterator, Sequence
 from typing import NamedTuple
 
+from . import projects
 from .changes import Place, components, is_at_or_below, joined, rest_below, tops_of
+from .errors import Failed
 from .store import Record
 
-# Where the trunk, the branches and the tags are, as the Subversion book has them.
-PLACES = (b"/trunk", b"/branches/*", b"/tags/*")
 # As the last component of a pattern, the branches at any depth.
 ANY_DEPTH = b"**"
+# How many folders of branches come with copies of what they are in, at most. Some histories double with each copy.
+MOST_COPIED = 100000
 
 
 class Life(NamedTuple):
@@ -29,6 +32,9 @@ class Life(NamedTuple):
     source: Place | None
     # Whether it is there in the youngest revision.
     is_alive: bool
+
+    def has(self, rev: int) -> bool:
+        return self.first <= rev <= self.last
 
     def continues(self, other: Life) -> bool:
         """Whether this is the other one under another name: it was moved."""
@@ -99,6 +105,10 @@ class Tree:
         # Where a copy is not from an older revision, svnhist refuses the dump.
         return False, moved(path, place, newest.source) if newest.source[1] < newest.rev else None
 
+    def source(self, path: bytes, rev: int) -> Place | None:
+        """Where the node at a path of a revision was copied from last, if it was."""
+        return self._step(path, rev)[1]
+
     def is_made(self, path: bytes, rev: int) -> bool:
         """Whether a record of a revision made or unmade a path or one above it."""
         for top in tops_of(path):
@@ -145,32 +155,84 @@ class Tree:
 
     @functools.cached_property
     def branches(self) -> list[bytes]:
-        """The paths of the trunk, the branches and the tags, and of what was copied from one of them as a whole to a
+        """The paths of the trunks, the branches and the tags, and of what was copied from one of them as a whole to a
         place that is in none of them. A directory of branches is none itself."""
-        found = dict.fromkeys(path for pattern in PLACES for path in self.matching(pattern))
+        found = dict.fromkeys(self._named())
         for path, event in self.copies():
             assert event.source is not None
             if event.source[0] in found and not any(
                 top in found and not self._may_be_folder(top) for top in tops_of(path)
             ):
                 found[path] = None
-        return [path for path in found if not self.is_folder(path, found)]
+        kept = {path for path in found if not self._is_in_copy(path, found)}
+        folders = tops_above(kept)
+        return [path for path in found if path in kept and not (path in folders and self._may_be_folder(path))]
+
+    def _named(self) -> list[bytes]:
+        """The paths that ever were and are trunks, branches or tags by their names."""
+        found: dict[bytes, None] = {}
+        for path in self._special():
+            if projects.is_named(path):
+                found[path] = None
+            elif not projects.is_in_named(path):
+                found.update((joined(path, name), None) for name in sorted(self.names(path)))
+        return sorted(found, key=components)
+
+    def _special(self) -> list[bytes]:
+        """The paths that ever were and are a trunk or a folder of branches or tags by their last component: those of
+        records, or of what is in a folder by a record, and those that came with a copy of what they are in."""
+        found = {top for path in self._events for top in (path, parent_of(path)) if projects.is_special(top)}
+        rising = sorted(found)
+        count = 0
+        for path, event in self.copies():
+            if projects.is_in_named(path):
+                continue
+            for new in [*self._special_below(rising, path, event)]:
+                if new not in found and self.exists(new, event.rev):
+                    found.add(new)
+                    bisect.insort(rising, new)
+                    count += 1
+                    if count > MOST_COPIED:
+                        raise Failed(f"there are more than {MOST_COPIED} folders of branches and tags", 1)
+        return rising
+
+    def _special_below(self, rising: list[bytes], path: bytes, event: Event) -> Iterator[bytes]:
+        """Where a copy may have put such paths. What it is of may have come with copies itself."""
+        place = event.source
+        while place is not None:
+            source = place[0]
+            front = source if source.endswith(b"/") else source + b"/"
+            for each in rising[bisect.bisect_left(rising, front) : bisect.bisect_left(rising, front[:-1] + b"0")]:
+                yield joined(path, rest_below(each, source))
+            # Of a copy that is in no branch they are known.
+            place = self._step(*place)[1] if projects.is_in_named(source) else None
+
+    def _is_in_copy(self, path: bytes, branches: dict[bytes, None]) -> bool:
+        """Whether a path is in a branch that is none by its name."""
+        _, *above = tops_of(path)
+        return any(top in branches and not projects.is_named(top) for top in above)
 
     def _may_be_folder(self, path: bytes) -> bool:
-        """Whether a path was never the trunk or a copy."""
-        return path != PLACES[0] and not any(event.source is not None for event in self._events.get(path, ()))
+        """Whether a path was never a trunk or a copy."""
+        is_trunk = projects.is_named(path) and projects.kind_of(path) == projects.TRUNK
+        return not is_trunk and not any(event.source is not None for event in self._events.get(path, ()))
 
-    def is_folder(self, path: bytes, branches: Iterable[bytes]) -> bool:
+    @functools.cached_property
+    def _folders(self) -> set[bytes]:
+        """The paths that branches are below."""
+        return tops_above(self.branches)
+
+    def is_folder(self, path: bytes) -> bool:
         """Whether a path is a directory of branches, and none itself."""
-        return self._may_be_folder(path) and any(each != path and is_at_or_below(each, path) for each in branches)
+        return self._may_be_folder(path) and path in self._folders
 
     def matching(self, pattern: bytes) -> list[bytes]:
         """The paths that ever were and match a pattern, component by component. At its end `**` stands for the branches
         at any depth."""
         *parts, last = components(pattern) or [b""]
         if last == ANY_DEPTH:
-            tops = self.matching(b"/" + b"/".join(parts))
-            return [path for path in self.branches if any(path != top and is_at_or_below(path, top) for top in tops)]
+            tops = set(self.matching(b"/" + b"/".join(parts)))
+            return [path for path in self.branches if not tops.isdisjoint(tops_above([path]))]
         found = [b"/"]
         for part in components(pattern):
             if is_plain(part):
@@ -195,6 +257,22 @@ class Tree:
             life = Life(path, event.rev, head, source, True) if is_there else None
         if life is not None:
             yield life
+
+
+def parent_of(path: bytes) -> bytes:
+    return path.rpartition(b"/")[0] or b"/"
+
+
+def tops_above(paths: Iterable[bytes]) -> set[bytes]:
+    """The paths above some others."""
+    found: set[bytes] = set()
+    for path in paths:
+        while path != b"/":
+            path = parent_of(path)
+            if path in found:
+                break
+            found.add(path)
+    return found
 
 
 def moves_of(lives: Sequence[Life]) -> dict[Life, Life]:
@@ -226,21 +304,17 @@ def letters(name: bytes) -> str:
     return name.decode("utf-8", "surrogateescape")
 
 
-def is_matched(path: bytes, pattern: bytes) -> bool:
-    """Whether a path matches a pattern, component by component."""
-    parts, wanted = components(path), components(pattern)
-    return len(parts) == len(wanted) and all(
-        fnmatch.fnmatchcase(letters(part), letters(each)) for part, each in zip(parts, wanted)
-    )
-
-
 def is_plain(part: bytes) -> bool:
     return not any(letter in part for letter in b"*?[")
 
 
 def lives_in(tree: Tree, patterns: Sequence[bytes], head: int) -> list[Life]:
     """The lives of all paths that match a pattern, in the order of paths and revisions."""
-    paths = {path for pattern in patterns for path in tree.matching(pattern)}
+    return lives_at(tree, {path for pattern in patterns for path in tree.matching(pattern)}, head)
+
+
+def lives_at(tree: Tree, paths: Iterable[bytes], head: int) -> list[Life]:
+    """The lives of some paths, in the order of paths and revisions."""
     return [life for path in sorted(paths, key=components) for life in tree.lives(path, head)]
 
 

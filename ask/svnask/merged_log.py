@@ -17,7 +17,7 @@ from .history import History
 from .log import Item, Options, copied_in, parts
 from .merged_parts import Part, parts_of
 from .merged_values import MergeinfoChanges
-from .merges import Interval, Intervals, united
+from .merges import Interval, Intervals, has, united
 from .targets import Target, decoded, known
 from .traces import Cut, Traces
 
@@ -74,11 +74,6 @@ class Searched:
             last += 1
         joined = [*runs[first:last], (low, high)]
         runs[first:last] = [(min(lo for lo, _ in joined), max(hi for _, hi in joined))]
-
-
-def has(intervals: list[Interval], rev: int) -> bool:
-    at = bisect.bisect_left(intervals, (rev + 1,)) - 1
-    return at >= 0 and rev <= intervals[at][1]
 
 
 class Walker:
@@ -256,15 +251,33 @@ def falling(cuts: list[Cut], low: int, high: int) -> list[int]:
     return sorted({rev for cut in cuts for rev in cut.between(low, high)}, reverse=True)
 
 
+def without_stray_ends(items: Iterable[Item]) -> Iterator[Item]:
+    """The items without the ends of those that were left out, which servers do not send."""
+    depth = 0
+    for item in items:
+        if item.rev >= 0:
+            depth += item.has_merges
+        elif depth:
+            depth -= 1
+        else:
+            continue
+        yield item
+
+
 def items_of(history: History, target: Target, below: Sequence[bytes], options: Options) -> list[Item]:
-    """The items of a log with what was merged. A limit counts each item of several ranges, ends too."""
+    """The items of a log with what was merged. A limit counts each item of several ranges, ends too. What `svn` prints of
+    a repository on the same machine has ends that a server does not send."""
     walker = Walker(history, options.stops_on_copy)
     found: list[Item] = []
     for part in parts(history, target, below, options):
         for walk in part.walks:
             walker.traces.add(walk)
         limit = options.limit - len(found) if options.limit is not None else 0
-        found += walker.items(part.paths, part.first, part.last, limit)
+        if limit < 0 and history.source.root.startswith("svn"):
+            # This protocol has no numbers below 0, so svnserve takes it for a large one.
+            limit = 0
+        items = walker.items(part.paths, part.first, part.last, limit)
+        found += without_stray_ends(items) if history.source.is_remote else items
         if len(found) == options.limit:
             break
     return found

@@ -113,6 +113,12 @@ class Tally:
         return self._lost + [each for all_of in self._held.values() for each in all_of]
 
 
+def has(intervals: Sequence[Interval], rev: int) -> bool:
+    """Whether a revision is in some rising intervals."""
+    at = bisect.bisect_left(intervals, (rev + 1,)) - 1
+    return at >= 0 and rev <= intervals[at][1]
+
+
 def minus(these: Sequence[Interval], those: Sequence[Interval]) -> list[Interval]:
     """What is in some intervals and not in others. Both rise."""
     left = []

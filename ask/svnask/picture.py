@@ -5,7 +5,8 @@ from collections.abc import Iterable, Iterator
 from html import escape
 from typing import NamedTuple
 
-from .graph import BRANCH, TAG, TRUNK, Copy, Dot, Graph, Merge
+from .graph import Copy, Dot, Graph, Merge
+from .projects import BRANCH, TAG, TRUNK
 from .history import History
 from .layout import GAP, TAIL, TOP, Layout, Place
 from .titles import Titles, about_copy, about_end, about_lane, dated

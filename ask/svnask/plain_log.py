@@ -30,9 +30,13 @@ def summary_of(revision: Revision) -> bytes:
     return author_of(revision) + b"\t" + first_line(revision)
 
 
+def date_of(revision: Revision) -> bytes:
+    return dates.shown(revision.date).encode("ascii")
+
+
 def head_line(revision: Revision) -> bytes:
     """The line of a revision without its message."""
-    return b"r%d | %s | %s" % (revision.number, author_of(revision), dates.shown(revision.date).encode("ascii"))
+    return b"r%d | %s | %s" % (revision.number, author_of(revision), date_of(revision))
 
 
 class PlainForm(Form):

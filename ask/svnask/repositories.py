@@ -10,7 +10,7 @@ import tempfile
 import urllib.parse
 import xml.etree.ElementTree as xml
 from collections.abc import Iterator, Sequence
-from contextlib import contextmanager
+from contextlib import contextmanager, suppress
 from typing import IO, NamedTuple
 
 from .engine import name_of
@@ -24,8 +24,8 @@ LOCALE = {"LC_ALL": "C.UTF-8"}
 ERROR = re.compile(r"svn[a-z]*: (?:warning: )?([EW][0-9]{6}: .*)")
 # That there is nothing at a URL of a repository, and what follows from it.
 NONE_THERE, NOT_ALL = re.compile(r"W170000: URL '.*' non-existent in revision"), "E200009: "
-# That the lines of a value end in several ways.
-MIXED = "E135000: "
+# That the lines of a value end in several ways, and that a date can't be read.
+MIXED, BOGUS = "E135000: ", "E125003: "
 # How svn prints a byte that it can't.
 ESCAPED = re.compile("\\?\\\\[0-9A-F]{2}|\ufffd")
 # What XML can't have, and what svn prints even so.
@@ -54,12 +54,32 @@ class Access(NamedTuple):
 
     def look(self, url: str) -> Repository:
         """The repository that has a path. `Unreached` where none has."""
-        with printed("svn", "info", "--xml", *self.words, without_peg(url)) as stream:
+        try:
+            return self._look(url, "HEAD")
+        except Unreached as error:
+            if not str(error).startswith(BOGUS):
+                raise
+        # The last revision has a date that can't be read, so svn says nothing of it. In revision 0 there is the root.
+        *below, root = ancestors(url)
+        found: Repository | None = None
+        for above in below:
+            with suppress(Unreached):
+                found = self._look(above, "0")
+                break
+        found = found or self._look(root, "0")
+        return found._replace(youngest=self._youngest(found.root))
+
+    def _look(self, url: str, rev: str) -> Repository:
+        with printed("svn", "info", "--xml", "-r", rev, *self.words, without_peg(url)) as stream:
             found = list(elements(stream, "entry"))
         root, uuid = (found[0].findtext(f"repository/{name}") if found else None for name in ("root", "uuid"))
         if root is None or uuid is None:
             raise Failed("svn info printed something other than a repository")
         return Repository(canonical(root), uuid.encode("utf-8"), int(found[0].attrib["revision"]))
+
+    def _youngest(self, root: str) -> int:
+        with printed("svn", "log", "--xml", "-q", "-r", "HEAD", *self.words, without_peg(root)) as stream:
+            return max((int(each.attrib["revision"]) for each in elements(stream, "logentry")), default=0)
 
     def look_above(self, url: str) -> Repository:
         """The repository that has a path, or had it: that which has one above it."""

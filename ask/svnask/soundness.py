@@ -8,7 +8,7 @@ from typing import NamedTuple
 from .answers import Answers, Log
 from .changes import joined, rest_below, tops_of
 from .history import History
-from .lives import Tree, is_matched
+from .lives import Tree, unmatched
 from .targets import decoded
 from .values import Explicit, Run, Value, value_of
 
@@ -153,13 +153,17 @@ def findings_of_nearest(paths: Paths, path: bytes, value: Value, nearest: Neares
 
 
 def findings(history: History, patterns: Sequence[bytes]) -> list[Finding]:
-    """What is wrong with the values of the youngest revision, at and below the paths that match a pattern."""
-    explicit = Explicit(history.records())
+    """What is wrong with the values of the youngest revision, at and below the paths that match a pattern, or else the
+    path at which the source begins."""
+    explicit, tree = history.explicit, history.tree
+    matching = {path for pattern in patterns for path in tree.matching(pattern)}
+    for pattern in unmatched(tree, patterns, history.head):
+        history.notice(f"no path matches '{decoded(pattern)}'")
     paths = Paths(history)
     values = {
         path: value_of(text)
-        for path, text in explicit.below(b"/", history.head)
-        if not patterns or any(is_matched(top, pattern) for pattern in patterns for top in tops_of(path))
+        for path, text in explicit.below(b"/" if patterns else history.source.path, history.head)
+        if not patterns or not matching.isdisjoint(tops_of(path))
     }
     nearest = {path: inherited(explicit, path, history.head) for path in values}
     paths.ask(source for value in values.values() for source in value or ())

@@ -26,6 +26,11 @@ class Source:
         self.path = b"/"
         self.root = ""
 
+    @property
+    def is_remote(self) -> bool:
+        """Whether a server is asked."""
+        return bool(self.root) and not self.root.startswith("file:")
+
     def entry(self) -> Entry | None:
         """The place of what is kept, if it can be kept."""
         return None

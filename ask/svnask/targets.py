@@ -64,6 +64,13 @@ def placed(history: History, text: str) -> bytes:
     return path if text.startswith(("/", "^")) else below(source.path, path)
 
 
+def pattern_of(history: History, text: str) -> bytes:
+    """The pattern that a user names: of all paths, or without a slash or `^/` of what is below the path at which the
+    source begins."""
+    pattern = path_of(text)
+    return pattern if text.startswith(("/", "^")) else below(history.source.path, pattern)
+
+
 def below(top: bytes, path: bytes) -> bytes:
     """A path as one below another one."""
     return path if top == b"/" else top + path if path != b"/" else top

@@ -1,14 +1,16 @@
 """Runs `svn` and svnask on the same question, and compares what they print.
 
-usage: tests/ask/beside-svn [--only KIND] FIRST LAST
+usage: tests/ask/beside-svn [--only KIND] [--by file|svn|http] FIRST LAST
 
 For each seed from FIRST to LAST it draws a repository, recorded or drawn, and a command of some kind, and prints what is
 not the same. A seed always draws the same. Of XML the attributes and the properties are sorted before, since their
-order changes with each run of `svn`. The status is 1 if anything was not the same. `$SVNHIST` names the program.
+order changes with each run of `svn`. By `file` svnask reads a dump, and `svn` its folder; otherwise both ask the same
+server. The status is 1 if anything was not the same. `$SVNHIST` names the program.
 """
 from __future__ import annotations
 
 import argparse
+import contextlib
 import os
 import random
 import re
@@ -17,7 +19,7 @@ import sys
 import tempfile
 import time
 import urllib.parse
-from collections.abc import Callable, Iterator
+from collections.abc import Callable, Iterator, Sequence
 from pathlib import Path
 from typing import NamedTuple
 
@@ -25,11 +27,10 @@ from dev.tree import INTEROP, programs
 from interop.outputs import as_url
 from interop.repository import Repository
 from interop.tools import ENVIRONMENT, Tools, url_of
-from tests.ask import base
+from tests.ask import base, grown
 from tests.ask.drawn_repositories import drawn, synchronized
 
 ERROR = re.compile(r"^svn(?:ask)?: (E[0-9]+):", re.MULTILINE)
-URL = re.compile(rb"file://[^\n' ]*?/loaded/repository([^\n' ]*)")
 ATTRIBUTES = re.compile(rb"<(\w+)((?:\n   [\w-]+=\"[^\"]*\")+)>")
 PROPERTIES = re.compile(rb"<revprops>\n(.*?)</revprops>\n", re.DOTALL)
 NAMES = sorted(path.stem for path in INTEROP.glob("*.dump") if path.stem != "values")
@@ -39,14 +40,16 @@ PATTERNS = (
     "a*b", "/trunk", "/b/*/f", "(no date)", "(invalid date)", "", "*", "soon", "T00:", "copy", "\x7f", "message", "?\\001",
 )
 # fmt: on
+# The error where the server ended: with -g and a rising range svnserve may fail.
+ENDED = b"E210002"
 # How many seeds have the same repository.
 TOGETHER = 20
 
 
 class Place(NamedTuple):
-    """A repository that was loaded: its dump, its URL, and the paths of each revision."""
+    """A repository that was loaded: what svnask is asked about, its URL, and the paths of each revision."""
 
-    dump: Path
+    source: base.Word
     url: str
     trees: list[list[str]]
 
@@ -58,10 +61,30 @@ class Output(NamedTuple):
     text: bytes
 
 
-def loaded(number: int, folder: Path) -> Place:
+class Server(NamedTuple):
+    """Where the repositories of a folder are served, and the options by which they are reached."""
+
+    url: str
+    options: tuple[str, ...] = ()
+
+
+@contextlib.contextmanager
+def served(by: str, folder: Path) -> Iterator[Server | None]:
+    """The server of the repositories that are loaded, if they are not asked by files."""
+    (folder / "loaded").mkdir()
+    if by == "svn":
+        with grown.svnserve(folder / "loaded", "read") as url:
+            yield Server(url)
+    elif by == "http":
+        with grown.apache(folder / "loaded", folder / "apache") as url:
+            yield Server(url, ("--username", "alice", "--password", "secret", "--no-auth-cache", "--non-interactive"))
+    else:
+        yield None
+
+
+def loaded(number: int, folder: Path, server: Server | None = None) -> Place:
     """The repository of a number."""
-    shutil.rmtree(folder, ignore_errors=True)
-    folder.mkdir()
+    shutil.rmtree(folder / "repository", ignore_errors=True)
     tools = Tools(folder)
     chance = random.Random(number)
     sort = chance.random()
@@ -70,10 +93,12 @@ def loaded(number: int, folder: Path) -> Place:
     else:
         dump = synchronized(number) if sort < 0.55 else drawn(number)
     tools.load(folder / "repository", dump)
+    trees = [[f"/{path}" for path in tree] for tree in Repository(tools, folder / "repository").trees]
+    if server is not None:
+        return Place(f"{server.url}/repository", f"{server.url}/repository", trees)
     made = folder / "dump"
     made.write_bytes(tools.run("svnadmin", "dump", "-q", folder / "repository"))
-    trees = Repository(tools, folder / "repository").trees
-    return Place(made, url_of(folder / "repository"), [[f"/{path}" for path in tree] for tree in trees])
+    return Place(made, url_of(folder / "repository"), trees)
 
 
 def some(chance: random.Random, **shares: float) -> list[str]:
@@ -213,33 +238,42 @@ class Compared(NamedTuple):
         )
 
 
-def compare(kind: str, seed: int, place: Place, folder: Path) -> Compared:
+def compare(kind: str, seed: int, place: Place, folder: Path, options: Sequence[str] = ()) -> Compared:
     chance = random.Random(f"{kind} {seed}")
     words = KINDS[kind](chance, place)
-    done = Tools(folder).try_run("svn", *(as_url(place.url, word) for word in words))
-    found = base.called(place.dump, *words)
+    done = Tools(folder).try_run("svn", *options, *(as_url(place.url, word) for word in words))
+    found = base.called(place.source, *options, *words)
     said = done.errors.decode("utf-8", "replace")
-    # In place of a URL svnask prints the path.
-    printed = (
-        URL.sub(lambda url: urllib.parse.unquote_to_bytes(url[1]) or b"/", done.output)
-        if kind == "values"
-        else done.output
-    )
-    return Compared(words, output_of(done.status, printed, said), output_of(found.status, found.output, found.said))
+    printed, own = done.output, found.output
+    if kind == "values":
+        # In place of a URL svnask prints the path.
+        url = re.compile(re.escape(place.url.encode()) + rb"([^\n' ]*)")
+        printed = url.sub(lambda found: urllib.parse.unquote_to_bytes(found[1]) or b"/", printed)
+    if options or place.source == place.url:
+        printed, own = map(as_served, (printed, own))
+    return Compared(words, output_of(done.status, printed, said), output_of(found.status, own, found.said))
 
 
-def differing(kinds: list[str], first: int, last: int, folder: Path) -> Iterator[tuple[int, Compared]]:
+def as_served(text: bytes) -> bytes:
+    """What is printed, without what servers or svnrdump change in messages."""
+    return text.replace(b"\r", b"").replace(b"&#13;", b"").replace(b"\x7f", b"?\\127")
+
+
+def differing(
+    kinds: list[str], first: int, last: int, folder: Path, by: str = "file"
+) -> Iterator[tuple[int, Compared]]:
     """The seeds with another output of svnask."""
     place: Place | None = None
     number = -1
-    for seed in range(first, last + 1):
-        if place is None or number != seed // TOGETHER:
-            number = seed // TOGETHER
-            place = loaded(number, folder / "loaded")
-        for kind in kinds:
-            compared = compare(kind, seed, place, folder)
-            if compared.wanted != compared.found:
-                yield seed, compared
+    with served(by, folder) as server:
+        for seed in range(first, last + 1):
+            if place is None or number != seed // TOGETHER:
+                number = seed // TOGETHER
+                place = loaded(number, folder / "loaded", server)
+            for kind in kinds:
+                compared = compare(kind, seed, place, folder, server.options if server is not None else ())
+                if compared.wanted not in (compared.found, Output(1, ENDED)):
+                    yield seed, compared
 
 
 def main() -> int:
@@ -248,6 +282,7 @@ def main() -> int:
         description="Runs svn and svnask on one question for each seed. Exits with 1 where they do not print the same.",
     )
     words.add_argument("--only", choices=sorted(KINDS), help="the only kind of command")
+    words.add_argument("--by", choices=("file", "svn", "http"), default="file", help="how repositories are reached")
     words.add_argument("first", type=int, help="the first seed")
     words.add_argument("last", type=int, help="the last seed")
     given = words.parse_args()
@@ -256,7 +291,7 @@ def main() -> int:
     with tempfile.TemporaryDirectory(prefix="svnask-beside-svn-") as folder:
         os.environ.update(ENVIRONMENT, XDG_CACHE_HOME=os.path.join(folder, "cache"), SVNHIST=str(programs().svnhist))
         time.tzset()
-        for seed, compared in differing(kinds, given.first, given.last, Path(folder)):
+        for seed, compared in differing(kinds, given.first, given.last, Path(folder), given.by):
             print(f"seed {seed}: {compared.words}\n{compared.shown()}", flush=True)
             count += 1
     total = (given.last - given.first + 1) * len(kinds)

@@ -5,7 +5,21 @@ from __future__ import annotations
 import random
 from typing import NamedTuple, Optional
 
-from dev.dumps import DIR, FILE, MERGEINFO, Dump, Node, Revision, Source, added, changed, copied, deleted, mergeinfo, section
+from dev.dumps import (
+    DIR,
+    FILE,
+    MERGEINFO,
+    Dump,
+    Node,
+    Revision,
+    Source,
+    added,
+    changed,
+    copied,
+    deleted,
+    mergeinfo,
+    section,
+)
 
 PATHS = (
     b"trunk",
@@ -263,20 +277,22 @@ def rangelist(revisions: set[int]) -> bytes:
 def step_of_features(chance: random.Random, branches: list[Feature], rev: int) -> list[Node]:
     """What a revision does: it changes a branch, makes a feature or deletes one, or merges all or some of another one."""
     branch = chance.choice(branches)
-    what = chance.random()
-    if what < 0.1 and len(branches) < 7:
-        feature = Feature(b"branches/f%d" % rev, branch, rev)
-        branches.append(feature)
-        return [copied(feature.path, branch.path, rev - 1)]
-    parent = branch.parent
-    if what < 0.75 and parent is not None and rev - 1 > branch.first:
-        target, source = (branch, parent) if chance.random() < 0.65 or parent not in branches else (parent, branch)
+    parent, what = branch.parent, chance.random()
+    if what < 0.12 and len(branches) < 7:
+        source = branches[0] if chance.random() < 0.7 else branch
+        branches.append(Feature(b"branches/f%d" % rev, source, rev))
+        return [copied(branches[-1].path, source.path, rev - 1)]
+    if what < 0.7 and parent is not None and rev - 1 > branch.first:
+        target, source = (branch, parent) if chance.random() < 0.5 or parent not in branches else (parent, branch)
         first = branch.first if chance.random() < 0.8 else chance.randint(branch.first, rev - 1)
+        before = target.text()
         target.take(source, range(first, rev if chance.random() < 0.8 else chance.randint(first, rev - 1) + 1))
-        text = b"merged %d\n" % rev if chance.random() < 0.7 else None
-        nodes = [changed(target.path, mergeinfo(target.text()))]
-        return nodes if text is None else [*nodes, changed(target.path + b"/f", text=text)]
-    if what < 0.77 and parent is not None:
+        # Of a value that stays svnrdump says nothing.
+        nodes = [changed(target.path, mergeinfo(target.text()))] if target.text() != before else []
+        if not nodes or chance.random() < 0.7:
+            nodes.append(changed(target.path + b"/f", text=b"merged %d\n" % rev))
+        return nodes
+    if what < 0.72 and parent is not None and rev > branch.first + 15:
         branches.remove(branch)
         return [deleted(branch.path)]
     return [changed(branch.path + chance.choice((b"/f", b"/g")), text=b"text %d\n" % rev)]
@@ -288,6 +304,6 @@ def synchronized(seed: int) -> bytes:
     branches = [Feature(b"trunk", None, 1)]
     files = [added(b"trunk/" + name, FILE, text=b"new\n") for name in (b"f", b"g")]
     revisions = [Revision(0), Revision(1, [added(b"trunk"), added(b"branches"), *files], properties_of(chance, 1))]
-    for rev in range(2, chance.choice((30, 60, 120))):
+    for rev in range(2, chance.choice((30, 120))):
         revisions.append(Revision(rev, step_of_features(chance, branches, rev), properties_of(chance, rev)))
     return bytes(Dump(revisions))

@@ -97,7 +97,7 @@ class Words(CompletionTest):
         with mock.patch.object(cli, "VERBS", [*VERBS, NewVerb()]):
             cli.parser.cache_clear()
             self.assertEqual(self.words(DUMP, "br"), ["branches", "brand-new"])
-            self.assertEqual(self.words(DUMP, "brand-new", "--b"), ["--brand"])
+            self.assertEqual(self.words(DUMP, "brand-new", "--b"), ["--below", "--brand"])
             for words in (["tr"], ["--brand", "tr"]):
                 self.assertEqual(self.words(DUMP, "brand-new", *words), ["trunk"])
             self.assertEqual(self.words(DUMP, "brand-new", "--brand=tr"), ["--brand=trunk"])
@@ -122,7 +122,10 @@ class Words(CompletionTest):
         below = ROOT_URL + "/branches"
         self.assertEqual(self.words(below, "log", ""), ["lib", "one-again", "two"])
         self.assertEqual(self.words(below, "log", "^/tr"), ["^/trunk"])
-        self.assertEqual(self.words(below, "branches", ""), PATHS)
+        self.assertEqual(self.words(below, "branches", ""), ["lib", "one-again", "two"])
+        self.assertEqual(self.words(below, "branches", "/tr"), ["/trunk"])
+        for words in (["--below", "branches", DUMP, "log"], [DUMP, "contains", "--below=branches", "5"]):
+            self.assertEqual(self.words(*words, "t"), ["two"])
         self.assertEqual(self.words(DUMP, "unmerged", "--into=tr"), ["--into=trunk"])
 
     def test_words_that_stand_for_themselves(self) -> None:

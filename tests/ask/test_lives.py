@@ -107,9 +107,9 @@ class Branches(base.Case):
         dump = base.dump_of("merges")
         lines = base.called(dump, "unmerged", "--log", "/trunk", "--into", "branches/two").output.splitlines()
         self.assertEqual(lines[0], b"/trunk\tr11\tcarol\tMerge the branch back")
-        found = json.loads(
-            base.called("--json", dump, "unmerged", "/trunk", "--into", "branches/two").output.split(b"\n")[0]
-        )
+        done = base.called("--json", dump, "unmerged", "/trunk", "--into", "branches/two")
+        found = [json.loads(line) for line in done.output.splitlines()]
         self.assertEqual(
-            (found["path"], found["revision"], found["author"], found["partial"]), ("/trunk", 11, "carol", False)
+            [(each["path"], each["revision"], each["partial"], each["recorded"]) for each in found],
+            [("/trunk", rev, False, rev == 6) for rev in (6, 11, 12, 14)],
         )

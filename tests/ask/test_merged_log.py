@@ -3,7 +3,7 @@ from __future__ import annotations
 
 import json
 
-from dev.dumps import DIR, Node, added, changed, copied, dump_of, mergeinfo
+from dev.dumps import DIR, FILE, Node, added, changed, copied, dump_of, mergeinfo
 from svnask.merged_log import Searched, Walker
 from svnask.merged_parts import Part, hash_of, in_hash_order, parts_of
 from svnask.merges import Intervals
@@ -41,12 +41,39 @@ class MergedLog(base.Case):
         rows = ((6, 8, True), (6, 12, True), (3, 5, False), (2, 3, True), (4, 4, False), (12, 13, False), (1, 2, False))
         for low, high, wanted in rows:
             self.assertEqual(searched.has(b"/a", low, high), wanted, (low, high))
-        # Where runs touch they are one, and a range that begins in a run is walked to its end.
-        for low, high, last in ((4, 11, 5), (1, 2, 2), (4, 13, 13), (1, 21, 20), (11, 21, 21), (4, 4, 4)):
-            self.assertEqual(searched.last_left(b"/a", low, high), last, (low, high))
+        # Where runs touch they are one. A range that begins in a run begins with the end of that, and another one that
+        # ends in a run ends with the begin of that.
+        rows_left = ((4, 11, (4, 5)), (1, 2, (1, 2)), (4, 13, (4, 13)), (1, 21, (1, 20)), (11, 21, (12, 21)))
+        for low, high, left in rows_left:
+            self.assertEqual(searched.left(b"/a", low, high), left, (low, high))
         searched.add(b"/a", 4, 4)
         self.assertEqual([searched.has(b"/a", 2, 12), searched.has(b"/b", 2, 2)], [True, False])
-        self.assertEqual(searched.last_left(b"/a", 1, 12), 2)
+        self.assertEqual(searched.left(b"/a", 1, 12), (1, 2))
+        # An empty range, as a fault of Subversion makes some.
+        self.assertEqual(searched.left(b"/a", 14, 13), (14, 13))
+
+    def test_a_range_that_was_walked_in_part_begins_where_svn_begins_it(self) -> None:
+        # fmt: off
+        dump = dump_of(
+            [added(b"trunk"), added(b"b"), added(b"trunk/f", FILE, text=b"1")],
+            [copied(b"b/" + each, b"trunk", 1) for each in (b"f", b"g", b"h", b"i")],
+            [changed(b"b/i/f", text=b"3")],
+            [changed(b"b/h/f", text=b"4")],
+            [setting(b"trunk", b"/b/h:4"), changed(b"trunk/f", text=b"5")],
+            [changed(b"trunk/f", text=b"6")],
+            [changed(b"trunk/f", text=b"7")],
+            [setting(b"b/g", b"/b/h:4\n/trunk:5-7")],
+            [setting(b"b/f", b"/b/h:4\n/trunk:2-6")],
+            [setting(b"trunk", b"/b/f:9\n/b/g:8\n/b/h:4\n/b/i:3")],
+        )
+        # fmt: on
+        done = base.called(self.made("dump", dump), "log", "-g", "--json", "-c", "10", "trunk")
+        found = [json.loads(line) for line in done.output.splitlines()]
+        # What svn 1.14 prints of it: r5 was walked before as a revision of r9, and is not walked again for r8.
+        self.assertEqual(
+            [(each["revision"], each["merged_via"]) for each in found],
+            [(10, []), (9, [10]), (6, [10, 9]), (5, [10, 9]), (4, [10, 9, 5]), (8, [10]), (7, [10, 8]), (3, [10])],
+        )
 
     def test_objects_say_by_what_a_revision_was_merged(self) -> None:
         done = base.called(base.dump_of("merges"), "log", "-g", "--json", "-r", "8", "branches/two")

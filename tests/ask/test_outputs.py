@@ -1,4 +1,4 @@
-"""The outputs of `svn` itself, as `interop/record --outputs` recorded them."""
+"""The outputs of `svn` itself, as `interop/record --outputs` recorded them, and what svnask prints of several projects."""
 from __future__ import annotations
 
 from dev.tree import INTEROP
@@ -6,7 +6,11 @@ from interop import outputs
 from svnask import cli
 from svnask.errors import Error
 from svnask.history import History
+from svnask.verbs import VERBS
+from svnask.verbs.kept import KeptVerb
 from tests.ask import base
+
+PROJECTS = INTEROP / "projects.svnask"
 
 
 def output_of(history: History, arguments: list[str]) -> outputs.Output:
@@ -28,3 +32,13 @@ class Outputs(base.Case):
                     self.assertEqual(output_of(history, wanted.arguments), wanted)
                 count += 1
         self.assertGreater(count, 700)
+
+    def test_each_verb_prints_what_it_printed_of_several_projects(self) -> None:
+        """The answers were looked at one by one. Those of `ask` have a test of their own."""
+        recorded = list(outputs.read(PROJECTS))
+        for wanted in recorded:
+            with self.subTest(arguments=wanted.arguments):
+                done = base.called(base.dump_of("projects"), *wanted.arguments)
+                self.assertEqual((done.status, done.output + done.said.encode()), (wanted.status, wanted.text))
+        asked = {each.arguments[0] for each in recorded}
+        self.assertEqual({verb.name for verb in VERBS if not isinstance(verb, KeptVerb)} - asked, {"ask"})

@@ -10,7 +10,7 @@ from ..changes import Change, Place
 from ..digits import number
 from ..history import History
 from ..store import Record
-from ..targets import decoded, path_of
+from ..targets import decoded, pattern_of
 
 Object = dict[str, Any]
 
@@ -37,8 +37,8 @@ class Verb:
         raise NotImplementedError
 
 
-def patterns_of(given: Namespace) -> list[bytes]:
-    return [path_of(pattern) for pattern in given.patterns]
+def patterns_of(history: History, given: Namespace) -> list[bytes]:
+    return [pattern_of(history, pattern) for pattern in given.patterns]
 
 
 def add_patterns(parser: ArgumentParser, default: str) -> None:
@@ -47,7 +47,7 @@ def add_patterns(parser: ArgumentParser, default: str) -> None:
         metavar="PATTERN",
         nargs="*",
         default=[],
-        help="a path, in which *, ? and [..] stand for characters of a name, and ** at the end for the trunk, the "
+        help="a path, in which *, ? and [..] stand for characters of a name, and ** at the end for the trunks, the "
         f"branches and the tags at any depth; {default} if none is given",
     )
 

@@ -25,7 +25,7 @@ class GraphVerb(Verb):
     help = "a picture of branches and tags, their copies and merges, as SVG for a browser"
 
     def arguments(self, parser: ArgumentParser) -> None:
-        add_patterns(parser, "/**")
+        add_patterns(parser, "**")
         parser.add_argument("-o", "--output", metavar="FILE", help="where to write it, in place of the standard output")
         parser.add_argument("--since", metavar="REV", help="the first revision that is drawn, or its {DATE}")
         parser.add_argument("--by-time", action="store_true", help="place revisions by their time, not by their number")
@@ -84,7 +84,7 @@ def graph_of(history: History, given: Namespace) -> graph.Graph:
     if width < NARROWEST:
         raise Usage(f"--width takes {NARROWEST} pixels or more")
     view = graph.View(since, given.by_time, width // layout.NARROWEST, not given.unfolded)
-    return graph.graph_of(history, patterns_of(given), view)
+    return graph.graph_of(history, patterns_of(history, given), view)
 
 
 def write(name: str, pieces: Iterable[bytes]) -> None:

@@ -136,7 +136,7 @@ class CheckMergeinfoVerb(Verb):
         add_patterns(parser, "all paths")
 
     def text(self, history: History, given: Namespace) -> Iterator[bytes]:
-        found = findings(history, patterns_of(given))
+        found = findings(history, patterns_of(history, given))
         for each in found:
             named = b"" if each.source is None else b"%s:%s " % (each.source, each.ranges)
             yield b"%s\t%s%s\n" % (each.path, named, encoded(each.reason))
@@ -144,7 +144,7 @@ class CheckMergeinfoVerb(Verb):
             raise Unsound
 
     def objects(self, history: History, given: Namespace) -> Iterator[Object]:
-        found = findings(history, patterns_of(given))
+        found = findings(history, patterns_of(history, given))
         for each in found:
             named = {"source": shown(each.source), "ranges": each.ranges.decode("ascii") or None}
             yield {"path": decoded(each.path), **named, "reason": each.reason}

@@ -33,7 +33,7 @@ class PropgetVerb(Verb):
 
     def arguments(self, parser: ArgumentParser) -> None:
         parser.add_argument("property", metavar=MERGEINFO)
-        parser.add_argument("targets", metavar="TARGET[@PEG]", nargs="*", default=[], help="/ if none is given")
+        parser.add_argument("targets", metavar="TARGET[@PEG]", nargs="*", default=[], help="the path at which the source begins if none is given")
         parser.add_argument("-R", "--recursive", action="store_true", help="also of paths below")
         parser.add_argument("-v", "--verbose", action="store_true", help="with the path and the name of the property")
         parser.add_argument(
@@ -50,7 +50,7 @@ class PropgetVerb(Verb):
             raise Denied(
                 "E205000", "--no-newline is only available for single-target, non-recursive propget operations"
             )
-        targets = [target_of(history, word) for word in given.targets or ["/"]]
+        targets = [target_of(history, word) for word in given.targets or [""]]
         answers = history.answers(Where(*target) for target in targets)
         for target in targets:
             if not answers[Where(*target)].ok:
