@@ -3,6 +3,7 @@ from __future__ import annotations
 
 import itertools
 import json
+from itertools import repeat
 
 from model import definitions as plain
 from svnask.errors import Denied
@@ -20,6 +21,12 @@ class Plain:
     def __init__(self, dump: bytes) -> None:
         self.records = plain.records_of(dump)
         self.history = plain.history_of(dump)
+        self.texts: list[set[plain.Path]] = []
+        for block in plain.blocks_of(dump):
+            if b"Revision-number" in block.headers:
+                self.texts.append(set())
+            elif b"Text-content-length" in block.headers:
+                self.texts[-1].add(plain.parts_of(block.headers[b"Node-path"]))
 
     def is_listed(self, path: plain.Path, rev: int) -> bool:
         """Whether `svn log` lists a revision of a path: also one that copied it or a path above it to itself, and each
@@ -27,8 +34,37 @@ class Plain:
         copied = any(record.source and plain.is_below(path, record.path) for record in self.records[rev])
         return copied or not path or plain.is_operative(self.history, path, rev)
 
+    def has(self, place: plain.Place, source: plain.Path, rev: int) -> bool:
+        try:
+            value = plain.effective(self.history.trees[place.revision], place.path)
+        except plain.Malformed:
+            return False
+        return any(run.low <= rev <= run.high for run in value.get(source, []))
+
+    def is_recorded(self, place: plain.Place, source: plain.Path, rev: int) -> bool:
+        """Whether the revision by which a path has another one merged changed nothing but mergeinfo there."""
+        trees = self.history.trees
+        before = trees[place.revision][place.path].origin
+        while before is not None and self.has(before, source, rev):
+            place, before = before, trees[before.revision][before.path].origin
+        records = self.records[place.revision]
+        is_made = any(plain.is_below(place.path, each.path) and each.action != b"change" for each in records)
+        at_and_below = [each for each in records if plain.is_below(each.path, place.path)]
+        return (
+            before is not None
+            and not is_made
+            and all(map(self.is_mergeinfo_alone, at_and_below, repeat(place.revision)))
+        )
+
+    def is_mergeinfo_alone(self, record: plain.Record, rev: int) -> bool:
+        if record.action != b"change" or record.path in self.texts[rev]:
+            return False
+        now, before = (self.history.trees[each][record.path].mergeinfo for each in (rev, rev - 1))
+        return now != before
+
     def held(self, place: plain.Place) -> Sets:
-        """The revisions of a path's own history, those that were merged, and those that were merged in part."""
+        """The revisions of a path's own history, those that were merged, and those that were merged in part. Those that
+        were only recorded are left out."""
         found = plain.places(self.history.trees, place)
         own = {rev for rev, path in found if path is not None and self.is_listed(path, rev)}
         merged: set[int] = set()
@@ -38,7 +74,9 @@ class Plain:
                 last = min(run.high, len(self.history.trees) - 1)
                 revisions = range(run.low, last + 1)
                 (merged if run.inheritable else partial).update(
-                    rev for rev in revisions if plain.is_operative(self.history, source, rev)
+                    rev
+                    for rev in revisions
+                    if plain.is_operative(self.history, source, rev) and not self.is_recorded(place, source, rev)
                 )
         return own, merged, partial
 
@@ -98,4 +136,4 @@ class New(base.Case):
         done = base.called(dump, "new", "branches/two", "trunk")
         self.assertEqual(done.output.splitlines()[0], b"r14\tcarol\tChange inside a directory")
         lines = base.called("--json", dump, "new", "branches/two", "trunk").output.splitlines()
-        self.assertEqual([json.loads(line)["revision"] for line in lines], [14, 12, 11])
+        self.assertEqual([json.loads(line)["revision"] for line in lines], [14, 12, 11, 6])
