@@ -17,10 +17,12 @@ class Tools:
     def __init__(self, folder: Path) -> None:
         self.folder = folder
 
-    def try_run(self, command: str, *words: Word, given: bytes = b"", folder: Path | None = None) -> Outcome:
+    def try_run(
+        self, command: str, *words: Word, given: bytes = b"", folder: Path | None = None, seconds: int = 600
+    ) -> Outcome:
         options: list[Word] = ["--non-interactive", "--config-dir", self.folder / "settings"]
         line = [command, *(options if COMMANDS[command] else []), *words]
-        return run(line, given, limits=Limits(600), environment=ENVIRONMENT, folder=folder)
+        return run(line, given, limits=Limits(seconds), environment=ENVIRONMENT, folder=folder)
 
     def run(self, command: str, *words: Word, given: bytes = b"", folder: Path | None = None) -> bytes:
         """What a command prints, which must succeed."""

@@ -53,8 +53,16 @@ class Entry:
                 continue
             except (OSError, Damaged):
                 return None
+            if not store.is_as_written():
+                store.close()
+                return None
             cache.touch(self.folder)
             return store
+
+    def is_newest(self, index: Index) -> bool:
+        """Return whether an index is still that of the entry, and no other run has replaced it."""
+        front = read_front(self.folder)
+        return front is None or front == Front(index.kept, index.length)
 
     @contextlib.contextmanager
     def locked(self, waits: Callable[[], object] = lambda: None) -> Iterator[None]:

@@ -157,13 +157,21 @@ class History:
         """Goes on with the source as it is now, by the name that it is given now."""
         self.source = source
         try:
-            if not is_offline and not source.is_as_kept(self._store):
-                self.take(source.store(progress, is_cached))
+            if not self._is_current(source, is_cached, is_offline):
+                self.take(source.store(progress, is_cached, is_offline))
                 if self._file is not None:
                     os.close(self._file)
                 self._file = of_file(source.file) if isinstance(source, Dump) else None
         except OSError as error:
             raise Failed(f"cannot read {source.name}, or copy what is needed of it: {error.strerror}") from error
+
+    def _is_current(self, source: Source, is_cached: bool, is_offline: bool) -> bool:
+        """Whether the source is as it was read, and the cache has what this history has. Another run may have read
+        properties anew."""
+        entry = source.entry() if is_cached else None
+        if entry is not None and not entry.is_newest(self.index):
+            return False
+        return is_offline or source.is_as_kept(self._store)
 
     def take(self, store: Store) -> None:
         """Goes on with another store of the same dump. Where only more came later, svnhist is given that."""

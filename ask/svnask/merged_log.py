@@ -90,12 +90,15 @@ class Walker:
         self._left_out: list[int] = []
         # Subversion keeps this for a falling range alone.
         self._searched: Searched | None = None
+        # In how many revisions that were sent what is sent now was merged, for a server, which sends no other ends.
+        self._depth = 0
 
     def items(self, paths: list[bytes], first: int, last: int, limit: int) -> list[Item]:
         """The revisions between two, with those that were merged in them."""
         asked = Range(min(first, last), max(first, last), first >= last, limit)
         self._own = self._own_of(paths, asked)
         self._sent = set()
+        self._depth = 0
         self._searched = Searched() if asked.is_falling else None
         found: list[Item] = []
         # Walks in walks may be deeper than calls of Python.
@@ -157,6 +160,7 @@ class Walker:
         for rev in revisions:
             items.append(Item(rev, rev in merged))
             if rev in merged:
+                self._depth += 1
                 yield items
                 items = []
                 yield from self._below(merged[rev])
@@ -176,6 +180,7 @@ class Walker:
             if self._is_sent(rev, is_apart):
                 items.append(Item(rev, rev in merged, part.is_reverse, tuple(self._left_out)))
                 self._left_out.clear()
+                self._depth += rev in merged
             else:
                 self._left_out.append(rev)
             if rev in merged:
@@ -202,8 +207,10 @@ class Walker:
 
     def _below(self, merged: list[Part]) -> Iterator[Step]:
         yield from reversed(merged)
-        yield [END]
-        self._left_out.clear()
+        if self._depth or not self._history.source.is_remote:
+            self._depth -= 1
+            yield [END]
+            self._left_out.clear()
 
     def _not_searched(self, part: Part) -> tuple[Sequence[bytes], int, int]:
         """The paths of a part that were not walked already, and the range that is left of it. Of the only path that is
@@ -251,16 +258,15 @@ def falling(cuts: list[Cut], low: int, high: int) -> list[int]:
     return sorted({rev for cut in cuts for rev in cut.between(low, high)}, reverse=True)
 
 
-def without_stray_ends(items: Iterable[Item]) -> Iterator[Item]:
-    """The items without the ends of those that were left out, which servers do not send."""
-    depth = 0
+def received(items: Iterable[Item], limit: int) -> Iterator[Item]:
+    """The items of a server that a client takes with a limit, which counts those that seem to be at the top."""
+    depth = count = 0
     for item in items:
-        if item.rev >= 0:
-            depth += item.has_merges
-        elif depth:
-            depth -= 1
-        else:
-            continue
+        if depth == 0:
+            count += 1
+            if count > limit:
+                continue
+        depth += item.has_merges if item.rev >= 0 else -1
         yield item
 
 
@@ -277,7 +283,7 @@ def items_of(history: History, target: Target, below: Sequence[bytes], options: 
             # This protocol has no numbers below 0, so svnserve takes it for a large one.
             limit = 0
         items = walker.items(part.paths, part.first, part.last, limit)
-        found += without_stray_ends(items) if history.source.is_remote else items
+        found += received(items, limit) if history.source.is_remote and limit > 0 else items
         if len(found) == options.limit:
             break
     return found

@@ -134,6 +134,9 @@ def known_of(index: Index) -> Copy:
         list(index.revisions),
         True,
         list(index.renewals),
+        list(index.undated),
+        index.checksum,
+        index.checksum,
         index.length,
         index.size,
     )
@@ -150,6 +153,8 @@ def index_of_copy(copy: Copy, size: int, kept: Kept) -> Index:
         copy.fault is None and copy.is_from_0,
         copy.revisions,
         copy.renewals,
+        copy.undated,
+        copy.checksum,
         kept if kept.base else kept._replace(base=copy.length),
     )
 
@@ -158,5 +163,7 @@ def whole_part(copy: Copy) -> Copy:
     """A copy without its last revision, of which a part may be missing."""
     *revisions, length = copy.revisions
     renewals = [each for each in copy.renewals if each[0] < len(revisions)]
-    records = copy.records_before
-    return Copy(copy.format, copy.uuid, records, records, revisions, copy.is_from_0, renewals, length, copy.read)
+    undated = [(first, min(last, len(revisions) - 1)) for first, last in copy.undated if first < len(revisions)]
+    records, checksum = copy.records_before, copy.checksum_before
+    counts = records, records, revisions, copy.is_from_0, renewals, undated, checksum, checksum, length, copy.read
+    return Copy(copy.format, copy.uuid, *counts)

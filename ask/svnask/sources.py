@@ -17,6 +17,7 @@ from .repositories import Access
 from .repository_source import Address, Asked, Folder
 from .source import Source
 from .store import Index, Store
+from .strip import Copy
 from .texts import say
 
 # A word that is a URL.
@@ -76,17 +77,22 @@ def rewritten(kept: Store, sections: Iterable[tuple[int, bytes]], file: IO[bytes
     """Writes a copy with other properties of revisions. Those that are not given stay."""
     given = iter(sections)
     following = next(given, None)
-    length = kept.index.revisions[0]
-    file.write(kept.between(0, length))
-    revisions: list[int] = []
+    copy = Copy()
+
+    def write(piece: bytes) -> None:
+        copy.add(piece)
+        file.write(piece)
+
+    write(kept.between(0, kept.index.revisions[0]))
     for rev in range(kept.head + 1):
         _, section = kept.section(rev)
         if following is not None and following[0] == rev:
             section = following[1]
             following = next(given, None)
-        revisions.append(length)
-        length += file.write(kept.with_properties(rev, section))
-    return kept.index._replace(revisions=revisions, length=length)
+        copy.begin_revision(section)
+        write(kept.with_properties(rev, section))
+    found = kept.index._replace(revisions=copy.revisions, length=copy.length)
+    return found._replace(undated=copy.undated, checksum=copy.checksum)
 
 
 class Held(NamedTuple):

@@ -7,6 +7,7 @@ import mmap
 import os
 import re
 import shutil
+import zlib
 from collections.abc import Iterator
 from typing import IO, Any, BinaryIO, NamedTuple, Union
 
@@ -18,7 +19,7 @@ from .strip import LAST_LINE, MERGEINFO, ONE_MERGEINFO, Malformed, body_of, clea
 Bytes = Union[mmap.mmap, bytes]
 # Of a record the path, the kind, the action, the revision and the path of its source, and what it gave and changed.
 Node = tuple[Any, ...]
-VERSION = b"svnask 3"
+VERSION = b"svnask 4"
 FIRST_LINE = b"SVN-fs-dump-format-version: 2\n\n"
 # The parts of a block of the copy. `Stripper` writes the headers in this order.
 PLACE = rb"Node-path: (?P<path>[^\n]*)\n(?:Node-kind: (?P<kind>[^\n]*)\n)?"
@@ -112,29 +113,38 @@ class Index(NamedTuple):
     revisions: list[int]
     # The revision and the path of each copy of a path of the revision before to itself.
     renewals: list[tuple[int, bytes]]
+    # The runs of revisions without a date, and a checksum of the bytes of the copy.
+    undated: list[tuple[int, int]] = []
+    checksum: int = 0
     kept: Kept = Kept()
 
     def text(self) -> bytes:
         kind, place, state, generation, base = self.kept
         counts = self.format, self.records, self.size, self.length, len(self.revisions), generation, base, len(place)
-        lines = [b"%d %d %d %d %d %d %d %d" % counts, self.uuid, kind, state]
+        lines = [b"%d %d %d %d %d %d %d %d" % counts, self.uuid, kind, state, b"%d" % self.checksum]
+        lines.append(b" ".join(b"%d-%d" % run for run in self.undated))
         lines += [b"%d" % place for place in self.revisions]
         lines += [b"%d %s" % renewal for renewal in self.renewals]
         # A place may have newlines.
         rest = b"\n".join(lines) + b"\n" + place
-        return b"%s %d\n%s" % (VERSION, len(rest), rest)
+        return b"%s %d %d\n%s" % (VERSION, len(rest), zlib.crc32(rest), rest)
+
+
+# How many lines of an index stand before those of the revisions.
+LINES = 6
 
 
 def index_of(text: bytes) -> Index:
-    """The index in a text, which begins with the version and the length of what follows. `ValueError` or `IndexError`
-    where it is not one."""
+    """The index in a text, which begins with the version and with the length and a checksum of what follows.
+    `ValueError` or `IndexError` where it is not one."""
     head, _, rest = text.partition(b"\n")
-    if head != b"%s %d" % (VERSION, len(rest)):
-        raise ValueError("another version, or not the whole of an index")
-    counts, uuid, kind, state, _ = rest.split(b"\n", 4)
+    if head != b"%s %d %d" % (VERSION, len(rest), zlib.crc32(rest)):
+        raise ValueError("another version, or not as it was written")
+    counts, uuid, kind, state, checksum, undated, _ = rest.split(b"\n", LINES)
     version, records, size, length, count, generation, base, named = map(int, counts.split())
     lines = rest[: len(rest) - named - 1].split(b"\n")
-    pairs = [line.split(b" ", 1) for line in lines[4 + count :]]
+    pairs = [line.split(b" ", 1) for line in lines[LINES + count :]]
+    runs = [run.split(b"-") for run in undated.split()]
     return Index(
         version,
         uuid,
@@ -142,8 +152,10 @@ def index_of(text: bytes) -> Index:
         size,
         length,
         True,
-        list(map(int, lines[4 : 4 + count])),
+        list(map(int, lines[LINES : LINES + count])),
         [(int(rev), path) for rev, path in pairs],
+        [(int(first), int(last)) for first, last in runs],
+        int(checksum),
         Kept(kind, rest[len(rest) - named :], state, generation, base),
     )
 
@@ -162,7 +174,7 @@ def front_of(file: BinaryIO) -> Front:
     begin = file.tell()
     counts, _, kind, state = (file.readline().rstrip(b"\n") for _ in range(4))
     end = file.seek(0, os.SEEK_END)
-    if head != b"%s %d" % (VERSION, end - begin):
+    if not head.startswith(b"%s %d " % (VERSION, end - begin)):
         raise ValueError("another version, or not the whole of an index")
     _, _, _, length, _, generation, base, named = map(int, counts.split())
     file.seek(max(begin, end - named))
@@ -199,6 +211,10 @@ class Store:
         except BaseException:
             self._file.close()
             raise
+
+    def is_as_written(self) -> bool:
+        """Return whether the copy has the bytes that were written. The disk may have changed them."""
+        return zlib.crc32(self.later, zlib.crc32(self.first)) == self.index.checksum
 
     def close(self) -> None:
         for part in self.first, self.later:

@@ -7,6 +7,7 @@ ends with the block that is at fault, so that svnhist refuses it there, for its 
 from __future__ import annotations
 
 import re
+import zlib
 from collections.abc import Callable
 from dataclasses import dataclass, field
 
@@ -21,6 +22,7 @@ FORMATS = {MAGIC + b"2\n": 2, MAGIC + b"3\n": 3}
 LAST_LINE = b"PROPS-END\n"
 NO_PROPERTIES = b"Prop-content-length: 10\nContent-length: 10\n\n" + LAST_LINE + b"\n"
 MERGEINFO = b"svn:mergeinfo"
+DATE = b"K 8\nsvn:date\n"
 ONE_MERGEINFO = b"K 13\nsvn:mergeinfo\nV "
 # The headers by which a block is a revision, a record or the identity of the repository; the first one decides.
 KINDS = (b"Revision-number", b"Node-path", b"UUID")
@@ -89,11 +91,30 @@ class Copy:
     is_from_0: bool = True
     # The revision and the path of each copy of a path of the revision before to itself.
     renewals: list[tuple[int, bytes]] = field(default_factory=list)
+    # The runs of revisions after the first one that have no date, as a repository shows those that a user may not read.
+    undated: list[tuple[int, int]] = field(default_factory=list)
+    # A checksum of the bytes of the copy, and what it was before those of the last revision.
+    checksum: int = 0
+    checksum_before: int = 0
     # How many bytes the copy has, and how many of the given dump were read.
     length: int = 0
     read: int = 0
     # Why the dump is not well formed, where it isn't.
     fault: str | None = None
+
+    def add(self, piece: bytes) -> None:
+        """Takes the next bytes of the copy."""
+        self.length += len(piece)
+        self.checksum = zlib.crc32(piece, self.checksum)
+
+    def begin_revision(self, section: bytes) -> None:
+        """Takes the property section of the next revision, which begins here."""
+        rev = len(self.revisions)
+        if rev and DATE not in section:
+            first = self.undated.pop()[0] if self.undated and self.undated[-1][1] == rev - 1 else rev
+            self.undated.append((first, rev))
+        self.records_before, self.checksum_before = self.records, self.checksum
+        self.revisions.append(self.length)
 
 
 def clean(path: bytes) -> bytes:
@@ -217,7 +238,7 @@ class Stripper:
         return self.copy
 
     def _put(self, piece: bytes) -> None:
-        self.copy.length += len(piece)
+        self.copy.add(piece)
         self._write(piece)
 
     def _place(self, at: int) -> bytes:
@@ -402,8 +423,7 @@ class Stripper:
     def _put_revision(self, head: bytes, section: bytes) -> None:
         if not head.startswith(b"Revision-number: %d\n" % len(self.copy.revisions)):
             self.copy.is_from_0 = False
-        self.copy.records_before = self.copy.records
-        self.copy.revisions.append(self.copy.length)
+        self.copy.begin_revision(section)
         # svnhist does not judge the properties of revisions, so they are kept as they are.
         self._put(head + (body_of(section) if self._people and section else b"\n"))
 

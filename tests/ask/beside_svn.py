@@ -40,8 +40,8 @@ PATTERNS = (
     "a*b", "/trunk", "/b/*/f", "(no date)", "(invalid date)", "", "*", "soon", "T00:", "copy", "\x7f", "message", "?\\001",
 )
 # fmt: on
-# The error where the server ended: with -g and a rising range svnserve may fail.
-ENDED = b"E210002"
+# The error where the server ended, and how many seconds `svn` has: with -g and a rising range it may fail or not end.
+ENDED, PATIENCE = b"E210002", 30
 # How many seeds have the same repository.
 TOGETHER = 20
 
@@ -228,6 +228,10 @@ class Compared(NamedTuple):
     wanted: Output
     found: Output
 
+    @property
+    def is_without_end(self) -> bool:
+        return self.wanted.text == ENDED or self.wanted.text.startswith(b"no end after")
+
     def shown(self) -> str:
         """The first lines that are not the same."""
         lines = [each.text.split(b"\n") for each in (self.wanted, self.found)]
@@ -241,7 +245,7 @@ class Compared(NamedTuple):
 def compare(kind: str, seed: int, place: Place, folder: Path, options: Sequence[str] = ()) -> Compared:
     chance = random.Random(f"{kind} {seed}")
     words = KINDS[kind](chance, place)
-    done = Tools(folder).try_run("svn", *options, *(as_url(place.url, word) for word in words))
+    done = Tools(folder).try_run("svn", *options, *(as_url(place.url, word) for word in words), seconds=PATIENCE)
     found = base.called(place.source, *options, *words)
     said = done.errors.decode("utf-8", "replace")
     printed, own = done.output, found.output
@@ -272,7 +276,7 @@ def differing(
                 place = loaded(number, folder / "loaded", server)
             for kind in kinds:
                 compared = compare(kind, seed, place, folder, server.options if server is not None else ())
-                if compared.wanted not in (compared.found, Output(1, ENDED)):
+                if compared.wanted != compared.found and not compared.is_without_end:
                     yield seed, compared
 
 

@@ -33,7 +33,13 @@ class PropgetVerb(Verb):
 
     def arguments(self, parser: ArgumentParser) -> None:
         parser.add_argument("property", metavar=MERGEINFO)
-        parser.add_argument("targets", metavar="TARGET[@PEG]", nargs="*", default=[], help="the path at which the source begins if none is given")
+        parser.add_argument(
+            "targets",
+            metavar="TARGET[@PEG]",
+            nargs="*",
+            default=[],
+            help="the path at which the source begins if none is given",
+        )
         parser.add_argument("-R", "--recursive", action="store_true", help="also of paths below")
         parser.add_argument("-v", "--verbose", action="store_true", help="with the path and the name of the property")
         parser.add_argument(
