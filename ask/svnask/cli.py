@@ -20,6 +20,7 @@ from .errors import Damaged, Denied, Error, Failed, Refused, Unsound, Usage
 from .history import History
 from .progress import Bar
 from .refusals import about_record, explained
+from .repositories import Access
 from .repository_source import Address
 from .source import Source
 from .sources import source_of
@@ -144,7 +145,7 @@ def parsed(words: list[str]) -> argparse.Namespace:
     names = [*(verb.name for verb in VERBS), *COMMANDS]
     ready = with_source(left, names)
     need_source(ready, names)
-    return parser().parse_args(ordered(ready), argparse.Namespace(access=access))
+    return parser().parse_args(ordered(ready), argparse.Namespace(access=Access(access)))
 
 
 def need_source(words: list[str], names: list[str]) -> None:
@@ -350,7 +351,7 @@ def command(given: argparse.Namespace) -> int:
     from . import server
 
     if given.verb == "stop":
-        server.stop(given.dump)
+        server.stop(given.dump, given.access)
     else:
         server.serve(given)
     return 0

@@ -11,6 +11,7 @@ from collections.abc import Iterator, Sequence
 from typing import NamedTuple
 
 from . import __version__, places
+from .command_line import IS_URL, of_asker, source_word
 from .texts import say
 
 PIECE = 1 << 20
@@ -37,23 +38,23 @@ def request(words: Sequence[str]) -> bytes:
     return json.dumps(question).encode("ascii") + b"\n"
 
 
-def places_of(source: str) -> Iterator[str]:
+def places_of(source: str, access: Sequence[str]) -> Iterator[str]:
     """The places that a source may be known by: a file by its path, and a URL by its own or one above it."""
-    if "://" not in source:
+    if not IS_URL.match(source):
         yield os.path.realpath(source)
         return
     while not source.endswith(":/"):
-        yield source.rstrip("/")
+        yield of_asker(source.rstrip("/"), access)
         source = source.rpartition("/")[0]
 
 
-def connection_of(source: str) -> socket.socket | None:
+def connection_of(source: str, access: Sequence[str] = ()) -> socket.socket | None:
     """A connection with the server of a source, if there is one."""
     top = places.folder()
     if top is None or not os.path.isdir(top):
         return None
     with places.opened(top) as folder:
-        for place in places_of(source):
+        for place in places_of(source, access):
             name = places.socket_name(place)
             if os.path.lexists(os.path.join(top, name)):
                 found = places.connected(folder, name)
@@ -65,12 +66,11 @@ def connection_of(source: str) -> socket.socket | None:
 
 def asked(words: Sequence[str]) -> Reply | None:
     """The reply of a server to a question. There is none where no server is there, or where it does not answer this."""
-    plain = [word for word in words if not word.startswith("-")]
-    source = next((word for word in plain if "://" in word), plain[0] if plain else None)
+    source = source_word(words)
     if source is None or not OWN.isdisjoint(words):
         return None
     try:
-        connection = connection_of(source)
+        connection = connection_of(*source)
         if connection is None:
             return None
         with connection:

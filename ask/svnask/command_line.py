@@ -1,22 +1,25 @@
-"""The words of a command line, which are as for svn: options in any place, and a URL in place of a source."""
+"""The words of a command line, which are as for svn: options in any place, and a URL in place of a source. Little is
+imported, since each question looks for a server by them first."""
 from __future__ import annotations
 
+import hashlib
+import os
 import re
-from collections.abc import Iterable
-
-from .repositories import Access
-from .sources import IS_URL
-from .targets import split_peg
+from collections.abc import Iterable, Sequence
 
 # The options that take a value, and the names of those that have a short one.
 LONG = {"-r": "--revision", "-c": "--change", "-l": "--limit", "-o": "--output"}
 # How a repository is reached. These options are those of svn, with a value and without one.
 REACHED = frozenset(("--username", "--password", "--config-dir", "--config-option", "--trust-server-cert-failures"))
-REACHED_ALONE = frozenset(("--non-interactive", "--no-auth-cache"))
+REACHED_ALONE = frozenset(("--non-interactive", "--force-interactive", "--no-auth-cache", "--trust-server-cert"))
+# Those of them that say who asks.
+ASKER = ("--username", "--config-dir", "--config-option")
 VALUED = frozenset(
     (*LONG.values(), *REACHED, "--into", "--show-revs", "--depth", "--with-revprop", "--search", "--search-and")
-    + ("--since", "--width", "--below")
+    + ("--since", "--width", "--below", "--targets")
 )
+# A word that is a URL.
+IS_URL = re.compile(r"[A-Za-z][A-Za-z0-9+.-]*://")
 NUMBER = re.compile("-[0-9]")
 # The verbs that svn has, too, and the one that is about all sources.
 OF_SVN, OF_ALL = ("log", "mergeinfo"), "sources"
@@ -40,11 +43,43 @@ def joined(arguments: Iterable[str]) -> list[str]:
     return found
 
 
-def split_access(words: list[str]) -> tuple[Access, list[str]]:
-    """How a repository is reached, and the other words."""
+def split_peg(text: str) -> tuple[str, str]:
+    """The path and the peg. The peg is after the last `@` of the last component; an `@` at the end says that there is
+    none, and lets a path have one."""
+    folder, slash, name = text.rpartition("/")
+    front, sign, peg = name.rpartition("@")
+    return (folder + slash + front, peg) if sign else (text, "")
+
+
+def split_access(words: list[str]) -> tuple[tuple[str, ...], list[str]]:
+    """The options by which a repository is reached, and the other words."""
     end = words.index("--") if "--" in words else len(words)
     own = [word for word in words[:end] if word in REACHED_ALONE or "=" in word and word.partition("=")[0] in REACHED]
-    return Access(tuple(own)), [word for word in words[:end] if word not in own] + words[end:]
+    return tuple(own), [word for word in words[:end] if word not in own] + words[end:]
+
+
+def of_asker(url: str, access: Sequence[str]) -> str:
+    """The URL of a repository with the options that say who asks, since a server may show each user another history.
+    Options of a configuration may have a password, so their checksum stands for them."""
+    if url.startswith("file:"):
+        return url
+    found: dict[str, str] = {}
+    for name, sign, value in (word.partition("=") for word in access):
+        if sign and name in ASKER:
+            found[name] = found.get(name, "") + "\n" + value if name == ASKER[2] else value
+    if ASKER[1] in found:
+        found[ASKER[1]] = os.path.realpath(found[ASKER[1]])
+    if ASKER[2] in found:
+        found[ASKER[2]] = hashlib.sha256(found[ASKER[2]].encode("utf-8", "surrogateescape")).hexdigest()[:16]
+    return " ".join([url, *(f"{name}={found[name]}" for name in ASKER if name in found)])
+
+
+def source_word(words: Sequence[str]) -> tuple[str, tuple[str, ...]] | None:
+    """The word that is the source of a command line, if it has one, and the options by which that is reached."""
+    access, left = split_access(joined(words))
+    ready = with_source(left, ())
+    at = places(ready)
+    return (ready[at[0]], access) if at else None
 
 
 def is_option(word: str) -> bool:

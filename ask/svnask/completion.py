@@ -23,15 +23,25 @@ from typing import NamedTuple
 
 from . import cache
 from .cli import Parser, parser
-from .command_line import OF_ALL, OF_SVN, REACHED, REACHED_ALONE, is_option
+from .command_line import (
+    IS_URL,
+    OF_ALL,
+    OF_SVN,
+    REACHED,
+    REACHED_ALONE,
+    is_option,
+    joined,
+    of_asker,
+    split_access,
+    split_peg,
+)
 from .dump_source import Dump
 from .entries import Entry, read_front
 from .kept_branches import kept_branches
 from .repositories import PLAIN, ancestors, canonical, path_below
 from .repository_source import Address, Folder
-from .sources import IS_URL
 from .store import Front
-from .targets import below, decoded, path_of, split_peg
+from .targets import below, decoded, path_of
 
 # After how many seconds of the call branches are no more looked for.
 LONGEST = 0.16
@@ -78,14 +88,15 @@ class Place(NamedTuple):
     path: bytes = b"/"
 
 
-def place_of(source: str) -> Place | None:
-    """What is kept of the source that a word names."""
+def place_of(source: str, access: Sequence[str] = ()) -> Place | None:
+    """What is kept of the source that a word names, as it is reached by some options."""
     top = cache.folder()
     if top is None:
         return None
     if IS_URL.match(source):
         url = canonical(source)
-        found = (place_in(top, Address.kind, root.encode("utf-8", "surrogateescape"), root) for root in ancestors(url))
+        names = ((root, of_asker(root, access).encode("utf-8", "surrogateescape")) for root in ancestors(url))
+        found = (place_in(top, Address.kind, name, root) for root, name in names)
         place = next(filter(None, found), None)
         return place._replace(path=path_below(url, place.root) or b"/") if place is not None else None
     path = os.path.realpath(os.fsencode(os.path.expanduser(source)))
@@ -105,17 +116,19 @@ def kept_urls() -> Iterator[str]:
     for each in cache.folders(top) if top is not None else ():
         front = read_front(each.path)
         if front is not None and front.kept.kind == Address.kind:
-            yield front.kept.place.decode("utf-8", "surrogateescape")
+            # Who asks stands behind it.
+            yield front.kept.place.decode("utf-8", "surrogateescape").partition(" ")[0]
 
 
 class Typed(NamedTuple):
     """The words before the cursor: those that are no options, the option of which the value is at the cursor, whether
-    `--` has ended the options, and the path at which targets and patterns begin."""
+    `--` has ended the options, the path at which targets and patterns begin, and how a repository is reached."""
 
     plain: list[str]
     option: str
     has_ended: bool
     below: str = ""
+    access: tuple[str, ...] = ()
 
     @property
     def is_as_svn(self) -> bool:
@@ -146,7 +159,7 @@ def verb_of(plain: Sequence[str]) -> str:
     return plain[1] if len(plain) > 1 else ""
 
 
-def typed_of(words: Iterable[str]) -> Typed:
+def typed_of(words: Sequence[str]) -> Typed:
     plain: list[str] = []
     option, has_ended, top = "", False, ""
     for word in words:
@@ -162,7 +175,7 @@ def typed_of(words: Iterable[str]) -> Typed:
             has_ended = True
         elif takes_value(verb_of(plain), word):
             option = word
-    return Typed(plain, option, has_ended, top)
+    return Typed(plain, option, has_ended, top, split_access(joined(words))[0])
 
 
 def verbs() -> dict[str, Parser]:
@@ -241,18 +254,18 @@ class Completion:
         if not typed.plain:
             return iter(())
         if IS_URL.match(part) or typed.is_as_svn and not typed.source:
-            return self._urls(part, True)
-        place = place_of(typed.source)
+            return self._urls(part, True, typed.access)
+        place = place_of(typed.source, typed.access)
         if place is None:
             return iter(())
         return self._paths(place._replace(path=below(place.path, path_of(typed.below))), part, is_pattern)
 
-    def _urls(self, part: str, is_target: bool) -> Iterator[str]:
+    def _urls(self, part: str, is_target: bool, access: Sequence[str] = ()) -> Iterator[str]:
         """The URLs of repositories, as the front of a target, too, or those of the branches and tags of the one in
         which the cursor is."""
-        for root in kept_urls():
+        for root in dict.fromkeys(kept_urls()):
             front = root.rstrip("/")
-            place = place_of(root) if part.startswith(front + "/") else None
+            place = place_of(root, access) if part.startswith(front + "/") else None
             if place is None:
                 yield front + "/" if is_target else root
             else:

@@ -9,13 +9,14 @@ from types import TracebackType
 from . import cli
 from .history import History
 from .progress import Bar
+from .repository_source import Address
 from .source import Source
 
 
 def place_of(source: Source) -> str:
-    """What a source is known by: the URL of the root of a repository that is asked by its URL, or the path of a file or
-    a folder."""
-    return source.root if "://" in source.name else os.path.realpath(source.name)
+    """What a source is known by: the URL of the root of a repository that is asked by its URL, with who asks, or the
+    path of a file or a folder."""
+    return os.fsdecode(source.place) if isinstance(source, Address) else os.path.realpath(source.name)
 
 
 class Kept:

@@ -158,7 +158,9 @@ class Walker:
         merged = self._merged(cuts, revisions)
         items: list[Item] = []
         for rev in revisions:
-            items.append(Item(rev, rev in merged))
+            # A server lists the paths of those that were left out before with this one, too.
+            items.append(Item(rev, rev in merged, left_out=tuple(self._left_out)))
+            self._left_out.clear()
             if rev in merged:
                 self._depth += 1
                 yield items

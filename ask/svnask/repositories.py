@@ -31,6 +31,8 @@ ESCAPED = re.compile("\\?\\\\[0-9A-F]{2}|\ufffd")
 # What XML can't have, and what svn prints even so.
 CONTROL = re.compile("[\x00-\x08\x0b\x0c\x0e-\x1f\ufffe\uffff]")
 PIECE = 1 << 16
+# How many revisions are named to svn one by one.
+MOST_NAMED = 500
 NAMED = {"author": b"svn:author", "date": b"svn:date", "msg": b"svn:log"}
 # The letters of a path that a URL has as they are, but for the sign of a peg revision.
 PLAIN = "/!$&'()*+,-.:=_~"
@@ -81,17 +83,18 @@ class Access(NamedTuple):
         with printed("svn", "log", "--xml", "-q", "-r", "HEAD", *self.words, without_peg(root)) as stream:
             return max((int(each.attrib["revision"]) for each in elements(stream, "logentry")), default=0)
 
-    def look_above(self, url: str) -> Repository:
-        """The repository that has a path, or had it: that which has one above it."""
-        first: Unreached | None = None
-        for above in ancestors(url):
-            try:
-                return self.look(above)
-            except Unreached as error:
-                if not error.is_none_there:
-                    raise first or error from error
-                first = first or error
-        raise first or Failed(f"'{url}' is no URL")
+    def has_date(self, url: str, runs: Sequence[tuple[int, int]]) -> bool:
+        """Whether one of some revisions has a date. It has none as long as a user may not read what it changed."""
+        words = ["-r", f"{runs[0][0]}:{runs[-1][1]}"]
+        if sum(last - first + 1 for first, last in runs) <= MOST_NAMED:
+            words = ["-c", ",".join(str(rev) for first, last in runs for rev in range(first, last + 1))]
+        command = ("svn", "log", "--xml", "-q", *words, *self.words, without_peg(url))
+        with printed(*command, is_read_whole=False) as stream:
+            for element in elements(stream, "logentry"):
+                rev = int(element.attrib["revision"])
+                if element.findtext("date") and any(first <= rev <= last for first, last in runs):
+                    return True
+        return False
 
     def properties(self, root: str, rev: int) -> Properties:
         """The properties of a revision. Of some svn says something else, or fails where the lines of a value end in

@@ -9,8 +9,9 @@ from contextlib import contextmanager
 from typing import IO
 
 from . import cache, repositories, strip
+from .command_line import of_asker
 from .entries import Entry
-from .errors import Error, Failed
+from .errors import Error, Failed, Unreached
 from .progress import Progress
 from .repositories import Access, Properties, Repository, canonical
 from .source import Source, index_of_copy, known_of, whole_part
@@ -32,6 +33,8 @@ class Asked(Source):
         self.access = access
         self._now: Repository | None = None
         self._last: tuple[int, Properties] = (-1, {})
+        # Whether more is shown than before, once that was asked.
+        self._is_more: bool | None = None
 
     @contextmanager
     def advised(self) -> Iterator[None]:
@@ -53,6 +56,11 @@ class Asked(Source):
         if self._now is None:
             self._now = self.access.look(self.root)
         return self._now
+
+    @property
+    def asked(self) -> str:
+        """The URL by which it answers."""
+        return self.root
 
     def entry(self) -> Entry | None:
         top = cache.folder()
@@ -79,8 +87,17 @@ class Asked(Source):
         if self.now.uuid != kept.index.uuid or not 0 <= kept.head <= self.now.youngest:
             return False
         if self._last[0] != kept.head:
-            self._last = kept.head, self.access.properties(self.root, kept.head)
+            self._last = kept.head, self.access.properties(self.asked, kept.head)
+        if self._shows_more(kept):
+            return False
         return normal(self._last[1]) == normal(properties_of(kept.section(kept.head)[1]))
+
+    def _shows_more(self, kept: Store) -> bool:
+        """Whether a revision has a date that had none. So it is after a user was given rights to what it changed."""
+        undated = kept.index.undated
+        if undated and self._is_more is None:
+            self._is_more = self.access.has_date(self.root, undated)
+        return bool(undated and self._is_more)
 
     def grown(self, entry: Entry, kept: Store, progress: Progress) -> Store | None:
         index = kept.index
@@ -181,25 +198,48 @@ class Address(Asked):
 
     def __init__(self, name: str, access: Access, is_offline: bool) -> None:
         super().__init__(name, access)
-        url = canonical(name)
-        self.root = self._kept_root(url)
-        if self.root and not is_offline:
-            # The repository may be another one now.
+        self._url = canonical(name)
+        self.root = self._kept_root(self._url)
+        if not is_offline:
             with self.advised():
-                self.root = self.now.root
-        elif not self.root and is_offline:
-            raise Failed(f"nothing is kept of {name}", 1)
-        elif not self.root:
-            self._now = access.look_above(url)
+                self._url, self._now = self._look(self._url)
             self.root = self._now.root
-        path = repositories.path_below(url, self.root)
+        elif not self.root:
+            raise Failed(f"nothing is kept of {name}", 1)
+        path = repositories.path_below(canonical(name), self.root)
         if path is None:
             raise Failed(f"{name} is not below the root of its repository, {self.root}", 1)
         self.path = path
+
+    @property
+    def asked(self) -> str:
+        """The URL by which it answers: the root may be one that this user may not read."""
+        return self._url
+
+    @property
+    def place(self) -> bytes:
+        return of_asker(self.root, self.access.words).encode("utf-8", "surrogateescape")
+
+    def _look(self, url: str) -> tuple[str, Repository]:
+        """The repository that has a path, or had it, and the URL by which it answered: that of the path, or else one above
+        it, the root that is kept before others."""
+        first: Unreached | None = None
+        for each in dict.fromkeys([url, *filter(None, [self.root]), *repositories.ancestors(url)]):
+            try:
+                return each, self.access.look(each)
+            except Unreached as error:
+                first = first or error
+                if not error.is_none_there and each != self.root:
+                    raise first from error
+        raise first or Failed(f"'{url}' is no URL")
 
     def _kept_root(self, url: str) -> str:
         """The root of the repository of which something is kept, and which has a URL."""
         top = cache.folder()
         if top is None:
             return ""
-        return next((each for each in repositories.ancestors(url) if Entry(top, self.kind, each.encode()).is_there), "")
+        for each in repositories.ancestors(url):
+            place = of_asker(each, self.access.words).encode("utf-8", "surrogateescape")
+            if Entry(top, self.kind, place).is_there:
+                return each
+        return ""

@@ -26,6 +26,7 @@ from . import __version__, cli, engine, places
 from .client import CARRIED, SAME, connection_of
 from .errors import Damaged, Error, Failed
 from .kept import Kept, place_of
+from .repositories import Access
 from .verbs.kept import KeptVerb
 
 # How long a request may take to come, and how long it may be.
@@ -67,9 +68,9 @@ def prepare(kept: Kept, given: argparse.Namespace) -> None:
                 raise Damaged from stale
 
 
-def stop(dump: str) -> None:
+def stop(dump: str, access: Access = Access()) -> None:
     """Ends the server of a dump, and waits until it has ended."""
-    connection = connection_of(dump)
+    connection = connection_of(dump, access.words)
     if connection is None:
         raise Failed(f"{dump} is not served", 1)
     with connection:

@@ -2,13 +2,13 @@
 from __future__ import annotations
 
 import os
-import re
 import sys
 from collections.abc import Iterable, Iterator
 from contextlib import closing, suppress
 from typing import IO, BinaryIO, NamedTuple
 
 from . import cache
+from .command_line import IS_URL
 from .dump_source import Dump
 from .entries import read_index
 from .errors import Failed, Usage
@@ -19,9 +19,6 @@ from .source import Source
 from .store import Index, Store
 from .strip import Copy
 from .texts import say
-
-# A word that is a URL.
-IS_URL = re.compile(r"[A-Za-z][A-Za-z0-9+.-]*://")
 
 
 def source_of(name: str, access: Access = Access(), is_offline: bool = False) -> Source:

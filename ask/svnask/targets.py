@@ -4,11 +4,11 @@ from __future__ import annotations
 import re
 from typing import NamedTuple
 
+from .command_line import IS_URL, split_peg
 from .digits import number
 from .errors import Denied
 from .history import History
 from .repositories import canonical, path_below
-from .sources import IS_URL
 
 NUMBER = re.compile(r"r*([0-9]+)\Z")
 # A word of `-c`: a minus for the way back, and one number or two.
@@ -30,14 +30,6 @@ def encoded(text: str) -> bytes:
 
 def decoded(text: bytes) -> str:
     return text.decode("utf-8", "surrogateescape")
-
-
-def split_peg(text: str) -> tuple[str, str]:
-    """The path and the peg. The peg is after the last `@` of the last component; an `@` at the end says that there is
-    none, and lets a path have one."""
-    folder, slash, name = text.rpartition("/")
-    front, sign, peg = name.rpartition("@")
-    return (folder + slash + front, peg) if sign else (text, "")
 
 
 def path_of(text: str) -> bytes:
