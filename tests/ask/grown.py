@@ -109,13 +109,15 @@ def ended(*words: Word, port: int) -> Iterator[None]:
 
 
 @contextlib.contextmanager
-def svnserve(parent: Path, others: str = "none") -> Iterator[str]:
-    """The URL of the repositories in a folder, for alice with the password secret, and what others may do."""
+def svnserve(parent: Path, others: str = "none", rules: Path | None = None) -> Iterator[str]:
+    """The URL of the repositories in a folder, for alice and bob with the password secret, and what others may do. A
+    file may say which paths each of them may read."""
     need("svnserve")
     port = free_port()
     users, settings = parent / "users", parent / "svnserve.conf"
-    users.write_text("[users]\nalice = secret\n")
-    settings.write_text(f"[general]\nanon-access = {others}\nauth-access = write\npassword-db = {users}\n")
+    users.write_text("[users]\nalice = secret\nbob = secret\n")
+    text = f"[general]\nanon-access = {others}\nauth-access = write\npassword-db = {users}\n"
+    settings.write_text(text if rules is None else f"{text}authz-db = {rules}\n")
     options: list[Word] = ["--listen-host", "127.0.0.1", "--listen-port", str(port), "--config-file", settings]
     with ended("svnserve", "-d", "--foreground", "-r", parent, *options, port=port):
         yield f"svn://127.0.0.1:{port}"
