@@ -9,7 +9,7 @@ from .answers import Answer, Log, Logged, Mergeinfo, Query, Where
 from .changes import Place, components, is_at_or_below
 from .errors import Denied
 from .history import History
-from .lives import Life, is_plain, lives_at, lives_in, moved, moves_of, unmatched
+from .lives import Life, is_plain, lives_at, lives_in, moves_of, unmatched
 from .merges import Intervals, has
 from .recorded import Recorded
 from .targets import Target, decoded
@@ -290,10 +290,6 @@ def touched(history: History, patterns: Sequence[bytes]) -> Iterator[Touched]:
     changed: dict[Life, list[int]] = {}
     for life, answer in zip(later, answers):
         changed[life] = answered(answer)[::-1]
-    copies: dict[int, list[tuple[bytes, Place]]] = {}
-    for path, copy in history.tree.copies():
-        if copy.source is not None:
-            copies.setdefault(copy.rev, []).append((path, copy.source))
     before: Life | None = None
     for life in lives:
         below = any(
@@ -302,7 +298,7 @@ def touched(history: History, patterns: Sequence[bytes]) -> Iterator[Touched]:
         )
         of_path = before if before is not None and before.path == life.path else None
         events = begin_of(life, of_path) + [Event(CHANGED, rev) for rev in [life.first] * below + changed.get(life, [])]
-        events += end_of(history, life, copies.get(life.last + 1, []))
+        events += end_of(history, life)
         before = life
         if events:
             yield Touched(life, below, changed.get(life, []), events)
@@ -313,16 +309,12 @@ def begin_of(life: Life, before: Life | None) -> list[Event]:
     return [] if before is None or life.continues(before) else [Event(AGAIN, life.first, life.source)]
 
 
-def end_of(history: History, life: Life, copies: Iterable[tuple[bytes, Place]]) -> list[Event]:
-    """How a tag ended, given the copies of the revision that ended it."""
+def end_of(history: History, life: Life) -> list[Event]:
+    """How a tag ended, unless it goes on as a copy of itself."""
     if life.is_alive:
         return []
     end = life.last + 1
-    for path, source in copies:
-        if source[1] == life.last and is_at_or_below(life.path, source[0]):
-            place, _ = moved(life.path, source[0], (path, end))
-            if place == life.path:
-                return []
-            if history.tree.exists(place, end):
-                return [Event(RENAMED, end, (place, end))]
-    return [Event(DELETED, end)]
+    moved_to = history.tree.moved_to(life)
+    if moved_to is None:
+        return [Event(DELETED, end)]
+    return [] if moved_to == life.path else [Event(RENAMED, end, (moved_to, end))]

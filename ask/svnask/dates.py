@@ -142,10 +142,25 @@ FORMS = [
     )
 ]
 TODAY = re.compile(TIME + r"\Z", re.ASCII)
+AGO = re.compile(r" *([a-z]+|\+?[0-9]{1,9}) +([^ ]+) +ago *\Z", re.ASCII)
+NUMBERS = "zero one two three four five six seven eight nine ten eleven twelve".split()
+# How many seconds a unit has, by how its name begins.
+UNITS = {
+    "year": 365 * 86400,
+    "month": 30 * 86400,
+    "week": 7 * 86400,
+    "day": 86400,
+    "hour": 3600,
+    "minute": 60,
+    "min": 60,
+}
 
 
 def given(text: str, now: Callable[[], float] = time.time) -> Moment:
     """The moment of a date that a user gives, in braces for `svn`. Without a zone it is local time."""
+    words = AGO.match(text)
+    if words:
+        return before(now(), words[1], words[2], text)
     found = next((form.match(text) for form in FORMS if form.match(text)), None)
     today = TODAY.match(text)
     if found:
@@ -165,6 +180,16 @@ def given(text: str, now: Callable[[], float] = time.time) -> Moment:
     if int(zone[2] or 0) > 23 or int(zone[3] or 0) > 59:
         raise unreadable(text)
     return when_of((year, month, day, hour, minute, second), zone, now()), micros
+
+
+def before(now: float, count: str, unit: str, text: str) -> Moment:
+    """The moment that was some units of time ago. Subversion takes all names that begin as those of units do."""
+    number = int(count) if count.lstrip("+").isdigit() else NUMBERS.index(count) if count in NUMBERS else None
+    length = next((seconds for name, seconds in UNITS.items() if unit.startswith(name)), None)
+    if number is None or length is None or now < number * length:
+        raise unreadable(text)
+    micros = int(now * MICROS) - number * length * MICROS
+    return micros // MICROS, micros % MICROS
 
 
 def when_of(fields: tuple[int, int, int, int, int, int], zone: tuple[str | None, ...], now: float) -> int:

@@ -45,8 +45,8 @@ class Usage(Error):
 class Denied(Error):
     """The question has no answer, as `svn` says it: an error code and a text."""
 
-    def __init__(self, code: str, text: str) -> None:
-        super().__init__(f"{code}: {text}", 1)
+    def __init__(self, code: str, text: str, advice: Sequence[str] = ()) -> None:
+        super().__init__(f"{code}: {text}", 1, advice)
         self.code = code
 
 

@@ -154,6 +154,24 @@ class Tree:
         return sorted(found, key=lambda each: each[1].number)
 
     @functools.cached_property
+    def _copies_in(self) -> dict[int, list[tuple[bytes, Event]]]:
+        """The copies of each revision."""
+        found: dict[int, list[tuple[bytes, Event]]] = {}
+        for path, event in self.copies():
+            found.setdefault(event.rev, []).append((path, event))
+        return found
+
+    def moved_to(self, life: Life) -> bytes | None:
+        """Where a life that ended goes on as a copy of its last revision, if it does."""
+        end = life.last + 1
+        for path, event in self._copies_in.get(end, ()):
+            if event.source is not None and event.source[1] == life.last and is_at_or_below(life.path, event.source[0]):
+                place = joined(path, rest_below(life.path, event.source[0]))
+                if self.exists(place, end):
+                    return place
+        return None
+
+    @functools.cached_property
     def branches(self) -> list[bytes]:
         """The paths of the trunks, the branches and the tags, and of what was copied from one of them as a whole to a
         place that is in none of them. A directory of branches is none itself."""

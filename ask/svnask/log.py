@@ -4,6 +4,7 @@ from __future__ import annotations
 import bisect
 from collections.abc import Iterable, Iterator, Sequence
 from dataclasses import dataclass
+from operator import attrgetter
 from typing import NamedTuple
 
 from .answers import Log, Segment, Where
@@ -49,8 +50,23 @@ class Trace(NamedTuple):
         return self.at(rev) is None and any(each.lo <= rev <= each.hi for each in self.segments)
 
 
-def not_found(target: Target, rev: int) -> Denied:
-    return Denied("E160013", f"File not found: revision {rev}, path '{decoded(target.path)}'")
+def not_found(history: History, target: Target, rev: int) -> Denied:
+    text = f"File not found: revision {rev}, path '{decoded(target.path)}'"
+    return Denied("E160013", text, [*ended(history, target.path, rev)])
+
+
+def ended(history: History, path: bytes, rev: int) -> Iterator[str]:
+    """Where a path ended that is not there any more, and what it became."""
+    tree = history.tree
+    life = max(
+        (life for life in tree.lives(path, history.head) if life.last < rev), default=None, key=attrgetter("last")
+    )
+    if life is None:
+        return
+    moved_to = tree.moved_to(life)
+    how = "deleted" if moved_to is None else f"renamed to '{decoded(moved_to)}'"
+    last = Target(path, life.last)
+    yield f"svnask: it was {how} in r{life.last + 1}; 'heirs {decoded(path)}@{last.rev}' lists all that comes from it"
 
 
 def file_above(history: History, path: bytes, rev: int) -> bytes | None:
@@ -68,7 +84,7 @@ def not_reached(history: History, target: Target) -> Denied:
     file = file_above(history, *target)
     if file is not None:
         return Denied("E160016", f"'{decoded(file)}' is not a directory in revision {target.rev}")
-    return not_found(target, target.rev)
+    return not_found(history, target, target.rev)
 
 
 def not_located(target: Target, rev: int) -> Denied:
@@ -130,7 +146,7 @@ def reached(history: History, target: Target, youngest: int) -> Trace:
     later = Target(target.path, max(target.rev, youngest))
     found = trace(history, later)
     if found is None:
-        raise not_reached(history, target) if youngest < target.rev else not_found(later, later.rev)
+        raise not_reached(history, target) if youngest < target.rev else not_found(history, later, later.rev)
     if youngest > target.rev:
         # The path of the peg must be the same node.
         at_peg = next((each for each in found.segments if each.path is not None and each.lo <= target.rev), None)
@@ -175,6 +191,9 @@ def parts(history: History, target: Target, below: Sequence[bytes], options: Opt
     """The ranges of a log. The target is looked up in the youngest revision of all, and each one begins where it was in
     its own; a range before the path was made is left out. Paths below the target are taken in its place."""
     ranges = options.ranges or [(target.rev, 0)]
+    if history.source.root.startswith("http") and max(max(bounds) for bounds in ranges) > history.head:
+        # Over this protocol `svn` looks at the path first.
+        reached(history, target, target.rev)
     for bounds in ranges:
         known(history, max(bounds))
     youngest = max(max(bounds) for bounds in ranges)
@@ -215,6 +234,6 @@ def walks_of(history: History, paths: Sequence[bytes], rev: int, options: Option
             file = file_above(history, *place) if options.has_merges else None
             if file is not None:
                 raise Denied("E160016", f"Failure opening '{decoded(file)}' in revision {rev}")
-            raise not_found(Target(*place), rev)
+            raise not_found(history, Target(*place), rev)
         walks.append(Walk(found, listed(history, found)))
     return walks

@@ -225,6 +225,11 @@ def canonical(url: str) -> str:
     return f"{scheme}://{user}{sign}{host}/" + urllib.parse.quote(b"/".join(parts), safe=PLAIN)
 
 
+def in_url(path: bytes) -> bytes:
+    """A path as Subversion writes it in a URL."""
+    return urllib.parse.quote(path, safe=PLAIN + "@").encode("ascii")
+
+
 def encoded(text: str) -> bytes:
     return text.encode("utf-8", "surrogateescape")
 

@@ -94,11 +94,11 @@ def property_text(name: bytes, value: bytes) -> bytes:
 class XmlForm(Form):
     """The form of `--xml`."""
 
-    begin = b'<?xml version="1.0" encoding="UTF-8"?>\n<log>\n'
-    end = b"</log>\n"
     end_of_merges = b"</logentry>\n"
 
-    def __init__(self) -> None:
+    def __init__(self, is_incremental: bool = False) -> None:
+        self.begin = b"" if is_incremental else b'<?xml version="1.0" encoding="UTF-8"?>\n<log>\n'
+        self.end = b"" if is_incremental else b"</log>\n"
         self._path_text = functools.lru_cache(MANY)(path_text)
 
     def texts(self, revision: Revision) -> Iterator[bytes]:

@@ -2,15 +2,15 @@
 from __future__ import annotations
 
 import re
-from argparse import Action, ArgumentParser, Namespace
+from argparse import SUPPRESS, Action, ArgumentParser, Namespace
 from collections.abc import Iterator
 from typing import Any
 
 from .. import log, merged_log
 from ..digits import number
-from ..errors import Denied, Usage
+from ..errors import Denied, Failed, Usage
 from ..history import History
-from ..log_forms import AUTHOR, DATE, SHOWN, Entry, Wanted, as_wanted, entries, printed
+from ..log_forms import AUTHOR, DATE, SHOWN, Entry, Form, Wanted, as_wanted, entries, printed
 from ..plain_log import RULE, PlainForm
 from ..search import Glob, Group, folded
 from ..targets import encoded, known, paths_below, ranges_of, revision_of, target_of
@@ -24,6 +24,7 @@ OF_PROPERTY = "with this property of revisions, as XML; may be repeated"
 OF_SEARCH = "only revisions whose author, date, message or, with -v, paths match; or another --search"
 OF_SEARCH_AND = "only those that match this, too"
 LIMIT = re.compile(r"\s*([-+]?)([0-9]+)\Z")
+NO_CONTENTS = "svnask has no contents of files, so --diff is for 'svn log --diff' itself"
 
 
 class LogVerb(Verb):
@@ -44,6 +45,11 @@ class LogVerb(Verb):
             "-g", "--use-merge-history", dest="merges", action="store_true", help="with merged revisions"
         )
         parser.add_argument("--stop-on-copy", action="store_true", help="only revisions since the path was copied")
+        parser.add_argument(
+            "--incremental", action="store_true", help="without the line at the end, or the tags around"
+        )
+        parser.add_argument("--targets", metavar="FILE", help="further paths, those of a file, one per line")
+        parser.add_argument("--diff", action="store_true", help=SUPPRESS)
         self.more_arguments(parser)
 
     @staticmethod
@@ -72,7 +78,10 @@ class LogVerb(Verb):
         return log.Options(ranges_of(history, given.ranges, given.changes), limit, given.stop_on_copy, given.merges)
 
     def items(self, history: History, given: Namespace) -> list[log.Item]:
-        asked = target_of(history, given.target), paths_below(given.paths), self.options(history, given)
+        if given.diff:
+            raise Usage(NO_CONTENTS)
+        target, *paths = [*filter(None, [given.target]), *given.paths, *lines_of(given.targets)] or [""]
+        asked = target_of(history, target), paths_below(paths), self.options(history, given)
         if given.merges:
             return merged_log.items_of(history, *asked)
         return [*map(log.Item, log.entries(history, *asked))]
@@ -82,7 +91,11 @@ class LogVerb(Verb):
         items = self.items(history, given)
         if given.xml and given.verbose:
             history.find_kinds(rev for item in items for rev in (*item.left_out, item.rev) if rev >= 0)
-        return printed(history, items, wanted, XmlForm() if given.xml else PlainForm(given.quiet))
+        return printed(history, items, wanted, self.form(given))
+
+    @staticmethod
+    def form(given: Namespace) -> Form:
+        return XmlForm(given.incremental) if given.xml else PlainForm(given.quiet, given.incremental)
 
     def objects(self, history: History, given: Namespace) -> Iterator[Object]:
         if given.xml:
@@ -92,6 +105,19 @@ class LogVerb(Verb):
             if entry is not None:
                 merged = {"merged_via": list(entry.via), "is_reverse": entry.is_reverse} if given.merges else {}
                 yield {**object_of_revision(history, entry.revision.number), **merged}
+
+
+def lines_of(name: str | None) -> list[str]:
+    """The lines of a file that names targets."""
+    try:
+        return [] if name is None else [line for line in read_text(name).splitlines() if line]
+    except OSError as error:
+        raise Failed(f"cannot read {name}: {error.strerror}") from error
+
+
+def read_text(name: str) -> str:
+    with open(name, encoding="utf-8", errors="surrogateescape") as file:
+        return file.read()
 
 
 class Searched(Action):

@@ -68,7 +68,7 @@ class MergeinfoVerb(Verb):
         if answer.status == "malformed-mergeinfo":
             raise Denied("E200020", f"the mergeinfo of '{decoded(target.path)}' can't be read")
         if not answer.ok:
-            raise log.not_found(target, target.rev)
+            raise log.not_found(history, target, target.rev)
         return answer.value
 
     def revisions(self, history: History, given: Namespace) -> list[tuple[int, bool]]:

@@ -27,7 +27,7 @@ class WhereVerb(Verb):
         earlier, later = Locate(*target, min(rev, target.rev)), Locate(target.path, max(rev, target.rev), target.rev)
         answers = history.answers([earlier, later])
         if not answers[earlier].ok:
-            raise log.not_found(target, target.rev)
+            raise log.not_found(history, target, target.rev)
         if rev <= target.rev:
             return answers[earlier].path
         return target.path if answers[later].path == target.path else None
@@ -50,7 +50,7 @@ class SegmentsVerb(Verb):
         target = target_of(history, given.target)
         answer = history.segments(*target)
         if not answer.ok:
-            raise log.not_found(target, target.rev)
+            raise log.not_found(history, target, target.rev)
         return answer
 
     def text(self, history: History, given: Namespace) -> Iterator[bytes]:
@@ -77,7 +77,7 @@ class HeirsVerb(Verb):
         if rev < target.rev:
             raise Usage(f"revision {rev} is before the peg revision {target.rev}: where and segments look back")
         if not history.locate(*target, target.rev).ok:
-            raise log.not_found(target, target.rev)
+            raise log.not_found(history, target, target.rev)
         return heirs.heirs(history, target, rev)
 
     def text(self, history: History, given: Namespace) -> Iterator[bytes]:

@@ -9,6 +9,7 @@ from ..answers import Where
 from ..changes import components
 from ..errors import Denied, Usage
 from ..history import History
+from ..repositories import in_url
 from ..targets import Target, decoded, target_of
 from ..values import Explicit
 from .base import Object, Verb, shown
@@ -80,7 +81,7 @@ class PropgetVerb(Verb):
 def found_at(explicit: Explicit, target: Target, is_recursive: bool) -> list[Found]:
     """The text of a target, or of all paths at and below it."""
     if is_recursive:
-        return [Found(*each) for each in sorted(explicit.below(*target), key=lambda each: components(each[0]))]
+        return [Found(*each) for each in sorted(explicit.below(*target), key=lambda each: components(in_url(each[0])))]
     text = explicit.text(*target)
     if text is None:
         raise Denied("E200000", f"Property '{MERGEINFO}' not found on '{decoded(target.path)}'")
