@@ -9,7 +9,7 @@ from .answers import Answer, Log, Logged, Mergeinfo, Query, Where
 from .changes import Place, components, is_at_or_below
 from .errors import Denied
 from .history import History
-from .lives import Life, is_plain, lives_at, lives_in, moves_of, unmatched
+from .lives import Life, is_plain, lives_at, moves_of, unmatched
 from .merges import Intervals, has
 from .recorded import Recorded
 from .targets import Target, decoded
@@ -30,10 +30,10 @@ def lives_of(history: History, patterns: Sequence[bytes], kinds: Sequence[str] =
     that is mostly a mistake. Where nothing matches, the history gives notice of it."""
     tree, top = history.tree, history.source.path
     if patterns:
-        lives = lives_in(tree, patterns, history.head)
+        paths = {path for pattern in patterns for path in tree.matching(pattern)}
     else:
-        paths = [path for path in tree.branches if is_at_or_below(path, top) and projects.kind_of(path) in kinds]
-        lives = lives_at(tree, paths, history.head)
+        paths = {path for path in tree.branches if is_at_or_below(path, top) and projects.kind_of(path) in kinds}
+    lives = lives_at(tree, history.askable(sorted(paths)), history.head)
     missing = list(unmatched(tree, patterns, history.head))
     if missing or not lives:
         # Nothing more may be asked, and the dump may be one that is refused.

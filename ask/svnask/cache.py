@@ -2,6 +2,7 @@
 from __future__ import annotations
 
 import contextlib
+import errno
 import fcntl
 import os
 import re
@@ -86,7 +87,7 @@ def make_room(kept: str) -> None:
 
 def remove_unless_locked(path: str) -> None:
     """Takes a folder out of the cache, unless another run changes it just now."""
-    with contextlib.suppress(OSError), open(os.path.join(path, LOCK), "ab") as file:
+    with contextlib.suppress(OSError), open(os.path.join(path, LOCK), "ab", opener=opener) as file:
         fcntl.flock(file, fcntl.LOCK_EX | fcntl.LOCK_NB)
         remove(path)
 
@@ -96,6 +97,15 @@ def size_of(path: str) -> int:
     with contextlib.suppress(OSError), os.scandir(path) as found:
         return sum(each.stat().st_size for each in found)
     return 0
+
+
+def opener(path: str, flags: int) -> int:
+    """Opens a file for `open`, without waiting. `OSError` where it is a pipe, or anything else but a regular file."""
+    descriptor = os.open(path, flags | os.O_NONBLOCK | os.O_CLOEXEC, 0o666)
+    if not stat.S_ISREG(os.fstat(descriptor).st_mode):
+        os.close(descriptor)
+        raise OSError(errno.EINVAL, "Not a regular file", path)
+    return descriptor
 
 
 def flush(path: str) -> None:

@@ -15,7 +15,7 @@ from contextlib import closing
 from typing import Any, Callable, NamedTuple, NoReturn
 
 from . import __version__
-from .command_line import OF_ALL, REACHED, REACHED_ALONE, joined, ordered, places, split_access, with_source
+from .command_line import IS_URL, OF_ALL, REACHED, REACHED_ALONE, joined, ordered, places, split_access, with_source
 from .errors import Damaged, Denied, Error, Failed, Refused, Unsound, Usage
 from .history import History
 from .progress import Bar
@@ -163,9 +163,19 @@ def need_source(words: list[str], names: list[str]) -> None:
 
 def source_in(given: argparse.Namespace) -> Source:
     """The source that a command line names, with the path in it that is asked about."""
+    need_folder(given.dump)
     source = source_of(given.dump, given.access, given.offline)
     source.path = below(source.path, path_of(given.below))
     return source
+
+
+def need_folder(name: str) -> None:
+    """Raises an error where a name is one in the working folder, and that was deleted."""
+    if name != "-" and not IS_URL.match(name) and not os.path.isabs(name):
+        try:
+            os.getcwd()
+        except OSError as error:
+            raise Failed(f"the working folder, in which {name} is, can't be found: {error.strerror}") from error
 
 
 def verb_of(given: argparse.Namespace) -> Verb:

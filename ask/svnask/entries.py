@@ -88,7 +88,7 @@ class Entry:
         for _ in range(9):
             cache.make(self.folder)
             with contextlib.suppress(FileNotFoundError):
-                return open(self.path(cache.LOCK), "ab")
+                return open(self.path(cache.LOCK), "ab", opener=cache.opener)
         raise FileNotFoundError(self.folder)
 
     def _is_lock(self, file: BinaryIO) -> bool:
@@ -123,7 +123,7 @@ class Entry:
         """The file of what came later, to be written on. What a run that was killed left there is cut off."""
         path, length = self.path("later.%d" % store.index.kept.generation), len(store.later)
         try:
-            with open(path, "ab", BUFFER) as file:
+            with open(path, "ab", BUFFER, opener=cache.opener) as file:
                 file.truncate(length)
                 yield file
         except BaseException:
@@ -138,7 +138,7 @@ class Entry:
             if name == "dump" or index.length > index.kept.base:
                 cache.flush(self.path(f"{name}.{generation}"))
         path = self.path(INDEX + ".new")
-        with open(path, "wb") as file:
+        with open(path, "wb", opener=cache.opener) as file:
             file.write(index.text())
         cache.flush(path)
         os.replace(path, self.path(INDEX))
@@ -174,7 +174,7 @@ def read_by(reader: Callable[[BinaryIO], T], folder: str) -> T | None:
     try:
         if not cache.is_own(folder):
             return None
-        with open(os.path.join(folder, INDEX), "rb") as file:
+        with open(os.path.join(folder, INDEX), "rb", opener=cache.opener) as file:
             return reader(file)
     except (OSError, ValueError, IndexError):
         return None

@@ -5,7 +5,7 @@ from collections.abc import Iterable, Iterator, Sequence
 from typing import NamedTuple
 
 from . import log
-from .answers import Answers, Log, Mergeinfo, Where
+from .answers import Answers, Log, Mergeinfo, Where, is_askable
 from .changes import is_at_or_below
 from .errors import Denied
 from .history import History
@@ -72,6 +72,7 @@ def held(history: History, targets: Sequence[Target]) -> list[Held]:
         target: [
             part
             for path, ranges in value_of(answers, target).items()
+            if is_askable(path)
             for part in parts_of(tree, history.head, path, runs_of(ranges.encode("ascii")))
         ]
         for target in targets

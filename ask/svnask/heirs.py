@@ -4,7 +4,7 @@ from __future__ import annotations
 from collections.abc import Iterable, Iterator, Sequence
 from typing import NamedTuple
 
-from .answers import Locate, Segment, Where
+from .answers import Locate, Segment, Where, is_askable
 from .changes import Place, components, joined, rest_below, tops_of
 from .history import History
 from .store import Record
@@ -79,7 +79,7 @@ def copies_of(segments: Sequence[Segment], peg: int) -> Iterator[tuple[int, Plac
 def ended(history: History, copies: Iterable[tuple[int, Place]]) -> set[tuple[int, Place]]:
     """Those of some copies whose source ended with them: the path was there until the revision before, and what is
     there then, if anything, does not come from it."""
-    asked = list(copies)
+    asked = [copy for copy in copies if is_askable(copy[1][0])]
     queries = [
         query for rev, (path, source) in asked for query in (Locate(path, rev - 1, source), Locate(path, rev, rev - 1))
     ]
@@ -90,7 +90,7 @@ def ended(history: History, copies: Iterable[tuple[int, Place]]) -> set[tuple[in
 def heirs(history: History, target: Target, last: int) -> list[Heir]:
     """The paths of a revision that were the target in its peg revision, in the order of paths."""
     candidates = Candidates(history.records(), target, last)
-    queries = [Where(path, last) for path in candidates.paths]
+    queries = [Where(path, last) for path in history.askable(candidates.paths)]
     ways: dict[bytes, list[tuple[int, Place]]] = {}
     for query, answer in zip(queries, history.ask(queries)):
         segments = answer.segments

@@ -16,7 +16,7 @@ from .answers import A, Answer, Answers, Locate, Located, Log, Logged, Query, Se
 from .changes import WITHOUT_KIND, Change, KnownBlocks, Place, changes_of, place_of
 from .dump_source import Dump
 from .engine import Talk
-from .errors import Damaged, Failed, Refused
+from .errors import Damaged, Denied, Failed, Refused
 from .lives import Tree
 from .progress import Progress, Told
 from .source import Source
@@ -291,6 +291,19 @@ class History:
         """
         return one(self.ask([Log(path, rev)]))
 
+    def askable(self, paths: Iterable[bytes]) -> Iterator[bytes]:
+        """Those of some paths about which svnhist can be asked. Of others the history gives notice.
+
+        >>> list(history.askable([b"/trunk"]))
+        [b'/trunk']
+        """
+        for path in paths:
+            if is_askable(path):
+                yield path
+            else:
+                shown = path.decode("utf-8", "surrogateescape")
+                self.notice(f"a path with a tab or a newline is left out: '{shown}'")
+
     def kind(self, path: bytes, rev: int) -> str | None:
         """Whether a path of a revision is a `file` or a `dir`, as the record says that added it first.
 
@@ -323,7 +336,18 @@ class History:
         >>> history.revision(9).author, history.revision(9).message
         (b'alice', b'Branch and change in one revision')
         """
-        return self._store.revision(rev)
+        return self._store.revision(self.known(rev))
+
+    def known(self, rev: int) -> int:
+        """The number of a revision that there is.
+
+        >>> history.known(14)
+        Traceback (most recent call last):
+        svnask.errors.Denied: E160006: No such revision 14
+        """
+        if not 0 <= rev <= self.head:
+            raise Denied("E160006", f"No such revision {rev}")
+        return rev
 
     def records(self, first: int = 0, last: int | None = None) -> Iterator[Record]:
         """The records of these revisions, in the order of the dump.
@@ -394,6 +418,7 @@ class History:
         [('A', b'/branches/one-again', (b'/branches/one', 5))]
         """
         if rev not in self._changes:
+            self.known(rev)
             found = self._known_blocks.changes(self._store.blocks_of(rev))
             self._changes[rev] = changes_of(self._store.nodes(rev)) if found is None else found
         return self._changes[rev]

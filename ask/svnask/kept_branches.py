@@ -13,6 +13,7 @@ from collections import Counter
 from collections.abc import Iterable, Iterator
 from typing import NamedTuple
 
+from . import cache
 from .changes import is_at_or_below, joined, rest_below, tops_of
 from .projects import TRUNK, is_in_named, is_named, kind_of
 from .store import Front
@@ -81,7 +82,7 @@ def events_in(text: bytes) -> Iterator[Event]:
 def events_of(span: Span) -> list[Event]:
     """The events whose blocks begin in a span, in their order."""
     begin = max(span.begin - EDGE, 0)
-    with open(span.path, "rb") as file:
+    with open(span.path, "rb", opener=cache.opener) as file:
         text = os.pread(file.fileno(), span.end + EDGE - begin, begin)
     found = sorted(events_in(text))
     return [event for event in found if span.begin <= event.at + begin < span.end]

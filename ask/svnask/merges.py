@@ -9,7 +9,7 @@ import bisect
 from collections.abc import Iterable, Iterator, Sequence
 from typing import NamedTuple
 
-from .answers import Answer, Inherited, Mergeinfo, Query, Segments, Where
+from .answers import Answer, Inherited, Mergeinfo, Query, Segments, Where, is_askable
 from .changes import tops_of
 from .lives import Life
 from .values import Explicit
@@ -176,7 +176,7 @@ def candidates(explicit: Explicit, life: Life) -> list[int]:
 def queries_of(explicit: Explicit, life: Life) -> list[Query[Answer]]:
     """Where a life was, its mergeinfo in each candidate, and before that what its source had."""
     asked: list[Query[Answer]] = [Where(life.path, life.last)]
-    if life.source is not None:
+    if life.source is not None and is_askable(life.source[0]):
         asked.append(Mergeinfo(*life.source))
     return asked + [Mergeinfo(life.path, rev) for rev in candidates(explicit, life)]
 

@@ -17,7 +17,7 @@ import sys
 import tempfile
 import threading
 import time
-from collections.abc import Iterator
+from collections.abc import Callable, Iterator
 from contextlib import closing
 from types import TracebackType
 from typing import IO, Any
@@ -34,6 +34,8 @@ PATIENCE, LONGEST = 10, 1 << 22
 # How long `select` is asked to wait: it takes no number of seconds of any length.
 LONGEST_WAIT = 24 * 3600
 STOP = b"stop\n"
+# How many seconds pass before the server looks again whether a caller is there, or a descriptor is free.
+PAUSE = 0.2
 # How many links are followed.
 LINKS = 40
 
@@ -95,6 +97,39 @@ def listener(folder: int, name: str) -> socket.socket:
     return found
 
 
+class Caller:
+    """Who asks a question. Where they go before it is answered, the program that is asked is ended."""
+
+    def __init__(self, connection: socket.socket, end: Callable[[], object]) -> None:
+        self._connection, self._end = connection, end
+        self._is_gone = False
+        self._is_answered = threading.Event()
+        self._watch = threading.Thread(target=self._wait, daemon=True)
+
+    def __enter__(self) -> Caller:
+        self._watch.start()
+        return self
+
+    def __exit__(
+        self, kind: type[BaseException] | None, value: BaseException | None, trace: TracebackType | None
+    ) -> None:
+        self._is_answered.set()
+        self._watch.join()
+
+    def _wait(self) -> None:
+        while not self._is_answered.wait(PAUSE):
+            ready, _, _ = select.select([self._connection], [], [], 0)
+            if ready and not self._connection.recv(1, socket.MSG_PEEK):
+                self._is_gone = True
+                self._end()
+                return
+
+    def need(self) -> None:
+        """Raises an error where nobody waits for the answer any more."""
+        if self._is_gone:
+            raise Failed("the caller is gone")
+
+
 class Server:
     """A socket, and the history about which is asked there."""
 
@@ -140,14 +175,23 @@ class Server:
             if self._ended in ready:
                 running, last = running - len(self._ended.recv(1 << 10)), time.monotonic()
             if self._socket in ready:
-                connection, _ = self._socket.accept()
-                threading.Thread(target=self._take, args=(connection,), daemon=True).start()
-                running += 1
+                connection = self._accepted()
+                if connection is not None:
+                    threading.Thread(target=self._take, args=(connection,), daemon=True).start()
+                    running += 1
+
+    def _accepted(self) -> socket.socket | None:
+        """A new connection. Where there are no descriptors for one, others may soon be closed."""
+        try:
+            return self._socket.accept()[0]
+        except OSError:
+            time.sleep(PAUSE)
+            return None
 
     def _take(self, connection: socket.socket) -> None:
-        """Answers one request. What fails in the connection is the other end's."""
+        """Answers one request. What fails with it is the other end's, which then answers the question itself."""
         try:
-            with connection, contextlib.suppress(OSError, ValueError, LookupError, TypeError):
+            with connection, contextlib.suppress(Exception):
                 connection.settimeout(PATIENCE)
                 if places.peer_of(connection) == os.geteuid():
                     self._answer(connection, line_from(connection))
@@ -166,15 +210,15 @@ class Server:
         if request["version"] != __version__ or any(variables[name] != self._variables[name] for name in SAME):
             return
         with tempfile.TemporaryFile(dir=places.folder()) as output:
-            with self._lock, as_called(request):
-                ending = self._told(request["words"], output)
+            with self._lock, as_called(request), Caller(connection, self._kept.rest) as caller:
+                ending = self._told(request["words"], output, caller)
             if ending is not None:
                 output.seek(0)
                 text = json.dumps({"status": ending.status, "said": ending.said}).encode("ascii") + b"\n"
                 sent = socket.send_fds(connection, [text], [output.fileno()])
                 connection.sendall(text[sent:])
 
-    def _told(self, words: list[str], output: IO[bytes]) -> cli.Ending | None:
+    def _told(self, words: list[str], output: IO[bytes], caller: Caller) -> cli.Ending | None:
         """How a question ends. None where that is for the caller to find out: it is no question to this server, or
         something failed."""
         notes = io.StringIO()
@@ -186,8 +230,13 @@ class Server:
                 if place_of(source) != self._kept.place:
                     return None
                 history = self._kept.updated(given, source)
+
+                def write(piece: bytes) -> None:
+                    caller.need()
+                    output.write(piece)
+
                 with contextlib.redirect_stderr(notes):
-                    cli.tell(history, given, output.write)
+                    cli.tell(history, given, write)
             ending = cli.Ending(0, [])
         except Error as error:
             ending = cli.ending_of(error)
@@ -244,9 +293,9 @@ def line_from(connection: socket.socket) -> bytes:
 def as_called(request: dict[str, Any]) -> Iterator[None]:
     """Does something as the caller would: in its folder, and with its time zone and its mask of modes."""
     kept = {name: os.environ.get(name) for name in CARRIED}
-    os.chdir(request["folder"])
     mask = os.umask(request["mask"])
     try:
+        os.chdir(request["folder"])
         set_variables({name: request["variables"][name] for name in CARRIED})
         yield
     finally:

@@ -5,7 +5,7 @@ import bisect
 from collections.abc import Iterable, Iterator, Sequence
 from typing import NamedTuple
 
-from .answers import Answers, Log
+from .answers import Answers, Log, is_askable
 from .changes import joined, rest_below, tops_of
 from .history import History
 from .lives import Tree, unmatched
@@ -81,7 +81,8 @@ class Paths:
 
     def ask(self, paths: Iterable[bytes]) -> None:
         """Asks for the operative revisions of paths, all in one run of svnhist."""
-        new = [path for path in dict.fromkeys(paths) if path not in self._operative]
+        unknown = [path for path in dict.fromkeys(paths) if path not in self._operative]
+        new = list(self._history.askable(unknown))
         queries = {path: [Log(path, life.hi, (life.lo, life.hi)) for life in self.lives(path)] for path in new}
         answers: Answers = self._history.answers(query for each in queries.values() for query in each)
         for path in new:
@@ -89,7 +90,7 @@ class Paths:
 
     def operative(self, path: bytes, span: Span) -> list[int]:
         """The operative revisions of a path in a span, rising."""
-        found = self._operative[path]
+        found = self._operative.get(path, [])
         return found[bisect.bisect_left(found, span.lo) : bisect.bisect_right(found, span.hi)]
 
 
@@ -174,6 +175,8 @@ def findings(history: History, patterns: Sequence[bytes]) -> list[Finding]:
             found.append(Finding(path, None, b"", MALFORMED))
             continue
         for source, runs in sorted(value.items()):
+            if not is_askable(source):
+                continue
             found += findings_of_source(paths, path, source, runs)
         above = nearest[path]
         if above is not None:

@@ -45,6 +45,8 @@ class Source:
             return self._kept(entry)
         if entry is None:
             return self.read(progress)
+        # A limit that can't be read is an error before anything is kept.
+        cache.limit()
         return self._current(entry) or self._updated(entry, progress)
 
     def _current(self, entry: Entry) -> Store | None:

@@ -197,7 +197,7 @@ class Store:
         self._folder = folder
         self._is_kept = is_kept
         generation, length = index.kept.generation, index.kept.base
-        self._file = open(os.path.join(folder, "dump.%d" % generation), "rb")
+        self._file = open(os.path.join(folder, "dump.%d" % generation), "rb", opener=cache.opener)
         try:
             own = "/proc/%d/fd/%d" % (os.getpid(), self._file.fileno())
             self.base = own if os.path.exists(own) else self._file.name
@@ -206,7 +206,7 @@ class Store:
             self.first = part_of(self._file, length)
             self.later: Bytes = b""
             if index.length > length:
-                with open(os.path.join(folder, "later.%d" % generation), "rb") as later:
+                with open(os.path.join(folder, "later.%d" % generation), "rb", opener=cache.opener) as later:
                     self.later = part_of(later, index.length - length)
         except BaseException:
             self._file.close()

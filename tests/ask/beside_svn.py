@@ -40,8 +40,8 @@ PATTERNS = (
     "a*b", "/trunk", "/b/*/f", "(no date)", "(invalid date)", "", "*", "soon", "T00:", "copy", "\x7f", "message", "?\\001",
 )
 # fmt: on
-# The error where the server ended, and how many seconds `svn` has: with -g and a rising range it may fail or not end.
-ENDED, PATIENCE = b"E210002", 30
+# The errors where the server ended, and how many seconds `svn` has: with -g and a rising range it may fail or not end.
+ENDED, PATIENCE = (b"E210002", b"E000104", b"E000111", b"E120108"), 30
 # How many seeds have the same repository.
 TOGETHER = 20
 
@@ -230,7 +230,7 @@ class Compared(NamedTuple):
 
     @property
     def is_without_end(self) -> bool:
-        return self.wanted.text == ENDED or self.wanted.text.startswith(b"no end after")
+        return self.wanted.text in ENDED or self.wanted.text.startswith(b"no end after")
 
     def shown(self) -> str:
         """The first lines that are not the same."""

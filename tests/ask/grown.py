@@ -139,5 +139,5 @@ def apache(parent: Path, folder: Path) -> Iterator[str]:
     os.chmod(folder, 0o755)
     text = CONFIGURATION.format(folder=folder, port=port, modules=modules, parent=parent)
     (folder / "configuration").write_text(text)
-    with ended(APACHE, "-X", "-f", folder / "configuration", port=port):
+    with ended(APACHE, "-DFOREGROUND", "-f", folder / "configuration", port=port):
         yield f"http://127.0.0.1:{port}/svn"

@@ -7,6 +7,7 @@ from collections.abc import Iterator
 from contextlib import closing
 from functools import partial
 
+from ..dump_source import Dump
 from ..entries import read_index
 from ..errors import Failed, Usage
 from ..history import History
@@ -49,8 +50,11 @@ class UpdateVerb(KeptVerb):
             entry = source.entry()
             before = read_index(entry.folder) if entry is not None else None
             head = len(before.revisions) - 1 if before is not None else -1
-            with closing(source.store(bar)) as store:
+            store = source.store(bar)
+            with History(store, None, source) as history:
                 youngest = store.head
+                if isinstance(source, Dump):
+                    history.check()
             if given.properties:
                 with_properties(source, bar)
             name = source.root or source.name
