@@ -56,7 +56,7 @@ TOOLS = {
         "echo '<info><entry revision=\"19\"><repository><root>https://svn.example.org/repo</root>'",
         "uuid=$(sed -n 's/^UUID: //p' \"$INTEROP/merges-svnrdump.dump\")",
         'exec echo "<uuid>$uuid</uuid></repository></entry></info>" ;;',
-        "'proplist --revprop -v --xml -r 19 https://svn.example.org/repo')",
+        "'proplist --revprop -v --xml -r 19 https://svn.example.org/repo'*)",
         "printf '<properties><property name=\"svn:%s\">%s</property>' author bob",
         "printf '<property name=\"svn:%s\">%s</property>' date 2024-01-01T00:19:00.000000Z",
         "printf '<property name=\"svn:%s\">%s</property>' log 'Merge what is for the directory alone'",

@@ -24,7 +24,7 @@ from .repositories import Access
 from .repository_source import Address
 from .source import Source
 from .sources import source_of
-from .targets import below, path_of
+from .targets import path_in, path_of
 from .texts import drop, say
 from .verbs import VERBS
 from .verbs.base import Object, Verb, counted
@@ -165,7 +165,7 @@ def source_in(given: argparse.Namespace) -> Source:
     """The source that a command line names, with the path in it that is asked about."""
     need_folder(given.dump)
     source = source_of(given.dump, given.access, given.offline)
-    source.path = below(source.path, path_of(given.below))
+    source.path = path_in(source.path, path_of(given.below))
     return source
 
 

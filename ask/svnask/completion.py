@@ -41,7 +41,7 @@ from .kept_branches import kept_branches
 from .repositories import PLAIN, ancestors, canonical, path_below
 from .repository_source import Address, Folder
 from .store import Front
-from .targets import below, decoded, path_of
+from .targets import decoded, path_in, path_of
 
 # After how many seconds of the call branches are no more looked for.
 LONGEST = 0.16
@@ -258,7 +258,7 @@ class Completion:
         place = place_of(typed.source, typed.access)
         if place is None:
             return iter(())
-        return self._paths(place._replace(path=below(place.path, path_of(typed.below))), part, is_pattern)
+        return self._paths(place._replace(path=path_in(place.path, path_of(typed.below))), part, is_pattern)
 
     def _urls(self, part: str, is_target: bool, access: Sequence[str] = ()) -> Iterator[str]:
         """The URLs of repositories, as the front of a target, too, or those of the branches and tags of the one in

@@ -184,11 +184,11 @@ def given(text: str, now: Callable[[], float] = time.time) -> Moment:
 
 def before(now: float, count: str, unit: str, text: str) -> Moment:
     """The moment that was some units of time ago. Subversion takes all names that begin as those of units do."""
-    number = int(count) if count.lstrip("+").isdigit() else NUMBERS.index(count) if count in NUMBERS else None
+    amount = int(count) if count.lstrip("+").isdigit() else NUMBERS.index(count) if count in NUMBERS else None
     length = next((seconds for name, seconds in UNITS.items() if unit.startswith(name)), None)
-    if number is None or length is None or now < number * length:
+    if amount is None or length is None or now < amount * length:
         raise unreadable(text)
-    micros = int(now * MICROS) - number * length * MICROS
+    micros = int(now * MICROS) - amount * length * MICROS
     return micros // MICROS, micros % MICROS
 
 

@@ -57,7 +57,7 @@ class Access(NamedTuple):
     def look(self, url: str) -> Repository:
         """The repository that has a path. `Unreached` where none has."""
         try:
-            return self._look(url, "HEAD")
+            return self._look(url)
         except Unreached as error:
             if not str(error).startswith(BOGUS):
                 raise
@@ -66,13 +66,13 @@ class Access(NamedTuple):
         found: Repository | None = None
         for above in below:
             with suppress(Unreached):
-                found = self._look(above, "0")
+                found = self._look(above, "-r", "0")
                 break
-        found = found or self._look(root, "0")
+        found = found or self._look(root, "-r", "0")
         return found._replace(youngest=self._youngest(found.root))
 
-    def _look(self, url: str, rev: str) -> Repository:
-        with printed("svn", "info", "--xml", "-r", rev, *self.words, without_peg(url)) as stream:
+    def _look(self, url: str, *options: str) -> Repository:
+        with printed("svn", "info", "--xml", *options, *self.words, without_peg(url)) as stream:
             found = list(elements(stream, "entry"))
         root, uuid = (found[0].findtext(f"repository/{name}") if found else None for name in ("root", "uuid"))
         if root is None or uuid is None:

@@ -121,13 +121,13 @@ class Index(NamedTuple):
     def text(self) -> bytes:
         kind, place, state, generation, base = self.kept
         counts = self.format, self.records, self.size, self.length, len(self.revisions), generation, base, len(place)
-        lines = [b"%d %d %d %d %d %d %d %d" % counts, self.uuid, kind, state, b"%d" % self.checksum]
+        lines = [b"%d %d %d %d %d %d %d %d" % counts, self.uuid, kind, state, b"%08x" % self.checksum]
         lines.append(b" ".join(b"%d-%d" % run for run in self.undated))
         lines += [b"%d" % place for place in self.revisions]
         lines += [b"%d %s" % renewal for renewal in self.renewals]
         # A place may have newlines.
         rest = b"\n".join(lines) + b"\n" + place
-        return b"%s %d %d\n%s" % (VERSION, len(rest), zlib.crc32(rest), rest)
+        return b"%s %d %08x\n%s" % (VERSION, len(rest), zlib.crc32(rest), rest)
 
 
 # How many lines of an index stand before those of the revisions.
@@ -138,7 +138,7 @@ def index_of(text: bytes) -> Index:
     """The index in a text, which begins with the version and with the length and a checksum of what follows.
     `ValueError` or `IndexError` where it is not one."""
     head, _, rest = text.partition(b"\n")
-    if head != b"%s %d %d" % (VERSION, len(rest), zlib.crc32(rest)):
+    if head != b"%s %d %08x" % (VERSION, len(rest), zlib.crc32(rest)):
         raise ValueError("another version, or not as it was written")
     counts, uuid, kind, state, checksum, undated, _ = rest.split(b"\n", LINES)
     version, records, size, length, count, generation, base, named = map(int, counts.split())
@@ -155,7 +155,7 @@ def index_of(text: bytes) -> Index:
         list(map(int, lines[LINES : LINES + count])),
         [(int(rev), path) for rev, path in pairs],
         [(int(first), int(last)) for first, last in runs],
-        int(checksum),
+        int(checksum, 16),
         Kept(kind, rest[len(rest) - named :], state, generation, base),
     )
 

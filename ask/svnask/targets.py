@@ -53,17 +53,17 @@ def placed(history: History, text: str) -> bytes:
             raise Denied("E170000", f"'{text}' isn't in the same repository as '{source.root}'")
         return found
     path = path_of(text)
-    return path if text.startswith(("/", "^")) else below(source.path, path)
+    return path if text.startswith(("/", "^")) else path_in(source.path, path)
 
 
 def pattern_of(history: History, text: str) -> bytes:
     """The pattern that a user names: of all paths, or without a slash or `^/` of what is below the path at which the
     source begins."""
     pattern = path_of(text)
-    return pattern if text.startswith(("/", "^")) else below(history.source.path, pattern)
+    return pattern if text.startswith(("/", "^")) else path_in(history.source.path, pattern)
 
 
-def below(top: bytes, path: bytes) -> bytes:
+def path_in(top: bytes, path: bytes) -> bytes:
     """A path as one below another one."""
     return path if top == b"/" else top + path if path != b"/" else top
 

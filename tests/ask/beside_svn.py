@@ -41,7 +41,7 @@ PATTERNS = (
 )
 # fmt: on
 # The errors where the server ended, and how many seconds `svn` has: with -g and a rising range it may fail or not end.
-ENDED, PATIENCE = (b"E210002", b"E000104", b"E000111", b"E120108"), 30
+ENDED, PATIENCE = (b"E210002", b"E175009", b"E000104", b"E000111", b"E120108"), 30
 # How many seeds have the same repository.
 TOGETHER = 20
 

@@ -266,16 +266,15 @@ class Branches(base.UtcTest):
                 self.compare(f"{name} in pieces", found, self.found(dump, piece))
 
     def test_what_comes_later_is_found(self) -> None:
-        first = dump_of([added(b"trunk"), added(b"branches"), copied(b"branches/old", b"trunk", 1)])
-        dump = self.made("dump", first)
+        first = [[added(b"trunk"), added(b"branches")], [copied(b"branches/old", b"trunk", 1)]]
+        dump = self.made("dump", dump_of(*first))
         self.assertEqual(base.called(dump, "update").status, 0)
         later = [
-            [copied(b"p/branches/new", b"trunk", 1)],
+            [added(b"p"), added(b"p/branches"), copied(b"p/branches/new", b"trunk", 1)],
             [deleted(b"branches/old")],
             [copied(b"elsewhere", b"trunk", 2)],
         ]
-        whole = dump_of([added(b"trunk"), added(b"branches"), copied(b"branches/old", b"trunk", 1)], *later)
-        dump.write_bytes(whole)
+        dump.write_bytes(dump_of(*first, *later))
         self.assertEqual(base.called(dump, "update").status, 0)
         front = read_front(str(next(self.cache.glob("svnhist/*"))))
         assert front is not None

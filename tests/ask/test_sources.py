@@ -53,7 +53,7 @@ class Words(Case):
             (f"log {url}/trunk/ -r 2:1", "log trunk -r 2:1"), (f"{url}/branches/two segments .", "segments branches/two"),
             (f"mergeinfo {url}/branches/two", "mergeinfo branches/two"),
             (f"mergeinfo --show-revs eligible {url}/trunk {url}/branches/two -R", "mergeinfo --show-revs eligible trunk branches/two -R"),
-            (f"--json log {url}/trunk -l1", "--json log trunk -l1"), (f"{url}/trunk branches", "branches"),
+            (f"--json log {url}/trunk -l1", "--json log trunk -l1"), (f"{url}/trunk branches", "branches --below trunk"),
             (f"log -q {url}/branches two one-again", "log -q branches/two branches/one-again"),
         )
         # fmt: on
@@ -207,10 +207,12 @@ class Served(Case):
             made.commit("later")
             self.assertIn(b"Make later", self.asked(url, "log", "-r14", *settings, *ALICE))
             self.asked(url, "update", "--properties", *settings, *ALICE)
-            done = base.called(url, "info", *settings)
+            done = base.called(url, "info", *settings, "--username", "alice", "--password", "wrong")
             self.check_said(done, 1, "E")
             self.assertIn("--offline", done.said)
-            self.assertIn(b"youngest: 14\n", self.asked(url, "info", "--offline"))
+            self.assertIn(b"youngest: 14\n", self.asked(url, "info", "--offline", *settings, *ALICE))
+            # Nothing is kept for others.
+            self.check_said(base.called(url, "info", "--offline", *settings), 1, "nothing is kept")
 
     def test_svnserve(self) -> None:
         made = self.repository()

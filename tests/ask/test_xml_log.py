@@ -71,7 +71,7 @@ class XmlLog(base.Case):
         )
         # fmt: on
         for words, wanted in rows:
-            head = xml_log.XmlForm.begin + b'<logentry\n   revision="1">\n'
+            head = xml_log.XmlForm().begin + b'<logentry\n   revision="1">\n'
             self.assertEqual(self.output("-r", "1", *words), head + wanted + b"</logentry>\n</log>\n", words)
 
     def test_revision_0_is_shown_where_its_message_is_asked_for(self) -> None:
