@@ -34,10 +34,12 @@ class Serve(base.Case):
         super().setUp()
         self.dump = self.made("asked.dump", base.content_of("branches"))
 
-    def served(self, *words: base.Word, dump: Path | None = None) -> subprocess.Popen[bytes]:
-        """A server, which is there."""
+    def served(
+        self, *words: base.Word, dump: Path | None = None, by: tuple[base.Word, ...] = ()
+    ) -> subprocess.Popen[bytes]:
+        """A server, which is there, perhaps started by another command."""
         server = subprocess.Popen(
-            base.command(dump or self.dump, "serve", *words), stdout=subprocess.PIPE, stderr=subprocess.PIPE
+            [*by, *base.command(dump or self.dump, "serve", *words)], stdout=subprocess.PIPE, stderr=subprocess.PIPE
         )
         self.addCleanup(self.end, server)
         assert server.stdout is not None
@@ -201,6 +203,49 @@ class Serve(base.Case):
             finally:
                 thread.join()
                 os.unlink(path)
+
+    def connected(self) -> socket.socket:
+        found = client.connection_of(str(self.dump))
+        assert found is not None
+        self.addCleanup(found.close)
+        return found
+
+    def test_odd_requests_leave_no_trace(self) -> None:
+        self.served()
+        whole = json.loads(client.request(["DUMP", "info"]))
+        odd: list[bytes] = [b"[" * 100000, b"7", b"[]", b"{}", b"\xff", b""]
+        for name, value in (("mask", 10**30), ("words", 7), ("words", [7]), ("folder", "/none"), ("variables", [])):
+            odd.append(json.dumps({**whole, name: value}).encode())
+        for each in odd:
+            with self.connected() as connection:
+                connection.sendall(each + b"\n")
+                self.assertEqual(connection.recv(1), b"", each[:60])
+        self.check_same("log", "-q")
+
+    def test_a_question_whose_caller_is_gone_is_given_up(self) -> None:
+        slow = self.folder / "slow"
+        engine = self.script("engine", f"test ! -e {slow} || exec sleep 600", f'exec {self.programs.svnhist_live} "$@"')
+        with mock.patch.dict(os.environ, SVNHIST_LIVE=engine):
+            self.served()
+            slow.touch()
+            self.dump.write_bytes(base.content_of("merges"))
+            connection = self.connected()
+            connection.sendall(client.request([str(self.dump), "log", "-q"]))
+            time.sleep(1)
+            slow.unlink()
+            connection.close()
+            begun = time.monotonic()
+            self.check_same("log", "-q")
+            self.assertLess(time.monotonic() - begun, 20)
+
+    def test_it_goes_on_where_it_had_no_descriptors(self) -> None:
+        self.served(by=("sh", "-c", 'ulimit -n 40; exec "$@"', "sh"))
+        connections = [self.connected() for _ in range(80)]
+        time.sleep(0.5)
+        for each in connections:
+            each.close()
+        base.wait_for(lambda: self.is_asked(self.dump, "info"))
+        self.check_same("log", "-q")
 
     def test_a_reply_that_is_cut_is_none(self) -> None:
         whole = json.dumps({"status": 0, "said": []}).encode() + b"\n"
