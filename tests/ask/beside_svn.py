@@ -131,7 +131,7 @@ def of_properties(chance: random.Random) -> list[str]:
 
 
 def xml(chance: random.Random, place: Place) -> list[str]:
-    options = some(chance, verbose=0.6, quiet=0.2, stop_on_copy=0.2)
+    options = some(chance, verbose=0.6, quiet=0.2, stop_on_copy=0.2, incremental=0.1)
     return ["log", "--xml", target(chance, place), *options, *ranges(chance, place), *of_properties(chance)]
 
 
@@ -179,7 +179,7 @@ def several(chance: random.Random, place: Place) -> list[str]:
     path, _, rev = found.rpartition("@")
     below = [each[len(path) :].lstrip("/") for each in place.trees[int(rev)] if each.startswith(path.rstrip("/") + "/")]
     paths = chance.choices([*below, ".", "none"] if chance.random() < 0.1 else below or ["."], k=chance.randint(1, 3))
-    options = some(chance, verbose=0.3, use_merge_history=0.3, stop_on_copy=0.2)
+    options = some(chance, verbose=0.3, use_merge_history=0.3, stop_on_copy=0.2, incremental=0.1)
     return ["log", "-q", *options, *ranges(chance, place), found, *(word for word in paths if "@" not in word)]
 
 
@@ -209,7 +209,11 @@ def normal(text: bytes) -> bytes:
         rows = sorted(found[1].split(b"</property>\n"))
         return b"<revprops>\n%s</revprops>\n" % b"</property>\n".join(rows)
 
-    return PROPERTIES.sub(sort_properties, ATTRIBUTES.sub(sort, text)) if text.startswith(b"<?xml") else text
+    return (
+        PROPERTIES.sub(sort_properties, ATTRIBUTES.sub(sort, text))
+        if text.startswith((b"<?xml", b"<logentry"))
+        else text
+    )
 
 
 def output_of(status: int | None, output: bytes, said: str) -> Output:

@@ -67,6 +67,18 @@ class Dates(UtcTest):
         for text in rows:
             self.assertEqual(dates.given(text), (1767312000, 0), text)
 
+    def test_dates_in_words_are_read(self) -> None:
+        now = 1767312000.5
+        rows = (
+            ("3 days ago", 3 * 86400), ("1 hour ago", 3600), ("two weeks ago", 14 * 86400), ("zero minutes ago", 0),
+            ("+2  mins  ago", 120), ("1 month ago", 30 * 86400), ("twelve years ago", 12 * 365 * 86400),
+        )  # fmt: skip
+        for text, seconds in rows:
+            self.assertEqual(dates.given(text, lambda: now), (1767312000 - seconds, 500000), text)
+        for text in ("3 days", "3 seconds ago", "-1 days ago", "many days ago", "99 years ago", "1 day ago."):
+            with self.assertRaises(Denied, msg=text):
+                dates.given(text, lambda: now)
+
     def test_other_dates_are_refused(self) -> None:
         # fmt: off
         rows = (

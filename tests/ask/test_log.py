@@ -64,6 +64,38 @@ class Log(base.Case):
                 found = [each.path for each in branches.holders(history, patterns, rev) if each.how == "history"]
                 self.assertEqual(found, [path for path in alive if rev in logs[path]], (name, rev))
 
+    def test_a_path_that_is_gone_is_told_with_what_became_of_it(self) -> None:
+        rows = (
+            ("branches", "branches/one", "it was deleted in r8; 'heirs /branches/one@7' lists all that comes from it"),
+            (
+                "projects",
+                "beta/tags/b1",
+                "it was renamed to '/beta/tags/b1-old' in r15; 'heirs /beta/tags/b1@14' lists",
+            ),
+        )
+        for name, path, wanted in rows:
+            for verb in ("log", "segments", "mergeinfo"):
+                done = base.called(base.dump_of(name), verb, path)
+                first, second = done.said.splitlines()
+                self.assertEqual((done.status, first[:20]), (1, "svnask: E160013: Fil"), (verb, path))
+                self.assertTrue(second.startswith(f"svnask: {wanted}"), second)
+        self.assertEqual(base.called(base.dump_of("branches"), "log", "none").said.count("\n"), 1)
+
+    def test_options_that_come_after_a_url(self) -> None:
+        dump = base.dump_of("branches")
+        whole = base.called(dump, "log", "trunk").output
+        found = base.called(dump, "log", "trunk", "--incremental").output
+        self.assertEqual(found + b"-" * 72 + b"\n", whole)
+        targets = self.made("targets", b"one\ntwo\n")
+        several = base.called(dump, "log", "-q", "branches@5", "one").output
+        self.assertEqual(
+            base.called(dump, "log", "-q", "branches@5", "--targets", self.made("one", b"one\n")).output, several
+        )
+        self.assertEqual(base.called(dump, "log", "branches", "--targets", targets).status, 1)
+        done = base.called(dump, "log", "--diff", "trunk")
+        self.assertEqual((done.status, done.output), (2, b""))
+        self.assertIn("svnask has no contents of files", done.said)
+
     def test_ranges_are_printed_one_after_another(self) -> None:
         """As `svn` 1.14 printed it of the repository."""
         # fmt: off
