@@ -60,16 +60,14 @@ class Askers(base.Case):
                 self.check("bob", f"{server}/repository/trunk", "log", "-q")
 
     def test_a_root_that_is_none_any_more_hides_none_below(self) -> None:
-        url = self.parent.as_uri()
-        grown.svn("svnadmin", "create", self.folder / "other")
-        (self.folder / "other").rename(self.folder / "top")
         top = self.folder / "top"
+        grown.svn("svnadmin", "create", top)
         self.assertEqual(base.called(top.as_uri(), "update").status, 0)
         for each in sorted(top.iterdir()):
             if each.is_file():
                 each.unlink()
         (self.parent / "repository").rename(top / "repository")
-        self.assertEqual(base.called(f"{top.as_uri()}/repository", "log", "-q").status, 0, url)
+        self.assertEqual(base.called(f"{top.as_uri()}/repository", "log", "-q").status, 0)
 
     def test_who_asks(self) -> None:
         rows: tuple[tuple[list[str], str], ...] = (
