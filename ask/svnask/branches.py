@@ -42,7 +42,7 @@ def lives_of(history: History, patterns: Sequence[bytes], kinds: Sequence[str] =
         if all(map(is_plain, components(pattern))):
             raise Denied("E160013", f"Path not found in any revision: '{decoded(pattern)}'")
         history.notice(f"no path matches '{decoded(pattern)}'")
-    if not lives and not patterns:
+    if not paths and not patterns:
         history.notice(f"there is no {' or '.join(kinds)} {place_text(top)}, so name paths by a PATTERN")
     return lives
 

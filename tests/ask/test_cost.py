@@ -37,8 +37,10 @@ class Runs(base.Case):
         )
         for words in (*asked, ["ask", str(queries)]):
             self.assertEqual(self.runs(*words), 1, words)
-        for words in base.commands("record 1; byte 1; update; --offline update; forget"):
+        for words in base.commands("record 1; byte 1"):
             self.assertEqual(self.runs(*words), 0, words)
+        # A dump that is refused is no success.
+        self.assertEqual([self.runs(each) for each in ("update", "forget")], [1, 0])
 
     def test_the_last_change_of_a_long_life_is_looked_for_in_its_end_first(self) -> None:
         dump = self.made("dump", dump_of([added(b"trunk"), added(b"tags")], *([] for _ in range(2, 200))))

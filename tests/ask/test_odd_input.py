@@ -173,7 +173,9 @@ class Odd(base.Case):
         history = self.history(DUMP)
         self.assertRaises(Denied, history.log, b"a\tb", 1)
         dump = self.made("tab", dump_of([added(b"branches"), added(b"branches/a\tb")]))
-        self.check(base.called(dump, "branches"), 1)
+        done = base.called(dump, "branches")
+        wanted = "svnask: a path with a tab or a newline is left out: '/branches/a\\tb'\n"
+        self.assertEqual((done.status, done.output, done.said), (0, b"", wanted))
 
     def test_a_name_does_not_rule_the_terminal(self) -> None:
         odd = "a\x1b]0;title\x07\x9b2J\x7f\r"
