@@ -6,7 +6,7 @@ from typing import NamedTuple
 
 from . import log, mergeinfo, projects
 from .answers import Answer, Log, Logged, Mergeinfo, Query, Where
-from .changes import Place, components, is_at_or_below
+from .changes import Place, components, is_at_or_below, tops_of
 from .errors import Denied
 from .history import History
 from .lives import Life, is_plain, lives_at, moves_of, unmatched
@@ -143,7 +143,7 @@ class Asked(NamedTuple):
 
 def holders(history: History, patterns: Sequence[bytes], rev: int) -> Iterator[Holder]:
     """The branches and tags of today that have a revision of one of them."""
-    changed = [change.path for change in history.changes(rev)]
+    changed = {change.path for change in history.changes(rev)}
     alive = alive_in(history, lives_of(history, patterns))
     asked = [
         Asked(
@@ -159,7 +159,7 @@ def holders(history: History, patterns: Sequence[bytes], rev: int) -> Iterator[H
         if rev in log.listed(history, log.Trace(segments, answered(answers[each.log]))):
             found[life.path] = HISTORY
         elif value.ok:
-            named[life.path] = list(namings(value.value, changed, rev))
+            named[life.path] = list(namings(history, value.value, changed, rev))
     paths = [path for path, namings_of in named.items() if namings_of]
     for path, recorded in zip(paths, Recorded(history).of((path, history.head) for path in paths)):
         found[path] = how_merged(named[path], recorded, rev)
@@ -173,12 +173,12 @@ class Naming(NamedTuple):
     is_whole: bool
 
 
-def namings(value: dict[bytes, str], changed: Sequence[bytes], rev: int) -> Iterator[Naming]:
-    """The sources of which mergeinfo has a revision, and which the revision changed."""
+def namings(history: History, value: dict[bytes, str], changed: set[bytes], rev: int) -> Iterator[Naming]:
+    """The sources of which mergeinfo has a revision, and which the revision changed, given all that it changed."""
     for source, ranges in value.items():
         for run in runs_of(ranges.encode("ascii")):
-            if run.lo <= rev <= run.hi and any(
-                is_at_or_below(path, source) or is_at_or_below(source, path) for path in changed
+            if run.lo <= rev <= run.hi and (
+                not changed.isdisjoint(tops_of(source)) or history.changes_below(rev, source)
             ):
                 yield Naming(source, run.inheritable)
 
@@ -292,10 +292,7 @@ def touched(history: History, patterns: Sequence[bytes]) -> Iterator[Touched]:
         changed[life] = answered(answer)[::-1]
     before: Life | None = None
     for life in lives:
-        below = any(
-            change.path != life.path and is_at_or_below(change.path, life.path)
-            for change in history.changes(life.first)
-        )
+        below = any(change.path != life.path for change in history.changes_below(life.first, life.path))
         of_path = before if before is not None and before.path == life.path else None
         events = begin_of(life, of_path) + [Event(CHANGED, rev) for rev in [life.first] * below + changed.get(life, [])]
         events += end_of(history, life)

@@ -94,15 +94,15 @@ class KnownBlocks(dict[bytes, "Change | None"]):
         """What the records of a revision come to, or None where one has not the form that Subversion writes."""
         if MERGEINFO in blocks:
             blocks = without_sections(blocks)
-        found: dict[bytes, Change] = {}
+        found = Combined()
         try:
             for block in OFFSET.sub(b"", blocks).lstrip(b"\n").split(b"\n\n"):
                 change = self[block]
                 if change is not None:
-                    add(found, change)
+                    found.add(change)
         except Unusual:
             return None
-        return in_order(found)
+        return found.in_order()
 
 
 def without_sections(blocks: bytes) -> bytes:
@@ -117,10 +117,10 @@ def without_sections(blocks: bytes) -> bytes:
 
 def changes_of(nodes: Iterable[Node]) -> list[Change]:
     """What the records of a revision come to, in the order of their paths."""
-    found: dict[bytes, Change] = {}
+    found = Combined()
     for node in nodes:
-        add(found, change_of(*node))
-    return in_order(found)
+        found.add(change_of(*node))
+    return found.in_order()
 
 
 def change_of(
@@ -139,11 +139,6 @@ def change_of(
     place = (clean(source), number(rev)) if rev and source is not None and letter != "M" else None
     of_node = None if kind is None else kind.decode("latin-1")
     return Change(clean(path), letter, place, of_node, text is not None, properties is not None)
-
-
-def in_order(found: dict[bytes, Change]) -> list[Change]:
-    """Changes in the order of their paths, component by component, of which none has a NUL."""
-    return [found[path] for path in sorted(found, key=NUL_FOR_SLASH)] if len(found) > 1 else [*found.values()]
 
 
 def source_of(records: Iterable[Record], path: bytes) -> Place | None:
@@ -167,20 +162,52 @@ def place_of(change: Change, rev: int, records: Iterable[Record]) -> Place:
     return (joined(source[0], name), source[1]) if source is not None else (change.path, rev - 1)
 
 
-def add(found: dict[bytes, Change], change: Change) -> None:
-    """Adds what one more record does, as the change that it would be alone."""
-    path, letter = change.path, change.letter
-    before = found.get(path)
-    if before is None and letter in "AM":
-        found[path] = change
-    elif before is not None and letter == "M":
-        found[path] = before._replace(
-            has_text=before.has_text or change.has_text, has_properties=before.has_properties or change.has_properties
-        )
-    elif letter == "A":
-        found[path] = change if before is None or before.letter == "A" else change._replace(letter="R")
-    else:
-        for each in [each for each in found if is_at_or_below(each, path)]:
-            del found[each]
-        if letter == "R" or before is None or before.letter != "A":
-            found[path] = change
+class Combined:
+    """What the records of a revision come to, one after another."""
+
+    def __init__(self) -> None:
+        self._found: dict[bytes, Change] = {}
+        # From the first deletion on, the paths that were changed at and below each path. Some may have gone since.
+        self._below: dict[bytes, list[bytes]] | None = None
+
+    def add(self, change: Change) -> None:
+        """Adds what one more record does, as the change that it would be alone."""
+        path, letter = change.path, change.letter
+        before = self._found.get(path)
+        if before is None and letter in "AM":
+            self._put(change)
+        elif before is not None and letter == "M":
+            self._found[path] = before._replace(
+                has_text=before.has_text or change.has_text,
+                has_properties=before.has_properties or change.has_properties,
+            )
+        elif letter == "A":
+            self._found[path] = change if before is None or before.letter == "A" else change._replace(letter="R")
+        else:
+            self._remove(path)
+            if letter == "R" or before is None or before.letter != "A":
+                self._put(change)
+
+    def _put(self, change: Change) -> None:
+        self._found[change.path] = change
+        if self._below is not None:
+            self._note(self._below, change.path)
+
+    @staticmethod
+    def _note(below: dict[bytes, list[bytes]], path: bytes) -> None:
+        for top in tops_of(path):
+            below.setdefault(top, []).append(path)
+
+    def _remove(self, path: bytes) -> None:
+        """Removes the changes at and below a path."""
+        if self._below is None:
+            self._below = {}
+            for each in self._found:
+                self._note(self._below, each)
+        for each in self._below.pop(path, ()):
+            self._found.pop(each, None)
+
+    def in_order(self) -> list[Change]:
+        """The changes in the order of their paths, component by component, of which none has a NUL."""
+        found = self._found
+        return [found[path] for path in sorted(found, key=NUL_FOR_SLASH)] if len(found) > 1 else [*found.values()]

@@ -1,6 +1,7 @@
 """The history that a dump has: what svnhist answers about it, and who committed what."""
 from __future__ import annotations
 
+import bisect
 import os
 import stat
 import threading
@@ -13,7 +14,7 @@ from typing import TYPE_CHECKING, BinaryIO
 
 from . import dates
 from .answers import A, Answer, Answers, Locate, Located, Log, Logged, Query, Segments, Where, is_askable
-from .changes import WITHOUT_KIND, Change, KnownBlocks, Place, changes_of, place_of
+from .changes import NUL_FOR_SLASH, WITHOUT_KIND, Change, KnownBlocks, Place, changes_of, is_at_or_below, place_of
 from .dump_source import Dump
 from .engine import Talk
 from .errors import Damaged, Denied, Failed, Refused
@@ -28,6 +29,8 @@ if TYPE_CHECKING:
     from .branches import Holder, Left, Listed
     from .graph import Graph
 
+# So few changes of a revision are looked through one by one.
+FEW = 16
 # The longest header that is looked for in a dump.
 HEADER = 1 << 16
 
@@ -60,6 +63,7 @@ class History:
         # Why svnhist refuses the dump, once it has.
         self._refused: Refused | None = None
         self._changes: dict[int, list[Change]] = {}
+        self._keys: dict[int, list[bytes]] = {}
         self._known_blocks = KnownBlocks()
         self._telling: list[Record] | None = None
         self._tree: Tree | None = None
@@ -179,6 +183,7 @@ class History:
         state, self._state = self._state, os.stat(store.base)
         self._refused = None
         self._changes.clear()
+        self._keys.clear()
         self._telling = self._tree = self._explicit = None
         is_same = os.path.samestat(state, self._state) and len(store.later) >= len(before.later)
         if self._talk is not None and is_same:
@@ -422,6 +427,21 @@ class History:
             found = self._known_blocks.changes(self._store.blocks_of(rev))
             self._changes[rev] = changes_of(self._store.nodes(rev)) if found is None else found
         return self._changes[rev]
+
+    def changes_below(self, rev: int, top: bytes) -> list[Change]:
+        """The changed paths of a revision that are at or below a path.
+
+        >>> [change.path for change in history.changes_below(9, b"/branches/two/lib")]
+        [b'/branches/two/lib/two.c', b'/branches/two/lib/util.c']
+        """
+        changes = self.changes(rev)
+        if top == b"/" or len(changes) < FEW:
+            return [change for change in changes if is_at_or_below(change.path, top)]
+        if rev not in self._keys:
+            self._keys[rev] = [NUL_FOR_SLASH(change.path) for change in changes]
+        keys, key = self._keys[rev], NUL_FOR_SLASH(top)
+        # What is below has a NUL where others have a later letter.
+        return changes[bisect.bisect_left(keys, key) : bisect.bisect_left(keys, key + b"\1")]
 
     def find_kinds(self, revs: Iterable[int]) -> None:
         """Has `changes` of these revisions say the kind of each path, of which no record of a deletion speaks.
