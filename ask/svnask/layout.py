@@ -217,9 +217,10 @@ def width_of(text: str) -> float:
 
 def shortened(text: str, most: float) -> str:
     """A text without its middle, where it is too wide."""
-    half = len(text) // 2
     if width_of(text) <= most:
         return text
+    # No letter is narrower than four pixels.
+    half = min(len(text) // 2, int(most / 8) + 1)
     while half > 1 and width_of(text[:half] + text[-half:]) > most:
         half -= 1
     return text[:half] + "\u2026" + text[-half:]

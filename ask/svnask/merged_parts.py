@@ -1,8 +1,9 @@
 """Mergeinfo turned about: for each range of revisions the paths of which it was merged."""
 from __future__ import annotations
 
+import heapq
+from collections import deque
 from collections.abc import Iterable
-from operator import attrgetter
 from typing import NamedTuple
 
 from .merges import Interval, Intervals
@@ -20,12 +21,16 @@ class Part(NamedTuple):
 
 
 class Rest:
-    """What is left of the ranges of a path."""
+    """What is left of the ranges of a path. `place` orders paths whose first ranges are the same."""
 
-    def __init__(self, path: bytes, ranges: list[Interval]) -> None:
+    def __init__(self, path: bytes, ranges: list[Interval], place: int) -> None:
         self.path = path
         self._ranges = ranges[::-1]
         self.first, self.last = self._ranges.pop()
+        self.place = 0, place
+
+    def __lt__(self, other: Rest) -> bool:
+        return (self.first, self.last, self.place) < (other.first, other.last, other.place)
 
     @property
     def is_last(self) -> bool:
@@ -77,30 +82,31 @@ def parts_of(info: Intervals, is_reverse: bool) -> list[Part]:
     them, the first path of the list is dropped in its place. What was left of that is lost, and the other one goes on
     with a range that is empty.
     """
-    left = [Rest(path, info[path]) for path in in_hash_order(info) if info[path]]
+    left = [Rest(path, info[path], place) for place, path in enumerate(in_hash_order(info)) if info[path]]
+    heapq.heapify(left)
     found: list[Part] = []
     while len(left) > 1:
-        left.sort(key=attrgetter("first", "last"))
         first = left[0].first
-        count = sum(1 for each in left if each.first == first)
-        last = min(left[0].last, left[count].first - 1) if count < len(left) else left[0].last
-        found.append(Part(first, last, tuple(each.path for each in left[:count]), is_reverse))
-        pass_by(left, count, last)
+        together = deque([heapq.heappop(left)])
+        while left and left[0].first == first:
+            together.append(heapq.heappop(left))
+        last = min(together[0].last, left[0].first - 1) if left else together[0].last
+        found.append(Part(first, last, tuple(each.path for each in together), is_reverse))
+        pass_by(together, last)
+        for place, each in enumerate(together):
+            # Those that were changed last stand before others with the same range.
+            each.place = -len(found), place
+            heapq.heappush(left, each)
     for each in left:
         found += [Part(*interval, (each.path,), is_reverse) for interval in each.intervals()]
     return found
 
 
-def pass_by(left: list[Rest], count: int, last: int) -> None:
-    """Has the first of the paths go on after a revision."""
-    at = 0
-    while at < count:
-        each = left[at]
+def pass_by(together: deque[Rest], last: int) -> None:
+    """Has paths go on after a revision. For each that has no further range the first one is dropped."""
+    for each in tuple(together):
         each.first = last + 1
         if each.first > each.last and each.is_last:
-            del left[0]
-            count -= 1
-        else:
-            if each.first > each.last:
-                each.pass_by()
-            at += 1
+            together.popleft()
+        elif each.first > each.last:
+            each.pass_by()
