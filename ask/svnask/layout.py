@@ -6,6 +6,7 @@ last change, copy or merge. A row of one lane has its name at the left, if its l
 """
 from __future__ import annotations
 
+import itertools
 import unicodedata
 from collections.abc import Iterator
 from typing import NamedTuple
@@ -39,23 +40,78 @@ class Extent(NamedTuple):
     end: float
 
 
+class Greatest:
+    """A list of numbers, in which the first one that is greater than another is found in little time: each level has the
+    greater number of each pair of the level below."""
+
+    def __init__(self) -> None:
+        self._levels: list[list[float]] = [[]]
+
+    def put(self, at: int, number: float) -> None:
+        """Puts a number at a place, perhaps after the end."""
+        for level in itertools.count():
+            numbers = self._levels[level]
+            numbers += [float("-inf")] * (at + 1 - len(numbers))
+            numbers[at] = number
+            if len(numbers) == 1:
+                return
+            at //= 2
+            number = max(numbers[2 * at : 2 * at + 2])
+            if level + 1 == len(self._levels):
+                self._levels.append([])
+
+    def first(self, at: int, bound: float) -> int | None:
+        """Return the first place, from one on, whose number is greater than a bound."""
+        level = 0
+        while at < len(self._levels[level]) and self._levels[level][at] <= bound:
+            at += 1
+            while at % 2 == 0 and level + 1 < len(self._levels):
+                at, level = at // 2, level + 1
+        if at >= len(self._levels[level]):
+            return None
+        for numbers in self._levels[:level][::-1]:
+            at = 2 * at if numbers[2 * at] > bound else 2 * at + 1
+        return at
+
+
 class Row:
     """The lanes of a row, the last one first. Below it are the rows of tags of its lanes, and of the tags of these. Its
     place is its number among the rows that are no such ones, and its number below that row."""
 
-    def __init__(self, kind: str, place: tuple[int, int], below: list[Row]) -> None:
+    def __init__(self, kind: str, place: tuple[int, int], below: Rows | None = None) -> None:
         self.kind = kind
         self.place = place
-        self.below = below
+        self.below = Rows() if below is None else below
         self.lanes: list[int] = []
-        self._start = float("inf")
 
-    def has_room(self, extent: Extent) -> bool:
-        return extent.end + GAP < self._start
 
-    def put(self, lane: int, extent: Extent) -> None:
-        self.lanes.append(lane)
-        self._start = extent.start
+class Rows:
+    """Rows from the top, with where the first lane of each begins, by their kinds."""
+
+    def __init__(self) -> None:
+        self._rows: list[Row] = []
+        self._starts: dict[str, Greatest] = {}
+
+    def __iter__(self) -> Iterator[Row]:
+        return iter(self._rows)
+
+    def __len__(self) -> int:
+        return len(self._rows)
+
+    def add(self, row: Row) -> None:
+        self._rows.append(row)
+
+    def put(self, row: Row, at: int, lane: int, extent: Extent) -> None:
+        """Puts a lane at the begin of the row at a place."""
+        row.lanes.append(lane)
+        self._starts.setdefault(row.kind, Greatest()).put(at, extent.start)
+
+    def with_room(self, kind: str, at: int, extent: Extent) -> int | None:
+        """Return the place of the first row of a kind, from a place on, that has room."""
+        return self._starts[kind].first(at, extent.end + GAP) if kind in self._starts else None
+
+    def __getitem__(self, at: int) -> Row:
+        return self._rows[at]
 
 
 class Layout:
@@ -163,38 +219,33 @@ class Layout:
 
     def _rows(self) -> Iterator[Row]:
         """Puts each lane into the first row with room for it that is below that of its source."""
-        rows: list[Row] = []
+        rows = Rows()
         row_of: dict[int, Row] = {}
         for number, lane in enumerate(self._graph.lanes):
             source = self._copies[number].source if number in self._copies else None
             above = row_of[source] if source is not None else None
             extent = self._extent(number) if self._graph.view.is_folded else Extent(0, float("inf"))
-            row_of[number] = row_for(rows, above, lane.kind, extent)
-            row_of[number].put(number, self._extent(number))
+            choice, at = row_for(rows, above, lane.kind, extent)
+            row_of[number] = choice[at]
+            choice.put(choice[at], at, number, self._extent(number))
         for row in rows:
             yield row
             yield from row.below
 
 
-def row_for(rows: list[Row], above: Row | None, kind: str, extent: Extent) -> Row:
-    """The first row with room, or a new one."""
-    is_below = above is not None and kind == TAG
-    choice = above.below if above is not None and is_below else rows
-    found = next(
-        (
-            row
-            for row in choice
-            if row.kind == kind and (above is None or row.place > above.place) and row.has_room(extent)
-        ),
-        None,
-    )
-    if found is not None:
-        return found
-    if above is not None and is_below:
-        choice.append(Row(kind, (above.place[0], len(choice) + 1), choice))
+def row_for(rows: Rows, above: Row | None, kind: str, extent: Extent) -> tuple[Rows, int]:
+    """The first row with room, or a new one, by its place."""
+    if above is not None and kind == TAG:
+        # Below a row the first one has the number 1.
+        choice, first = above.below, above.place[1]
     else:
-        choice.append(Row(kind, (len(rows), 0), []))
-    return choice[-1]
+        choice, first = rows, 0 if above is None else above.place[0] + 1
+    at = choice.with_room(kind, first, extent)
+    if at is None:
+        at = len(choice)
+        place, below = ((at, 0), None) if choice is rows or above is None else ((above.place[0], at + 1), choice)
+        choice.add(Row(kind, place, below))
+    return choice, at
 
 
 def uses_of(graph: Graph) -> dict[int, list[int]]:
