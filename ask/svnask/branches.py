@@ -134,28 +134,34 @@ class Holder(NamedTuple):
 
 
 class Asked(NamedTuple):
-    """What is asked of a branch or a tag that may have a revision."""
+    """What is asked of a branch or a tag that may have a revision: where it was only if `svn log` may list more than
+    svnhist."""
 
-    where: Where
     log: Log
     value: Mergeinfo
+    where: Where | None
+
+    def queries(self) -> Iterator[Query[Answer]]:
+        yield from (self.log, self.value)
+        if self.where is not None:
+            yield self.where
 
 
 def holders(history: History, patterns: Sequence[bytes], rev: int) -> Iterator[Holder]:
     """The branches and tags of today that have a revision of one of them."""
     changed = {change.path for change in history.changes(rev)}
     alive = alive_in(history, lives_of(history, patterns))
+    lists_more = log.may_list_more(history)
+    places = [(life.path, history.head) for life in alive]
     asked = [
-        Asked(
-            Where(life.path, history.head), Log(life.path, history.head, (rev, rev)), Mergeinfo(life.path, history.head)
-        )
-        for life in alive
+        Asked(Log(*place, (rev, rev)), Mergeinfo(*place), Where(*place) if lists_more or place[0] == b"/" else None)
+        for place in places
     ]
-    answers = history.answers(query for each in asked for query in each)
+    answers = history.answers(query for each in asked for query in each.queries())
     found: dict[bytes, str] = {}
     named: dict[bytes, list[Naming]] = {}
     for life, each in zip(alive, asked):
-        segments, value = answers[each.where].segments, answers[each.value]
+        segments, value = [] if each.where is None else answers[each.where].segments, answers[each.value]
         if rev in log.listed(history, log.Trace(segments, answered(answers[each.log]))):
             found[life.path] = HISTORY
         elif value.ok:

@@ -119,6 +119,12 @@ def renewed(history: History, segments: list[Segment]) -> Iterator[int]:
                 yield rev
 
 
+def may_list_more(history: History) -> bool:
+    """Return whether `svn log` may list revisions of a path other than the root that svnhist does not."""
+    copies = (event.source for _, event in history.tree.copies())
+    return bool(history.index.renewals) or any(source is not None and source[0] == b"/" for source in copies)
+
+
 def copied_in(history: History, segment: Segment, rev: int) -> int:
     """The revision that made a path by a copy, or that made it first: where `--stop-on-copy` stops, from a revision of
     its segment on. A copy of a path to itself begins no segment, and all that is below was copied, too."""

@@ -174,7 +174,11 @@ def candidates(explicit: Explicit, life: Life) -> list[int]:
 
 
 def queries_of(explicit: Explicit, life: Life) -> list[Query[Answer]]:
-    """Where a life was, its mergeinfo in each candidate, and before that what its source had."""
+    """Where a life was, its mergeinfo in each candidate, and before that what its source had: nothing where neither ever
+    had any."""
+    places = [life.path] if life.source is None else [life.path, life.source[0]]
+    if not any(explicit.events(top) for path in places for top in tops_of(path)):
+        return []
     asked: list[Query[Answer]] = [Where(life.path, life.last)]
     if life.source is not None and is_askable(life.source[0]):
         asked.append(Mergeinfo(*life.source))
