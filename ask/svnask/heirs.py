@@ -80,6 +80,8 @@ def ended(history: History, copies: Iterable[tuple[int, Place]]) -> set[tuple[in
     """Those of some copies whose source ended with them: the path was there until the revision before, and what is
     there then, if anything, does not come from it."""
     asked = [copy for copy in copies if is_askable(copy[1][0])]
+    if not asked:
+        return set()
     queries = [
         query for rev, (path, source) in asked for query in (Locate(path, rev - 1, source), Locate(path, rev, rev - 1))
     ]
@@ -87,15 +89,17 @@ def ended(history: History, copies: Iterable[tuple[int, Place]]) -> set[tuple[in
     return {copy for copy, before, after in zip(asked, answers, answers) if before.path == copy[1][0] != after.path}
 
 
-def heirs(history: History, target: Target, last: int) -> list[Heir]:
-    """The paths of a revision that were the target in its peg revision, in the order of paths."""
+def heirs(history: History, target: Target, last: int) -> Iterator[Heir]:
+    """The paths of a revision that were the target in its peg revision, in the order of paths. The way of each is not
+    held: in a chain of copies all of them are as long as the square of the chain."""
     candidates = Candidates(history.records(), target, last)
     queries = [Where(path, last) for path in history.askable(candidates.paths)]
-    ways: dict[bytes, list[tuple[int, Place]]] = {}
+    is_move: dict[tuple[int, Place], bool] = {}
     for query, answer in zip(queries, history.ask(queries)):
         segments = answer.segments
         if any(each.lo <= target.rev <= each.hi and each.path == target.path for each in segments):
-            ways[query.path] = list(copies_of(segments, target.rev))
-    copies = {copy for way in ways.values() for copy in way}
-    moves = ended(history, [copy for copy in copies if candidates.may_have_ended(copy[1][0], copy[0])])
-    return [Heir(path, [Step(*copy, copy in moves) for copy in way]) for path, way in ways.items()]
+            way = list(copies_of(segments, target.rev))
+            new = [copy for copy in way if copy not in is_move]
+            moves = ended(history, [copy for copy in new if candidates.may_have_ended(copy[1][0], copy[0])])
+            is_move.update((copy, copy in moves) for copy in new)
+            yield Heir(query.path, [Step(*copy, is_move[copy]) for copy in way])

@@ -44,7 +44,7 @@ class Paths:
 
 class Heirs(base.Case):
     def check(self, paths: Paths, target: Target, rev: int) -> list[Heir]:
-        found = heirs(paths.history, target, rev)
+        found = list(heirs(paths.history, target, rev))
         self.assertEqual({heir.path for heir in found}, paths.wanted(target, rev), (target, rev))
         for heir in found:
             places = [(rev, heir.path), *((step.source[1], step.source[0]) for step in heir.way)]

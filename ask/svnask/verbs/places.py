@@ -71,7 +71,7 @@ class HeirsVerb(Verb):
             "revision", metavar="REV", nargs="?", default="HEAD", help="the later revision; HEAD if none is given"
         )
 
-    def heirs(self, history: History, given: Namespace) -> list[heirs.Heir]:
+    def heirs(self, history: History, given: Namespace) -> Iterator[heirs.Heir]:
         target = target_of(history, given.target)
         rev = known(history, revision_of(history, given.revision))
         if rev < target.rev:
