@@ -3,14 +3,62 @@ from __future__ import annotations
 
 import time
 import unittest
+from collections.abc import Callable
 from unittest import mock
 
-from dev.dumps import added, dump_of
+from dev.dumps import FILE, Node, added, changed, copied, deleted, dump_of, mergeinfo, section
 from svnask import engine
 from svnask.lives import Life, moves_of
 from tests.ask import base
 
 DUMP = base.dump_of("merges")
+FOLDERS = [added(b"trunk"), added(b"branches")]
+# By how much more time twice the size may take, beside some seconds that everything takes.
+MOST_TIMES, BESIDE = 3.0, 0.4
+
+
+def names(count: int) -> list[bytes]:
+    return [b"branches/b%d" % number for number in range(count)]
+
+
+def deletions(count: int) -> bytes:
+    """Many files that are made by one revision, and deleted by another one."""
+    files = [b"trunk/f%d" % number for number in range(count)]
+    return dump_of(FOLDERS, [added(file, FILE) for file in files], list(map(deleted, files)))
+
+
+def directories(count: int) -> bytes:
+    """Many branches that one revision makes, and not by copies."""
+    return dump_of(FOLDERS, list(map(added, names(count))))
+
+
+def copies(count: int) -> bytes:
+    """Many branches, each by a revision."""
+    return dump_of(FOLDERS, *([copied(name, b"trunk", 1)] for name in names(count)))
+
+
+def chain(count: int) -> bytes:
+    """Many branches, each a copy of the one before."""
+    sources = [b"trunk", *names(count)]
+    return dump_of(
+        FOLDERS, *([copied(name, *pair)] for pair, name in zip(zip(sources, range(1, count + 1)), names(count)))
+    )
+
+
+def long_value(count: int) -> bytes:
+    """One merge of many branches, of each other revisions."""
+    changes: list[list[Node]] = [
+        [changed(name, section({b"x": b"%d" % each})) for name in names(count)] for each in (1, 2)
+    ]
+    single = [[changed(name, section({b"x": b"3"}))] for name in names(count)]
+    lines = [b"/%s:3,%d" % (name, 5 + number) for number, name in enumerate(names(count))]
+    return dump_of(
+        FOLDERS, list(map(added, names(count))), *changes, *single, [changed(b"trunk", mergeinfo(b"\n".join(lines)))]
+    )
+
+
+def long_name(count: int) -> bytes:
+    return dump_of(FOLDERS, [copied(b"branches/" + b"x" * count, b"trunk", 1)])
 
 
 class Runs(base.Case):
@@ -47,6 +95,34 @@ class Runs(base.Case):
         with mock.patch.object(engine.Talk, "ask", autospec=True, side_effect=engine.Talk.ask) as ask:
             self.assertIn(b"changed in r1\n", base.called(dump, "branches").output)
         self.assertEqual(ask.call_count, 2)
+
+
+class Shapes(base.Case):
+    """No question takes four times as long about twice as much."""
+
+    def seconds(self, dump: str, words: list[str]) -> float:
+        begun = time.process_time()
+        done = base.called(dump, *words)
+        self.assertEqual(done.status, 0, done.said)
+        return time.process_time() - begun
+
+    def test_no_time_grows_as_the_square(self) -> None:
+        rows: tuple[tuple[Callable[[int], bytes], int, str], ...] = (
+            (deletions, 3000, "show 3; log -v"),
+            (directories, 1500, "branches; contains 2; graph; unmerged; changed-tags"),
+            (copies, 1500, "branches; graph; contains 2; unmerged"),
+            (chain, 800, "branches; graph; contains 2"),
+            (long_value, 1500, "log -g trunk; graph; new branches/b0 trunk; contains 5"),
+            (long_name, 10000, "graph"),
+        )
+        for shape, size, asked in rows:
+            dumps = [str(self.made(f"{shape.__name__}{times}", shape(size * times))) for times in (1, 2)]
+            for dump in dumps:
+                self.assertEqual(base.called(dump, "info").status, 0)
+            for words in base.commands(asked):
+                least = min(self.seconds(dumps[0], words) for _ in range(2))
+                found = min(self.seconds(dumps[1], words) for _ in range(2))
+                self.assertLess(found, MOST_TIMES * least + BESIDE, (shape.__name__, words, least))
 
 
 class Growth(unittest.TestCase):
