@@ -12,7 +12,7 @@ from collections.abc import Iterable, Iterator, Sequence
 from typing import NamedTuple
 
 from . import projects
-from .changes import Place, components, is_at_or_below, joined, rest_below, tops_of
+from .changes import Place, components, joined, rest_below, tops_of
 from .errors import Failed
 from .store import Record
 
@@ -154,20 +154,21 @@ class Tree:
         return sorted(found, key=lambda each: each[1].number)
 
     @functools.cached_property
-    def _copies_in(self) -> dict[int, list[tuple[bytes, Event]]]:
-        """The copies of each revision."""
-        found: dict[int, list[tuple[bytes, Event]]] = {}
+    def _copies_of(self) -> dict[Place, list[Place]]:
+        """Where each place was copied to, and in which revisions."""
+        found: dict[Place, list[Place]] = {}
         for path, event in self.copies():
-            found.setdefault(event.rev, []).append((path, event))
+            assert event.source is not None
+            found.setdefault(event.source, []).append((path, event.rev))
         return found
 
     def moved_to(self, life: Life) -> bytes | None:
         """Where a life that ended goes on as a copy of its last revision, if it does."""
         end = life.last + 1
-        for path, event in self._copies_in.get(end, ()):
-            if event.source is not None and event.source[1] == life.last and is_at_or_below(life.path, event.source[0]):
-                place = joined(path, rest_below(life.path, event.source[0]))
-                if self.exists(place, end):
+        for top in tops_of(life.path):
+            for path, rev in self._copies_of.get((top, life.last), ()):
+                place = joined(path, rest_below(life.path, top))
+                if rev == end and self.exists(place, end):
                     return place
         return None
 

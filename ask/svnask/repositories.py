@@ -2,6 +2,7 @@
 from __future__ import annotations
 
 import base64
+import bisect
 import codecs
 import os
 import re
@@ -92,7 +93,8 @@ class Access(NamedTuple):
         with printed(*command, is_read_whole=False) as stream:
             for element in elements(stream, "logentry"):
                 rev = int(element.attrib["revision"])
-                if element.findtext("date") and any(first <= rev <= last for first, last in runs):
+                _, last = runs[max(bisect.bisect_left(runs, (rev + 1,)) - 1, 0)]
+                if element.findtext("date") and runs[0][0] <= rev <= last:
                     return True
         return False
 

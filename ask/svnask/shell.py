@@ -85,6 +85,7 @@ def asked(kept: Kept, given: argparse.Namespace, line: str) -> int:
 
 def question(given: argparse.Namespace, words: list[str]) -> argparse.Namespace:
     options = ["--json"] * given.json + ["--no-cache"] * given.no_cache + ["--offline"] * given.offline
+    options += [f"--below={given.below}"] * bool(given.below)
     found = cli.parsed([*options, given.dump, *words])
     if found.verb in cli.COMMANDS or isinstance(cli.verb_of(found), KeptVerb):
         raise Usage(f"'{found.verb}' is not a question")

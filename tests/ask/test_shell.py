@@ -62,6 +62,15 @@ class Shell(base.Case):
         base.called(DUMP, "update")
         self.assertEqual(base.run("--offline", DUMP, "shell", given=lines), wanted)
 
+    def test_it_is_about_a_path_of_the_source(self) -> None:
+        dump = base.dump_of("projects")
+        done = base.run("--below", "alpha", dump, "shell", given=b"contains 5 tags/*\nlog -q trunk\n")
+        wanted = [
+            base.called("--below", "alpha", dump, *words)
+            for words in (["contains", "5", "tags/*"], ["log", "-q", "trunk"])
+        ]
+        self.assertEqual(done, (0, b"".join(each.output for each in wanted), ""))
+
     def test_words_are_quoted_as_for_a_shell(self) -> None:
         dump = self.made("names", dump_of([added(b"a 'b\"", FILE), added(b"\xff", FILE)]))
         lines = b"segments \"a 'b\\\"\"\nsegments a\\ \\'b'\"'\nsegments '\xff'\n"
