@@ -1,6 +1,10 @@
 """Each user of a server gets what that user is shown, also after others have asked."""
 from __future__ import annotations
 
+import os
+import subprocess
+
+from svnask import client
 from svnask.command_line import of_asker, source_word
 from svnask.progress import Told
 from tests.ask import base, grown
@@ -45,6 +49,24 @@ class Askers(base.Case):
             )
             self.assertEqual(base.called(*user("bob"), url, "forget").status, 0)
             self.assertEqual(base.called("sources").output.decode().count("\n"), 1)
+
+    def test_a_server_answers_who_started_it(self) -> None:
+        with grown.svnserve(self.parent, "none", self.rules) as server:
+            url = f"{server}/repository"
+            words = base.command(*user("bob"), url, "serve")
+            with subprocess.Popen(words, stdout=subprocess.PIPE) as serving:
+                try:
+                    assert serving.stdout is not None
+                    wanted = f"serving {url} --username=bob\n"
+                    self.assertEqual(serving.stdout.readline().decode(), wanted)
+                    for name, is_asked in (("bob", True), ("alice", False)):
+                        reply = client.asked([*user(name), url, "log", "-v"])
+                        self.assertEqual(reply is not None, is_asked, name)
+                        if reply is not None:
+                            os.close(reply.output)
+                        self.check(name, url, "log", "-v")
+                finally:
+                    self.assertEqual(base.called(*user("bob"), url, "stop").status, 0)
 
     def test_what_was_hidden_is_read_when_it_is_shown(self) -> None:
         with grown.svnserve(self.parent, "none", self.rules) as server:

@@ -5,6 +5,7 @@ import os
 import warnings
 from collections.abc import Sequence
 
+from dev import running
 from dev.dumps import FILE, Node, added, changed, copied, deleted, dump_of, mergeinfo
 from svnask import projects
 from svnask.errors import Denied
@@ -148,6 +149,15 @@ class Kept(base.Case):
         dump = self.made("dump", dump_of([added(b"a"), added(b"a")]))
         done = base.called(dump, "update")
         self.assertEqual((done.status, done.said), (1, "svnask: dump refused: 17 Exists at record 2\n"))
+
+    def test_a_working_folder_that_was_deleted(self) -> None:
+        line = 'mkdir gone && cd gone && rmdir "$PWD" && exec "$@"'
+        words = ["sh", "-c", line, "sh", *base.command("a.dump", "info")]
+        done = running.run(words, folder=self.folder)
+        self.assertEqual((done.status, done.output), (3, b""))
+        self.assertTrue(done.errors.startswith(b"svnask: the working folder, in which a.dump is, can't be found"), done)
+        words = ["sh", "-c", line, "sh", *base.command(base.dump_of("branches"), "info")]
+        self.assertEqual(running.run(words, folder=self.folder).status, 0)
 
     def test_a_pipe_in_the_cache(self) -> None:
         dump = base.dump_of("branches")

@@ -6,6 +6,7 @@ import subprocess
 from pathlib import Path
 from unittest import mock
 
+from dev import running
 from dev.dumps import FILE, Dump, Revision, added
 from svnask.errors import Unreached
 from svnask.history import History
@@ -223,6 +224,13 @@ class Served(Case):
         made = self.repository()
         with grown.apache(made.folder.parent, self.folder / "apache") as url:
             self.check_served(f"{url}/repository", made)
+            # Over http svn looks at the path before it looks at the range.
+            words = ("log", "--non-interactive", "--no-auth-cache", *ALICE, "-r", "99:HEAD")
+            for path, code in (("none@2", "E160013"), ("trunk@2", "E160006")):
+                done = base.called(*words, f"{url}/repository/{path}")
+                self.check_said(done, 1, code)
+                theirs = running.run(["svn", *words, f"{url}/repository/{path}"], environment=grown.ENVIRONMENT)
+                self.assertIn(code.encode(), theirs.errors)
 
     def test_a_server_that_ends_meanwhile(self) -> None:
         made = self.repository()
