@@ -201,8 +201,8 @@ class Coverage:
 
     def is_covered(self, rev: int) -> bool:
         """Whether a revision changed anything, and all that it changed of the source is merged."""
-        below = (change for top in self._tops for change in self._history.changes_below(rev, top))
-        return bool(self._history.changes(rev)) and all(self._is_change_covered(change, rev) for change in below)
+        changes = (change for top in self._tops for change in self._history.changes_below(rev, top))
+        return bool(self._history.changes(rev)) and all(self._is_change_covered(change, rev) for change in changes)
 
     def _is_change_covered(self, change: Change, rev: int) -> bool:
         top = next((top for top in self._tops if is_at_or_below(change.path, top)), None)
