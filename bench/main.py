@@ -30,7 +30,8 @@ from dev.tree import ROOT, programs
 MODULES = """
 reading_bundles reading_dumps short_history_queries merged_and_eligible workers whole_runs blocks wide_directories
 long_history_queries mergeinfo_values long_mergeinfo ranges hostile_input ten_million_records svnask_calls
-svnask_open_history svnask_merge_history history_lengths queries_per_second svnhist_live_turns svnask_repository
+svnask_open_history svnask_merge_history svnask_growth history_lengths queries_per_second svnhist_live_turns
+svnask_repository
 """
 PARTS: list[Part] = [import_module(f"bench.{name}").PART for name in MODULES.split()]
 

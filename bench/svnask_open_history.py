@@ -15,11 +15,11 @@ from pathlib import Path
 from typing import Callable
 
 from bench.histories import load_into_cache
-from bench.measure import Command, best_in_turns
+from bench.measure import NOTHING, Command, best_in_turns
 from bench.parts import Measurements, Part, Row, Setup, Table, most, with_limit
 from bench.svnask_calls import python_words
 from dev.dumps import FILE, Node, Revision, added, changed, copied, first_lines, mergeinfo
-from dev.running import Measured
+from dev.running import Measured, Words, measure
 from dev.tree import SVNASK
 
 REVISIONS, SERVED, BRANCHES, FILES = 100000, 120000, 200, 50
@@ -76,10 +76,15 @@ class Asked:
     def __init__(self, setup: Setup, dump: Path) -> None:
         self.setup, self.dump = setup, dump
 
+    def words(self, *words: str) -> Words:
+        return python_words(self.setup, self.setup.folder / "cache", SVNASK, self.dump, *words)
+
     def run(self, *words: str) -> Measured:
-        return Command(python_words(self.setup, self.setup.folder / "cache", SVNASK, self.dump, *words)).run(
-            is_kept=False
-        )
+        return Command(self.words(*words)).run(is_kept=False)
+
+    def measured(self, *words: str) -> Measured:
+        """One run, however it ends."""
+        return measure(self.words(*words), None, NOTHING, False)
 
     @contextlib.contextmanager
     def served(self) -> Iterator[None]:

@@ -450,13 +450,13 @@ class History:
         >>> [(change.letter, change.path, change.kind) for change in history.changes(8)]
         [('D', b'/branches/one', 'dir')]
         """
-        lacking = {
-            (rev, at): place_of(change, rev, self.records(rev, rev))
-            for rev in revs
-            if WITHOUT_KIND.search(self._store.blocks_of(rev))
-            for at, change in enumerate(self.changes(rev))
-            if change.kind is None
-        }
+        lacking: dict[tuple[int, int], Place] = {}
+        for rev in revs:
+            if WITHOUT_KIND.search(self._store.blocks_of(rev)):
+                made = [record for record in self.records(rev, rev) if record.action in ("add", "replace")]
+                for at, change in enumerate(self.changes(rev)):
+                    if change.kind is None:
+                        lacking[rev, at] = place_of(change, rev, made)
         if lacking:
             kinds = self.kinds(set(lacking.values()))
             for (rev, at), place in lacking.items():

@@ -6,59 +6,15 @@ import unittest
 from collections.abc import Callable
 from unittest import mock
 
-from dev.dumps import FILE, Node, added, changed, copied, deleted, dump_of, mergeinfo, section
+from dev.dumps import added, dump_of
+from dev.shapes import chain, copies, deletions, directories, long_name, long_value
 from svnask import engine
 from svnask.lives import Life, moves_of
 from tests.ask import base
 
 DUMP = base.dump_of("merges")
-FOLDERS = [added(b"trunk"), added(b"branches")]
 # By how much more time twice the size may take, beside some seconds that everything takes.
 MOST_TIMES, BESIDE = 3.0, 0.4
-
-
-def names(count: int) -> list[bytes]:
-    return [b"branches/b%d" % number for number in range(count)]
-
-
-def deletions(count: int) -> bytes:
-    """Many files that are made by one revision, and deleted by another one."""
-    files = [b"trunk/f%d" % number for number in range(count)]
-    return dump_of(FOLDERS, [added(file, FILE) for file in files], list(map(deleted, files)))
-
-
-def directories(count: int) -> bytes:
-    """Many branches that one revision makes, and not by copies."""
-    return dump_of(FOLDERS, list(map(added, names(count))))
-
-
-def copies(count: int) -> bytes:
-    """Many branches, each by a revision."""
-    return dump_of(FOLDERS, *([copied(name, b"trunk", 1)] for name in names(count)))
-
-
-def chain(count: int) -> bytes:
-    """Many branches, each a copy of the one before."""
-    sources = [b"trunk", *names(count)]
-    return dump_of(
-        FOLDERS, *([copied(name, *pair)] for pair, name in zip(zip(sources, range(1, count + 1)), names(count)))
-    )
-
-
-def long_value(count: int) -> bytes:
-    """One merge of many branches, of each other revisions."""
-    changes: list[list[Node]] = [
-        [changed(name, section({b"x": b"%d" % each})) for name in names(count)] for each in (1, 2)
-    ]
-    single = [[changed(name, section({b"x": b"3"}))] for name in names(count)]
-    lines = [b"/%s:3,%d" % (name, 5 + number) for number, name in enumerate(names(count))]
-    return dump_of(
-        FOLDERS, list(map(added, names(count))), *changes, *single, [changed(b"trunk", mergeinfo(b"\n".join(lines)))]
-    )
-
-
-def long_name(count: int) -> bytes:
-    return dump_of(FOLDERS, [copied(b"branches/" + b"x" * count, b"trunk", 1)])
 
 
 class Runs(base.Case):

@@ -1,0 +1,127 @@
+"""svnask about histories of odd shapes, in a size and in twice that: whether any verb takes time or memory as the square.
+
+Each verb that asks a question is measured, with arguments by the names that its help has for them, so that a new verb is
+measured without being named here. Times are processor seconds with those of svnhist-live, and the best of some runs;
+memory is that of the larger of the two. What prints as much as the square of the size, `heirs` of a chain of copies, is
+left out.
+"""
+from __future__ import annotations
+
+from argparse import ArgumentParser
+from collections.abc import Iterator
+from functools import partial
+from pathlib import Path
+from typing import Callable, NamedTuple
+
+from bench.measure import best_in_turns
+from bench.parts import Measurements, Part, Row, Setup, Table, most, with_limit
+from bench.svnask_open_history import Asked
+from dev import shapes
+from dev.running import Failed, Measured
+from svnask.verbs import VERBS
+from svnask.verbs.kept import KeptVerb
+
+# The shapes with their sizes.
+SHAPES: dict[Callable[[int], bytes], int] = {
+    shapes.deletions: 5000,
+    shapes.directories: 2500,
+    shapes.copies: 2500,
+    shapes.chain: 1000,
+    shapes.long_value: 2500,
+    shapes.long_name: 5000,
+    shapes.tags: 10000,
+    shapes.one_file: 50000,
+    shapes.merges: 1500,
+    shapes.renames: 5000,
+    shapes.deep_path: 500,
+    shapes.properties: 50000,
+}
+# What stands for an argument, by its name in the help.
+ARGUMENTS = {"PATH[@PEG]": "trunk", "REV": "2", "FROM[@PEG]": "trunk@1", "TO[@PEG]": "trunk", "K": "3", "B": "100"}
+MORE = (["log", "-v"], ["log", "-g", "trunk"], ["log", "--xml", "-v"])
+AS_THE_SQUARE = {("chain", "heirs"), ("renames", "heirs")}
+# Shorter times are taken for this one, since they vary.
+LEAST = 0.5
+
+MOST_TIMES = most(2.4, "times the time for twice the size")
+MOST_SECONDS = most(10.0, "processor seconds for twice the size")
+MOST_MEGABYTES = most(300.0, "peak MB for twice the size")
+
+
+class Positional(ArgumentParser):
+    """Takes the names of the arguments that a verb needs."""
+
+    @property
+    def names(self) -> list[str]:
+        return [str(each.metavar) for each in self._actions if not each.option_strings and each.nargs is None]
+
+
+def questions(queries: Path) -> Iterator[list[str]]:
+    """A question for each verb, and some more."""
+    for verb in VERBS:
+        if not isinstance(verb, KeptVerb):
+            parser = Positional()
+            verb.arguments(parser)
+            known = {**ARGUMENTS, "QUERIES": str(queries)}
+            yield [verb.name, *(known.get(name, name) for name in parser.names)]
+    yield from MORE
+
+
+def asked_of(asked: Asked, *words: str) -> Measured:
+    """A question, which may have no answer."""
+    taken = asked.measured(*words)
+    if taken.outcome.status not in (0, 1):
+        raise Failed(f"{words} of {asked.dump.name} ended with {taken.outcome.shown()}")
+    return taken
+
+
+class Found(NamedTuple):
+    """What a verb takes about a shape in its size and in twice that."""
+
+    verb: str
+    once: Measured
+    twice: Measured
+
+    @property
+    def times(self) -> float:
+        return self.twice.processor / max(self.once.processor, LEAST)
+
+
+def measured(setup: Setup, shape: Callable[[int], bytes], size: int) -> Iterator[Found]:
+    """What each verb takes about a shape."""
+    queries = setup.folder / "queries"
+    queries.write_bytes(b"log\ttrunk@2\n")
+    asked = []
+    for times in (1, 2):
+        dump = setup.folder / f"{shape.__name__}-{times}"
+        dump.write_bytes(shape(size * times))
+        asked.append(Asked(setup, dump))
+        asked[-1].run("info")
+    for words in questions(queries):
+        if (shape.__name__, words[0]) not in AS_THE_SQUARE:
+            runs = {each.dump: partial(asked_of, each, *words) for each in asked}
+            best = best_in_turns(runs, setup.times, lambda taken: taken.processor)
+            yield Found(" ".join(word for word in words if word != str(queries)), *(best[each.dump] for each in asked))
+
+
+def run(setup: Setup) -> Measurements:
+    rows: list[Row] = []
+    for shape, size in SHAPES.items():
+        found = list(measured(setup, shape, setup.scaled(size)))
+        name = shape.__name__.replace("_", " ")
+        for worst, limit in (
+            (max(found, key=lambda each: each.times), MOST_TIMES),
+            (max(found, key=lambda each: each.twice.processor), MOST_SECONDS),
+            (max(found, key=lambda each: each.twice.peak), MOST_MEGABYTES),
+        ):
+            value = {
+                MOST_TIMES: worst.times,
+                MOST_SECONDS: worst.twice.processor,
+                MOST_MEGABYTES: worst.twice.peak / 1e6,
+            }[limit]
+            seconds = worst.once.processor, worst.twice.processor
+            rows.append([name, f"`{worst.verb}`", *seconds, *with_limit(limit.of(value))])
+    yield Table("svnask-growth", "shape | the verb | once, s:.2f | twice, s:.2f | measured:.2f | limit", rows)
+
+
+PART = Part(__name__, __doc__, run, [MOST_TIMES, MOST_SECONDS, MOST_MEGABYTES])

@@ -1,0 +1,94 @@
+"""Dumps of histories of odd shapes, in which something grows as the square that should not."""
+from __future__ import annotations
+
+from dev.dumps import FILE, Node, added, changed, copied, deleted, dump_of, mergeinfo, section
+
+FOLDERS = [added(b"trunk"), added(b"branches")]
+A_FILE = added(b"trunk/f", FILE)
+
+
+def names(count: int) -> list[bytes]:
+    return [b"branches/b%d" % number for number in range(count)]
+
+
+def deletions(count: int) -> bytes:
+    """Many files that are made by one revision, and deleted by another one."""
+    files = [b"trunk/f%d" % number for number in range(count)]
+    return dump_of(FOLDERS, [added(file, FILE) for file in files], list(map(deleted, files)))
+
+
+def directories(count: int) -> bytes:
+    """Many branches that one revision makes, and not by copies."""
+    return dump_of(FOLDERS, list(map(added, names(count))))
+
+
+def copies(count: int) -> bytes:
+    """Many branches, each by a revision."""
+    return dump_of(FOLDERS, *([copied(name, b"trunk", 1)] for name in names(count)))
+
+
+def chain(count: int) -> bytes:
+    """Many branches, each a copy of the one before."""
+    sources = [b"trunk", *names(count)]
+    return dump_of(
+        FOLDERS, *([copied(name, *pair)] for pair, name in zip(zip(sources, range(1, count + 1)), names(count)))
+    )
+
+
+def long_value(count: int) -> bytes:
+    """One merge of many branches, of each other revisions."""
+    changes: list[list[Node]] = [
+        [changed(name, section({b"x": b"%d" % each})) for name in names(count)] for each in (1, 2)
+    ]
+    single = [[changed(name, section({b"x": b"3"}))] for name in names(count)]
+    lines = [b"/%s:3,%d" % (name, 5 + number) for number, name in enumerate(names(count))]
+    return dump_of(
+        FOLDERS, list(map(added, names(count))), *changes, *single, [changed(b"trunk", mergeinfo(b"\n".join(lines)))]
+    )
+
+
+def long_name(count: int) -> bytes:
+    return dump_of(FOLDERS, [copied(b"branches/" + b"x" * count, b"trunk", 1)])
+
+
+def tags(count: int) -> bytes:
+    """Many tags, and a change of some of them."""
+    made = ([copied(b"tags/t%d" % number, b"trunk", 1)] for number in range(count))
+    later = ([changed(b"tags/t%d/f" % number, text=b"x")] for number in range(0, count, 100))
+    return dump_of([added(b"trunk"), added(b"tags"), A_FILE], *made, *later)
+
+
+def one_file(count: int) -> bytes:
+    """Many revisions of one file."""
+    return dump_of([*FOLDERS, A_FILE], *([changed(A_FILE.path, text=b"%d" % number)] for number in range(count)))
+
+
+def merges(count: int) -> bytes:
+    """Many merges from the trunk into one branch."""
+    steps: list[list[Node]] = [[*FOLDERS, A_FILE], [copied(b"branches/b", b"trunk", 1)]]
+    for number in range(count):
+        value = mergeinfo(b"/trunk:3-%d" % (2 * number + 3) if number else b"/trunk:3")
+        steps += [[changed(A_FILE.path, text=b"%d" % number)], [changed(b"branches/b", value)]]
+    return dump_of(*steps)
+
+
+def renames(count: int) -> bytes:
+    """One branch that is renamed again and again."""
+    steps: list[list[Node]] = [FOLDERS, [copied(b"branches/b0", b"trunk", 1)]]
+    for number in range(1, count):
+        before = b"branches/b%d" % (number - 1)
+        steps.append([copied(b"branches/b%d" % number, before, number + 1), deleted(before)])
+    return dump_of(*steps)
+
+
+def deep_path(count: int) -> bytes:
+    """Folders in one another, with a change of the deepest one."""
+    paths = [b"trunk" + b"/d" * depth for depth in range(1, count + 1)]
+    return dump_of(FOLDERS, list(map(added, paths)), [changed(paths[-1], section({b"x": b"1"}))])
+
+
+def properties(count: int) -> bytes:
+    """One revision that changes properties of many files."""
+    files = [b"trunk/f%d" % number for number in range(count)]
+    made = [added(file, FILE) for file in files]
+    return dump_of(FOLDERS, made, [changed(file, section({b"x": b"1"})) for file in files])
