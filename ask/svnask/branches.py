@@ -245,8 +245,16 @@ def is_recorded(recorded: Intervals, trace: log.Trace, rev: int) -> bool:
 
 def targets_of(history: History, alive: Sequence[Life], into: Target | None) -> dict[Life, Target]:
     """The target into which each branch is to be merged, but for the branch that is that target."""
-    if into is not None:
-        return {life: into for life in alive if life.path != into.path}
+    found = {life: into for life in alive} if into is not None else own_targets(history, alive)
+    left = {life: target for life, target in found.items() if life.path != target.path}
+    if found and not left:
+        history.check()
+        history.notice("what matches is the target itself: --into names another one")
+    return left
+
+
+def own_targets(history: History, alive: Sequence[Life]) -> dict[Life, Target]:
+    """The trunk of the project of each branch."""
     trunks = {life: trunk_of(history, life) for life in alive}
     found = {life: Target(trunk, history.head) for life, trunk in trunks.items() if trunk is not None}
     missing = [life.path for life in alive if life not in found]
@@ -255,7 +263,7 @@ def targets_of(history: History, alive: Sequence[Life], into: Target | None) -> 
         raise Denied("E160013", f"There is no trunk beside '{decoded(missing[0])}': --into names a target")
     for path in missing:
         history.notice(f"there is no trunk beside '{decoded(path)}', which is left out: --into names a target")
-    return {life: target for life, target in found.items() if life.path != target.path}
+    return found
 
 
 def trunk_of(history: History, life: Life) -> bytes | None:

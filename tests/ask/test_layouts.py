@@ -72,6 +72,22 @@ class Layouts(base.Case):
             wanted = f"svnask: there is no {kinds} in this history, so name paths by a PATTERN\n"
             self.assertEqual((done.status, done.output, done.said), (0, b"", wanted))
 
+    def test_what_is_merged_into_what(self) -> None:
+        folders = [b"a", b"a/trunk", b"a/branches", b"b", b"b/branches"]
+        copies = [copied(each, b"a/trunk", 1) for each in (b"a/branches/one", b"b/branches/two", b"three")]
+        later = [changed(each, mergeinfo(b"/x:1")) for each in (b"a/branches/one", b"b/branches/two", b"three")]
+        dump = self.made("dump", dump_of(list(map(added, folders)), copies, later))
+        two = "svnask: there is no trunk beside '/b/branches/two', which is left out: --into names a target\n"
+        rows: tuple[tuple[list[str], int, bytes, str], ...] = (
+            ([], 0, b"/a/branches/one\tr3\n/three\tr3\n", two),
+            (["/b/**"], 1, b"", "svnask: E160013: There is no trunk beside '/b/branches/two': --into names a target\n"),
+            (["/b/**", "--into", "a/trunk"], 0, b"/b/branches/two\tr3\n", ""),
+            (["/a/trunk"], 0, b"", "svnask: what matches is the target itself: --into names another one\n"),
+        )
+        for words, status, output, said in rows:
+            done = base.called(dump, "unmerged", *words)
+            self.assertEqual((done.status, done.output, done.said), (status, output, said), words)
+
     def test_a_branch_with_a_tab_is_left_out(self) -> None:
         changes = [
             [added(b"trunk"), added(b"branches")],
