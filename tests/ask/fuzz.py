@@ -50,7 +50,12 @@ SEARCHED = ("copy", "", "*", "[", "[]", "\\", "/trunk*", "\udcff", "\u6f22", "\x
 # fmt: on
 SHOWN = re.compile(r"svnask: [^\x00-\x1f\x7f-\x9f]+(?:\n[^\x00-\x1f\x7f-\x9f]+)*\n")
 # What is said beside an answer.
-UNMATCHED = re.compile(r"(?:svnask: no path matches '[^\x00-\x1f\x7f-\x9f]+'\n)*")
+NOTICES = re.compile(
+    r"(?:svnask: (?:no path matches '{0}'|there is no {0}, so name paths by a PATTERN|there is no trunk beside '{0}', {0}"
+    r"|a path with a tab or a newline is left out: '{0}'|of what matches, {0}|what matches is the target itself: {0})\n)*".replace(
+        "{0}", r"[^\x00-\x1f\x7f-\x9f]+"
+    )
+)
 # The verbs that say nothing of whether svnhist refuses the dump.
 UNJUDGED = ("record", "byte", "update", "forget", "sources", "stop", "shell")
 # Those that may have output where the status is not 0: what was found, and answers to other lines.
@@ -196,7 +201,7 @@ def judged(done: base.Done, verb: str, refusal: str) -> list[str]:
         wrong.append(f"status {done.status}")
     if done.status and done.output and not has_found and verb != MANY:
         wrong.append("there is output, but no answer")
-    if (SHOWN if done.status and not has_found else UNMATCHED).fullmatch(done.said) is None:
+    if (SHOWN if done.status and not has_found else NOTICES).fullmatch(done.said) is None:
         wrong.append("standard error is not as it should be")
     if refusal and verb not in UNJUDGED and done.status != 2 and "svnask: %s" % refusal not in done.said:
         wrong.append("svnhist says: %s" % refusal)
