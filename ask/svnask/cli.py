@@ -235,7 +235,7 @@ def tell(history: History, given: argparse.Namespace, write: Callable[[bytes], o
             is_begun = True
             write(line)
     except (Refused, Damaged) as error:
-        if history.is_from_cache and not is_begun:
+        if history.may_be_stale(error) and not is_begun:
             raise Stale from error
         raise explained_of(error, history, given.dump) from error
     except Denied:
@@ -252,7 +252,7 @@ def check(history: History, dump: str) -> None:
     try:
         history.check()
     except (Refused, Damaged) as error:
-        if history.is_from_cache:
+        if history.may_be_stale(error):
             raise Stale from error
         raise explained_of(error, history, dump) from error
 

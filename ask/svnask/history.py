@@ -106,6 +106,10 @@ class History:
         """
         return self._store.is_loaded
 
+    def may_be_stale(self, error: Refused | Damaged) -> bool:
+        """Return whether an error may come from what the cache has, so that the source has to be read anew."""
+        return self._store.is_loaded or self._store.is_kept and isinstance(error, Damaged)
+
     def forget(self) -> None:
         """Takes what was read out of the cache."""
         self._store.forget()

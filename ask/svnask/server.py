@@ -8,6 +8,7 @@ from __future__ import annotations
 
 import argparse
 import contextlib
+import ctypes
 import io
 import json
 import os
@@ -97,12 +98,17 @@ def listener(folder: int, name: str) -> socket.socket:
     return found
 
 
+class Gone(BaseException):
+    """The caller is gone, and nobody waits for the answer."""
+
+
 class Caller:
-    """Who asks a question. Where they go before it is answered, the program that is asked is ended."""
+    """Who asks a question. Where they go before it is answered, the program that is asked is ended, and `Gone` is raised
+    in the thread that answers, wherever that is."""
 
     def __init__(self, connection: socket.socket, end: Callable[[], object]) -> None:
         self._connection, self._end = connection, end
-        self._is_gone = False
+        self._answering = threading.get_ident()
         self._is_answered = threading.Event()
         self._watch = threading.Thread(target=self._wait, daemon=True)
 
@@ -113,21 +119,25 @@ class Caller:
     def __exit__(
         self, kind: type[BaseException] | None, value: BaseException | None, trace: TracebackType | None
     ) -> None:
-        self._is_answered.set()
-        self._watch.join()
+        # It may be raised here, too, but not twice within a pause.
+        for _ in range(2):
+            with contextlib.suppress(Gone):
+                self._is_answered.set()
+                self._watch.join()
 
     def _wait(self) -> None:
         while not self._is_answered.wait(PAUSE):
-            ready, _, _ = select.select([self._connection], [], [], 0)
-            if ready and not self._connection.recv(1, socket.MSG_PEEK):
-                self._is_gone = True
+            # What catches all exceptions may catch this one, so it is raised until the thread is here no more.
+            if self._is_gone():
                 self._end()
-                return
+                ctypes.pythonapi.PyThreadState_SetAsyncExc(ctypes.c_ulong(self._answering), ctypes.py_object(Gone))
 
-    def need(self) -> None:
-        """Raises an error where nobody waits for the answer any more."""
-        if self._is_gone:
-            raise Failed("the caller is gone")
+    def _is_gone(self) -> bool:
+        try:
+            ready, _, _ = select.select([self._connection], [], [], 0)
+            return bool(ready) and not self._connection.recv(1, socket.MSG_PEEK)
+        except OSError:
+            return True
 
 
 class Server:
@@ -210,15 +220,25 @@ class Server:
         if request["version"] != __version__ or any(variables[name] != self._variables[name] for name in SAME):
             return
         with tempfile.TemporaryFile(dir=places.folder()) as output:
-            with self._lock, as_called(request), Caller(connection, self._kept.rest) as caller:
-                ending = self._told(request["words"], output, caller)
+            with self._lock, as_called(request):
+                ending = self._told_unless_gone(connection, request["words"], output)
             if ending is not None:
                 output.seek(0)
                 text = json.dumps({"status": ending.status, "said": ending.said}).encode("ascii") + b"\n"
                 sent = socket.send_fds(connection, [text], [output.fileno()])
                 connection.sendall(text[sent:])
 
-    def _told(self, words: list[str], output: IO[bytes], caller: Caller) -> cli.Ending | None:
+    def _told_unless_gone(self, connection: socket.socket, words: list[str], output: IO[bytes]) -> cli.Ending | None:
+        """How a question ends. None also where the caller went meanwhile."""
+        try:
+            with Caller(connection, self._kept.rest):
+                return self._told(words, output)
+        except Gone:
+            # The history may have been at anything.
+            self._kept.forget()
+            return None
+
+    def _told(self, words: list[str], output: IO[bytes]) -> cli.Ending | None:
         """How a question ends. None where that is for the caller to find out: it is no question to this server, or
         something failed."""
         notes = io.StringIO()
@@ -230,13 +250,8 @@ class Server:
                 if place_of(source) != self._kept.place:
                     return None
                 history = self._kept.updated(given, source)
-
-                def write(piece: bytes) -> None:
-                    caller.need()
-                    output.write(piece)
-
                 with contextlib.redirect_stderr(notes):
-                    cli.tell(history, given, write)
+                    cli.tell(history, given, output.write)
             ending = cli.Ending(0, [])
         except Error as error:
             ending = cli.ending_of(error)

@@ -137,8 +137,7 @@ def known_of(index: Index) -> Copy:
         True,
         list(index.renewals),
         list(index.undated),
-        index.checksum,
-        index.checksum,
+        list(index.sums),
         index.length,
         index.size,
     )
@@ -156,7 +155,7 @@ def index_of_copy(copy: Copy, size: int, kept: Kept) -> Index:
         copy.revisions,
         copy.renewals,
         copy.undated,
-        copy.checksum,
+        copy.sums,
         kept if kept.base else kept._replace(base=copy.length),
     )
 
@@ -166,6 +165,6 @@ def whole_part(copy: Copy) -> Copy:
     *revisions, length = copy.revisions
     renewals = [each for each in copy.renewals if each[0] < len(revisions)]
     undated = [(first, min(last, len(revisions) - 1)) for first, last in copy.undated if first < len(revisions)]
-    records, checksum = copy.records_before, copy.checksum_before
-    counts = records, records, revisions, copy.is_from_0, renewals, undated, checksum, checksum, length, copy.read
+    records, sums = copy.records_before, copy.sums[:-1]
+    counts = records, records, revisions, copy.is_from_0, renewals, undated, sums, length, copy.read
     return Copy(copy.format, copy.uuid, *counts)

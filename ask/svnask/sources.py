@@ -89,7 +89,7 @@ def rewritten(kept: Store, sections: Iterable[tuple[int, bytes]], file: IO[bytes
         copy.begin_revision(section)
         write(kept.with_properties(rev, section))
     found = kept.index._replace(revisions=copy.revisions, length=copy.length)
-    return found._replace(undated=copy.undated, checksum=copy.checksum)
+    return found._replace(undated=copy.undated, sums=copy.sums)
 
 
 class Held(NamedTuple):

@@ -9,6 +9,7 @@ import re
 import shutil
 import zlib
 from collections.abc import Iterator
+from itertools import chain
 from typing import IO, Any, BinaryIO, NamedTuple, Union
 
 from . import cache, digits
@@ -19,7 +20,7 @@ from .strip import LAST_LINE, MERGEINFO, ONE_MERGEINFO, Malformed, body_of, clea
 Bytes = Union[mmap.mmap, bytes]
 # Of a record the path, the kind, the action, the revision and the path of its source, and what it gave and changed.
 Node = tuple[Any, ...]
-VERSION = b"svnask 4"
+VERSION = b"svnask 5"
 FIRST_LINE = b"SVN-fs-dump-format-version: 2\n\n"
 # The parts of a block of the copy. `Stripper` writes the headers in this order.
 PLACE = rb"Node-path: (?P<path>[^\n]*)\n(?:Node-kind: (?P<kind>[^\n]*)\n)?"
@@ -113,16 +114,17 @@ class Index(NamedTuple):
     revisions: list[int]
     # The revision and the path of each copy of a path of the revision before to itself.
     renewals: list[tuple[int, bytes]]
-    # The runs of revisions without a date, and a checksum of the bytes of the copy.
-    undated: list[tuple[int, int]] = []
-    checksum: int = 0
+    # The runs of revisions without a date.
+    undated: list[tuple[int, int]]
+    # The checksum of the bytes before the first revision, and of those of each revision.
+    sums: list[int]
     kept: Kept = Kept()
 
     def text(self) -> bytes:
         kind, place, state, generation, base = self.kept
         counts = self.format, self.records, self.size, self.length, len(self.revisions), generation, base, len(place)
-        lines = [b"%d %d %d %d %d %d %d %d" % counts, self.uuid, kind, state, b"%08x" % self.checksum]
-        lines.append(b" ".join(b"%d-%d" % run for run in self.undated))
+        sums, undated = b" ".join(b"%x" % each for each in self.sums), b" ".join(b"%d-%d" % run for run in self.undated)
+        lines = [b"%d %d %d %d %d %d %d %d" % counts, self.uuid, kind, state, sums, undated]
         lines += [b"%d" % place for place in self.revisions]
         lines += [b"%d %s" % renewal for renewal in self.renewals]
         # A place may have newlines.
@@ -140,7 +142,7 @@ def index_of(text: bytes) -> Index:
     head, _, rest = text.partition(b"\n")
     if head != b"%s %d %08x" % (VERSION, len(rest), zlib.crc32(rest)):
         raise ValueError("another version, or not as it was written")
-    counts, uuid, kind, state, checksum, undated, _ = rest.split(b"\n", LINES)
+    counts, uuid, kind, state, sums, undated, _ = rest.split(b"\n", LINES)
     version, records, size, length, count, generation, base, named = map(int, counts.split())
     lines = rest[: len(rest) - named - 1].split(b"\n")
     pairs = [line.split(b" ", 1) for line in lines[LINES + count :]]
@@ -155,7 +157,7 @@ def index_of(text: bytes) -> Index:
         list(map(int, lines[LINES : LINES + count])),
         [(int(rev), path) for rev, path in pairs],
         [(int(first), int(last)) for first, last in runs],
-        int(checksum, 16),
+        [int(each, 16) for each in sums.split()],
         Kept(kind, rest[len(rest) - named :], state, generation, base),
     )
 
@@ -194,8 +196,8 @@ class Store:
         self._head = functools.lru_cache(1)(self._read_head)
         # Whether another run made it.
         self.is_loaded = is_loaded
+        self.is_kept = is_kept
         self._folder = folder
-        self._is_kept = is_kept
         generation, length = index.kept.generation, index.kept.base
         self._file = open(os.path.join(folder, "dump.%d" % generation), "rb", opener=cache.opener)
         try:
@@ -214,19 +216,35 @@ class Store:
 
     def is_as_written(self) -> bool:
         """Return whether the copy has the bytes that were written. The disk may have changed them."""
-        return zlib.crc32(self.later, zlib.crc32(self.first)) == self.index.checksum
+        places = [0, *self.index.revisions, self.index.length]
+        return list(map(self._sum, places, places[1:])) == self.index.sums
+
+    def _sum(self, first: int, last: int) -> int:
+        """The checksum of the bytes of the copy from one offset to another one."""
+        base = self.index.kept.base
+        found = zlib.crc32(memoryview(self.first)[first:last]) if first < base else 0
+        return zlib.crc32(memoryview(self.later)[max(first - base, 0) : last - base], found) if last > base else found
+
+    def _end(self, rev: int) -> int:
+        """The offset in the copy at which a revision ends."""
+        following = rev + 1
+        return self.index.revisions[following] if following < len(self.index.revisions) else self.index.length
+
+    def _check(self, rev: int) -> None:
+        if self._sum(self.index.revisions[rev], self._end(rev)) != self.index.sums[rev + 1]:
+            raise Damaged
 
     def close(self) -> None:
         for part in self.first, self.later:
             if isinstance(part, mmap.mmap):
                 part.close()
         self._file.close()
-        if not self._is_kept:
+        if not self.is_kept:
             shutil.rmtree(self._folder, ignore_errors=True)
 
     def forget(self) -> None:
         """Takes the folder out of the cache, where it is kept."""
-        if self._is_kept:
+        if self.is_kept:
             cache.remove(self._folder)
 
     @property
@@ -234,20 +252,24 @@ class Store:
         """The youngest revision."""
         return len(self.index.revisions) - 1
 
-    def _parts(self, place: int) -> Iterator[tuple[Bytes, int]]:
-        """The parts from an offset in the copy on, and where in each of them that is."""
+    def _pieces(self, first: int, last: int) -> Iterator[tuple[Bytes, int, int]]:
+        """The part or the two parts that have the bytes from one offset to another one, and where these are in it."""
         length = self.index.kept.base
-        if place < length:
-            yield self.first, place
-        yield self.later, max(place - length, 0)
+        if first < length:
+            yield self.first, first, min(last, length)
+        if last > length:
+            yield self.later, max(first - length, 0), last - length
 
-    def _blocks(self, place: int) -> Iterator[re.Match[bytes]]:
-        """The blocks from an offset in the copy on."""
-        for part, at in self._parts(place):
-            while found := BLOCK.match(part, at):
+    def _blocks(self, first: int, last: int) -> Iterator[re.Match[bytes]]:
+        """The blocks from one offset in the copy to another one."""
+        for part, at, end in self._pieces(first, last):
+            while found := BLOCK.match(part, at, end):
                 length = found["length"]
                 at = found.end() if length is None else found.end() + digits.number(length)
                 yield found
+            # A section ends with a newline more.
+            if self.index.is_whole and end - at not in (0, 1):
+                raise Damaged
 
     def write(self, file: IO[bytes]) -> None:
         """Writes the whole copy to a file."""
@@ -257,11 +279,7 @@ class Store:
 
     def between(self, first: int, last: int) -> bytes:
         """The bytes of the copy from one offset to another one."""
-        length = self.index.kept.base
-        if last <= length:
-            return self.first[first:last]
-        later = self.later[max(first - length, 0) : last - length]
-        return self.first[first:length] + later if first < length else later
+        return b"".join(part[begin:end] for part, begin, end in self._pieces(first, last))
 
     def with_properties(self, rev: int, section: bytes) -> bytes:
         """The bytes of a revision with other properties."""
@@ -270,6 +288,7 @@ class Store:
 
     def _read_head(self, rev: int) -> re.Match[bytes]:
         """The block of a revision."""
+        self._check(rev)
         place, length = self.index.revisions[rev], self.index.kept.base
         found = REVISION.match(self.first, place) if place < length else REVISION.match(self.later, place - length)
         if found is None or int(found["rev"]) != rev:
@@ -281,10 +300,14 @@ class Store:
         found = self._head(rev)
         return self.index.revisions[rev] + found.start("section") - found.start() + int(found["length"] or 0)
 
+    def _blocks_of(self, rev: int) -> Iterator[re.Match[bytes]]:
+        """The block of a revision and those of its records."""
+        self._check(rev)
+        return self._blocks(self.index.revisions[rev], self._end(rev))
+
     def blocks_of(self, rev: int) -> bytes:
         """The blocks of the records of a revision."""
-        (end,) = self.index.revisions[rev + 1 : rev + 2] or [self.index.length]
-        return self.between(self._begin(rev), end)
+        return self.between(self._begin(rev), self._end(rev))
 
     def revision(self, rev: int) -> Revision:
         return revision_of(self._head(rev))
@@ -314,6 +337,8 @@ class Store:
     def _telling(self) -> Iterator[tuple[re.Match[bytes], int]]:
         """The blocks of records that may tell something, with their revisions. Each that has a section is one of them,
         so that what only looks like one, in the section of a revision or of a record, is known by its place."""
+        if not self.is_as_written():
+            raise Damaged
         rev, end = -1, 0
         for part, begin in (self.first, 0), (self.later, self.index.kept.base):
             for found in TELLING.finditer(part):
@@ -327,20 +352,18 @@ class Store:
 
     def _nodes(self, first: int = 0, last: int | None = None) -> Iterator[tuple[re.Match[bytes], int, int]]:
         """The blocks of records of revisions, with the number of each and its revision."""
-        rev = number = 0
-        for found in self._blocks(self.index.revisions[first]):
-            if found["rev"] is not None:
-                rev = digits.number(found["rev"])
-                if last is not None and rev > last:
-                    return
-            elif found["path"] is not None:
-                number += 1
-                yield found, number, rev
+        number = 0
+        for rev in range(first, 1 + (self.head if last is None else last)):
+            for found in self._blocks_of(rev):
+                if found["path"] is not None:
+                    number += 1
+                    yield found, number, rev
 
     def blocks(self) -> Iterator[tuple[int, Record | None]]:
         """The offset in the given dump of each block, and its record, if it has one."""
         rev, number, end = -1, 0, len(FIRST_LINE)
-        for found in self._blocks(end):
+        of_revisions = chain.from_iterable(map(self._blocks_of, range(self.head + 1)))
+        for found in chain(self._blocks(end, self._end(-1)), of_revisions):
             end = found.end() + digits.number(found["length"] or b"0")
             record = None
             if found["rev"] is not None:
@@ -358,9 +381,10 @@ class Store:
         """The offset in the given dump of what stands at an offset in the copy."""
         if place == 0:
             return 0
-        part, at = next(self._parts(place))
-        found = MARK.match(part, at)
-        return digits.number(found[1]) if found else self.index.size
+        for part, at, _ in self._pieces(place, self.index.length):
+            if found := MARK.match(part, at):
+                return digits.number(found[1])
+        return self.index.size
 
 
 def part_of(file: BinaryIO, length: int) -> Bytes:

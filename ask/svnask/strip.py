@@ -93,9 +93,8 @@ class Copy:
     renewals: list[tuple[int, bytes]] = field(default_factory=list)
     # The runs of revisions after the first one that have no date, as a repository shows those that a user may not read.
     undated: list[tuple[int, int]] = field(default_factory=list)
-    # A checksum of the bytes of the copy, and what it was before those of the last revision.
-    checksum: int = 0
-    checksum_before: int = 0
+    # The checksum of the bytes before the first revision, and of those of each revision.
+    sums: list[int] = field(default_factory=lambda: [0])
     # How many bytes the copy has, and how many of the given dump were read.
     length: int = 0
     read: int = 0
@@ -105,7 +104,7 @@ class Copy:
     def add(self, piece: bytes) -> None:
         """Takes the next bytes of the copy."""
         self.length += len(piece)
-        self.checksum = zlib.crc32(piece, self.checksum)
+        self.sums[-1] = zlib.crc32(piece, self.sums[-1])
 
     def begin_revision(self, section: bytes) -> None:
         """Takes the property section of the next revision, which begins here."""
@@ -113,8 +112,9 @@ class Copy:
         if rev and DATE not in section:
             first = self.undated.pop()[0] if self.undated and self.undated[-1][1] == rev - 1 else rev
             self.undated.append((first, rev))
-        self.records_before, self.checksum_before = self.records, self.checksum
+        self.records_before = self.records
         self.revisions.append(self.length)
+        self.sums.append(0)
 
 
 def clean(path: bytes) -> bytes:

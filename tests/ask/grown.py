@@ -45,7 +45,7 @@ def need(*commands: str) -> None:
             raise unittest.SkipTest(f"{each} is not installed")
 
 
-def svn(*words: Word, given: bytes = b"") -> Outcome:
+def svn(*words: Word, given: bytes | Path = b"") -> Outcome:
     """What a command of Subversion did, which must not fail."""
     done = run(words, given, environment=ENVIRONMENT)
     if done.status != 0:

@@ -1,10 +1,12 @@
 """Each user of a server gets what that user is shown, also after others have asked."""
 from __future__ import annotations
 
+import json
 import os
 import subprocess
 
-from svnask import client
+from dev.dumps import added, changed, dump_of, section
+from svnask import client, repositories
 from svnask.command_line import of_asker, source_word
 from svnask.progress import Told
 from tests.ask import base, grown
@@ -75,6 +77,18 @@ class Askers(base.Case):
             self.rules.write_text(ALL)
             self.check("bob", url, "log", "-v")
 
+    def test_so_are_more_hidden_revisions_than_are_named_one_by_one(self) -> None:
+        changes = [[changed(b"secret", section({b"x": b"%d" % number}))] for number in range(repositories.MOST_NAMED)]
+        repository = self.parent / "long"
+        grown.svn("svnadmin", "create", repository)
+        given = self.made("long.dump", dump_of([added(b"secret")], *changes, [added(b"trunk")]))
+        grown.svn("svnadmin", "load", "-q", repository, given=given)
+        with grown.svnserve(self.parent, "none", self.rules) as server:
+            url = f"{server}/long"
+            for rules in (HIDDEN, HIDDEN, ALL):
+                self.rules.write_text(rules)
+                self.check("bob", url, "log", "-q")
+
     def test_a_path_below_a_root_that_may_not_be_read(self) -> None:
         self.rules.write_text(TRUNK_ALONE)
         with grown.svnserve(self.parent, "none", self.rules) as server:
@@ -118,15 +132,51 @@ class Askers(base.Case):
 
 
 class Messages(base.Case):
-    def test_a_server_and_a_shell_have_the_messages_that_another_call_read(self) -> None:
+    """An open history has the messages that another call has read anew."""
+
+    def setUp(self) -> None:
+        super().setUp()
         grown.need("svn", "svnadmin")
-        repository = self.folder / "repository"
-        grown.svn("svnadmin", "create", repository)
-        grown.svn("svn", "mkdir", "-q", "-m", "Old", f"{repository.as_uri()}/trunk")
-        with self.history(repository) as history:
+        self.repository = self.folder / "repository"
+        grown.svn("svnadmin", "create", self.repository)
+        grown.svn("svn", "mkdir", "-q", "-m", "Old", f"{self.repository.as_uri()}/trunk")
+        # The youngest revision is looked at by each question.
+        grown.svn("svn", "mkdir", "-q", "-m", "Add", f"{self.repository.as_uri()}/tags")
+
+    def reword(self) -> None:
+        message = self.made("message", b"New")
+        grown.svn("svnadmin", "setlog", "--bypass-hooks", self.repository, "-r", "1", message)
+        self.assertEqual(base.called(self.repository, "update", "--properties").status, 0)
+
+    def test_in_the_module(self) -> None:
+        with self.history(self.repository) as history:
             self.assertEqual(history.revision(1).message, b"Old")
-            message = self.made("message", b"New")
-            grown.svn("svnadmin", "setlog", "--bypass-hooks", repository, "-r", "1", message)
-            self.assertEqual(base.called(repository, "update", "--properties").status, 0)
+            self.reword()
             history.renew(history.source, Told(lambda read: None))
             self.assertEqual(history.revision(1).message, b"New")
+
+    def test_in_a_server(self) -> None:
+        with subprocess.Popen(base.command(self.repository, "serve"), stdout=subprocess.PIPE) as serving:
+            try:
+                assert serving.stdout is not None
+                self.assertTrue(serving.stdout.readline().startswith(b"serving "))
+                for message in (b"Old", b"New"):
+                    reply = client.asked([str(self.repository), "log", "-r", "1"])
+                    assert reply is not None
+                    with open(reply.output, "rb") as output:
+                        self.assertIn(message, output.read())
+                    self.reword()
+            finally:
+                self.assertEqual(base.called(self.repository, "stop").status, 0)
+
+    def test_in_a_shell(self) -> None:
+        words = base.command(self.repository, "shell")
+        with subprocess.Popen(words, stdin=subprocess.PIPE, stdout=subprocess.PIPE) as shell:
+            assert shell.stdin is not None and shell.stdout is not None
+            for message in ("Old", "New"):
+                shell.stdin.write(b"log -r 1 --json\n")
+                shell.stdin.flush()
+                self.assertEqual(json.loads(shell.stdout.readline())["message"], message)
+                self.reword()
+            shell.stdin.close()
+        self.assertEqual(shell.returncode, 0)

@@ -4,8 +4,13 @@ from __future__ import annotations
 import os
 import random
 import shutil
+from collections.abc import Callable
 from pathlib import Path
+from unittest import mock
 
+from svnask.errors import Damaged
+from svnask.history import History
+from svnask.store import Store
 from tests.ask import base
 
 QUESTIONS = (
@@ -50,6 +55,39 @@ class Damage(base.Case):
                 flip(folder / name, chance)
                 words = QUESTIONS[number % len(QUESTIONS)]
                 self.assertEqual(base.called(dump, *words), wanted[words], (name, number, words))
+
+    def damaged(self, dump: Path, rev: int) -> None:
+        """Changes a byte of the message of a revision in the copy, which may be read at the time."""
+        (copy,) = (self.cache / "svnhist").glob("*/dump.*")
+        place = copy.read_bytes().index(b"K 7\nsvn:log\n", copy.read_bytes().index(b"Revision-number: %d\n" % rev))
+        with copy.open("r+b") as file:
+            file.seek(place - 1)
+            file.write(b"?")
+
+    def test_what_an_open_history_reads_is_as_it_was_written(self) -> None:
+        dump = self.made("dump", base.content_of("merges"))
+        reads: tuple[Callable[[History], object], ...] = (
+            lambda history: history.revision(5),
+            lambda history: history.changes(5),
+            lambda history: list(history.records()),
+            lambda history: list(history.records(5, 5)),
+            lambda history: history.tree,
+            lambda history: list(history.blocks()),
+        )
+        for read in reads:
+            with History.open(str(dump)) as history:
+                self.damaged(dump, 5)
+                self.assertEqual(history.revision(4).author, b"bob")
+                self.assertRaises(Damaged, read, history)
+
+    def test_a_walk_ends_where_the_next_revision_begins(self) -> None:
+        dump = self.made("dump", base.content_of("merges"))
+        with History.open(str(dump)) as history:
+            history.index.revisions[6] += 2
+            with mock.patch.object(Store, "_sum", lambda store, first, last: 0):
+                history.index.sums[:] = [0] * len(history.index.sums)
+                self.assertRaises(Damaged, list, history.records(5, 5))
+                self.assertEqual({record.rev for record in history.records(4, 4)}, {4})
 
     def test_a_changed_bit_changes_no_answer(self) -> None:
         self.check_flips(int(os.environ.get("SVNASK_FLIPS", "12")))

@@ -119,7 +119,7 @@ class Reading(base.Case):
             whole = file_of(folder, pattern).read_bytes()
             ends = [whole.rindex(b"Revision-number") - 1, whole.rindex(b"Node-path")] if pattern != "index" else []
             wrong = [whole[:end] for end in (*ends, 0, 9, len(whole) // 2, len(whole) - 1)] + [whole + b"\n7"]
-            for content in wrong + [whole.replace(b"svnask 4 ", b"svnask 1 ")]:
+            for content in wrong + [whole.replace(b"svnask 5 ", b"svnask 1 ")]:
                 file_of(folder, pattern).write_bytes(content)
                 with self.history(base.dump_of("branches")) as history:
                     self.assertEqual((history.head, history.log(b"trunk", 13).revisions), (13, [5, 2, 1]))

@@ -1,6 +1,7 @@
 """A server: what it answers is what a call without it prints, and where it has no whole reply, that is what counts."""
 from __future__ import annotations
 
+import contextlib
 import json
 import os
 import shutil
@@ -15,8 +16,9 @@ from unittest import mock
 
 from dev import running
 from dev.dumps import Revision, added, changed, dump_of
-from dev.tree import SVNASK
+from dev.tree import ROOT, SVNASK
 from svnask import client, places
+from svnask.server import Caller, Gone
 from tests.ask import base
 
 ANSWERED = base.commands(
@@ -27,6 +29,19 @@ ANSWERED = base.commands(
     "mergeinfo --show-revs eligible --log trunk branches/two; log -g -v; log --xml -v trunk; log --search copy; "
     "log / trunk tags; unmerged --log /**; branches none* /tags/**; --offline info; propget svn:ignore; new none trunk"
 )
+# Calls the command with a verb whose computation does not end.
+ENDLESS = f"""
+import sys
+sys.path.insert(0, {str(ROOT / 'ask')!r})
+from svnask import cli
+tell = cli.tell
+def endless(history, given, write):
+    while given.verb == "graph":
+        pass
+    tell(history, given, write)
+cli.tell = endless
+sys.exit(cli.main(sys.argv[3:]))
+"""
 
 
 class Serve(base.Case):
@@ -237,6 +252,38 @@ class Serve(base.Case):
             begun = time.monotonic()
             self.check_same("log", "-q")
             self.assertLess(time.monotonic() - begun, 20)
+
+    def test_so_is_one_that_is_computed(self) -> None:
+        self.served(by=(sys.executable, "-c", ENDLESS))
+        connection = self.connected()
+        connection.sendall(client.request([str(self.dump), "graph"]))
+        time.sleep(1)
+        connection.close()
+        self.check_same("log", "-q")
+
+    def test_a_caller_that_goes_ends_what_catches_all_exceptions(self) -> None:
+        ours, theirs = socket.socketpair()
+        self.addCleanup(ours.close)
+        theirs.close()
+        begun = time.monotonic()
+        with self.assertRaises(Gone), Caller(ours, lambda: None):
+            with contextlib.suppress(BaseException):
+                while time.monotonic() < begun + 30:
+                    pass
+            while time.monotonic() < begun + 30:
+                pass
+        self.assertLess(time.monotonic() - begun, 10)
+
+    def test_a_file_that_changes_meanwhile_is_made_anew(self) -> None:
+        self.served()
+        wanted = base.run(self.dump, "log", "-v").output
+        (copy,) = (self.cache / "svnhist").glob("*/dump.*")
+        with copy.open("r+b") as file:
+            content = file.read()
+            file.seek(content.index(b"svn:log", len(content) // 2) + 15)
+            file.write(b"\xff\xff\xff")
+        for _ in range(3):
+            self.assertEqual(base.run(self.dump, "log", "-v"), (0, wanted, ""))
 
     def test_it_goes_on_where_it_had_no_descriptors(self) -> None:
         self.served(by=("sh", "-c", 'ulimit -n 40; exec "$@"', "sh"))
