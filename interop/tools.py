@@ -38,7 +38,8 @@ class Tools:
     def load(self, repository: Path, dump: bytes) -> None:
         """Makes a repository of a dump."""
         self.run("svnadmin", "create", repository)
-        self.run("svnadmin", "load", "-q", "--force-uuid", "--bypass-prop-validation", repository, given=dump)
+        options = ("-q", "--force-uuid", "--bypass-prop-validation", "--no-flush-to-disk")
+        self.run("svnadmin", "load", *options, repository, given=dump)
 
 
 def said_by(done: Outcome) -> str:

@@ -5,12 +5,13 @@ usage: tests/ask/beside-svn [--only KIND] [--by file|svn|http] FIRST LAST
 For each seed from FIRST to LAST it draws a repository, recorded or drawn, and a command of some kind, and prints what is
 not the same. A seed always draws the same. Of XML the attributes and the properties are sorted before, since their
 order changes with each run of `svn`. By `file` svnask reads a dump, and `svn` its folder; otherwise both ask the same
-server. The status is 1 if anything was not the same. `$SVNHIST` names the program.
+server. The last lines count the outcomes. The status is 1 if anything was not the same. `$SVNHIST` names the program.
 """
 from __future__ import annotations
 
 import argparse
 import contextlib
+import itertools
 import os
 import random
 import re
@@ -19,6 +20,7 @@ import sys
 import tempfile
 import time
 import urllib.parse
+from collections import Counter
 from collections.abc import Callable, Iterator, Sequence
 from pathlib import Path
 from typing import NamedTuple
@@ -41,7 +43,10 @@ PATTERNS = (
 )
 # fmt: on
 # The errors where the server ended, and how many seconds `svn` has: with -g and a rising range it may fail or not end.
-ENDED, PATIENCE = (b"E210002", b"E175009", b"E000104", b"E000111", b"E120108"), 30
+ENDED, PATIENCE = ("E210002", "E175009", "E000104", "E000111", "E120108"), 30
+OTHER = "another output"
+# The kind of command about a history of its own, of features that are synchronized.
+FEATURES = "features"
 # How many seeds have the same repository.
 TOGETHER = 20
 
@@ -82,23 +87,30 @@ def served(by: str, folder: Path) -> Iterator[Server | None]:
         yield None
 
 
-def loaded(number: int, folder: Path, server: Server | None = None) -> Place:
-    """The repository of a number."""
-    shutil.rmtree(folder / "repository", ignore_errors=True)
-    tools = Tools(folder)
+def dump_of(number: int) -> bytes:
+    """The dump of a number."""
     chance = random.Random(number)
     sort = chance.random()
     if sort < 0.3:
-        dump = base.content_of(chance.choice(NAMES))
+        return base.content_of(chance.choice(NAMES))
+    return synchronized(number) if sort < 0.55 else drawn(number)
+
+
+def loaded(name: str, number: int, folder: Path, server: Server | None = None) -> Place:
+    """The repository of a number, of features alone where it has that name."""
+    shutil.rmtree(folder / name, ignore_errors=True)
+    tools = Tools(folder)
+    tools.load(folder / name, synchronized(number) if name == FEATURES else dump_of(number))
+    repository = Repository(tools, folder / name)
+    if name == FEATURES:
+        trees = [["/trunk"]] * (1 + tools.youngest(folder / name))
     else:
-        dump = synchronized(number) if sort < 0.55 else drawn(number)
-    tools.load(folder / "repository", dump)
-    trees = [[f"/{path}" for path in tree] for tree in Repository(tools, folder / "repository").trees]
+        trees = [[f"/{path}" for path in tree] for tree in repository.trees]
     if server is not None:
-        return Place(f"{server.url}/repository", f"{server.url}/repository", trees)
-    made = folder / "dump"
-    made.write_bytes(tools.run("svnadmin", "dump", "-q", folder / "repository"))
-    return Place(made, url_of(folder / "repository"), trees)
+        return Place(f"{server.url}/{name}", f"{server.url}/{name}", trees)
+    made = folder / f"{name}.dump"
+    made.write_bytes(tools.run("svnadmin", "dump", "-q", folder / name))
+    return Place(made, url_of(folder / name), trees)
 
 
 def some(chance: random.Random, **shares: float) -> list[str]:
@@ -190,6 +202,7 @@ def values(chance: random.Random, place: Place) -> list[str]:
 
 KINDS: dict[str, Callable[[random.Random, Place], list[str]]] = {
     "diagram": diagram,
+    FEATURES: merge_history,
     "merge-history": merge_history,
     "merges": merges,
     "search": search,
@@ -231,10 +244,15 @@ class Compared(NamedTuple):
     words: list[str]
     wanted: Output
     found: Output
+    # Whether something was taken out of both that a server or svnrdump changes.
+    is_altered: bool
 
     @property
-    def is_without_end(self) -> bool:
-        return self.wanted.text in ENDED or self.wanted.text.startswith(b"no end after")
+    def outcome(self) -> str:
+        if self.wanted == self.found:
+            return "the same but for CR or DEL" if self.is_altered else "the same"
+        text = self.wanted.text.decode("ascii", "replace")
+        return f"not compared: {text}" if text in ENDED or text.startswith("no end after") else OTHER
 
     def shown(self) -> str:
         """The first lines that are not the same."""
@@ -257,9 +275,11 @@ def compare(kind: str, seed: int, place: Place, folder: Path, options: Sequence[
         # In place of a URL svnask prints the path.
         url = re.compile(re.escape(place.url.encode()) + rb"([^\n' ]*)")
         printed = url.sub(lambda found: urllib.parse.unquote_to_bytes(found[1]) or b"/", printed)
-    if options or place.source == place.url:
+    is_altered = place.source == place.url and printed != own
+    if is_altered:
         printed, own = map(as_served, (printed, own))
-    return Compared(words, output_of(done.status, printed, said), output_of(found.status, own, found.said))
+    wanted = output_of(done.status, printed, said)
+    return Compared(words, wanted, output_of(found.status, own, found.said), is_altered and done.status == 0)
 
 
 def as_served(text: bytes) -> bytes:
@@ -267,21 +287,16 @@ def as_served(text: bytes) -> bytes:
     return text.replace(b"\r", b"").replace(b"&#13;", b"").replace(b"\x7f", b"?\\127")
 
 
-def differing(
-    kinds: list[str], first: int, last: int, folder: Path, by: str = "file"
-) -> Iterator[tuple[int, Compared]]:
-    """The seeds with another output of svnask."""
-    place: Place | None = None
-    number = -1
+def compared(kinds: list[str], first: int, last: int, folder: Path, by: str = "file") -> Iterator[tuple[int, Compared]]:
+    """The seeds, and what was printed for them."""
+    numbers: dict[str, int] = {}
+    places: dict[str, Place] = {}
     with served(by, folder) as server:
-        for seed in range(first, last + 1):
-            if place is None or number != seed // TOGETHER:
-                number = seed // TOGETHER
-                place = loaded(number, folder / "loaded", server)
-            for kind in kinds:
-                compared = compare(kind, seed, place, folder, server.options if server is not None else ())
-                if compared.wanted != compared.found and not compared.is_without_end:
-                    yield seed, compared
+        for seed, kind in itertools.product(range(first, last + 1), kinds):
+            name, number = (kind, seed) if kind == FEATURES else ("repository", seed // TOGETHER)
+            if numbers.get(name) != number:
+                numbers[name], places[name] = number, loaded(name, number, folder / "loaded", server)
+            yield seed, compare(kind, seed, places[name], folder, server.options if server is not None else ())
 
 
 def main() -> int:
@@ -295,16 +310,17 @@ def main() -> int:
     words.add_argument("last", type=int, help="the last seed")
     given = words.parse_args()
     kinds = [given.only] if given.only else sorted(KINDS)
-    count = 0
+    outcomes: Counter[str] = Counter()
     with tempfile.TemporaryDirectory(prefix="svnask-beside-svn-") as folder:
         os.environ.update(ENVIRONMENT, XDG_CACHE_HOME=os.path.join(folder, "cache"), SVNHIST=str(programs().svnhist))
         time.tzset()
-        for seed, compared in differing(kinds, given.first, given.last, Path(folder), given.by):
-            print(f"seed {seed}: {compared.words}\n{compared.shown()}", flush=True)
-            count += 1
-    total = (given.last - given.first + 1) * len(kinds)
-    print(f"{total} commands, {count} with another output")
-    return 1 if count else 0
+        for seed, found in compared(kinds, given.first, given.last, Path(folder), given.by):
+            outcomes[found.outcome] += 1
+            if found.wanted != found.found:
+                print(f"seed {seed}: {found.outcome}: {found.words}\n{found.shown()}", flush=True)
+    for outcome, count in outcomes.most_common():
+        print(f"{count} {outcome}")
+    return 1 if outcomes[OTHER] else 0
 
 
 if __name__ == "__main__":

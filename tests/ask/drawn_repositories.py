@@ -282,20 +282,29 @@ def step_of_features(chance: random.Random, branches: list[Feature], rev: int) -
         source = branches[0] if chance.random() < 0.7 else branch
         branches.append(Feature(b"branches/f%d" % rev, source, rev))
         return [copied(branches[-1].path, source.path, rev - 1)]
-    if what < 0.7 and parent is not None and rev - 1 > branch.first:
-        target, source = (branch, parent) if chance.random() < 0.5 or parent not in branches else (parent, branch)
-        first = branch.first if chance.random() < 0.8 else chance.randint(branch.first, rev - 1)
-        before = target.text()
-        target.take(source, range(first, rev if chance.random() < 0.8 else chance.randint(first, rev - 1) + 1))
-        # Of a value that stays svnrdump says nothing.
-        nodes = [changed(target.path, mergeinfo(target.text()))] if target.text() != before else []
-        if not nodes or chance.random() < 0.7:
-            nodes.append(changed(target.path + b"/f", text=b"merged %d\n" % rev))
-        return nodes
+    if what < 0.7 and len(branches) > 1:
+        return merge_of_features(chance, branches, branch, rev)
     if what < 0.72 and parent is not None and rev > branch.first + 15:
         branches.remove(branch)
         return [deleted(branch.path)]
     return [changed(branch.path + chance.choice((b"/f", b"/g")), text=b"text %d\n" % rev)]
+
+
+def merge_of_features(chance: random.Random, branches: list[Feature], target: Feature, rev: int) -> list[Node]:
+    """What a revision does that takes all or some of one or more branches in."""
+    others = [each for each in branches if each is not target and each.first < rev - 1]
+    before = target.text()
+    for source in chance.sample(others, min(len(others), chance.choice((1, 1, 1, 2, 3)))):
+        first, last = max(source.first, target.first if source is branches[0] else 0), rev - 1
+        if chance.random() < 0.5:
+            first = chance.randint(first, last)
+            last = chance.randint(first, last)
+        target.take(source, range(first, last + 1))
+    # Of a value that stays svnrdump says nothing.
+    nodes = [changed(target.path, mergeinfo(target.text()))] if target.text() != before else []
+    if not nodes or chance.random() < 0.7:
+        nodes.append(changed(target.path + b"/f", text=b"merged %d\n" % rev))
+    return nodes
 
 
 def synchronized(seed: int) -> bytes:

@@ -10,5 +10,5 @@ class BesideSvn(base.Case):
     def test_what_svn_prints_is_printed(self) -> None:
         if shutil.which("svn") is None or shutil.which("svnadmin") is None:
             self.skipTest("Subversion is not installed")
-        for seed, compared in beside_svn.differing(sorted(beside_svn.KINDS), 1, 24, self.folder):
-            self.fail(f"seed {seed}: {compared.words}\n{compared.shown()}")
+        for seed, compared in beside_svn.compared(sorted(beside_svn.KINDS), 1, 24, self.folder):
+            self.assertNotEqual(compared.outcome, beside_svn.OTHER, f"{seed}: {compared.words}\n{compared.shown()}")
