@@ -270,21 +270,21 @@ def compare(kind: str, seed: int, place: Place, folder: Path, options: Sequence[
     done = Tools(folder).try_run("svn", *options, *(as_url(place.url, word) for word in words), seconds=PATIENCE)
     found = base.called(place.source, *options, *words)
     said = done.errors.decode("utf-8", "replace")
-    printed, own = done.output, found.output
+    printed = done.output
     if kind == "values":
         # In place of a URL svnask prints the path.
         url = re.compile(re.escape(place.url.encode()) + rb"([^\n' ]*)")
         printed = url.sub(lambda found: urllib.parse.unquote_to_bytes(found[1]) or b"/", printed)
-    is_altered = place.source == place.url and printed != own
-    if is_altered:
-        printed, own = map(as_served, (printed, own))
-    wanted = output_of(done.status, printed, said)
-    return Compared(words, wanted, output_of(found.status, own, found.said), is_altered and done.status == 0)
+    wanted, own = output_of(done.status, printed, said), output_of(found.status, found.output, found.said)
+    if place.source != place.url or wanted == own:
+        return Compared(words, wanted, own, False)
+    return Compared(words, as_served(wanted), as_served(own), True)
 
 
-def as_served(text: bytes) -> bytes:
-    """What is printed, without what servers or svnrdump change in messages."""
-    return text.replace(b"\r", b"").replace(b"&#13;", b"").replace(b"\x7f", b"?\\127")
+def as_served(output: Output) -> Output:
+    """What was printed, without what servers or svnrdump change in messages."""
+    text = output.text.replace(b"\r", b"").replace(b"&#13;", b"").replace(b"\x7f", b"?\\127")
+    return output._replace(text=text)
 
 
 def compared(kinds: list[str], first: int, last: int, folder: Path, by: str = "file") -> Iterator[tuple[int, Compared]]:
