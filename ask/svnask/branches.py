@@ -2,10 +2,11 @@
 from __future__ import annotations
 
 from collections.abc import Iterable, Iterator, Sequence
+from itertools import chain
 from typing import NamedTuple
 
 from . import log, mergeinfo, projects
-from .answers import Answer, Log, Logged, Mergeinfo, Query, Where
+from .answers import Answer, Answers, Log, Logged, Mergeinfo, Query, Where
 from .changes import Place, components, is_at_or_below, tops_of
 from .errors import Denied
 from .history import History
@@ -218,13 +219,13 @@ def unmerged(history: History, patterns: Sequence[bytes], into: Target | None) -
     targets = targets_of(history, alive, into)
     sources = {Target(life.path, history.head): targets[life] for life in alive if life in targets}
     question = mergeinfo.Question("eligible")
-    answers = history.answers(
-        query
-        for source, target in sources.items()
-        for query in mergeinfo.queries_of(explicit, source, target, question)
-    )
+    about = (mergeinfo.queries_about(explicit, target, question) for target in set(sources.values()))
+    merges = mergeinfo.Merges(history, explicit, history.answers(chain.from_iterable(about)))
+    asked = {source: mergeinfo.queries_of_pair(source, target, question) for source, target in sources.items()}
+    replies = history.ask(chain.from_iterable(asked.values()))
     for source, target in sources.items():
-        revisions = mergeinfo.show_revs(history, explicit, answers, source, target, question)
+        answers = Answers(zip(asked[source], replies))
+        revisions = merges.shown(source, target, question, answers)
         trace = log.Trace(answers[Where(*source)].segments, answers[Log(*source)].revisions)
         yield Compared(Left(source.path, revisions), target, trace)
 

@@ -53,6 +53,7 @@ class Branches:
         pairs = (source, target), (target, source)
         queries = [query for pair in pairs for query in mergeinfo.queries_of(self._explicit, *pair, question)]
         self._answers: Answers = history.answers(queries)
+        self._merges = mergeinfo.Merges(history, self._explicit, self._answers)
         self._places = {each: self._located(each) for each in (source, target)}
 
     def _located(self, branch: Target) -> list[tuple[int, int, bytes]]:
@@ -89,8 +90,7 @@ class Branches:
 
     def _shown(self, verb: str, source: Target, target: Target, bounds: tuple[int, int]) -> list[int]:
         question = mergeinfo.Question(verb, True, bounds)
-        found = mergeinfo.show_revs(self._history, self._explicit, self._answers, source, target, question)
-        return [rev for rev, _ in found]
+        return [rev for rev, _ in self._merges.shown(source, target, question)]
 
 
 def summary(history: History, source: Target, target: Target) -> Summary:

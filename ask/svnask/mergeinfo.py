@@ -7,7 +7,9 @@ lists some revisions that svnhist does not, and reads some texts that are malfor
 from __future__ import annotations
 
 import bisect
-from collections.abc import Iterable, Iterator
+import itertools
+from collections import ChainMap
+from collections.abc import Iterable, Iterator, Mapping, MutableMapping
 from typing import NamedTuple
 
 from . import log
@@ -26,10 +28,28 @@ Listed = dict[bytes, set[int]]
 class Lines(NamedTuple):
     """For each source path its revisions that are inheritable, and those that are not."""
 
-    inheritable: dict[bytes, set[int]]
-    other: dict[bytes, set[int]]
-    # The last revision in which source and target were the same path.
-    last_shared: dict[bytes, int]
+    inheritable: MutableMapping[bytes, set[int]]
+    other: Mapping[bytes, set[int]]
+    # Their paths in order.
+    names: list[bytes]
+    # For each path at which source and target both were, the revisions then, and the last one in which they were the
+    # same.
+    shared: Listed = {}
+    last_shared: dict[bytes, int] = {}
+
+    def with_history(self, shared: Listed, last_shared: dict[bytes, int]) -> Lines:
+        """These and what the target has of a source because it was there itself."""
+        revs = {path: self.inheritable.get(path, set()) | revs for path, revs in shared.items()}
+        return Lines(ChainMap(revs, self.inheritable), self.other, self.names, shared, last_shared)
+
+    def at_or_below(self, top: bytes) -> Iterator[bytes]:
+        """The source paths at or below one, some of them twice."""
+        yield top
+        yield from (path for path in self.shared if is_at_or_below(path, top))
+        # What is below has a slash where others have a zero, the next letter, or a later one.
+        front = top.rstrip(b"/")
+        begin, end = (bisect.bisect_left(self.names, front + letter) for letter in (b"/", b"0"))
+        yield from itertools.islice(self.names, begin, end)
 
     def newest(self, path: bytes) -> int:
         """The youngest revision that counts as merged from exactly this path, or 0."""
@@ -56,54 +76,20 @@ def revisions_in(runs: Iterable[Run], most: int, inheritable: bool) -> set[int]:
 def lines_of(value: Value, most: int) -> Lines:
     """What a value says. A revision that is inheritable in one of several lines of a path is inheritable."""
     whole = {path: revisions_in(runs, most, True) for path, runs in value.items()}
-    return Lines(whole, {path: revisions_in(runs, most, False) - whole[path] for path, runs in value.items()}, {})
+    other = {path: revisions_in(runs, most, False) - whole[path] for path, runs in value.items()}
+    return Lines(whole, other, sorted(whole))
 
 
 def inherited(lines: Lines, rest: bytes) -> Lines:
-    return Lines({joined(path, rest): revs for path, revs in lines.inheritable.items()}, {}, {})
+    found = {joined(path, rest): revs for path, revs in lines.inheritable.items()}
+    return Lines(found, {}, sorted(found))
 
 
-class Catalog:
+class Catalog(NamedTuple):
     """The mergeinfo of a target, its own or inherited, and, if asked, that of each path below it that has its own."""
 
-    def __init__(
-        self, history: History, explicit: Explicit, answers: Answers, target: Target, is_recursive: bool
-    ) -> None:
-        self.target = target
-        self._explicit = explicit
-        self._head = history.head
-        self.entries: dict[bytes, Lines] = {}
-        for query in [Mergeinfo(*target), *(below(explicit, target) if is_recursive else ())]:
-            lines = self._lines(query, answers[query])
-            if lines is not None:
-                self.entries[query.path] = lines
-
-    def _lines(self, query: Mergeinfo, answer: Inherited) -> Lines | None:
-        if answer.status == "malformed-mergeinfo":
-            return self._read(query)
-        if not answer.ok:
-            # The target is there, and so is each path below it that has a value.
-            raise RuntimeError(f"svnhist says {answer.status} of {query!r}")
-        if not answer.text and not self._has_value(query):
-            return None
-        value = {path: runs_of(ranges.encode("ascii")) for path, ranges in answer.value.items()}
-        return lines_of(value, self._head)
-
-    def _has_value(self, query: Mergeinfo) -> bool:
-        """Whether a path or one above it has a value. Its effective mergeinfo may be empty even so."""
-        return any(self._explicit.text(path, query.rev) is not None for path in tops_of(query.path))
-
-    def _read(self, query: Mergeinfo) -> Lines | None:
-        """What a text that is malformed for svnhist says to Subversion, which is less strict."""
-        for above in tops_of(query.path):
-            text = self._explicit.text(above, query.rev)
-            if text is not None:
-                value = value_of(text)
-                if value is None:
-                    return None
-                lines = lines_of(value, self._head)
-                return lines if above == query.path else inherited(lines, rest_below(query.path, above))
-        return None
+    target: Target
+    entries: dict[bytes, Lines]
 
     def nearest(self, path: bytes) -> bytes | None:
         """The nearest entry at or above a path."""
@@ -140,9 +126,9 @@ def shifted(history: Listed, rest: bytes) -> Listed:
     return {joined(path, rest): revs for path, revs in history.items()}
 
 
-def common(lines: dict[bytes, set[int]], source: Listed) -> set[int]:
+def common(lines: Mapping[bytes, set[int]], source: Listed) -> set[int]:
     """The revisions that some line has at the place where the source was then."""
-    return set().union(*(revs & source[path] for path, revs in lines.items() if path in source)) if lines else set()
+    return set().union(*(lines[path] & revs for path, revs in source.items() if path in lines)) if lines else set()
 
 
 def shared(own: Located, source: Listed) -> Listed:
@@ -185,9 +171,8 @@ def add_own_history(catalog: Catalog, own: Located, there: Located, source: List
     last = {path: last_shared(ranges, there[path]) for path, ranges in own.items() if path in there}
     for path, lines in catalog.entries.items():
         rest = rest_below(path, catalog.target.path)
-        for place, revs in shifted(both, rest).items():
-            lines.inheritable[place] = lines.inheritable.get(place, set()) | revs
-        lines.last_shared.update({joined(place, rest): rev for place, rev in last.items()})
+        below_it = {joined(place, rest): rev for place, rev in last.items()}
+        catalog.entries[path] = lines.with_history(shifted(both, rest), below_it)
 
 
 class Coverage:
@@ -196,16 +181,22 @@ class Coverage:
     def __init__(self, history: History, catalog: Catalog, source: Iterable[bytes]) -> None:
         self._history = history
         self._catalog = catalog
-        # Where one path of the source is below another one, the longer one counts.
-        self._tops = sorted(source, key=len, reverse=True)
+        self._tops = set(source)
 
     def is_covered(self, rev: int) -> bool:
         """Whether a revision changed anything, and all that it changed of the source is merged."""
-        changes = (change for top in self._tops for change in self._history.changes_below(rev, top))
-        return bool(self._history.changes(rev)) and all(self._is_change_covered(change, rev) for change in changes)
+        changes = self._history.changes(rev)
+        return bool(changes) and all(self._is_change_covered(change, rev) for change in self._some_of(rev, changes))
+
+    def _some_of(self, rev: int, changes: list[Change]) -> Iterable[Change]:
+        """The changes of the source, and where these are not found quicker, others, too."""
+        if len(changes) <= len(self._tops):
+            return changes
+        return (change for top in self._tops for change in self._history.changes_below(rev, top))
 
     def _is_change_covered(self, change: Change, rev: int) -> bool:
-        top = next((top for top in self._tops if is_at_or_below(change.path, top)), None)
+        # Where one path of the source is below another one, the longer one counts.
+        top = next((top for top in tops_of(change.path) if top in self._tops), None)
         if top is None or (change.path == top and change.letter != "M"):
             return True
         place = joined(self._catalog.target.path, rest_below(change.path, top))
@@ -216,7 +207,7 @@ class Coverage:
         if entry == place and change.letter != "M" and lines.newest(change.path) > rev:
             return True
         parts = [lines.inheritable] + ([lines.other] if entry == place else [])
-        return any(rev in revs for part in parts for path, revs in part.items() if is_at_or_below(path, top))
+        return any(rev in part.get(path, ()) for path in lines.at_or_below(top) for part in parts)
 
 
 def bounds_of(source: Target, question: Question) -> tuple[int, int]:
@@ -233,12 +224,20 @@ def below(explicit: Explicit, target: Target) -> Iterator[Mergeinfo]:
     return (Mergeinfo(path, target.rev) for path, _ in explicit.below(*target))
 
 
+def queries_about(explicit: Explicit, target: Target, question: Question) -> list[Query[Answer]]:
+    """What is asked of svnhist about a target, whatever the source is."""
+    return [Where(*target), Mergeinfo(*target), *(below(explicit, target) if question.is_recursive else ())]
+
+
+def queries_of_pair(source: Target, target: Target, question: Question) -> list[Query[Answer]]:
+    """What is asked of svnhist for a question besides."""
+    pairs = [] if question.is_recursive else [Pair(*source, verb, *target) for verb in ("merged", "eligible")]
+    return [Where(*source), Log(*source), *pairs]
+
+
 def queries_of(explicit: Explicit, source: Target, target: Target, question: Question) -> list[Query[Answer]]:
     """All that is asked of svnhist for a question."""
-    asked: list[Query[Answer]] = [Where(*target), Mergeinfo(*target), Where(*source), Log(*source)]
-    if question.is_recursive:
-        return [*asked, *below(explicit, target)]
-    return asked + [Pair(*source, verb, *target) for verb in ("merged", "eligible")]
+    return queries_about(explicit, target, question) + queries_of_pair(source, target, question)
 
 
 def as_answered(
@@ -263,42 +262,87 @@ def as_answered(
     return Sorted(found.whole - operative | whole, found.partial - operative | partial)
 
 
-def has_none(history: History, explicit: Explicit, target: Target, is_recursive: bool) -> bool:
-    """Whether a target that is there has no mergeinfo, so that nothing was merged from wherever."""
-    asked: list[Query[Answer]] = [Mergeinfo(*target), *(below(explicit, target) if is_recursive else ())]
-    answers = history.answers(asked)
-    return answers[Mergeinfo(*target)].status != "no-such-path" and not (
-        Catalog(history, explicit, answers, target, is_recursive).entries
-    )
+class Merges:
+    """What was merged from sources, or is to be, given what svnhist answers to the queries about their targets."""
 
+    def __init__(self, history: History, explicit: Explicit, answers: Answers) -> None:
+        self._history = history
+        self._explicit = explicit
+        self._answers = answers
+        self._known: dict[Mergeinfo, Lines | None] = {}
 
-def show_revs(
-    history: History, explicit: Explicit, answers: Answers, source: Target, target: Target, question: Question
-) -> list[tuple[int, bool]]:
-    """The revisions of a source, with whether a star follows, given the answers to the queries of the question."""
-    is_merged = question.verb == "merged"
-    own = located(history, answers, target, (1, target.rev))
-    catalog = Catalog(history, explicit, answers, target, question.is_recursive)
-    if not catalog.entries:
-        if is_merged:
-            return []
-        catalog.entries[target.path] = Lines({}, {}, {})
-    there = located(history, answers, source, bounds_of(source, question))
-    listed = listed_in(there, listed_of(history, answers, source))
-    if not is_merged:
-        add_own_history(catalog, own, there, listed)
-    same = set().union(*shared(own, listed).values())
-    found = as_answered(answers, source, target, question, sort_out(catalog, listed), same)
-    chosen = found.whole | found.partial if is_merged else set().union(*listed.values()) - found.whole
-    coverage = Coverage(history, catalog, there)
-    shown = []
-    for rev in sorted(chosen & set().union(*listed.values())):
-        starred = rev in found.partial
-        covered = (starred or not is_merged) and coverage.is_covered(rev)
-        if covered and not is_merged:
-            continue
-        shown.append((rev, starred and not covered))
-    return shown[::-1] if question.range and question.range[0] > question.range[1] else shown
+    def shown(
+        self, source: Target, target: Target, question: Question, about_source: Answers | None = None
+    ) -> list[tuple[int, bool]]:
+        """The revisions of a source, with whether a star follows. The answers to the queries of the pair may be given by
+        themselves."""
+        history, answers = self._history, self._answers if about_source is None else about_source
+        is_merged = question.verb == "merged"
+        own = located(history, self._answers, target, (1, target.rev))
+        catalog = self._catalog(target, question.is_recursive)
+        if not catalog.entries:
+            if is_merged:
+                return []
+            catalog.entries[target.path] = Lines({}, {}, [])
+        there = located(history, answers, source, bounds_of(source, question))
+        listed = listed_in(there, listed_of(history, answers, source))
+        if not is_merged:
+            add_own_history(catalog, own, there, listed)
+        same = set().union(*shared(own, listed).values())
+        found = as_answered(answers, source, target, question, sort_out(catalog, listed), same)
+        chosen = found.whole | found.partial if is_merged else set().union(*listed.values()) - found.whole
+        coverage = Coverage(history, catalog, there)
+        shown = []
+        for rev in sorted(chosen & set().union(*listed.values())):
+            starred = rev in found.partial
+            covered = (starred or not is_merged) and coverage.is_covered(rev)
+            if covered and not is_merged:
+                continue
+            shown.append((rev, starred and not covered))
+        return shown[::-1] if question.range and question.range[0] > question.range[1] else shown
+
+    def has_none(self, target: Target, is_recursive: bool) -> bool:
+        """Whether a target that is there has no mergeinfo, so that nothing was merged from wherever."""
+        is_there = self._answers[Mergeinfo(*target)].status != "no-such-path"
+        return is_there and not self._catalog(target, is_recursive).entries
+
+    def _catalog(self, target: Target, is_recursive: bool) -> Catalog:
+        queries = [Mergeinfo(*target), *(below(self._explicit, target) if is_recursive else ())]
+        found = {query.path: self._lines(query) for query in queries}
+        return Catalog(target, {path: lines for path, lines in found.items() if lines is not None})
+
+    def _lines(self, query: Mergeinfo) -> Lines | None:
+        """The mergeinfo of a path. It is read once."""
+        if query not in self._known:
+            self._known[query] = self._read(query, self._answers[query])
+        return self._known[query]
+
+    def _read(self, query: Mergeinfo, answer: Inherited) -> Lines | None:
+        if answer.status == "malformed-mergeinfo":
+            return self._read_less_strictly(query)
+        if not answer.ok:
+            # The target is there, and so is each path below it that has a value.
+            raise RuntimeError(f"svnhist says {answer.status} of {query!r}")
+        if not answer.text and not self._has_value(query):
+            return None
+        value = {path: runs_of(ranges.encode("ascii")) for path, ranges in answer.value.items()}
+        return lines_of(value, self._history.head)
+
+    def _has_value(self, query: Mergeinfo) -> bool:
+        """Whether a path or one above it has a value. Its effective mergeinfo may be empty even so."""
+        return any(self._explicit.text(path, query.rev) is not None for path in tops_of(query.path))
+
+    def _read_less_strictly(self, query: Mergeinfo) -> Lines | None:
+        """What a text that is malformed for svnhist says to Subversion, which is less strict."""
+        for above in tops_of(query.path):
+            text = self._explicit.text(above, query.rev)
+            if text is not None:
+                value = value_of(text)
+                if value is None:
+                    return None
+                lines = lines_of(value, self._history.head)
+                return lines if above == query.path else inherited(lines, rest_below(query.path, above))
+        return None
 
 
 def listed_of(history: History, answers: Answers, source: Target) -> list[int]:

@@ -81,11 +81,12 @@ class MergeinfoVerb(Verb):
         explicit = history.explicit
         if source.rev > history.head and question.verb == "merged":
             # Without mergeinfo of the target `svn` does not look at the source.
-            if mergeinfo.has_none(history, explicit, target, question.is_recursive):
+            answers = history.answers(mergeinfo.queries_about(explicit, target, question))
+            if mergeinfo.Merges(history, explicit, answers).has_none(target, question.is_recursive):
                 return []
         known(history, source.rev)
         answers = history.answers(mergeinfo.queries_of(explicit, source, target, question))
-        return mergeinfo.show_revs(history, explicit, answers, source, target, question)
+        return mergeinfo.Merges(history, explicit, answers).shown(source, target, question)
 
     def summary(self, history: History, given: Namespace) -> diagram.Summary:
         source = target_of(history, given.source)
