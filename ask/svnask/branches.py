@@ -1,6 +1,7 @@
 """Questions about all branches and tags at once."""
 from __future__ import annotations
 
+import bisect
 from collections.abc import Iterable, Iterator, Sequence
 from itertools import chain
 from typing import NamedTuple
@@ -204,11 +205,17 @@ class Left(NamedTuple):
 
 
 class Compared(NamedTuple):
-    """What is left of a branch, the target into which it is to be merged, and where the branch was."""
+    """What is left of a branch, the target into which it is to be merged, and what svnhist says of the branch."""
 
     left: Left
+    source: Target
     target: Target
-    trace: log.Trace
+    answers: Answers
+
+    @property
+    def trace(self) -> log.Trace:
+        """Where the branch was."""
+        return log.Trace(self.answers[Where(*self.source)].segments, self.answers[Log(*self.source)].revisions)
 
 
 def unmerged(history: History, patterns: Sequence[bytes], into: Target | None) -> Iterator[Compared]:
@@ -226,22 +233,25 @@ def unmerged(history: History, patterns: Sequence[bytes], into: Target | None) -
     for source, target in sources.items():
         answers = Answers(zip(asked[source], replies))
         revisions = merges.shown(source, target, question, answers)
-        trace = log.Trace(answers[Where(*source)].segments, answers[Log(*source)].revisions)
-        yield Compared(Left(source.path, revisions), target, trace)
+        yield Compared(Left(source.path, revisions), source, target, answers)
 
 
 def recorded_of(history: History, compared: Iterable[Compared]) -> Iterator[tuple[Left, list[int]]]:
     """What is left of branches, and of each the revisions that were only recorded as merged."""
     recorded = Recorded(history)
-    for left, target, trace in compared:
-        (of_target,) = recorded.of([target])
-        yield left, [rev for rev in log.listed(history, trace) if is_recorded(of_target, trace, rev)]
+    for each in compared:
+        (of_target,) = recorded.of([each.target])
+        yield each.left, list(only_recorded(history, of_target, each.trace))
 
 
-def is_recorded(recorded: Intervals, trace: log.Trace, rev: int) -> bool:
-    """Whether a revision of a source was only recorded, at the path where the source was then."""
-    segment = trace.at(rev)
-    return segment is not None and has(recorded.get(segment.path or b"", ()), rev)
+def only_recorded(history: History, recorded: Intervals, trace: log.Trace) -> Iterator[int]:
+    """The revisions of a source that were only recorded, each at the path where the source was then."""
+    listed = log.listed(history, trace)
+    for segment in reversed(trace.segments):
+        found = recorded.get(segment.path or b"", ())
+        if found:
+            revisions = listed[bisect.bisect_left(listed, segment.lo) : bisect.bisect_right(listed, segment.hi)]
+            yield from (rev for rev in revisions if has(found, rev))
 
 
 def targets_of(history: History, alive: Sequence[Life], into: Target | None) -> dict[Life, Target]:

@@ -13,7 +13,7 @@ from collections.abc import Iterable, Iterator, Mapping, MutableMapping
 from typing import NamedTuple
 
 from . import log
-from .answers import Answer, Answers, Inherited, Log, Mergeinfo, Pair, Query, Where
+from .answers import Answer, Answers, Inherited, Log, Mergeinfo, Pair, Query, Segment, Where
 from .changes import Change, is_at_or_below, joined, rest_below, tops_of
 from .errors import Denied
 from .history import History
@@ -96,13 +96,18 @@ class Catalog(NamedTuple):
         return next((each for each in tops_of(path) if each in self.entries), None)
 
 
-def located(history: History, answers: Answers, target: Target, bounds: tuple[int, int]) -> Located:
-    """Where a path was, from revision 1 on and between the bounds."""
-    found: Located = {}
+def segments_of(history: History, answers: Answers, target: Target) -> list[Segment]:
+    """The segments of a path, which must be there."""
     answer = answers[Where(*target)]
     if not answer.ok:
         raise log.not_reached(history, target)
-    for segment in answer.segments:
+    return answer.segments
+
+
+def located(segments: list[Segment], bounds: tuple[int, int]) -> Located:
+    """Where a path was, from revision 1 on and between the bounds."""
+    found: Located = {}
+    for segment in segments:
         if segment.path is not None:
             revs = range(max(segment.lo, bounds[0], 1), min(segment.hi, bounds[1]) + 1)
             if revs:
@@ -278,14 +283,16 @@ class Merges:
         themselves."""
         history, answers = self._history, self._answers if about_source is None else about_source
         is_merged = question.verb == "merged"
-        own = located(history, self._answers, target, (1, target.rev))
+        own = located(segments_of(history, self._answers, target), (1, target.rev))
         catalog = self._catalog(target, question.is_recursive)
         if not catalog.entries:
             if is_merged:
                 return []
             catalog.entries[target.path] = Lines({}, {}, [])
-        there = located(history, answers, source, bounds_of(source, question))
-        listed = listed_in(there, listed_of(history, answers, source))
+        segments = segments_of(history, answers, source)
+        there = located(segments, bounds_of(source, question))
+        trace = log.Trace(segments, answers[Log(*source)].revisions)
+        listed = listed_in(there, log.listed(history, trace))
         if not is_merged:
             add_own_history(catalog, own, there, listed)
         same = set().union(*shared(own, listed).values())
@@ -343,12 +350,6 @@ class Merges:
                 lines = lines_of(value, self._history.head)
                 return lines if above == query.path else inherited(lines, rest_below(query.path, above))
         return None
-
-
-def listed_of(history: History, answers: Answers, source: Target) -> list[int]:
-    """The revisions that `svn log` lists of a source."""
-    where, logged = answers[Where(*source)], answers[Log(*source)]
-    return log.listed(history, log.Trace(where.segments, logged.revisions))
 
 
 def show_revs_text(shown: list[tuple[int, bool]]) -> Iterator[bytes]:

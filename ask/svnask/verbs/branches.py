@@ -86,7 +86,8 @@ class UnmergedVerb(Verb):
         return branches.unmerged(history, patterns_of(history, given), into)
 
     def text(self, history: History, given: Namespace) -> Iterator[bytes]:
-        for (path, revisions), _, _ in self.compared(history, given):
+        for compared in self.compared(history, given):
+            path, revisions = compared.left
             for rev, is_partial in revisions:
                 about = b"\t" + summary_of(history.revision(rev)) if given.log else b""
                 yield b"%s\tr%d%s%s\n" % (path, rev, b"*" if is_partial else b"", about)
