@@ -16,7 +16,7 @@ REACHED_ALONE = frozenset(("--non-interactive", "--force-interactive", "--no-aut
 ASKER = ("--username", "--config-dir", "--config-option")
 VALUED = frozenset(
     (*LONG.values(), *REACHED, "--into", "--show-revs", "--depth", "--with-revprop", "--search", "--search-and")
-    + ("--since", "--width", "--below", "--targets")
+    + ("--since", "--width", "--height", "--below", "--targets")
 )
 # A word that is a URL.
 IS_URL = re.compile(r"[A-Za-z][A-Za-z0-9+.-]*://")

@@ -79,6 +79,15 @@ class View(NamedTuple):
     is_folded: bool = True
 
 
+class Left(NamedTuple):
+    """What is left out of a graph: how many lanes, how many merges that came with others, and how high a picture with
+    these is."""
+
+    lanes: int
+    carried: int
+    height: int
+
+
 class Graph(NamedTuple):
     """Lanes from the top, and what is between them. A column ends with its revision, and has a rising place."""
 
@@ -89,6 +98,7 @@ class Graph(NamedTuple):
     dots: list[Dot]
     columns: list[int]
     places: list[int]
+    left: Left | None = None
 
     def column_of(self, rev: int) -> int:
         """The column that has a revision. What is older than all that is drawn is in the first one."""
@@ -99,8 +109,34 @@ class Graph(NamedTuple):
         return bisect.bisect_right(self.columns, rev) - 1
 
 
+class Drawable(NamedTuple):
+    """What can be drawn of a history: the lanes from the top, and what they gained."""
+
+    history: History
+    view: View
+    lanes: list[Lane]
+    gains: list[Gain]
+    merging: Merging
+
+    def graph(self, lanes: list[Lane], has_carried: bool = True) -> Graph:
+        """The graph of some of the lanes."""
+        since = self.view.since
+        numbers = {life: number for number, lane in enumerate(lanes) for life in lane.lives}
+        copies = list(copies_of(lanes, numbers, since))
+        merged = [each for each in self.merging.merges(self.gains, numbers) if has_carried or not each.is_carried]
+        drawn = [cut(lane, since) for lane in lanes]
+        columns, places = columns_of(self.history, drawn, set(keys_of(drawn, copies, merged, since)), self.view)
+        return Graph(self.view, drawn, copies, merged, list(dots_of(drawn, columns)), columns, places)
+
+
 def graph_of(history: History, patterns: Sequence[bytes], view: View = View()) -> Graph:
     """The graph of the lives of all paths that match a pattern."""
+    found = drawable(history, patterns, view)
+    return found.graph(found.lanes)
+
+
+def drawable(history: History, patterns: Sequence[bytes], view: View = View()) -> Drawable:
+    """What can be drawn of the lives of all paths that match a pattern."""
     tree, explicit = history.tree, history.explicit
     lives = branches.lives_of(history, patterns)
     parts = Parts(tree, explicit, Finder(lives), history.head)
@@ -117,14 +153,8 @@ def graph_of(history: History, patterns: Sequence[bytes], view: View = View()) -
     gains = [
         gain for gain in parts.without_repeated(merges.gains_of(operative, asked, answers)) if gain.rev >= view.since
     ]
-    drawn = list(lanes_since(chained, parts, gains, view.since))
-    numbers = {life: number for number, lane in enumerate(drawn) for life in lane.lives}
-    copies = list(copies_of(drawn, numbers, view.since))
-    merging = Merging(history, explicit, parts, numbers)
-    merged = list(merging.merges(gains))
-    lanes = [cut(lane, view.since) for lane in drawn]
-    columns, places = columns_of(history, lanes, set(keys_of(lanes, copies, merged, view.since)), view)
-    return Graph(view, lanes, copies, merged, list(dots_of(lanes, columns)), columns, places)
+    lanes = list(lanes_since(chained, parts, gains, view.since))
+    return Drawable(history, view, lanes, gains, Merging(history, explicit, parts))
 
 
 def is_since(life: Life, since: int) -> bool:
@@ -336,15 +366,15 @@ def by_source(lane: Lane) -> tuple[int, int, bytes]:
 class Merging:
     """Makes arrows of gains."""
 
-    def __init__(self, history: History, explicit: Explicit, parts: Parts, numbers: dict[Life, int]) -> None:
-        self._history, self._explicit, self._parts, self._numbers = history, explicit, parts, numbers
+    def __init__(self, history: History, explicit: Explicit, parts: Parts) -> None:
+        self._history, self._explicit, self._parts = history, explicit, parts
         self._is_alone: dict[tuple[Life, int], bool] = {}
 
-    def merges(self, gains: Iterable[Gain]) -> Iterator[Merge]:
-        """The gains, joined where lives are in one lane."""
+    def merges(self, gains: Iterable[Gain], numbers: dict[Life, int]) -> Iterator[Merge]:
+        """The gains of lives that are in lanes, by the numbers of these, joined where lives are in one lane."""
         found: dict[tuple[object, ...], Merge] = {}
         for gain in gains:
-            source, target = (self._numbers.get(self._parts.whole(life)) for life in (gain.source, gain.target))
+            source, target = (numbers.get(self._parts.whole(life)) for life in (gain.source, gain.target))
             if source is not None and target is not None:
                 of, into = (life.path if life in self._parts.wholes else None for life in (gain.source, gain.target))
                 state = gain.lost, gain.is_carried, self._is_record_only(gain)

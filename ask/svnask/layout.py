@@ -166,8 +166,16 @@ class Layout:
         to = self.x(self._graph.column_of(copy.life.first))
         return to - 0.6 * self.step if copy.source is None else min(self._x_of_source(copy) + self.step, to)
 
-    def names_on_line(self, lane: int) -> Iterator[tuple[Place, str]]:
-        """The names on the line of a lane: where it gets another one, and far from where its name stands already."""
+    def names_on_line(self, lane: int) -> list[tuple[Place, str]]:
+        """The names on the line of a lane. One that has no room before the next one is left out."""
+        found: list[tuple[Place, str]] = []
+        for place, name in reversed(list(self._names_on_line(lane))):
+            if not found or place.x + width_of(name) * SMALLER <= found[-1][0].x:
+                found.append((place, name))
+        return found[::-1]
+
+    def _names_on_line(self, lane: int) -> Iterator[tuple[Place, str]]:
+        """Where a line gets another name, and far from where its name stands already."""
         lives = self._graph.lanes[lane].lives
         before = self.left if lane in self.names else float("-inf")
         for life, ends in zip(lives, [self.at(lane, life.first).x for life in lives[1:]] + [self.end(lane)]):

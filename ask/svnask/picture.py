@@ -5,7 +5,7 @@ from collections.abc import Iterable, Iterator
 from html import escape
 from typing import NamedTuple
 
-from .graph import Copy, Dot, Graph, Merge
+from .graph import Copy, Dot, Graph, Left, Merge
 from .projects import BRANCH, TAG, TRUNK
 from .history import History
 from .layout import GAP, TAIL, TOP, Layout, Place
@@ -39,6 +39,8 @@ RADIUSES = {TRUNK: 4.0, BRANCH: 4.0, TAG: 3.0}
 REVISION_ROOM, DATE_ROOM, DATES_APART = 46, 66, 240
 # How high a row of the legend is, and how much room a mark takes and each letter, which no usual font needs.
 LEGEND_ROW, MARK_ROOM, LETTER_ROOM = 18, 54, 7.7
+# How many square pixels an arrow has to itself, and how many arrows may be drawn in any case.
+ARROW_ROOM, FEWEST_ARROWS = 12000, 60
 # With more rows than this the revisions stand at the bottom, too.
 MOST_ROWS = 25
 
@@ -73,8 +75,12 @@ class Picture:
         self._graph = graph
         self._layout = Layout(graph)
         self._titles = Titles(history, graph)
+        room = self._layout.width * (self._layout.bottom - TOP)
+        self._arrows = arrows_of(graph, max(room / ARROW_ROOM, FEWEST_ARROWS))
         coloured = [number for number, lane in enumerate(graph.lanes) if lane.kind != TRUNK]
-        self._legend = legend_of(self._kinds(), self._layout.width, self._layout.height - 22)
+        self._left = about_left(graph.left)
+        first = self._layout.height - 22 + LEGEND_ROW * bool(self._left)
+        self._legend = legend_of(self._kinds(), self._layout.width, first)
         self._colours = {lane: COLOURS[place % len(COLOURS)] for place, lane in enumerate(coloured)}
 
     def pieces(self) -> Iterator[str]:
@@ -85,10 +91,12 @@ class Picture:
         yield from self._guides()
         yield from map(self._copy, self._graph.copies)
         yield from (self._lane(number) for number in range(len(self._graph.lanes)))
-        yield from map(self._merge, arrows_of(self._graph))
+        yield from map(self._merge, self._arrows)
         yield from map(self._dot, self._graph.dots)
         yield from self._ends()
         yield from self._names()
+        if self._left:
+            yield text(GAP, self._layout.height - 18, self._left, "left-out")
         yield self._legend.text
         yield "</svg>\n"
 
@@ -96,7 +104,8 @@ class Picture:
         return self._colours.get(lane, TRUNK_COLOUR)
 
     def _front(self) -> str:
-        size = max(self._layout.width, self._legend.width), self._layout.height + self._legend.height
+        width = max(self._layout.width, self._legend.width, GAP + LETTER_ROOM * len(self._left))
+        size = width, self._layout.height + self._legend.height + LEGEND_ROW * bool(self._left)
         return (
             '<svg xmlns="http://www.w3.org/2000/svg" width="%d" height="%d" viewBox="0 0 %d %d" role="img">\n'
             '<desc>%s</desc>\n<style>%s</style>\n<rect width="100%%" height="100%%" fill="#ffffff"/>\n'
@@ -239,13 +248,20 @@ def kind_of(merge: Merge) -> str:
     return "lost" if merge.lost is not None else "recorded" if merge.is_record_only else "merged"
 
 
-def arrows_of(graph: Graph) -> Iterable[list[Merge]]:
-    """The merges that are drawn as one arrow: those that look alike, between the same places."""
-    found: dict[tuple[object, ...], list[Merge]] = {}
-    for merge in graph.merges:
-        ends = merge.source, graph.column_of(merge.revisions[-1]), merge.target, graph.column_of(merge.rev)
-        found.setdefault((*ends, kind_of(merge), merge.is_record_only, is_of_part(merge)), []).append(merge)
-    return found.values()
+def arrows_of(graph: Graph, most: float) -> list[list[Merge]]:
+    """The merges that are drawn as one arrow: those that look alike, between the same places. Where that makes too many
+    arrows, neighbours between the same lanes are joined, and stand where the newest one does."""
+    arrows: list[list[Merge]] = []
+    for step in (1 << power for power in range(len(graph.columns).bit_length() + 1)):
+        found: dict[tuple[object, ...], list[Merge]] = {}
+        for merge in graph.merges:
+            columns = graph.column_of(merge.revisions[-1]) // step, graph.column_of(merge.rev) // step
+            ends = merge.source, merge.target, columns if step == 1 else columns[1]
+            found.setdefault((*ends, kind_of(merge), merge.is_record_only, is_of_part(merge)), []).append(merge)
+        arrows = [sorted(merges, key=lambda merge: -merge.rev) for merges in found.values()]
+        if len(arrows) <= most:
+            break
+    return arrows
 
 
 def is_of_part(merge: Merge) -> bool:
@@ -276,6 +292,17 @@ MARKS = (
     ),
     ("part", arrow_mark("part"), "merged from or into a path below"),
 )
+
+
+def about_left(left: Left | None) -> str:
+    """How much is left out, and by which option it comes back."""
+    if left is None:
+        return ""
+    parts = [
+        *([f"{left.lanes} branches and tags with the fewest revisions and merges"] if left.lanes else []),
+        *([f"{left.carried} merges that came with another merge"] if left.carried else []),
+    ]
+    return f"left out: {' and '.join(parts)}; --height {left.height} shows them" if parts else ""
 
 
 class Legend(NamedTuple):

@@ -154,7 +154,7 @@ def words_of(chance: random.Random, folder: Path) -> list[str]:
             ["new", *pair, *some("-v")], ["unmerged", *patterns, "--log", *some("--into=" + target())],
             ["where", target(), revision], ["segments", target()], ["branches", *patterns],
             ["contains", revision, *patterns], ["info"], ["unmerged", *patterns, *some("--into=" + target())],
-            ["changed-tags", *patterns], ["graph", *patterns, *some("--since=" + revision, "--by-time", "--width=" + number, "--unfolded")], ["record", number], ["byte", number],
+            ["changed-tags", *patterns], ["graph", *patterns, *some("--since=" + revision, "--by-time", "--width=" + number, "--height=" + number, "--unfolded")], ["record", number], ["byte", number],
             ["ask", str(folder / "queries")], ["update", *some("--properties")], ["forget"], ["sources"], ["stop"],
             ["serve", "--stop-after=0"], ["shell"],
         )

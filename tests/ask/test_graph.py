@@ -1,14 +1,18 @@
 """The graph of branches and tags, and its picture."""
 from __future__ import annotations
 
+import html
 import json
 import os
+import re
+import shutil
 import time
 import unittest
 from collections.abc import Sequence
 from pathlib import Path
 from xml.etree import ElementTree
 
+from dev import running, shapes
 from dev.dumps import (
     FILE,
     Dump,
@@ -25,9 +29,11 @@ from dev.dumps import (
 )
 from dev.tree import DOCS
 from svnask import picture
-from svnask.graph import MOST_OTHERS, Graph, Merge, View, graph_of
+from svnask.fitting import fitted
+from svnask.graph import MOST_OTHERS, Graph, Merge, View, drawable, graph_of
 from svnask.history import History
 from svnask.layout import NARROWEST, Layout, shortened, width_of
+from svnask.picture import arrows_of
 from svnask.texts import readable
 from tests.ask import base
 
@@ -36,6 +42,23 @@ F, B, D = b"trunk/f", b"branches/b", b"/trunk/d"
 M = mergeinfo(b"/trunk:4-5")
 SVG = "{http://www.w3.org/2000/svg}"
 PATTERNS: list[list[bytes]] = [[], [b"/*", b"/*/*"]]
+LEFT_OUT = re.compile(
+    r">left out: ([0-9]+) branches and tags with the fewest revisions and merges.*; --height ([0-9]+) "
+)
+SHOWN_LANE = re.compile(r"</title><path class=\"line\"[^>]*stroke-width=\"(?:4|2.5|1.5)\" d=\"M[0-9. ]+ H")
+# Puts in the place of a page how many texts its picture has, and those that overlap.
+OVERLAPS = """<script>
+const boxes = [...document.querySelectorAll("svg text")].map(each => [each.textContent, each.getBoundingClientRect()]);
+boxes.sort((one, other) => one[1].left - other[1].left);
+const found = [];
+boxes.forEach(([text, box], at) => {
+  for (const [other, next] of boxes.slice(at + 1)) {
+    if (next.left >= box.right - 1) break;
+    if (box.top < next.bottom - 1 && next.top < box.bottom - 1) found.push(text + " and " + other);
+  }
+});
+document.body.textContent = JSON.stringify([boxes.length, found]);
+</script>"""
 
 
 def drawn(history: History, patterns: Sequence[bytes] = (), view: View = View()) -> ElementTree.Element:
@@ -395,7 +418,7 @@ class Pictures(base.Case):
     def test_many_branches_are_drawn_soon(self) -> None:
         dump = self.made("dump", repository(400))
         begun = time.monotonic()
-        svg = ElementTree.fromstring(base.run(dump, "graph").output)
+        svg = ElementTree.fromstring(base.run(dump, "graph", "--height", "9999").output)
         self.assertLess(time.monotonic() - begun, 5)
         self.assertIn("401 branches and 200 tags", next(svg.iter(SVG + "desc")).text or "")
 
@@ -465,6 +488,8 @@ class Verb(base.Case):
             (["--since", "x"], 1, "E205000"),
             (["--width", "199"], 2, "--width takes 200 pixels or more"),
             (["--width", "-5"], 2, "--width"),
+            (["--height", "199"], 2, "--height takes 200 pixels or more"),
+            (["--height", "99999999999999999999"], 0, ""),
             (["--width", "99999999999999999999"], 0, ""),
         ]
         for words, status, said in rows:
@@ -504,6 +529,76 @@ class Verb(base.Case):
             [(each["of"], each["into"]) for each in objects[7:] if each["revision"] == 15],
             [("/trunk/dir", "/branches/two/dir")],
         )
-        for words in (["-o", "x"], ["--by-time"], ["--width", "900"], ["--unfolded"]):
+        for words in (["-o", "x"], ["--by-time"], ["--width", "900"], ["--height", "900"], ["--unfolded"]):
             done = base.called(base.dump_of("merges"), "graph", "--json", *words)
             self.assertEqual((done.status, done.output), (2, b""), words)
+
+
+class Fitted(base.Case):
+    """What a picture has no room for is left out."""
+
+    def picture(self, dump: Path, *words: str) -> str:
+        done = base.called(dump, "graph", *words)
+        self.assertEqual(done.status, 0, done)
+        return done.output.decode()
+
+    def test_a_line_says_how_much_and_by_what_it_comes_back(self) -> None:
+        dump = self.made("dump", repository(300))
+        part = self.picture(dump, "--height", "400")
+        found = LEFT_OUT.search(part)
+        assert found is not None
+        lanes = len(graph_of(self.history(dump), []).lanes)
+        shown = len(SHOWN_LANE.findall(part))
+        self.assertEqual(shown + int(found[1]), lanes)
+        self.assertGreater(shown, 20)
+        for height, is_whole in (((found[2]), True), (str(int(found[2]) - 1), False)):
+            again = self.picture(dump, "--height", height)
+            self.assertEqual((LEFT_OUT.search(again) is None, len(SHOWN_LANE.findall(again)) == lanes), (is_whole,) * 2)
+
+    def test_what_came_with_another_merge_is_left_out_first(self) -> None:
+        carried = [[copied(b"branches/c%d" % number, b"trunk", 2)] for number in range(80)]
+        dump = self.made("dump", parted([changed(B, M)], [copied(b"branches/d", b"trunk", 2)], *carried))
+        history = self.history(dump)
+        part = fitted(drawable(history, []), 200)
+        self.assertEqual((part.lanes[0].kind, {each.kind for each in part.lanes}), ("trunk", {"trunk", "branch"}))
+        # The branch with a merge is one of the busiest.
+        self.assertIn([b"/" + B], names(part))
+        whole = fitted(drawable(history, []), 10000)
+        self.assertEqual((whole.left, len(whole.lanes)), (None, 83))
+
+    def test_arrows_are_joined_where_there_are_too_many(self) -> None:
+        graph = graph_of(self.history(self.made("dump", shapes.merges(600))), [])
+        whole = arrows_of(graph, 10000)
+        self.assertGreater(len(whole), 300)
+        for most in (300, 60, 1):
+            arrows = arrows_of(graph, most)
+            self.assertLessEqual(len(arrows), most)
+            self.assertEqual(sorted(merge.rev for arrow in arrows for merge in arrow), [m.rev for m in graph.merges])
+            self.assertEqual([arrow[0].rev for arrow in arrows], [max(m.rev for m in arrow) for arrow in arrows])
+
+
+class InBrowser(base.Case):
+    """Names do not overlap, with the letters of a browser. How such pictures look is kept in the folder `pictures`."""
+
+    def overlapping(self, svg: str) -> list[str]:
+        page = self.made("page.html", f"<!DOCTYPE html><meta charset=utf-8><body>{svg}{OVERLAPS}".encode())
+        words = ["chromium", "--headless", "--no-sandbox", "--disable-gpu", f"--user-data-dir={self.folder}/chromium"]
+        done = running.run([*words, "--dump-dom", page.as_uri()], environment={"HOME": str(self.folder)})
+        found = re.search(r"<body>(\[.*\])</body>", done.output.decode(), re.DOTALL)
+        assert found is not None, done.shown()
+        count, pairs = json.loads(html.unescape(found[1]))
+        self.assertGreater(count, 20)
+        return [str(pair) for pair in pairs]
+
+    def test_no_names_overlap(self) -> None:
+        if shutil.which("chromium") is None:
+            self.skipTest("Chromium is not installed")
+        renamed = [[copied(b"branches/name%d" % number, b"trunk", 1)] for number in range(30)]
+        for number in range(30):
+            before, after = b"branches/name%d" % number, b"branches/other%d" % number
+            renamed.insert(2 * number + 1, [copied(after, before, 2 * number + 2), deleted(before)])
+        dumps = {f"{4 * count + 1}-revisions": repository(count) for count in (8, 75, 3000)}
+        dumps["renames"] = dump_of([added(b"trunk"), added(b"branches")], *renamed)
+        for name, content in dumps.items():
+            done = base.called(self.made(name, content), "graph")
+            self.assertEqual(self.overlapping(done.output.decode()), [], name)

@@ -8,7 +8,7 @@ import tempfile
 from argparse import ArgumentParser, Namespace
 from collections.abc import Iterable, Iterator
 
-from .. import graph, layout, picture
+from .. import fitting, graph, layout, picture
 from ..errors import Failed, Usage
 from ..history import History
 from ..targets import known, revision_of
@@ -16,8 +16,9 @@ from .base import Object, Verb, add_patterns, counted, patterns_of, shown
 from .branches import object_of_life
 
 
-# The most pixels that the revisions take, unless another number is given, and the fewest that may be given.
-WIDTH, NARROWEST = graph.MOST_COLUMNS * layout.NARROWEST, 200
+# The most pixels that the revisions take, and those that the lines take, unless others are given, and the fewest that
+# may be given.
+WIDTH, HEIGHT, FEWEST = graph.MOST_COLUMNS * layout.NARROWEST, 1280, 200
 
 
 class GraphVerb(Verb):
@@ -35,6 +36,13 @@ class GraphVerb(Verb):
             metavar="PIXELS",
             help=f"the greatest width of the revisions, without the names at the left; {WIDTH} if it is not given",
         )
+        parser.add_argument(
+            "--height",
+            type=counted,
+            metavar="PIXELS",
+            help="the greatest height of the lines, above which those with the fewest revisions and merges are left out, "
+            f"and merges that came with another one; {HEIGHT} if it is not given",
+        )
         parser.add_argument("--unfolded", action="store_true", help="a line of its own for each branch and tag")
 
     def text(self, history: History, given: Namespace) -> Iterator[bytes]:
@@ -42,7 +50,10 @@ class GraphVerb(Verb):
             raise Usage(f"-o {given.output} would overwrite the dump")
         if given.output == "":
             raise Usage("-o takes the name of a file")
-        pieces = picture.svg_of(history, graph_of(history, given))
+        height = HEIGHT if given.height is None else given.height
+        if height < FEWEST:
+            raise Usage(f"--height takes {FEWEST} pixels or more")
+        pieces = picture.svg_of(history, fitting.fitted(drawable(history, given), height))
         if given.output is None:
             yield from pieces
         else:
@@ -53,11 +64,13 @@ class GraphVerb(Verb):
             ("-o", given.output),
             ("--by-time", given.by_time or None),
             ("--width", given.width),
+            ("--height", given.height),
             ("--unfolded", given.unfolded or None),
         ):
             if value is not None:
                 raise Usage(f"{option} is for the picture: --json prints objects")
-        found = graph_of(history, given)
+        whole = drawable(history, given)
+        found = whole.graph(whole.lanes)
         for number, lane in enumerate(found.lanes):
             lives = [object_of_life(life) for life in lane.lives]
             yield {"type": "lane", "lane": number, "kind": lane.kind, "lives": lives, "revisions": lane.revisions}
@@ -78,13 +91,13 @@ class GraphVerb(Verb):
             }
 
 
-def graph_of(history: History, given: Namespace) -> graph.Graph:
+def drawable(history: History, given: Namespace) -> graph.Drawable:
     since = 0 if given.since is None else known(history, revision_of(history, given.since))
     width = WIDTH if given.width is None else given.width
-    if width < NARROWEST:
-        raise Usage(f"--width takes {NARROWEST} pixels or more")
+    if width < FEWEST:
+        raise Usage(f"--width takes {FEWEST} pixels or more")
     view = graph.View(since, given.by_time, width // layout.NARROWEST, not given.unfolded)
-    return graph.graph_of(history, patterns_of(history, given), view)
+    return graph.drawable(history, patterns_of(history, given), view)
 
 
 def write(name: str, pieces: Iterable[bytes]) -> None:
