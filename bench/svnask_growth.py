@@ -2,8 +2,8 @@
 
 Each verb that asks a question is measured, with arguments by the names that its help has for them, so that a new verb is
 measured without being named here. Times are processor seconds with those of svnhist-live, and the best of some runs;
-memory is that of the larger of the two. What prints as much as the square of the size, `heirs` of a chain of copies, is
-left out.
+memory is that of the larger of the two. What prints or compares as much as the square of the size is left out: `heirs` of a
+chain of copies, and `unmerged` of one, in which each branch has the revisions of all before it.
 """
 from __future__ import annotations
 
@@ -35,11 +35,13 @@ SHAPES: dict[Callable[[int], bytes], int] = {
     shapes.renames: 5000,
     shapes.deep_path: 500,
     shapes.properties: 50000,
+    shapes.wide_value: 500000,
+    shapes.long_message: 5000000,
 }
 # What stands for an argument, by its name in the help.
 ARGUMENTS = {"PATH[@PEG]": "trunk", "REV": "2", "FROM[@PEG]": "trunk@1", "TO[@PEG]": "trunk", "K": "3", "B": "100"}
 MORE = (["log", "-v"], ["log", "-g", "trunk"], ["log", "--xml", "-v"])
-AS_THE_SQUARE = {("chain", "heirs"), ("renames", "heirs")}
+AS_THE_SQUARE = {("chain", "heirs"), ("chain", "unmerged"), ("renames", "heirs")}
 # Shorter times are taken for this one, since they vary.
 LEAST = 0.5
 

@@ -1,10 +1,11 @@
 """Dumps of histories of odd shapes, in which something grows as the square that should not."""
 from __future__ import annotations
 
-from dev.dumps import FILE, Node, added, changed, copied, deleted, dump_of, mergeinfo, section
+from dev.dumps import FILE, Dump, Node, Revision, added, changed, copied, deleted, dump_of, mergeinfo, section
 
 FOLDERS = [added(b"trunk"), added(b"branches")]
 A_FILE = added(b"trunk/f", FILE)
+DATE = b"2024-01-01T00:00:00.000000Z"
 
 
 def names(count: int) -> list[bytes]:
@@ -79,6 +80,25 @@ def renames(count: int) -> bytes:
         before = b"branches/b%d" % (number - 1)
         steps.append([copied(b"branches/b%d" % number, before, number + 1), deleted(before)])
     return dump_of(*steps)
+
+
+def wide_value(count: int) -> bytes:
+    """A value of so many bytes, of every other revision of the trunk."""
+    changes = ([changed(A_FILE.path, text=b"%d" % number)] for number in range(count // 50))
+    revisions = b",".join(b"%d" % rev for rev in range(3, count, 2))[:count].rpartition(b",")[0]
+    return dump_of(
+        [*FOLDERS, A_FILE],
+        [copied(b"branches/b", b"trunk", 1)],
+        *changes,
+        [changed(b"branches/b", mergeinfo(b"/trunk:" + revisions))],
+    )
+
+
+def long_message(count: int) -> bytes:
+    """A revision whose message has so many bytes."""
+    line = b"a line of a long message\n"
+    properties = {b"svn:log": line * (count // len(line)), b"svn:author": b"alice", b"svn:date": DATE}
+    return bytes(Dump([Revision(0), Revision(1, [*FOLDERS, A_FILE]), Revision(2, [changed(A_FILE.path)], properties)]))
 
 
 def deep_path(count: int) -> bytes:

@@ -9,12 +9,12 @@ from __future__ import annotations
 import os
 import re
 import time
-from collections import Counter
+from collections import defaultdict
 from collections.abc import Iterable, Iterator
 from typing import NamedTuple
 
 from . import cache
-from .changes import is_at_or_below, joined, rest_below, tops_of
+from .changes import joined, rest_below, tops_of
 from .projects import TRUNK, is_in_named, is_named, kind_of
 from .store import Front
 from .strip import clean
@@ -92,11 +92,10 @@ class Branches:
     """The branches and tags that are there after some events."""
 
     def __init__(self, events: Iterable[Event]) -> None:
-        self._paths: set[bytes] = set()
-        # All that ever were, those that were never copied, and how many there are at and below each folder.
+        # All that ever were, those that were never copied, and those that are there at and below each folder.
         self._known: set[bytes] = set()
         self._made: set[bytes] = set()
-        self._below: Counter[bytes] = Counter()
+        self._below: defaultdict[bytes, set[bytes]] = defaultdict(set)
         for event in events:
             if event.is_made:
                 self._make(event)
@@ -107,7 +106,7 @@ class Branches:
         path, source = event.path, event.source
         if source and source not in self._known and self._below[source] and not is_in_named(path):
             # A project, or a folder of branches, with those in it.
-            for each in [each for each in self._paths if is_at_or_below(each, source)]:
+            for each in list(self._below[source]):
                 self._add(joined(path, rest_below(each, source)))
         elif source in self._known or is_named(path):
             self._add(path)
@@ -115,25 +114,22 @@ class Branches:
                 self._made.add(path)
 
     def _add(self, path: bytes) -> None:
-        if path not in self._paths:
-            self._count(path, 1)
+        if path not in self._below[path]:
+            self._known.add(path)
             self._made.discard(path)
-
-    def _count(self, path: bytes, number: int) -> None:
-        self._paths ^= {path}
-        self._known.add(path)
-        for top in tops_of(path):
-            self._below[top] += number
+            for top in tops_of(path):
+                self._below[top].add(path)
 
     def _remove(self, path: bytes) -> None:
         """Takes away a path and those below it."""
-        if self._below[path]:
-            for each in [each for each in self._paths if is_at_or_below(each, path)]:
-                self._count(each, -1)
+        for each in list(self._below.get(path, ())):
+            for top in tops_of(each):
+                self._below[top].discard(each)
 
     def paths(self) -> list[bytes]:
         """Those that are no directories of others."""
-        return sorted(path for path in self._paths if path not in self._made or self._below[path] == 1)
+        paths = self._below.get(b"/", set())
+        return sorted(path for path in paths if path not in self._made or len(self._below[path]) == 1)
 
 
 def kept_branches(folder: str, front: Front, until: float) -> list[bytes]:

@@ -297,6 +297,16 @@ class Branches(base.UtcTest):
         self.assertEqual(self.found(str(dump), 4096), [b"/tags/last", b"/tags/middle", b"/trunk"])
         self.assertEqual(self.found(str(dump), 4096, -1), [b"/tags/last", b"/trunk"])
 
+    def test_many_that_were_deleted_take_little_time(self) -> None:
+        names = [b"branches/b%d" % number for number in range(10000)]
+        made = ([copied(name, b"trunk", 1)] for name in names)
+        gone = ([deleted(name)] for name in names[1:])
+        dump = self.made("dump", dump_of([added(b"trunk"), added(b"branches")], *made, *gone))
+        self.assertEqual(base.called(dump, "update").status, 0)
+        begun = time.process_time()
+        self.assertEqual(self.found(str(dump)), [b"/branches/b0", b"/trunk"])
+        self.assertLess(time.process_time() - begun, 2)
+
     def test_what_is_deleted_or_replaced_is_gone(self) -> None:
         dump = self.made(
             "dump",

@@ -7,7 +7,7 @@ from collections.abc import Callable
 from unittest import mock
 
 from dev.dumps import added, dump_of
-from dev.shapes import chain, copies, deletions, directories, long_name, long_value
+from dev.shapes import chain, copies, deletions, directories, long_name, long_value, renames
 from svnask import engine
 from svnask.lives import Life, moves_of
 from tests.ask import base
@@ -68,7 +68,8 @@ class Shapes(base.Case):
             (directories, 1500, "branches; contains 2; graph; unmerged; changed-tags"),
             (copies, 1500, "branches; graph; contains 2; unmerged"),
             (chain, 800, "branches; graph; contains 2"),
-            (long_value, 1500, "log -g trunk; graph; new branches/b0 trunk; contains 5"),
+            (long_value, 1500, "log -g trunk; graph; new branches/b0 trunk; contains 5; unmerged"),
+            (renames, 1500, "unmerged"),
             (long_name, 10000, "graph"),
         )
         for shape, size, asked in rows:
