@@ -97,8 +97,8 @@ def wide_value(count: int) -> bytes:
 def long_message(count: int) -> bytes:
     """A revision whose message has so many bytes."""
     line = b"a line of a long message\n"
-    properties = {b"svn:log": line * (count // len(line)), b"svn:author": b"alice", b"svn:date": DATE}
-    return bytes(Dump([Revision(0), Revision(1, [*FOLDERS, A_FILE]), Revision(2, [changed(A_FILE.path)], properties)]))
+    named = {b"svn:log": line * (count // len(line)), b"svn:author": b"alice", b"svn:date": DATE}
+    return bytes(Dump([Revision(0), Revision(1, [*FOLDERS, A_FILE]), Revision(2, [changed(A_FILE.path)], named)]))
 
 
 def deep_path(count: int) -> bytes:

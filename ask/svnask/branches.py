@@ -246,12 +246,12 @@ def recorded_of(history: History, compared: Iterable[Compared]) -> Iterator[tupl
 
 def only_recorded(history: History, recorded: Intervals, trace: log.Trace) -> Iterator[int]:
     """The revisions of a source that were only recorded, each at the path where the source was then."""
-    listed = log.listed(history, trace)
+    revisions = log.listed(history, trace)
     for segment in reversed(trace.segments):
         found = recorded.get(segment.path or b"", ())
         if found:
-            revisions = listed[bisect.bisect_left(listed, segment.lo) : bisect.bisect_right(listed, segment.hi)]
-            yield from (rev for rev in revisions if has(found, rev))
+            begin, end = bisect.bisect_left(revisions, segment.lo), bisect.bisect_right(revisions, segment.hi)
+            yield from (rev for rev in revisions[begin:end] if has(found, rev))
 
 
 def targets_of(history: History, alive: Sequence[Life], into: Target | None) -> dict[Life, Target]:

@@ -34,18 +34,18 @@ class Lines(NamedTuple):
     names: list[bytes]
     # For each path at which source and target both were, the revisions then, and the last one in which they were the
     # same.
-    shared: Listed = {}
-    last_shared: dict[bytes, int] = {}
+    own: Listed = {}
+    last_own: dict[bytes, int] = {}
 
-    def with_history(self, shared: Listed, last_shared: dict[bytes, int]) -> Lines:
+    def with_history(self, own: Listed, last_own: dict[bytes, int]) -> Lines:
         """These and what the target has of a source because it was there itself."""
-        revs = {path: self.inheritable.get(path, set()) | revs for path, revs in shared.items()}
-        return Lines(ChainMap(revs, self.inheritable), self.other, self.names, shared, last_shared)
+        revs = {path: self.inheritable.get(path, set()) | revs for path, revs in own.items()}
+        return Lines(ChainMap(revs, self.inheritable), self.other, self.names, own, last_own)
 
     def at_or_below(self, top: bytes) -> Iterator[bytes]:
         """The source paths at or below one, some of them twice."""
         yield top
-        yield from (path for path in self.shared if is_at_or_below(path, top))
+        yield from (path for path in self.own if is_at_or_below(path, top))
         # What is below has a slash where others have a zero, the next letter, or a later one.
         front = top.rstrip(b"/")
         begin, end = (bisect.bisect_left(self.names, front + letter) for letter in (b"/", b"0"))
@@ -54,7 +54,7 @@ class Lines(NamedTuple):
     def newest(self, path: bytes) -> int:
         """The youngest revision that counts as merged from exactly this path, or 0."""
         revs = max(self.inheritable.get(path, ()), default=0), max(self.other.get(path, ()), default=0)
-        return max(*revs, self.last_shared.get(path, 0))
+        return max(*revs, self.last_own.get(path, 0))
 
 
 class Question(NamedTuple):

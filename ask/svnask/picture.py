@@ -1,7 +1,7 @@
 """Draws a graph as SVG that any browser shows: no scripts, and nothing from elsewhere."""
 from __future__ import annotations
 
-from collections.abc import Iterable, Iterator
+from collections.abc import Iterator
 from html import escape
 from typing import NamedTuple
 

@@ -56,7 +56,7 @@ class Damage(base.Case):
                 words = QUESTIONS[number % len(QUESTIONS)]
                 self.assertEqual(base.called(dump, *words), wanted[words], (name, number, words))
 
-    def damaged(self, dump: Path, rev: int) -> None:
+    def damage(self, rev: int) -> None:
         """Changes a byte of the message of a revision in the copy, which may be read at the time."""
         (copy,) = (self.cache / "svnhist").glob("*/dump.*")
         place = copy.read_bytes().index(b"K 7\nsvn:log\n", copy.read_bytes().index(b"Revision-number: %d\n" % rev))
@@ -76,7 +76,7 @@ class Damage(base.Case):
         )
         for read in reads:
             with History.open(str(dump)) as history:
-                self.damaged(dump, 5)
+                self.damage(5)
                 self.assertEqual(history.revision(4).author, b"bob")
                 self.assertRaises(Damaged, read, history)
 
