@@ -23,6 +23,7 @@ from .progress import Progress, Told
 from .source import Source
 from .sources import source_of
 from .store import Index, Record, Revision, Store
+from .strip import clean
 from .values import Explicit
 
 if TYPE_CHECKING:
@@ -327,13 +328,9 @@ class History:
         >>> history.kinds([(b"/trunk", 13), (b"/none", 13)])
         {(b'/trunk', 13): 'dir'}
         """
-        made: dict[Place, Place] = {}
-        for answer in self.ask([Where(*place) for place in places if is_askable(place[0])]):
-            located = [(each.path, each.lo) for each in answer.segments if each.path is not None]
-            if located:
-                made[answer.query.path, answer.query.rev] = located[-1]
-        kinds: dict[Place, str] = {(b"/", 0): "dir"}
-        for rev in {rev for _, rev in made.values()}:
+        made = {(path, rev): self.tree.made(clean(path), rev) for path, rev in places if 0 <= rev <= self.head}
+        kinds: dict[Place | None, str] = {(b"/", 0): "dir"}
+        for rev in {first[1] for first in made.values() if first is not None}:
             for record in self.records(rev, rev):
                 if record.kind is not None and record.action in ("add", "replace"):
                     kinds[record.path, rev] = record.kind

@@ -57,6 +57,7 @@ class Tree:
         self._events: dict[bytes, list[Event]] = {}
         self._names: dict[bytes, set[bytes]] = {}
         self._known: dict[Place, bool] = {}
+        self._made: dict[Place, Place] = {}
         # The revisions that made or unmade a path.
         self.revisions: set[int] = set()
         for record in records:
@@ -108,6 +109,24 @@ class Tree:
     def source(self, path: bytes, rev: int) -> Place | None:
         """Where the node at a path of a revision was copied from last, if it was."""
         return self._step(path, rev)[1]
+
+    def made(self, path: bytes, rev: int) -> Place | None:
+        """The place at which a path of a revision was made, before it was copied, if it is there."""
+        if not self.exists(path, rev):
+            return None
+        place = path, rev
+        passed: list[Place] = []
+        while place not in self._made:
+            passed.append(place)
+            source = self.source(*place)
+            if source is None:
+                events = self._events.get(place[0], [])
+                at = count_up_to(events, place[1])
+                self._made[place] = place[0], events[at - 1].rev if at else 0
+            else:
+                place = source
+        self._made.update((each, self._made[place]) for each in passed)
+        return self._made[place]
 
     def is_made(self, path: bytes, rev: int) -> bool:
         """Whether a record of a revision made or unmade a path or one above it."""
