@@ -66,7 +66,6 @@ class History:
         self._changes: dict[int, list[Change]] = {}
         self._keys: dict[int, list[bytes]] = {}
         self._known_blocks = KnownBlocks()
-        self._telling: list[Record] | None = None
         self._tree: Tree | None = None
         self._explicit: Explicit | None = None
 
@@ -189,7 +188,7 @@ class History:
         self._refused = None
         self._changes.clear()
         self._keys.clear()
-        self._telling = self._tree = self._explicit = None
+        self._tree = self._explicit = None
         is_same = os.path.samestat(state, self._state) and len(store.later) >= len(before.later)
         if self._talk is not None and is_same:
             self._talk.grow(store.later[len(before.later) :])
@@ -363,10 +362,16 @@ class History:
         """
         return self._store.records(first, last)
 
-    def _told(self) -> list[Record]:
-        if self._telling is None:
-            self._telling = list(self._store.telling())
-        return self._telling
+    def _read_telling(self) -> tuple[Tree, Explicit]:
+        """Reads what made and unmade paths, and gave them mergeinfo. The records are not kept."""
+        explicit = Explicit(())
+
+        def applied() -> Iterator[Record]:
+            for record in self._store.telling():
+                explicit.apply(record)
+                yield record
+
+        return Tree(applied()), explicit
 
     @property
     def tree(self) -> Tree:
@@ -376,7 +381,7 @@ class History:
         (True, False)
         """
         if self._tree is None:
-            self._tree = Tree(self._told())
+            self._tree, self._explicit = self._read_telling()
         return self._tree
 
     @property
@@ -387,7 +392,7 @@ class History:
         True
         """
         if self._explicit is None:
-            self._explicit = Explicit(self._told())
+            self._tree, self._explicit = self._read_telling()
         return self._explicit
 
     def blocks(self) -> Iterator[tuple[int, Record | None]]:
@@ -451,16 +456,16 @@ class History:
         >>> [(change.letter, change.path, change.kind) for change in history.changes(8)]
         [('D', b'/branches/one', 'dir')]
         """
-        lacking: dict[tuple[int, int], Place] = {}
+        lacking: list[tuple[int, int, Place]] = []
         for rev in revs:
             if WITHOUT_KIND.search(self._store.blocks_of(rev)):
                 made = [record for record in self.records(rev, rev) if record.action in ("add", "replace")]
                 for at, change in enumerate(self.changes(rev)):
                     if change.kind is None:
-                        lacking[rev, at] = place_of(change, rev, made)
+                        lacking.append((rev, at, place_of(change, rev, made)))
         if lacking:
-            kinds = self.kinds(set(lacking.values()))
-            for (rev, at), place in lacking.items():
+            kinds = self.kinds(place for *_, place in lacking)
+            for rev, at, place in lacking:
                 changes = self._changes[rev]
                 changes[at] = changes[at]._replace(kind=kinds.get(place))
 

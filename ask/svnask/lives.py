@@ -57,7 +57,7 @@ class Tree:
         self._events: dict[bytes, list[Event]] = {}
         self._names: dict[bytes, set[bytes]] = {}
         self._known: dict[Place, bool] = {}
-        self._made: dict[Place, Place] = {}
+        self._made: dict[Place, Place | None] = {}
         # The revisions that made or unmade a path.
         self.revisions: set[int] = set()
         for record in records:
@@ -112,21 +112,25 @@ class Tree:
 
     def made(self, path: bytes, rev: int) -> Place | None:
         """The place at which a path of a revision was made, before it was copied, if it is there."""
-        if not self.exists(path, rev):
-            return None
-        place = path, rev
+        place: Place | None = (path, rev)
+        found: Place | None = None
         passed: list[Place] = []
-        while place not in self._made:
+        while place is not None and place not in self._made:
             passed.append(place)
-            source = self.source(*place)
-            if source is None:
-                events = self._events.get(place[0], [])
-                at = count_up_to(events, place[1])
-                self._made[place] = place[0], events[at - 1].rev if at else 0
-            else:
-                place = source
-        self._made.update((each, self._made[place]) for each in passed)
-        return self._made[place]
+            is_there, place = self._step(*place)
+            if is_there:
+                found = self._place_of_event(*passed[-1])
+        if place is not None:
+            found = self._made[place]
+        # Of what was not copied nothing is kept: there may be much of that.
+        self._made.update((each, found) for each in passed[:-1])
+        return found
+
+    def _place_of_event(self, path: bytes, rev: int) -> Place:
+        """A path with the revision of its last event up to one. The root has been there from the first one on."""
+        events = self._events.get(path, [])
+        at = count_up_to(events, rev)
+        return path, events[at - 1].rev if at else 0
 
     def is_made(self, path: bytes, rev: int) -> bool:
         """Whether a record of a revision made or unmade a path or one above it."""
