@@ -2,7 +2,7 @@
 
 Each verb that asks a question is measured, with arguments by the names that its help has for them, so that a new verb is
 measured without being named here. Times are processor seconds with those of svnhist-live, and the best of some runs;
-memory is that of the larger of the two. What prints or compares as much as the square of the size is left out: `heirs` of a
+memory is that of Python alone. What prints or compares as much as the square of the size is left out: `heirs` of a
 chain of copies, and `unmerged` of one, in which each branch has the revisions of all before it.
 """
 from __future__ import annotations
@@ -13,11 +13,12 @@ from functools import partial
 from pathlib import Path
 from typing import Callable, NamedTuple
 
-from bench.measure import best_in_turns
+from bench.measure import NOTHING, best_in_turns
 from bench.parts import Measurements, Part, Row, Setup, Table, most, with_limit
-from bench.svnask_open_history import Asked
+from bench.svnask_calls import python_words
 from dev import shapes
-from dev.running import Failed, Measured
+from dev.running import Failed, Measured, measure
+from dev.tree import ROOT
 from svnask.verbs import VERBS
 from svnask.verbs.kept import KeptVerb
 
@@ -29,12 +30,12 @@ SHAPES: dict[Callable[[int], bytes], int] = {
     shapes.chain: 1000,
     shapes.long_value: 2500,
     shapes.long_name: 5000,
-    shapes.tags: 10000,
-    shapes.one_file: 50000,
+    shapes.tags: 25000,
+    shapes.one_file: 100000,
     shapes.merges: 1500,
-    shapes.renames: 5000,
+    shapes.renames: 10000,
     shapes.deep_path: 500,
-    shapes.properties: 50000,
+    shapes.properties: 500000,
     shapes.wide_value: 500000,
     shapes.long_message: 5000000,
 }
@@ -69,12 +70,19 @@ def questions(queries: Path) -> Iterator[list[str]]:
     yield from MORE
 
 
-def asked_of(asked: Asked, *words: str) -> Measured:
-    """A question, which may have no answer."""
-    taken = asked.measured(*words)
-    if taken.outcome.status not in (0, 1):
-        raise Failed(f"{words} of {asked.dump.name} ended with {taken.outcome.shown()}")
-    return taken
+class Asked(NamedTuple):
+    """What some words take about a dump. There may be no answer."""
+
+    setup: Setup
+    dump: Path
+
+    def measured(self, *words: str) -> Measured:
+        program = ROOT / "bench" / "own_peak.py"
+        words_of = python_words(self.setup, self.setup.folder / "cache", program, self.dump, *words)
+        taken = measure(words_of, None, NOTHING, False)
+        if taken.outcome.status not in (0, 1):
+            raise Failed(f"{words} of {self.dump.name} ended with {taken.outcome.shown()}")
+        return taken._replace(peak=int(taken.outcome.errors.split()[-1]) * 1024)
 
 
 class Found(NamedTuple):
@@ -98,10 +106,10 @@ def measured(setup: Setup, shape: Callable[[int], bytes], size: int) -> Iterator
         dump = setup.folder / f"{shape.__name__}-{times}"
         dump.write_bytes(shape(size * times))
         asked.append(Asked(setup, dump))
-        asked[-1].run("info")
+        asked[-1].measured("info")
     for words in questions(queries):
         if (shape.__name__, words[0]) not in AS_THE_SQUARE:
-            runs = {each.dump: partial(asked_of, each, *words) for each in asked}
+            runs = {each.dump: partial(each.measured, *words) for each in asked}
             best = best_in_turns(runs, setup.times, lambda taken: taken.processor)
             yield Found(" ".join(word for word in words if word != str(queries)), *(best[each.dump] for each in asked))
 

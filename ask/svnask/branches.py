@@ -2,8 +2,8 @@
 from __future__ import annotations
 
 import bisect
+import itertools
 from collections.abc import Iterable, Iterator, Sequence
-from itertools import chain
 from typing import NamedTuple
 
 from . import log, mergeinfo, projects
@@ -11,8 +11,8 @@ from .answers import Answer, Answers, Log, Logged, Mergeinfo, Query, Where
 from .changes import Place, components, is_at_or_below, tops_of
 from .errors import Denied
 from .history import History
-from .lives import Life, is_plain, lives_at, moves_of, unmatched
-from .merges import Intervals, has
+from .lives import Life, chains_of, is_plain, lives_at, moves_of, unmatched
+from .merges import Intervals, between, has
 from .recorded import Recorded
 from .targets import Target, decoded
 from .values import runs_of
@@ -70,20 +70,20 @@ def answered(answer: Answer) -> list[int]:
     return answer.revisions
 
 
-def last_changes(history: History, lives: Iterable[Life]) -> dict[Life, int]:
+def last_changes(history: History, lives: Sequence[Life]) -> dict[Life, int]:
     """The newest operative revision of each life. That of a long one would be long, so its end is asked first."""
     found: dict[Life, int] = {}
-    left = list(lives)
+    # The last life of a chain may be long, and each of those before it is asked together with what it continues.
+    left = [part for chain in chains_of(lives) for part in (chain[:-1], chain[-1:]) if part]
     window = FIRST_WINDOW
     while left:
-        queries = [Log(life.path, life.last, (max(life.first, life.last - window), life.last)) for life in left]
-        for life, answer in zip(left, history.ask(queries)):
-            revisions = answered(answer)
-            if revisions:
-                found[life] = revisions[0]
-            elif life.last - window <= life.first:
-                found[life] = life.first
-        left = [life for life in left if life not in found]
+        lows = [max(part[0].first, part[0].last - window) for part in left]
+        answers = history.ask([log_of(part, low) for part, low in zip(left, lows)])
+        for part, low, answer in zip(left, lows, answers):
+            for life, revisions in zip(part, split(answer, part)):
+                if revisions or low <= life.first:
+                    found[life] = max(revisions, default=life.first)
+        left = [part for part in left if part[0] not in found]
         window *= WINDOW_GROWS
     return found
 
@@ -111,21 +111,33 @@ def listed(history: History, patterns: Sequence[bytes]) -> Iterator[Listed]:
         yield Listed(life, changes[life], life in moved, moves.get(life), is_folder)
 
 
-def logs_of(lives: Iterable[Life]) -> list[Query[Answer]]:
-    """The queries for the operative revisions of each life. What it was before, under another path, is no part of
-    it."""
-    return [Log(life.path, life.last, (life.first, life.last)) for life in lives]
+def log_of(chain: Sequence[Life], low: int) -> Log:
+    """The query for the operative revisions of lives that continue each other, from a revision on."""
+    last = chain[-1]
+    return Log(last.path, last.last, (low, last.last))
 
 
-def operative(lives: Iterable[Life], answers: Iterator[Answer]) -> dict[Life, list[int]]:
+def split(answer: Answer, chain: Sequence[Life]) -> list[list[int]]:
+    """The operative revisions of each life of a chain, rising, by the answer about all of it."""
+    revisions = answered(answer)[::-1]
+    return [between(revisions, life.first, life.last) for life in chain]
+
+
+def logs_of(lives: Sequence[Life]) -> list[Query[Answer]]:
+    """The queries for the operative revisions of lives. What one was before, under a path that is not asked about, is no
+    part of it."""
+    return [log_of(chain, chain[0].first) for chain in chains_of(lives)]
+
+
+def operative(lives: Sequence[Life], answers: Iterator[Answer]) -> dict[Life, list[int]]:
     """The operative revisions of each life, rising, by the answers to its queries, which are the next ones."""
     found: dict[Life, list[int]] = {}
-    for life, answer in zip(lives, answers):
-        revisions = answered(answer)[::-1]
-        # `svn log` lists a copy of a directory above to itself, and for svnhist nothing happens to the path there.
-        is_renewed = life.source == (life.path, life.first - 1) and life.first not in revisions[:1]
-        found[life] = [life.first] * is_renewed + revisions
-    return found
+    for chain in chains_of(lives):
+        for life, revisions in zip(chain, split(next(answers), chain)):
+            # `svn log` lists a copy of a directory above to itself, and for svnhist nothing happens to the path there.
+            is_renewed = life.source == (life.path, life.first - 1) and life.first not in revisions[:1]
+            found[life] = [life.first] * is_renewed + revisions
+    return {life: found[life] for life in lives}
 
 
 class Holder(NamedTuple):
@@ -227,9 +239,9 @@ def unmerged(history: History, patterns: Sequence[bytes], into: Target | None) -
     sources = {Target(life.path, history.head): targets[life] for life in alive if life in targets}
     question = mergeinfo.Question("eligible")
     about = (mergeinfo.queries_about(explicit, target, question) for target in set(sources.values()))
-    merges = mergeinfo.Merges(history, explicit, history.answers(chain.from_iterable(about)))
+    merges = mergeinfo.Merges(history, explicit, history.answers(itertools.chain.from_iterable(about)))
     asked = {source: mergeinfo.queries_of_pair(source, target, question) for source, target in sources.items()}
-    replies = history.ask(chain.from_iterable(asked.values()))
+    replies = history.ask(itertools.chain.from_iterable(asked.values()))
     for source, target in sources.items():
         answers = Answers(zip(asked[source], replies))
         revisions = merges.shown(source, target, question, answers)
@@ -310,20 +322,17 @@ class Touched(NamedTuple):
 def touched(history: History, patterns: Sequence[bytes]) -> Iterator[Touched]:
     """The tags that are not what they were copied from, that were made again, and those that were deleted or renamed."""
     lives = lives_of(history, patterns, (projects.TAG,))
-    later = [life for life in lives if life.last > life.first]
-    answers = list(history.ask([Log(life.path, life.last, (life.first + 1, life.last)) for life in later]))
-    changed: dict[Life, list[int]] = {}
-    for life, answer in zip(later, answers):
-        changed[life] = answered(answer)[::-1]
+    found = operative(lives, history.ask(logs_of(lives)))
+    changed = {life: [rev for rev in revisions if rev > life.first] for life, revisions in found.items()}
     before: Life | None = None
     for life in lives:
         below = any(change.path != life.path for change in history.changes_below(life.first, life.path))
         of_path = before if before is not None and before.path == life.path else None
-        events = begin_of(life, of_path) + [Event(CHANGED, rev) for rev in [life.first] * below + changed.get(life, [])]
+        events = begin_of(life, of_path) + [Event(CHANGED, rev) for rev in [life.first] * below + changed[life]]
         events += end_of(history, life)
         before = life
         if events:
-            yield Touched(life, below, changed.get(life, []), events)
+            yield Touched(life, below, changed[life], events)
 
 
 def begin_of(life: Life, before: Life | None) -> list[Event]:

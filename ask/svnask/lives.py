@@ -324,6 +324,19 @@ def moves_of(lives: Sequence[Life]) -> dict[Life, Life]:
     return {life: later for life, later in pairs if later.continues(life)}
 
 
+def chains_of(lives: Sequence[Life]) -> list[list[Life]]:
+    """The lives, each one after that which it continues, if it continues any."""
+    moves = moves_of(lives)
+    later = set(moves.values())
+    chains = []
+    for life in lives:
+        if life not in later:
+            chains.append([life])
+            while chains[-1][-1] in moves:
+                chains[-1].append(moves[chains[-1][-1]])
+    return chains
+
+
 def count_up_to(events: Sequence[Event], rev: int) -> int:
     """How many of the events are of revisions up to this one."""
     low, high = 0, len(events)
