@@ -8,7 +8,6 @@ from pathlib import Path
 from bench.measure import Command
 from dev.running import Words
 
-
 COUNTED = re.compile(r"^ *([0-9,]+) \([ 0-9.]+%\) +[^ :]*:(.*?)(?: \[[^ ]*\])?$", re.MULTILINE)
 SAMPLED = re.compile(r"^ *([0-9.]+)% +\[.\] +(.*?) *$", re.MULTILINE)
 COUNT = "valgrind --tool=callgrind --callgrind-out-file=FILE"

@@ -8,7 +8,7 @@ import re
 import sys
 from pathlib import Path
 
-from svnask.command import main
+from svnask.cli.command import main
 
 status = main()
 print(re.findall(r"VmHWM:\s*(\d+)", Path("/proc/self/status").read_text(encoding="ascii"))[0], file=sys.stderr)

@@ -19,8 +19,8 @@ from bench.svnask_calls import python_words
 from dev import shapes
 from dev.running import Failed, Measured, measure
 from dev.tree import ROOT
-from svnask.verbs import VERBS
-from svnask.verbs.kept import KeptVerb
+from svnask.cli.verbs import VERBS
+from svnask.cli.verbs.kept import KeptVerb
 
 # The shapes with their sizes.
 SHAPES: dict[Callable[[int], bytes], int] = {

@@ -16,18 +16,7 @@ from bench.histories import load_into_cache
 from bench.measure import best_in_turns
 from bench.parts import Measurements, Part, Row, Setup, Table, most, shown
 from bench.svnask_open_history import Asked, branch
-from dev.dumps import (
-    DIR,
-    FILE,
-    Node,
-    Properties,
-    Revision,
-    Source,
-    added,
-    first_lines,
-    mergeinfo,
-    revision_properties,
-)
+from dev.dumps import DIR, FILE, Node, Properties, Revision, Source, added, first_lines, mergeinfo, revision_properties
 from dev.running import Measured
 
 REVISIONS, BRANCHES, FILES = 100000, 200, 50

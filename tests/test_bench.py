@@ -13,13 +13,14 @@ from pathlib import Path
 from typing import Any, NamedTuple
 from xml.etree import ElementTree
 
-from bench.history_lengths import MORE, PROCESS, SERIES, TABLE, lengths
 from bench.histories import revision, write_dump
+from bench.history_lengths import MORE, PROCESS, SERIES, TABLE, lengths
 from bench.main import PARTS, machine, measure_all, options
 from bench.page import MARKED, QUICK_RUN, WIDTH, Refused, texts_of, with_texts
 from bench.parts import ABSENT, MOST, Judged, Limit, Measurements, Part, Row, Setup, Table, limits_table, part_to_json
-from bench.picture import A_QUICK_RUN, GAP, drawn, spread, time_in_words
+from bench.picture import A_QUICK_RUN, GAP
 from bench.picture import WIDTH as PICTURE_WIDTH
+from bench.picture import drawn, spread, time_in_words
 from bench.subversion import Repository, beside, command_of, is_installed, shared
 from dev import running
 from dev.dumps import added, changed, copied, mergeinfo

@@ -6,8 +6,9 @@ from collections.abc import Iterator, Sequence
 from pathlib import Path
 
 from dev.checks import Check
-from dev.dumps import Dump, END, FILE as KIND, MERGEINFO, Node, Revision
-from dev.dumps import added, deleted, dump_of, entry, first_lines, mergeinfo
+from dev.dumps import END
+from dev.dumps import FILE as KIND
+from dev.dumps import MERGEINFO, Dump, Node, Revision, added, deleted, dump_of, entry, first_lines, mergeinfo
 from dev.running import NOTHING, Outcome, Words, run
 from dev.tree import EXAMPLES, INTEROP, ROOT
 from tests.base import ProgramTest

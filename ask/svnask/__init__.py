@@ -17,7 +17,9 @@ import os
 from typing import TYPE_CHECKING
 
 if TYPE_CHECKING:
-    from .answers import (
+    from svnask.copy.changes import Change
+    from svnask.copy.store import Record, Revision
+    from svnask.engine.queries import (
         Answer,
         Inherited,
         Line,
@@ -34,10 +36,8 @@ if TYPE_CHECKING:
         Segments,
         Where,
     )
-    from .changes import Change
-    from .errors import Denied, Error, Failed, Refused, Unreached
-    from .history import History
-    from .store import Record, Revision
+    from svnask.errors import Denied, Error, Failed, Refused, Unreached
+    from svnask.history.history import History
 
 __all__ = [
     "Answer",
@@ -67,13 +67,13 @@ __all__ = [
 ]
 # Where each name is. A module is imported when a name of it is used: a question to a server needs none.
 _MODULES = {
-    "answers": (
+    "engine.queries": (
         "Answer Inherited Line Locate Located Log Logged Merge Mergeinfo Merges Pair Query Segment Segments Where"
     ),
-    "changes": "Change",
+    "copy.changes": "Change",
     "errors": "Denied Error Failed Refused Unreached",
-    "history": "History",
-    "store": "Record Revision",
+    "history.history": "History",
+    "copy.store": "Record Revision",
 }
 _PLACES = {name: module for module, names in _MODULES.items() for name in names.split()}
 # Without pathlib, which takes longer to import than the whole file to read.

@@ -7,7 +7,7 @@ from __future__ import annotations
 
 import re
 
-from .changes import components
+from svnask.copy.changes import components
 
 TRUNK, BRANCH, TAG = "trunk", "branch", "tag"
 KINDS = (TRUNK, BRANCH, TAG)

@@ -6,9 +6,10 @@ import os
 import subprocess
 
 from dev.dumps import added, changed, dump_of, section
-from svnask import client, repositories
-from svnask.command_line import of_asker, source_word
-from svnask.progress import Told
+from svnask.asking.words import of_asker, source_word
+from svnask.serving import client
+from svnask.sources import subversion as repositories
+from svnask.sources.progress import Told
 from tests.ask import base, grown
 
 ALL = "[/]\nalice = rw\nbob = r\n"

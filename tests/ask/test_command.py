@@ -12,8 +12,8 @@ from pathlib import Path
 from dev import running
 from dev.dumps import FILE, added, dump_of, first_lines
 from dev.tree import ROOT
-from svnask import cli
-from svnask.verbs import VERBS
+from svnask.asking import running as cli
+from svnask.cli.verbs import VERBS
 from tests.ask import base
 
 DUMP = base.dump_of("branches")

@@ -17,16 +17,19 @@ from unittest import mock
 from dev import running
 from dev.dumps import DIR, Node, Source, added, changed, deleted, dump_of
 from dev.tree import ROOT
-from svnask import cache, cli, command, completion, kept_branches
-from svnask.completion import BASH, lines_for
-from svnask.entries import Entry, read_front
-from svnask.history import History
-from svnask.lives import lives_in
-from svnask.progress import Progress
-from svnask.repository_source import Address
-from svnask.sources import source_of
-from svnask.verbs import VERBS
-from svnask.verbs.places import SegmentsVerb
+from svnask.asking import running as cli
+from svnask.cli import command, completion
+from svnask.cli.completion import BASH, lines_for
+from svnask.cli.verbs import VERBS
+from svnask.cli.verbs.places import SegmentsVerb
+from svnask.copy import branch_names as kept_branches
+from svnask.history.history import History
+from svnask.history.lives import lives_in
+from svnask.sources import cache
+from svnask.sources.entries import Entry, read_front
+from svnask.sources.opening import source_of
+from svnask.sources.progress import Progress
+from svnask.sources.repository import Address
 from tests.ask import base
 
 DUMP = str(base.dump_of("branches"))

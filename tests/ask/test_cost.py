@@ -8,8 +8,8 @@ from unittest import mock
 
 from dev.dumps import added, dump_of
 from dev.shapes import chain, copies, deletions, directories, long_name, long_value, renames
-from svnask import engine
-from svnask.lives import Life, moves_of
+from svnask.engine import talk as engine
+from svnask.history.lives import Life, moves_of
 from tests.ask import base
 
 DUMP = base.dump_of("merges")

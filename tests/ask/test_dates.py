@@ -6,8 +6,8 @@ import time
 from typing import Callable
 from unittest import mock
 
-from svnask import dates
 from svnask.errors import Denied
+from svnask.history import dates
 from tests.ask.base import UtcTest
 
 # Zones by their rules, which are known without a database.

@@ -4,7 +4,7 @@ from __future__ import annotations
 import os
 from pathlib import Path
 
-from svnask import engine
+from svnask.engine import talk as engine
 from tests.ask import base
 
 DUMP = base.dump_of("branches")

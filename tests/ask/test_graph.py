@@ -28,12 +28,12 @@ from dev.dumps import (
     section,
 )
 from dev.tree import DOCS
-from svnask import picture
-from svnask.fitting import fitted
-from svnask.graph import MOST_OTHERS, Graph, Merge, View, drawable, graph_of
-from svnask.history import History
-from svnask.layout import NARROWEST, Layout, shortened, width_of
-from svnask.picture import arrows_of
+from svnask.history.history import History
+from svnask.picture import svg as picture
+from svnask.picture.fitting import fitted
+from svnask.picture.graph import MOST_OTHERS, Graph, Merge, View, drawable, graph_of
+from svnask.picture.layout import NARROWEST, Layout, shortened, width_of
+from svnask.picture.svg import arrows_of
 from svnask.texts import readable
 from tests.ask import base
 

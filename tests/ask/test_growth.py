@@ -13,9 +13,11 @@ from unittest import mock
 from dev.dumps import Dump, Properties, Revision
 from dev.running import run
 from dev.tree import ROOT
-from svnask import entries, repository_source, sources
-from svnask.history import History
-from svnask.strip import Stripper
+from svnask.copy.strip import Stripper
+from svnask.history.history import History
+from svnask.sources import entries
+from svnask.sources import opening as sources
+from svnask.sources import repository as repository_source
 from tests.ask import base, grown
 
 NAMES = ("branches", "merges", "renames", "values")

@@ -4,11 +4,11 @@ from __future__ import annotations
 import json
 from collections.abc import Iterator
 
-from svnask.answers import Locate
-from svnask.heirs import Heir, heirs
-from svnask.history import History
-from svnask.lives import Tree
-from svnask.targets import Target
+from svnask.branches.heirs import Heir, heirs
+from svnask.engine.queries import Locate
+from svnask.history.history import History
+from svnask.history.lives import Tree
+from svnask.history.targets import Target
 from tests.ask import base
 from tests.ask.drawn_repositories import drawn
 

@@ -9,7 +9,7 @@ from dev import running
 from dev.dumps import FILE, Node, added, changed, copied, deleted, dump_of, mergeinfo
 from svnask import projects
 from svnask.errors import Denied
-from svnask.lives import Tree
+from svnask.history.lives import Tree
 from tests.ask import base
 
 TAB = b"branches/with\ttab"

@@ -6,8 +6,8 @@ import os
 from pathlib import Path
 
 from dev.dumps import added, copied, deleted, dump_of
-from svnask.answers import Locate
-from svnask.lives import Tree, lives_in
+from svnask.engine.queries import Locate
+from svnask.history.lives import Tree, lives_in
 from tests.ask import base
 
 

@@ -4,8 +4,9 @@ from __future__ import annotations
 from pathlib import Path
 
 from dev.dumps import FILE, added, changed, copied, deleted, dump_of
-from svnask import branches, log
-from svnask.targets import Target
+from svnask.branches import questions as branches
+from svnask.history.targets import Target
+from svnask.log import selection as log
 from tests.ask import base
 
 F = b"trunk/a/f"

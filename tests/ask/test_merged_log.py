@@ -4,9 +4,9 @@ from __future__ import annotations
 import json
 
 from dev.dumps import DIR, FILE, Node, added, changed, copied, dump_of, mergeinfo
-from svnask.merged_log import Searched, Walker
-from svnask.merged_parts import Part, hash_of, in_hash_order, parts_of
-from svnask.merges import Intervals
+from svnask.merged_log.parts import Part, hash_of, in_hash_order, parts_of
+from svnask.merged_log.selection import Searched, Walker
+from svnask.merges.gains import Intervals
 from tests.ask import base
 
 

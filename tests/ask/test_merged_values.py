@@ -4,7 +4,7 @@ from __future__ import annotations
 import random
 import unittest
 
-from svnask.merged_values import Difference, Malformed, Values, difference
+from svnask.merges.value_changes import Difference, Malformed, Values, difference
 
 PATHS = (b"/trunk", b"/b/one", b"/b/one/a", b"/a:b", b"trunk", b"//b/one/")
 # Rangelists that Subversion does not write as they are, and texts that it can't read.

@@ -6,9 +6,9 @@ import json
 from itertools import repeat
 
 from model import definitions as plain
+from svnask.branches.gained import gained
 from svnask.errors import Denied
-from svnask.gained import gained
-from svnask.targets import Target
+from svnask.history.targets import Target
 from tests.ask import base
 from tests.ask.drawn_repositories import drawn
 

@@ -9,8 +9,10 @@ from unittest import mock
 from dev import running
 from dev.dumps import Dump, Revision, added, changed, copied, dump_of, mergeinfo
 from dev.tree import SVNASK
-from svnask import branches, cli, lives
+from svnask.asking import running as cli
+from svnask.branches import questions as branches
 from svnask.errors import Denied
+from svnask.history import lives
 from tests.ask import base
 
 DUMP = base.dump_of("branches")

@@ -12,9 +12,10 @@ from typing import Any, Callable
 from unittest import mock
 
 from dev.dumps import FILE, added, changed, dump_of
-from svnask import log_forms, processes
-from svnask.history import History
-from svnask.processes import made
+from svnask.history.history import History
+from svnask.log import forms as log_forms
+from svnask.log import processes
+from svnask.log.processes import made
 from tests.ask import base
 
 PARTS = range(25)

@@ -9,12 +9,14 @@ from unittest import mock
 
 from dev.dumps import FILE, Revision, added, first_lines
 from dev.tree import INTEROP
-from svnask import cache, dump_source, entries
-from svnask.answers import Line
+from svnask.copy.strip import Stripper
+from svnask.copy.window import Window
+from svnask.engine.queries import Line
 from svnask.errors import Failed, Refused
-from svnask.history import History
-from svnask.strip import Stripper
-from svnask.window import Window
+from svnask.history.history import History
+from svnask.sources import cache
+from svnask.sources import dump as dump_source
+from svnask.sources import entries
 from tests.ask import base
 
 

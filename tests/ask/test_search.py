@@ -1,7 +1,7 @@
 """`log --search`: how patterns match, how texts are folded, and which entries are printed."""
 from __future__ import annotations
 
-from svnask import search
+from svnask.log import search
 from tests.ask import base
 
 

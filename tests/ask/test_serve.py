@@ -17,8 +17,9 @@ from unittest import mock
 from dev import running
 from dev.dumps import Revision, added, changed, dump_of
 from dev.tree import ROOT, SVNASK
-from svnask import client, places
-from svnask.server import Caller, Gone
+from svnask.serving import client
+from svnask.serving import sockets as places
+from svnask.serving.server import Caller, Gone
 from tests.ask import base
 
 ANSWERED = base.commands(

@@ -9,8 +9,8 @@ from unittest import mock
 from dev import running
 from dev.dumps import FILE, Dump, Revision, added
 from svnask.errors import Unreached
-from svnask.history import History
-from svnask.repositories import Access, canonical, path_below
+from svnask.history.history import History
+from svnask.sources.subversion import Access, canonical, path_below
 from tests.ask import base, grown, served_beside_svn
 
 ALICE = ("--username", "alice", "--password", "secret")

@@ -4,7 +4,7 @@ from __future__ import annotations
 import xml.etree.ElementTree
 
 from dev.dumps import DIR, FILE, Dump, Node, Revision, added, changed, copied, deleted, section
-from svnask import xml_log
+from svnask.log import xml as xml_log
 from tests.ask import base
 
 PROPERTIES = {

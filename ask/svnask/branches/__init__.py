@@ -1,0 +1,1 @@
+"""What is asked of all branches and tags at once."""

@@ -1,0 +1,116 @@
+"""What one branch or tag has and another one lacks, as release notes list it."""
+from __future__ import annotations
+
+from collections.abc import Iterable, Iterator, Sequence
+from typing import NamedTuple
+
+from svnask.copy.changes import is_at_or_below
+from svnask.engine.queries import Answers, Log, Mergeinfo, Where, is_askable
+from svnask.errors import Denied
+from svnask.history.history import History
+from svnask.history.lives import Tree
+from svnask.history.targets import Target, decoded
+from svnask.log import selection as log
+from svnask.mergeinfo.values import Run, runs_of
+from svnask.merges.gains import Intervals, has
+from svnask.merges.recorded import Recorded
+
+
+class Part(NamedTuple):
+    """Revisions of a source path that a value names, as far as one life of that path has them."""
+
+    path: bytes
+    query: Log
+    inheritable: bool
+
+
+class Held(NamedTuple):
+    """The revisions that a path has: in its own history, and by its mergeinfo as a whole or in part, but for those that
+    were only recorded as merged."""
+
+    own: set[int]
+    merged: set[int]
+    partial: set[int]
+
+    def how(self, rev: int) -> str:
+        return "history" if rev in self.own else "merged" if rev in self.merged else "merged in part"
+
+
+class Gained(NamedTuple):
+    """A revision that came in, and how it is had."""
+
+    rev: int
+    how: str
+
+
+def value_of(answers: Answers, target: Target) -> dict[bytes, str]:
+    """The mergeinfo of a target that is there."""
+    answer = answers[Mergeinfo(*target)]
+    if answer.status == "malformed-mergeinfo":
+        raise Denied("E200020", f"the mergeinfo of '{decoded(target.path)}' can't be read")
+    return answer.value
+
+
+def parts_of(tree: Tree, head: int, path: bytes, runs: Iterable[Run]) -> Iterator[Part]:
+    """The queries for the operative revisions of a source path in the revisions that a value names."""
+    lives = list(tree.lives(path, head))
+    for run in runs:
+        for life in lives:
+            lo, hi = max(run.lo, life.first), min(run.hi, life.last)
+            if lo <= hi:
+                yield Part(path, Log(path, hi, (lo, hi)), run.inheritable)
+
+
+def held(history: History, targets: Sequence[Target]) -> list[Held]:
+    """What each of some targets has."""
+    answers = history.answers(query for each in targets for query in (Where(*each), Log(*each), Mergeinfo(*each)))
+    for target in targets:
+        if not answers[Where(*target)].ok:
+            raise log.not_reached(history, target)
+    tree = history.tree
+    parts = {
+        target: [
+            part
+            for path, ranges in value_of(answers, target).items()
+            if is_askable(path)
+            for part in parts_of(tree, history.head, path, runs_of(ranges.encode("ascii")))
+        ]
+        for target in targets
+    }
+    answers.update(history.answers(part.query for each in parts.values() for part in each))
+    recorded = Recorded(history).of(targets)
+    return [held_by(history, answers, target, parts[target], of_target) for target, of_target in zip(targets, recorded)]
+
+
+def held_by(history: History, answers: Answers, target: Target, parts: Iterable[Part], recorded: Intervals) -> Held:
+    trace = log.Trace(answers[Where(*target)].segments, answers[Log(*target)].revisions)
+    found = Held(set(log.listed(history, trace)), set(), set())
+    for path, query, inheritable in parts:
+        alone = recorded.get(path, [])
+        revisions = (rev for rev in answers[query].revisions if not has(alone, rev))
+        (found.merged if inheritable else found.partial).update(revisions)
+    return found
+
+
+def is_copy_alone(history: History, rev: int) -> bool:
+    """Whether a revision made branches or tags by copies and changed nothing else."""
+    changes = history.changes(rev)
+    copies = [change.path for change in changes if change.source is not None]
+    return bool(changes) and all(
+        change.source is not None
+        or (change.letter == "A" and any(is_at_or_below(path, change.path) for path in copies))
+        for change in changes
+    )
+
+
+def gained(history: History, before: Target, after: Target) -> list[Gained]:
+    """The revisions that the second target has and the first one lacks, the newest first. Those that only copied are
+    left out."""
+    of_before, of_after = held(history, [before, after])
+    whole = of_before.own | of_before.merged
+    revisions = (of_after.own | of_after.merged | (of_after.partial - of_before.partial)) - whole
+    return [
+        Gained(rev, of_after.how(rev))
+        for rev in sorted(revisions, reverse=True)
+        if rev > 0 and not is_copy_alone(history, rev)
+    ]

@@ -1,0 +1,105 @@
+"""Where a path went: the paths of a later revision that were it, themselves or by copies."""
+from __future__ import annotations
+
+from collections.abc import Iterable, Iterator, Sequence
+from typing import NamedTuple
+
+from svnask.copy.changes import Place, components, joined, rest_below, tops_of
+from svnask.copy.store import Record
+from svnask.engine.queries import Locate, Segment, Where, is_askable
+from svnask.history.history import History
+from svnask.history.targets import Target
+
+
+class Step(NamedTuple):
+    """A copy on the way of an heir: its revision, the place that was copied, and whether that path ended with it."""
+
+    rev: int
+    source: Place
+    is_moved: bool
+
+
+class Heir(NamedTuple):
+    """A path that was another one, by these copies, the newest first."""
+
+    path: bytes
+    way: list[Step]
+
+
+class Candidates:
+    """The paths that may have come from a target, by all copies up to a revision.
+
+    They are more than did: that a path ended before it was copied is left to svnhist.
+    """
+
+    def __init__(self, records: Iterable[Record], target: Target, last: int) -> None:
+        # Of each path the first revision in which it may be an heir, and the paths at or below each path.
+        self._first: dict[bytes, int] = {}
+        self._below: dict[bytes, list[bytes]] = {}
+        # The revisions and paths of deletions and replacements, which end what is at and below a path.
+        self._ends: set[Place] = set()
+        self._add(target.path, target.rev)
+        for record in records:
+            if target.rev < record.rev <= last:
+                self._follow(record)
+
+    @property
+    def paths(self) -> list[bytes]:
+        return sorted(self._first, key=components)
+
+    def may_have_ended(self, path: bytes, rev: int) -> bool:
+        """Whether a revision may have ended what was at a path."""
+        return any((top, rev) in self._ends for top in tops_of(path))
+
+    def _add(self, path: bytes, rev: int) -> None:
+        if path not in self._first:
+            self._first[path] = rev
+            for top in tops_of(path):
+                self._below.setdefault(top, []).append(path)
+
+    def _follow(self, record: Record) -> None:
+        if record.action in ("delete", "replace"):
+            self._ends.add((record.path, record.rev))
+        if record.source is None:
+            return
+        top, rev = record.source
+        for path in tuple(self._below.get(top, ())):
+            if self._first[path] <= rev:
+                self._add(joined(record.path, rest_below(path, top)), record.rev)
+
+
+def copies_of(segments: Sequence[Segment], peg: int) -> Iterator[tuple[int, Place]]:
+    """The copies after a peg revision by which a path came to be where it is: their revisions and their sources."""
+    located = [(each.lo, each.hi, each.path) for each in segments if each.path is not None]
+    for (rev, _, _), (_, source_rev, source) in zip(located, located[1:]):
+        if rev > peg:
+            yield rev, (source, source_rev)
+
+
+def ended(history: History, copies: Iterable[tuple[int, Place]]) -> set[tuple[int, Place]]:
+    """Those of some copies whose source ended with them: the path was there until the revision before, and what is
+    there then, if anything, does not come from it."""
+    asked = [copy for copy in copies if is_askable(copy[1][0])]
+    if not asked:
+        return set()
+    queries = [
+        query for rev, (path, source) in asked for query in (Locate(path, rev - 1, source), Locate(path, rev, rev - 1))
+    ]
+    answers = iter(list(history.ask(queries)))
+    return {copy for copy, before, after in zip(asked, answers, answers) if before.path == copy[1][0] != after.path}
+
+
+def heirs(history: History, target: Target, last: int) -> Iterator[Heir]:
+    """The paths of a revision that were the target in its peg revision, in the order of paths. The way of each is not
+    held: in a chain of copies all of them are as long as the square of the chain."""
+    candidates = Candidates(history.records(), target, last)
+    queries = [Where(path, last) for path in history.askable(candidates.paths)]
+    is_move: dict[tuple[int, Place], bool] = {}
+    for query, answer in zip(queries, history.ask(queries)):
+        segments = answer.segments
+        if any(each.lo <= target.rev <= each.hi and each.path == target.path for each in segments):
+            way = list(copies_of(segments, target.rev))
+            new = [copy for copy in way if copy not in is_move]
+            moves = ended(history, [copy for copy in new if candidates.may_have_ended(copy[1][0], copy[0])])
+            is_move.update((copy, copy in moves) for copy in new)
+            yield Heir(query.path, [Step(*copy, is_move[copy]) for copy in way])

@@ -1,0 +1,353 @@
+"""Questions about all branches and tags at once."""
+from __future__ import annotations
+
+import bisect
+import itertools
+from collections.abc import Iterable, Iterator, Sequence
+from typing import NamedTuple
+
+from svnask import projects
+from svnask.copy.changes import Place, components, is_at_or_below, tops_of
+from svnask.engine.queries import Answer, Answers, Log, Logged, Mergeinfo, Query, Where
+from svnask.errors import Denied
+from svnask.history.history import History
+from svnask.history.lives import Life, chains_of, is_plain, lives_at, moves_of, unmatched
+from svnask.history.targets import Target, decoded
+from svnask.log import selection as log
+from svnask.mergeinfo.values import runs_of
+from svnask.merges import show_revs as mergeinfo
+from svnask.merges.gains import Intervals, between, has
+from svnask.merges.recorded import Recorded
+
+# How many revisions are looked through at first for the last change of a life, and how many times more at each further
+# look.
+FIRST_WINDOW, WINDOW_GROWS = 64, 16
+# How a branch or a tag has a revision.
+HISTORY, MERGED, IN_PART, RECORDED = "history", "merged", "merged in part", "recorded"
+# What happens to a tag.
+CHANGED, AGAIN, DELETED, RENAMED = "changed", "made again", "deleted", "renamed"
+
+
+def lives_of(history: History, patterns: Sequence[bytes], kinds: Sequence[str] = projects.KINDS) -> list[Life]:
+    """The lives of all paths that match a pattern, or else those of the trunks, the branches and the tags at and below
+    the path at which the source begins. That no path ever matched a pattern is an error where it is a path itself, since
+    that is mostly a mistake. Where nothing matches, the history gives notice of it."""
+    tree, top = history.tree, history.source.path
+    if patterns:
+        paths = {path for pattern in patterns for path in tree.matching(pattern)}
+    else:
+        paths = {path for path in tree.branches if is_at_or_below(path, top) and projects.kind_of(path) in kinds}
+    lives = lives_at(tree, history.askable(sorted(paths)), history.head)
+    missing = list(unmatched(tree, patterns, history.head))
+    if missing or not lives:
+        # Nothing more may be asked, and the dump may be one that is refused.
+        history.check()
+    for pattern in missing:
+        if all(map(is_plain, components(pattern))):
+            raise Denied("E160013", f"Path not found in any revision: '{decoded(pattern)}'")
+        history.notice(f"no path matches '{decoded(pattern)}'")
+    if not paths and not patterns:
+        history.notice(f"there is no {' or '.join(kinds)} {place_text(top)}, so name paths by a PATTERN")
+    return lives
+
+
+def place_text(top: bytes) -> str:
+    return "in this history" if top == b"/" else f"at or below '{decoded(top)}'"
+
+
+def alive_in(history: History, lives: Iterable[Life]) -> list[Life]:
+    """The lives that are there today."""
+    lives = list(lives)
+    alive = [life for life in lives if life.is_alive]
+    if lives and not alive:
+        history.check()
+        history.notice("of what matches, nothing is there any more")
+    return alive
+
+
+def answered(answer: Answer) -> list[int]:
+    """The revisions of an answer to `log` about a life, the newest first. That svnhist has no such path can't be."""
+    if not isinstance(answer, Logged) or not answer.ok:
+        raise RuntimeError(f"svnhist says {answer.status} of {answer.query!r}")
+    return answer.revisions
+
+
+def last_changes(history: History, lives: Sequence[Life]) -> dict[Life, int]:
+    """The newest operative revision of each life. That of a long one would be long, so its end is asked first."""
+    found: dict[Life, int] = {}
+    # The last life of a chain may be long, and each of those before it is asked together with what it continues.
+    left = [part for chain in chains_of(lives) for part in (chain[:-1], chain[-1:]) if part]
+    window = FIRST_WINDOW
+    while left:
+        lows = [max(part[0].first, part[0].last - window) for part in left]
+        answers = history.ask([log_of(part, low) for part, low in zip(left, lows)])
+        for part, low, answer in zip(left, lows, answers):
+            for life, revisions in zip(part, split(answer, part)):
+                if revisions or low <= life.first:
+                    found[life] = max(revisions, default=life.first)
+        left = [part for part in left if part[0] not in found]
+        window *= WINDOW_GROWS
+    return found
+
+
+class Listed(NamedTuple):
+    """A life, and the newest operative revision of it."""
+
+    life: Life
+    last_change: int
+    # Whether it goes on with another one of those listed under a new name, and under which one it goes on itself.
+    is_moved: bool
+    moved_to: Life | None
+    # Whether it is a directory of branches, and none itself.
+    is_folder: bool
+
+
+def listed(history: History, patterns: Sequence[bytes]) -> Iterator[Listed]:
+    """The lives of all paths that match a pattern, or of the trunk, the branches and the tags."""
+    lives = lives_of(history, patterns)
+    changes = last_changes(history, lives)
+    moves = moves_of(lives)
+    moved = set(moves.values())
+    for life in lives:
+        is_folder = life.source is None and history.tree.is_folder(life.path)
+        yield Listed(life, changes[life], life in moved, moves.get(life), is_folder)
+
+
+def log_of(chain: Sequence[Life], low: int) -> Log:
+    """The query for the operative revisions of lives that continue each other, from a revision on."""
+    last = chain[-1]
+    return Log(last.path, last.last, (low, last.last))
+
+
+def split(answer: Answer, chain: Sequence[Life]) -> list[list[int]]:
+    """The operative revisions of each life of a chain, rising, by the answer about all of it."""
+    revisions = answered(answer)[::-1]
+    return [between(revisions, life.first, life.last) for life in chain]
+
+
+def logs_of(lives: Sequence[Life]) -> list[Query[Answer]]:
+    """The queries for the operative revisions of lives. What one was before, under a path that is not asked about, is no
+    part of it."""
+    return [log_of(chain, chain[0].first) for chain in chains_of(lives)]
+
+
+def operative(lives: Sequence[Life], answers: Iterator[Answer]) -> dict[Life, list[int]]:
+    """The operative revisions of each life, rising, by the answers to its queries, which are the next ones."""
+    found: dict[Life, list[int]] = {}
+    for chain in chains_of(lives):
+        for life, revisions in zip(chain, split(next(answers), chain)):
+            # `svn log` lists a copy of a directory above to itself, and for svnhist nothing happens to the path there.
+            is_renewed = life.source == (life.path, life.first - 1) and life.first not in revisions[:1]
+            found[life] = [life.first] * is_renewed + revisions
+    return {life: found[life] for life in lives}
+
+
+class Holder(NamedTuple):
+    """A path that has a revision: in its own history, by a merge, whole or in part, or by a record of one alone."""
+
+    path: bytes
+    how: str
+
+
+class Asked(NamedTuple):
+    """What is asked of a branch or a tag that may have a revision: where it was only if `svn log` may list more than
+    svnhist."""
+
+    log: Log
+    value: Mergeinfo
+    where: Where | None
+
+    def queries(self) -> Iterator[Query[Answer]]:
+        yield from (self.log, self.value)
+        if self.where is not None:
+            yield self.where
+
+
+def holders(history: History, patterns: Sequence[bytes], rev: int) -> Iterator[Holder]:
+    """The branches and tags of today that have a revision of one of them."""
+    changed = {change.path for change in history.changes(rev)}
+    alive = alive_in(history, lives_of(history, patterns))
+    lists_more = log.may_list_more(history)
+    places = [(life.path, history.head) for life in alive]
+    asked = [
+        Asked(Log(*place, (rev, rev)), Mergeinfo(*place), Where(*place) if lists_more or place[0] == b"/" else None)
+        for place in places
+    ]
+    answers = history.answers(query for each in asked for query in each.queries())
+    found: dict[bytes, str] = {}
+    named: dict[bytes, list[Naming]] = {}
+    for life, each in zip(alive, asked):
+        segments, value = [] if each.where is None else answers[each.where].segments, answers[each.value]
+        if rev in log.listed(history, log.Trace(segments, answered(answers[each.log]))):
+            found[life.path] = HISTORY
+        elif value.ok:
+            named[life.path] = list(namings(history, value.value, changed, rev))
+    paths = [path for path, namings_of in named.items() if namings_of]
+    for path, recorded in zip(paths, Recorded(history).of((path, history.head) for path in paths)):
+        found[path] = how_merged(named[path], recorded, rev)
+    yield from (Holder(life.path, found[life.path]) for life in alive if life.path in found)
+
+
+class Naming(NamedTuple):
+    """A source path of which mergeinfo has a revision, and whether as a whole."""
+
+    source: bytes
+    is_whole: bool
+
+
+def namings(history: History, value: dict[bytes, str], changed: set[bytes], rev: int) -> Iterator[Naming]:
+    """The sources of which mergeinfo has a revision, and which the revision changed, given all that it changed."""
+    for source, ranges in value.items():
+        for run in runs_of(ranges.encode("ascii")):
+            if run.lo <= rev <= run.hi and (
+                not changed.isdisjoint(tops_of(source)) or history.changes_below(rev, source)
+            ):
+                yield Naming(source, run.inheritable)
+
+
+def how_merged(named: Sequence[Naming], recorded: Intervals, rev: int) -> str:
+    """Whether a revision was merged, and if so whether as a whole, or only recorded."""
+    found = [each.is_whole for each in named if not has(recorded.get(each.source, ()), rev)]
+    return RECORDED if not found else MERGED if any(found) else IN_PART
+
+
+class Left(NamedTuple):
+    """The revisions of a branch that are still to be merged, each with whether a part of it was merged."""
+
+    path: bytes
+    revisions: list[tuple[int, bool]]
+
+
+class Compared(NamedTuple):
+    """What is left of a branch, the target into which it is to be merged, and what svnhist says of the branch."""
+
+    left: Left
+    source: Target
+    target: Target
+    answers: Answers
+
+    @property
+    def trace(self) -> log.Trace:
+        """Where the branch was."""
+        return log.Trace(self.answers[Where(*self.source)].segments, self.answers[Log(*self.source)].revisions)
+
+
+def unmerged(history: History, patterns: Sequence[bytes], into: Target | None) -> Iterator[Compared]:
+    """What of each branch of today is still to be merged into a target, or into the trunk of its own project:
+    `svn mergeinfo --show-revs eligible`."""
+    explicit = history.explicit
+    alive = alive_in(history, lives_of(history, patterns, (projects.BRANCH,)))
+    targets = targets_of(history, alive, into)
+    sources = {Target(life.path, history.head): targets[life] for life in alive if life in targets}
+    question = mergeinfo.Question("eligible")
+    about = (mergeinfo.queries_about(explicit, target, question) for target in set(sources.values()))
+    merges = mergeinfo.Merges(history, explicit, history.answers(itertools.chain.from_iterable(about)))
+    asked = {source: mergeinfo.queries_of_pair(source, target, question) for source, target in sources.items()}
+    replies = history.ask(itertools.chain.from_iterable(asked.values()))
+    for source, target in sources.items():
+        answers = Answers(zip(asked[source], replies))
+        revisions = merges.shown(source, target, question, answers)
+        yield Compared(Left(source.path, revisions), source, target, answers)
+
+
+def recorded_of(history: History, compared: Iterable[Compared]) -> Iterator[tuple[Left, list[int]]]:
+    """What is left of branches, and of each the revisions that were only recorded as merged."""
+    recorded = Recorded(history)
+    for each in compared:
+        (of_target,) = recorded.of([each.target])
+        yield each.left, list(only_recorded(history, of_target, each.trace))
+
+
+def only_recorded(history: History, recorded: Intervals, trace: log.Trace) -> Iterator[int]:
+    """The revisions of a source that were only recorded, each at the path where the source was then."""
+    revisions = log.listed(history, trace)
+    for segment in reversed(trace.segments):
+        found = recorded.get(segment.path or b"", ())
+        if found:
+            begin, end = bisect.bisect_left(revisions, segment.lo), bisect.bisect_right(revisions, segment.hi)
+            yield from (rev for rev in revisions[begin:end] if has(found, rev))
+
+
+def targets_of(history: History, alive: Sequence[Life], into: Target | None) -> dict[Life, Target]:
+    """The target into which each branch is to be merged, but for the branch that is that target."""
+    found = {life: into for life in alive} if into is not None else own_targets(history, alive)
+    left = {life: target for life, target in found.items() if life.path != target.path}
+    if found and not left:
+        history.check()
+        history.notice("what matches is the target itself: --into names another one")
+    return left
+
+
+def own_targets(history: History, alive: Sequence[Life]) -> dict[Life, Target]:
+    """The trunk of the project of each branch."""
+    trunks = {life: trunk_of(history, life) for life in alive}
+    found = {life: Target(trunk, history.head) for life, trunk in trunks.items() if trunk is not None}
+    missing = [life.path for life in alive if life not in found]
+    if missing and not found:
+        history.check()
+        raise Denied("E160013", f"There is no trunk beside '{decoded(missing[0])}': --into names a target")
+    for path in missing:
+        history.notice(f"there is no trunk beside '{decoded(path)}', which is left out: --into names a target")
+    return found
+
+
+def trunk_of(history: History, life: Life) -> bytes | None:
+    """The trunk of the project that a branch is of by its name, or by that of what it was copied from, if there is one
+    today."""
+    place: Place | None = (life.path, life.last)
+    while place is not None:
+        trunk = projects.trunk_of(place[0])
+        if trunk is not None:
+            return trunk if history.tree.exists(trunk, history.head) else None
+        place = history.tree.source(*place)
+    return None
+
+
+class Event(NamedTuple):
+    """What happened to a tag after it was made. For a tag that was renamed `other` is where it is, for one that was made
+    again what it is a copy of."""
+
+    what: str
+    rev: int
+    other: Place | None = None
+
+
+class Touched(NamedTuple):
+    """A life to which something happened: what changed it, beside what made it, and that it ended or was made again."""
+
+    life: Life
+    is_changed_when_made: bool
+    revisions: list[int]
+    events: list[Event]
+
+
+def touched(history: History, patterns: Sequence[bytes]) -> Iterator[Touched]:
+    """The tags that are not what they were copied from, that were made again, and those that were deleted or renamed."""
+    lives = lives_of(history, patterns, (projects.TAG,))
+    found = operative(lives, history.ask(logs_of(lives)))
+    changed = {life: [rev for rev in revisions if rev > life.first] for life, revisions in found.items()}
+    before: Life | None = None
+    for life in lives:
+        below = any(change.path != life.path for change in history.changes_below(life.first, life.path))
+        of_path = before if before is not None and before.path == life.path else None
+        events = begin_of(life, of_path) + [Event(CHANGED, rev) for rev in [life.first] * below + changed[life]]
+        events += end_of(history, life)
+        before = life
+        if events:
+            yield Touched(life, below, changed[life], events)
+
+
+def begin_of(life: Life, before: Life | None) -> list[Event]:
+    """That a tag was made again, unless it goes on as a copy of itself."""
+    return [] if before is None or life.continues(before) else [Event(AGAIN, life.first, life.source)]
+
+
+def end_of(history: History, life: Life) -> list[Event]:
+    """How a tag ended, unless it goes on as a copy of itself."""
+    if life.is_alive:
+        return []
+    end = life.last + 1
+    moved_to = history.tree.moved_to(life)
+    if moved_to is None:
+        return [Event(DELETED, end)]
+    return [] if moved_to == life.path else [Event(RENAMED, end, (moved_to, end))]

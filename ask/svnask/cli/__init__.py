@@ -1,0 +1,1 @@
+"""The command `svnask`: what a user calls."""

@@ -1,0 +1,101 @@
+"""What all verbs of the command have in common."""
+from __future__ import annotations
+
+import re
+from argparse import ArgumentParser, ArgumentTypeError, Namespace
+from collections.abc import Iterator
+from typing import Any
+
+from svnask.copy.changes import Change, Place
+from svnask.copy.store import Record
+from svnask.digits import number
+from svnask.history.history import History
+from svnask.history.targets import decoded, pattern_of
+
+Object = dict[str, Any]
+
+
+class Verb:
+    """A verb of the command."""
+
+    name = ""
+    help = ""
+    # How it is called, if not after a SOURCE.
+    usage: str | None = None
+    # Whether a dump that is refused has no answer.
+    judges = True
+
+    def arguments(self, parser: ArgumentParser) -> None:
+        """Tells the parser what follows the verb."""
+
+    def text(self, history: History, given: Namespace) -> Iterator[bytes]:
+        """What is printed, piece after piece."""
+        raise NotImplementedError
+
+    def objects(self, history: History, given: Namespace) -> Iterator[Object]:
+        """The same for a script, one object a line."""
+        raise NotImplementedError
+
+
+def patterns_of(history: History, given: Namespace) -> list[bytes]:
+    return [pattern_of(history, pattern) for pattern in given.patterns]
+
+
+def add_patterns(parser: ArgumentParser, default: str) -> None:
+    parser.add_argument(
+        "patterns",
+        metavar="PATTERN",
+        nargs="*",
+        default=[],
+        help="a path, in which *, ? and [..] stand for characters of a name, and ** at the end for the trunks, the "
+        f"branches and the tags at any depth; {default} if none is given",
+    )
+
+
+def counted(text: str) -> int:
+    """The number that an argument is."""
+    if re.match("[0-9]+\\Z", text) is None:
+        raise ArgumentTypeError(f"'{text}' is not a number")
+    return number(text)
+
+
+def shown(text: bytes | None) -> str | None:
+    return None if text is None else decoded(text)
+
+
+def object_of_place(place: Place) -> Object:
+    return {"path": decoded(place[0]), "revision": place[1]}
+
+
+def object_of_change(change: Change) -> Object:
+    found: Object = {"path": decoded(change.path), "action": change.letter}
+    if change.source:
+        found["from"] = object_of_place(change.source)
+    return found
+
+
+def object_of_revision(history: History, rev: int) -> Object:
+    revision = history.revision(rev)
+    return {
+        "revision": rev,
+        "author": shown(revision.author),
+        "date": shown(revision.date),
+        "message": shown(revision.message),
+        "changes": [object_of_change(each) for each in history.changes(rev)],
+    }
+
+
+def object_of_record(record: Record) -> Object:
+    found: Object = {
+        "record": record.number,
+        "revision": record.rev,
+        "path": decoded(record.path),
+        "action": record.action,
+        "kind": record.kind,
+        "byte": record.at,
+    }
+    if record.source:
+        found["from"] = object_of_place(record.source)
+    if record.mergeinfo:
+        found["mergeinfo"] = shown(record.mergeinfo.text)
+    return found

@@ -1,0 +1,155 @@
+"""`mergeinfo` and `check-mergeinfo`."""
+from __future__ import annotations
+
+from argparse import ArgumentParser, Namespace
+from collections.abc import Iterator
+
+from svnask.cli.verbs.base import Object, Verb, add_patterns, object_of_place, object_of_revision, patterns_of, shown
+from svnask.engine.queries import Mergeinfo
+from svnask.errors import Denied, Unsound, Usage
+from svnask.history.history import History, one
+from svnask.history.targets import decoded, encoded, known, place_of, range_of, target_of
+from svnask.log import selection as log
+from svnask.log.forms import Wanted, printed
+from svnask.log.plain import PlainForm
+from svnask.merges import diagram
+from svnask.merges import show_revs as mergeinfo
+from svnask.merges.soundness import findings
+
+# The options that need another one, in the order in which `svn` judges them.
+OF_LOG = (("quiet", "--quiet (-q)"), ("verbose", "--verbose (-v)"), ("incremental", "--incremental"))
+OF_SHOW_REVS = (
+    ("ranges", "--revision (-r) option"),
+    ("depth", "Depth specification options"),
+    ("log", "--log option"),
+)
+
+
+OF_DEPTH = "also by the mergeinfo of paths below the target"
+OF_RANGES = "only these revisions of the source"
+
+
+class MergeinfoVerb(Verb):
+    name = "mergeinfo"
+    help = "the mergeinfo of a path, or what 'svn mergeinfo' prints of a source and a target"
+
+    def arguments(self, parser: ArgumentParser) -> None:
+        parser.add_argument("source", metavar="PATH[@PEG]", help="a path; the source, if there is a target")
+        parser.add_argument("target", metavar="TARGET[@PEG]", nargs="?")
+        parser.add_argument("--show-revs", metavar="merged|eligible", help="what was merged, or is still to be")
+        parser.add_argument("-R", "--recursive", dest="depth", action="store_const", const="infinity", help=OF_DEPTH)
+        parser.add_argument("--depth", metavar="empty|infinity", help="infinity is -R")
+        parser.add_argument(
+            "-r", "--revision", dest="ranges", metavar="LO:HI", action="append", default=[], help=OF_RANGES
+        )
+        parser.add_argument("--log", action="store_true", help="the revisions as a log")
+        parser.add_argument("-q", "--quiet", action="store_true", help="a log without messages")
+        parser.add_argument("-v", "--verbose", action="store_true", help="a log with changed paths")
+        parser.add_argument("--incremental", action="store_true", help="a log without the line at its end")
+
+    def judge(self, given: Namespace) -> None:
+        """Refuses options without the one that they belong to."""
+        for name, option in OF_LOG:
+            if getattr(given, name) and not given.log:
+                raise Denied("E205000", f"{option} option valid only with --log option")
+        if given.show_revs not in (None, "merged", "eligible"):
+            raise Denied("E205000", f"'{given.show_revs}' is not a valid --show-revs value")
+        for name, options in OF_SHOW_REVS:
+            if getattr(given, name) and not given.show_revs:
+                raise Denied("E205000", f"{options} valid only with --show-revs option")
+        if given.depth not in (None, "empty", "infinity"):
+            raise Denied("E200007", "Only depths 'infinity' and 'empty' are currently supported")
+        if given.show_revs and given.target is None:
+            raise Usage("--show-revs takes a source and a target")
+        if len(given.ranges) > 1:
+            raise Denied("E205000", "Multiple revision arguments encountered; can't specify -r more than once")
+
+    def value(self, history: History, given: Namespace) -> dict[bytes, str]:
+        target = target_of(history, given.source)
+        answer = one(history.ask([Mergeinfo(*target)]))
+        if answer.status == "malformed-mergeinfo":
+            raise Denied("E200020", f"the mergeinfo of '{decoded(target.path)}' can't be read")
+        if not answer.ok:
+            raise log.not_found(history, target, target.rev)
+        return answer.value
+
+    def revisions(self, history: History, given: Namespace) -> list[tuple[int, bool]]:
+        bounds = range_of(history, given.ranges[0]) if given.ranges else None
+        target = target_of(history, given.target)
+        source = place_of(history, given.source)
+        question = mergeinfo.Question(given.show_revs, given.depth == "infinity", bounds)
+        if question.is_recursive and target.path == b"/":
+            raise Denied("E195002", "-R is not taken for the root, where 'svn' fails itself")
+        explicit = history.explicit
+        if source.rev > history.head and question.verb == "merged":
+            # Without mergeinfo of the target `svn` does not look at the source.
+            answers = history.answers(mergeinfo.queries_about(explicit, target, question))
+            if mergeinfo.Merges(history, explicit, answers).has_none(target, question.is_recursive):
+                return []
+        known(history, source.rev)
+        answers = history.answers(mergeinfo.queries_of(explicit, source, target, question))
+        return mergeinfo.Merges(history, explicit, answers).shown(source, target, question)
+
+    def summary(self, history: History, given: Namespace) -> diagram.Summary:
+        source = target_of(history, given.source)
+        return diagram.summary(history, source, target_of(history, given.target))
+
+    def log(self, history: History, given: Namespace) -> Iterator[bytes]:
+        items = [log.Item(rev) for rev, _ in self.revisions(history, given)]
+        return printed(history, items, Wanted(is_verbose=given.verbose), PlainForm(given.quiet, given.incremental))
+
+    def text(self, history: History, given: Namespace) -> Iterator[bytes]:
+        self.judge(given)
+        if given.log:
+            return self.log(history, given)
+        if given.show_revs:
+            return mergeinfo.show_revs_text(self.revisions(history, given))
+        if given.target is not None:
+            return diagram.text(self.summary(history, given))
+        return (b"%s:%s\n" % (path, ranges.encode("ascii")) for path, ranges in self.value(history, given).items())
+
+    def objects(self, history: History, given: Namespace) -> Iterator[Object]:
+        self.judge(given)
+        if given.show_revs:
+            for rev, starred in self.revisions(history, given):
+                found = object_of_revision(history, rev) if given.log else {"revision": rev}
+                yield {**found, "partial": starred}
+        elif given.target is not None:
+            yield object_of_summary(self.summary(history, given))
+        else:
+            for path, ranges in self.value(history, given).items():
+                yield {"path": decoded(path), "ranges": ranges}
+
+
+def object_of_summary(found: diagram.Summary) -> Object:
+    return {
+        "source": object_of_place(found.source),
+        "target": object_of_place(found.target),
+        "ancestor": object_of_place(found.ancestor),
+        "merged": None if found.merged is None else object_of_place(found.merged),
+        "is_back": found.is_back,
+    }
+
+
+class CheckMergeinfoVerb(Verb):
+    name = "check-mergeinfo"
+    help = "what is wrong with values of svn:mergeinfo, with status 1 if anything is"
+
+    def arguments(self, parser: ArgumentParser) -> None:
+        add_patterns(parser, "all paths")
+
+    def text(self, history: History, given: Namespace) -> Iterator[bytes]:
+        found = findings(history, patterns_of(history, given))
+        for each in found:
+            named = b"" if each.source is None else b"%s:%s " % (each.source, each.ranges)
+            yield b"%s\t%s%s\n" % (each.path, named, encoded(each.reason))
+        if found:
+            raise Unsound
+
+    def objects(self, history: History, given: Namespace) -> Iterator[Object]:
+        found = findings(history, patterns_of(history, given))
+        for each in found:
+            named = {"source": shown(each.source), "ranges": each.ranges.decode("ascii") or None}
+            yield {"path": decoded(each.path), **named, "reason": each.reason}
+        if found:
+            raise Unsound

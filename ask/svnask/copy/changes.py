@@ -1,0 +1,213 @@
+"""The changed paths of a revision, as `svn log -v` lists them."""
+from __future__ import annotations
+
+import re
+from collections.abc import Iterable, Iterator
+from operator import methodcaller
+from typing import NamedTuple
+
+from svnask.copy.store import Node, Record
+from svnask.copy.strip import MERGEINFO, clean
+from svnask.digits import number
+
+# A path and a revision.
+Place = tuple[bytes, int]
+# How `svn log -v` writes what a record does.
+LETTERS = {b"add": "A", b"change": "M", b"delete": "D", b"replace": "R"}
+NUL_FOR_SLASH = methodcaller("replace", b"/", b"\0")
+# The offset in the block of a record, what stands before a section, and a block without these.
+OFFSET = re.compile(rb"\nAt: .*")
+SECTION = re.compile(rb"\nProp-content-length: ([0-9]{1,18})\nContent-length: .*\n\n")
+# The block of a record without a kind, as that of a deletion is.
+WITHOUT_KIND = re.compile(rb"Node-path: .*\n(?!Node-kind: )")
+PLAIN = re.compile(
+    rb"Node-path: (.*)\n(?:Node-kind: (.*)\n)?Node-action: (add|change|delete|replace)"
+    rb"(?:\nNode-copyfrom-rev: ([0-9]+)\nNode-copyfrom-path: (.*))?(?:\nProp-delta: .*)?(?:\nText-delta: .*)?"
+    rb"(?:\nMods: (text)?(?: ?(properties))?)?(?:\nProp-content-length: 10\nContent-length: 10)?"
+)
+
+
+class Change(NamedTuple):
+    """A changed path: added, deleted, modified or replaced, and where a copy came from."""
+
+    path: bytes
+    letter: str
+    source: Place | None
+    # `file` or `dir`, but for a deletion: no record says that of one.
+    kind: str | None = None
+    # Whether the revision gave a text, and whether it changed properties.
+    has_text: bool = False
+    has_properties: bool = False
+
+    def line(self) -> bytes:
+        line = b"   %s %s" % (self.letter.encode("ascii"), self.path)
+        return line + b" (from %s:%d)" % self.source if self.source else line
+
+
+def components(path: bytes) -> list[bytes]:
+    return [part for part in path.split(b"/") if part]
+
+
+def is_at_or_below(path: bytes, top: bytes) -> bool:
+    return path == top or path.startswith(top if top.endswith(b"/") else top + b"/")
+
+
+def joined(top: bytes, rest: bytes) -> bytes:
+    """The path of what is below another one."""
+    if not rest:
+        return top
+    return top + rest if top.endswith(b"/") else top + b"/" + rest
+
+
+def rest_below(path: bytes, top: bytes) -> bytes:
+    assert is_at_or_below(path, top)
+    return path[len(top) :].lstrip(b"/")
+
+
+def tops_of(path: bytes) -> Iterator[bytes]:
+    """A path and those above it, the nearest first."""
+    yield path
+    while path != b"/":
+        path = path.rpartition(b"/")[0] or b"/"
+        yield path
+
+
+class Unusual(Exception):
+    """A record has not the form that Subversion writes."""
+
+
+class KnownBlocks(dict[bytes, "Change | None"]):
+    """The changes of records by their blocks. Most paths are changed in the same way again and again."""
+
+    def __init__(self) -> None:
+        # An empty section, and the end of the last block, are no records.
+        super().__init__({b"": None, b"PROPS-END": None})
+
+    def __missing__(self, block: bytes) -> Change:
+        plain = PLAIN.fullmatch(block)
+        if plain is None:
+            raise Unusual
+        found = self[block] = change_of(*plain.groups())
+        return found
+
+    def changes(self, blocks: bytes) -> list[Change] | None:
+        """What the records of a revision come to, or None where one has not the form that Subversion writes."""
+        if MERGEINFO in blocks:
+            blocks = without_sections(blocks)
+        found = Combined()
+        try:
+            for block in OFFSET.sub(b"", blocks).lstrip(b"\n").split(b"\n\n"):
+                change = self[block]
+                if change is not None:
+                    found.add(change)
+        except Unusual:
+            return None
+        return found.in_order()
+
+
+def without_sections(blocks: bytes) -> bytes:
+    """The blocks of records without their property sections."""
+    kept: list[bytes] = []
+    at = 0
+    while found := SECTION.search(blocks, at):
+        kept += [blocks[at : found.start()], b"\n\n"]
+        at = found.end() + int(found[1]) + 1
+    return b"".join((*kept, blocks[at:]))
+
+
+def changes_of(nodes: Iterable[Node]) -> list[Change]:
+    """What the records of a revision come to, in the order of their paths."""
+    found = Combined()
+    for node in nodes:
+        found.add(change_of(*node))
+    return found.in_order()
+
+
+def change_of(
+    path: bytes,
+    kind: bytes | None,
+    action: bytes | None,
+    rev: bytes | None,
+    source: bytes | None,
+    text: bytes | None,
+    properties: bytes | None,
+) -> Change:
+    """What one record does."""
+    letter = LETTERS.get(action or b"", "R")
+    if letter == "D":
+        return Change(clean(path), letter, None)
+    place = (clean(source), number(rev)) if rev and source is not None and letter != "M" else None
+    of_node = None if kind is None else kind.decode("latin-1")
+    return Change(clean(path), letter, place, of_node, text is not None, properties is not None)
+
+
+def source_of(records: Iterable[Record], path: bytes) -> Place | None:
+    """Where a path came from with a copy that a revision with these records made of it or of a path above it."""
+    found: Place | None = None
+    for record in records:
+        if record.action in ("add", "replace") and is_at_or_below(path, record.path):
+            found = record.source
+            if found is not None:
+                found = joined(found[0], rest_below(path, record.path)), found[1]
+    return found
+
+
+def place_of(change: Change, rev: int, records: Iterable[Record]) -> Place:
+    """A place at which a changed path is, given the records of the revision. What was deleted was there before, or came
+    with a copy of a directory above it."""
+    if change.letter != "D":
+        return change.path, rev
+    top, _, name = change.path.rpartition(b"/")
+    source = source_of(records, top or b"/")
+    return (joined(source[0], name), source[1]) if source is not None else (change.path, rev - 1)
+
+
+class Combined:
+    """What the records of a revision come to, one after another."""
+
+    def __init__(self) -> None:
+        self._found: dict[bytes, Change] = {}
+        # From the first deletion on, the paths that were changed at and below each path. Some may have gone since.
+        self._below: dict[bytes, list[bytes]] | None = None
+
+    def add(self, change: Change) -> None:
+        """Adds what one more record does, as the change that it would be alone."""
+        path, letter = change.path, change.letter
+        before = self._found.get(path)
+        if before is None and letter in "AM":
+            self._put(change)
+        elif before is not None and letter == "M":
+            self._found[path] = before._replace(
+                has_text=before.has_text or change.has_text,
+                has_properties=before.has_properties or change.has_properties,
+            )
+        elif letter == "A":
+            self._found[path] = change if before is None or before.letter == "A" else change._replace(letter="R")
+        else:
+            self._remove(path)
+            if letter == "R" or before is None or before.letter != "A":
+                self._put(change)
+
+    def _put(self, change: Change) -> None:
+        self._found[change.path] = change
+        if self._below is not None:
+            self._note(self._below, change.path)
+
+    @staticmethod
+    def _note(below: dict[bytes, list[bytes]], path: bytes) -> None:
+        for top in tops_of(path):
+            below.setdefault(top, []).append(path)
+
+    def _remove(self, path: bytes) -> None:
+        """Removes the changes at and below a path."""
+        if self._below is None:
+            self._below = {}
+            for each in self._found:
+                self._note(self._below, each)
+        for each in self._below.pop(path, ()):
+            self._found.pop(each, None)
+
+    def in_order(self) -> list[Change]:
+        """The changes in the order of their paths, component by component, of which none has a NUL."""
+        found = self._found
+        return [found[path] for path in sorted(found, key=NUL_FOR_SLASH)] if len(found) > 1 else [*found.values()]

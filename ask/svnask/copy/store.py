@@ -1,0 +1,475 @@
+"""A dump without its texts, with what is asked of its revisions, in a folder of a cache or of a run."""
+from __future__ import annotations
+
+import bisect
+import functools
+import mmap
+import os
+import re
+import shutil
+import zlib
+from collections.abc import Iterator
+from itertools import chain
+from typing import IO, Any, BinaryIO, NamedTuple, Union
+
+from svnask import digits
+from svnask.copy.strip import (
+    LAST_LINE,
+    MERGEINFO,
+    ONE_MERGEINFO,
+    Malformed,
+    body_of,
+    clean,
+    entries_of,
+    is_one_mergeinfo,
+)
+from svnask.errors import Damaged
+from svnask.sources import cache
+
+# A part of a copy.
+Bytes = Union[mmap.mmap, bytes]
+# Of a record the path, the kind, the action, the revision and the path of its source, and what it gave and changed.
+Node = tuple[Any, ...]
+VERSION = b"svnask 5"
+FIRST_LINE = b"SVN-fs-dump-format-version: 2\n\n"
+# The parts of a block of the copy. `Stripper` writes the headers in this order.
+PLACE = rb"Node-path: (?P<path>[^\n]*)\n(?:Node-kind: (?P<kind>[^\n]*)\n)?"
+OF_RECORD = (
+    rb"(?:Node-action: (?P<action>[^\n]*)\n)?(?:Node-copyfrom-rev: (?P<from_rev>[0-9]+)\n)?"
+    rb"(?:Node-copyfrom-path: (?P<from_path>[^\n]*)\n)?(?P<delta>Prop-delta: true\n)?(?:Prop-delta: [^\n]*\n)?"
+    rb"(?:Text-delta: [^\n]*\n)?"
+)
+OF_ALL = (
+    rb"At: (?P<at>[0-9]+)\n(?:Mods: (?P<text>text)?(?: ?(?P<properties>properties))?\n)?"
+    rb"(?:Prop-content-length: (?P<length>[0-9]+)\nContent-length: [0-9]+\n)?\n"
+)
+BLOCK = re.compile(rb"\n*(?:Revision-number: (?P<rev>[0-9]+)\n|%s%s|UUID: [^\n]*\n)%s" % (PLACE, OF_RECORD, OF_ALL))
+# The block of a record that does more than to change a text or other properties than mergeinfo.
+TELLING = re.compile(
+    rb"%s(?!Node-kind: |Node-action: change\n"
+    rb"(?:Prop-delta: .*\n)?(?:Text-delta: .*\n)?At: .*\n(?:Mods: .*\n)?\n)%s%s" % (PLACE, OF_RECORD, OF_ALL)
+)
+# The block of a revision, and up to its message the properties that most have, in the order in which Subversion writes
+# them.
+REVISION = re.compile(
+    rb"Revision-number: (?P<rev>[0-9]{1,18})\nAt: (?P<at>[0-9]{1,18})\n"
+    rb"(?:Prop-content-length: (?P<length>[0-9]{1,18})\nContent-length: .*\n)?\n(?P<section>)"
+    rb"(?:K 10\nsvn:author\nV ([0-9]{1,18})\n(.*)\nK 8\nsvn:date\nV 27\n(.{27})\nK 7\nsvn:log\nV ([0-9]{1,18})\n)?"
+)
+# The offset of a block, which follows its other headers, but for a block that is not well formed.
+MARK = re.compile(rb"\n*(?:[^\n]+\n)*?At: ([0-9]+)\n")
+# The end of a property section after a value.
+END = b"\n" + LAST_LINE
+# A property of a revision, up to its value.
+ENTRY = re.compile(rb"K [0-9]+\n(.*)\nV ([0-9]{1,18})\n")
+
+
+class Setting(NamedTuple):
+    """What a record does to the mergeinfo of its path: it puts a text, or takes it away."""
+
+    text: bytes | None
+
+
+class Record(NamedTuple):
+    """A change of one path. Records are numbered from 1; `at` is the offset of its block in the given dump."""
+
+    number: int
+    rev: int
+    path: bytes
+    action: str
+    kind: str | None
+    source: tuple[bytes, int] | None
+    mergeinfo: Setting | None
+    at: int
+    # Whether it gives a text, and whether it changes properties.
+    has_text: bool
+    has_properties: bool
+
+
+class Revision(NamedTuple):
+    """Who committed a revision, when, and with which message; `at` is the offset of its block in the given dump."""
+
+    number: int
+    author: bytes | None
+    date: bytes | None
+    message: bytes | None
+    at: int
+    # All that it has, these three too.
+    properties: dict[bytes, bytes]
+
+
+class Kept(NamedTuple):
+    """What the cache knows of a copy: what it is of, how the file was of which it is, the number in the names of its
+    files, and the length of the first one."""
+
+    kind: bytes = b""
+    # The real path of a file or a folder, or a URL.
+    place: bytes = b""
+    state: bytes = b""
+    generation: int = 0
+    base: int = 0
+
+
+class Index(NamedTuple):
+    """What is known of a copy beside its bytes."""
+
+    format: int
+    uuid: bytes
+    records: int
+    # How many bytes the dump has, and how many the copy.
+    size: int
+    length: int
+    is_whole: bool
+    # The offset in the copy of each revision.
+    revisions: list[int]
+    # The revision and the path of each copy of a path of the revision before to itself.
+    renewals: list[tuple[int, bytes]]
+    # The runs of revisions without a date.
+    undated: list[tuple[int, int]]
+    # The checksum of the bytes before the first revision, and of those of each revision.
+    sums: list[int]
+    kept: Kept = Kept()
+
+    def text(self) -> bytes:
+        kind, place, state, generation, base = self.kept
+        counts = self.format, self.records, self.size, self.length, len(self.revisions), generation, base, len(place)
+        sums, undated = b" ".join(b"%x" % each for each in self.sums), b" ".join(b"%d-%d" % run for run in self.undated)
+        lines = [b"%d %d %d %d %d %d %d %d" % counts, self.uuid, kind, state, sums, undated]
+        lines += [b"%d" % place for place in self.revisions]
+        lines += [b"%d %s" % renewal for renewal in self.renewals]
+        # A place may have newlines.
+        rest = b"\n".join(lines) + b"\n" + place
+        return b"%s %d %08x\n%s" % (VERSION, len(rest), zlib.crc32(rest), rest)
+
+
+# How many lines of an index stand before those of the revisions.
+LINES = 6
+
+
+def index_of(text: bytes) -> Index:
+    """The index in a text, which begins with the version and with the length and a checksum of what follows.
+    `ValueError` or `IndexError` where it is not one."""
+    head, _, rest = text.partition(b"\n")
+    if head != b"%s %d %08x" % (VERSION, len(rest), zlib.crc32(rest)):
+        raise ValueError("another version, or not as it was written")
+    counts, uuid, kind, state, sums, undated, _ = rest.split(b"\n", LINES)
+    version, records, size, length, count, generation, base, named = map(int, counts.split())
+    lines = rest[: len(rest) - named - 1].split(b"\n")
+    pairs = [line.split(b" ", 1) for line in lines[LINES + count :]]
+    runs = [run.split(b"-") for run in undated.split()]
+    return Index(
+        version,
+        uuid,
+        records,
+        size,
+        length,
+        True,
+        list(map(int, lines[LINES : LINES + count])),
+        [(int(rev), path) for rev, path in pairs],
+        [(int(first), int(last)) for first, last in runs],
+        [int(each, 16) for each in sums.split()],
+        Kept(kind, rest[len(rest) - named :], state, generation, base),
+    )
+
+
+class Front(NamedTuple):
+    """What an index says of a copy as a whole."""
+
+    kept: Kept
+    length: int
+
+
+def front_of(file: BinaryIO) -> Front:
+    """The front of an index in a file, read without what the index has for each revision. `ValueError` or `IndexError`
+    where it is not one."""
+    head = file.readline().rstrip(b"\n")
+    begin = file.tell()
+    counts, _, kind, state = (file.readline().rstrip(b"\n") for _ in range(4))
+    end = file.seek(0, os.SEEK_END)
+    if not head.startswith(b"%s %d " % (VERSION, end - begin)):
+        raise ValueError("another version, or not the whole of an index")
+    _, _, _, length, _, generation, base, named = map(int, counts.split())
+    file.seek(max(begin, end - named))
+    return Front(Kept(kind, file.read(), state, generation, base), length)
+
+
+class Store:
+    """The copy of a dump, which has two parts, and its index. No block is in both.
+
+    The first part is a file, which may be gone from its folder when it is read; the other one came later, and is part
+    of a file. A folder that is not of the cache goes when the store is closed.
+    """
+
+    def __init__(self, folder: str, index: Index, is_kept: bool, is_loaded: bool = False) -> None:
+        self.index = index
+        # What is asked of a revision is asked together.
+        self._head = functools.lru_cache(1)(self._read_head)
+        # Whether another run made it.
+        self.is_loaded = is_loaded
+        self.is_kept = is_kept
+        self._folder = folder
+        generation, length = index.kept.generation, index.kept.base
+        self._file = open(os.path.join(folder, "dump.%d" % generation), "rb", opener=cache.opener)
+        try:
+            own = "/proc/%d/fd/%d" % (os.getpid(), self._file.fileno())
+            self.base = own if os.path.exists(own) else self._file.name
+            if os.fstat(self._file.fileno()).st_size != length:
+                raise Damaged
+            self.first = part_of(self._file, length)
+            self.later: Bytes = b""
+            if index.length > length:
+                with open(os.path.join(folder, "later.%d" % generation), "rb", opener=cache.opener) as later:
+                    self.later = part_of(later, index.length - length)
+        except BaseException:
+            self._file.close()
+            raise
+
+    def is_as_written(self) -> bool:
+        """Return whether the copy has the bytes that were written. The disk may have changed them."""
+        places = [0, *self.index.revisions, self.index.length]
+        return list(map(self._sum, places, places[1:])) == self.index.sums
+
+    def _sum(self, first: int, last: int) -> int:
+        """The checksum of the bytes of the copy from one offset to another one."""
+        base = self.index.kept.base
+        found = zlib.crc32(memoryview(self.first)[first:last]) if first < base else 0
+        return zlib.crc32(memoryview(self.later)[max(first - base, 0) : last - base], found) if last > base else found
+
+    def _end(self, rev: int) -> int:
+        """The offset in the copy at which a revision ends."""
+        following = rev + 1
+        return self.index.revisions[following] if following < len(self.index.revisions) else self.index.length
+
+    def _check(self, rev: int) -> None:
+        if self._sum(self.index.revisions[rev], self._end(rev)) != self.index.sums[rev + 1]:
+            raise Damaged
+
+    def close(self) -> None:
+        for part in self.first, self.later:
+            if isinstance(part, mmap.mmap):
+                part.close()
+        self._file.close()
+        if not self.is_kept:
+            shutil.rmtree(self._folder, ignore_errors=True)
+
+    def forget(self) -> None:
+        """Takes the folder out of the cache, where it is kept."""
+        if self.is_kept:
+            cache.remove(self._folder)
+
+    @property
+    def head(self) -> int:
+        """The youngest revision."""
+        return len(self.index.revisions) - 1
+
+    def _pieces(self, first: int, last: int) -> Iterator[tuple[Bytes, int, int]]:
+        """The part or the two parts that have the bytes from one offset to another one, and where these are in it."""
+        length = self.index.kept.base
+        if first < length:
+            yield self.first, first, min(last, length)
+        if last > length:
+            yield self.later, max(first - length, 0), last - length
+
+    def _blocks(self, first: int, last: int) -> Iterator[re.Match[bytes]]:
+        """The blocks from one offset in the copy to another one."""
+        for part, at, end in self._pieces(first, last):
+            while found := BLOCK.match(part, at, end):
+                length = found["length"]
+                at = found.end() if length is None else found.end() + digits.number(length)
+                yield found
+            # A section ends with a newline more.
+            if self.index.is_whole and end - at not in (0, 1):
+                raise Damaged
+
+    def write(self, file: IO[bytes]) -> None:
+        """Writes the whole copy to a file."""
+        for part in self.first, self.later:
+            with memoryview(part) as whole:
+                file.write(whole)
+
+    def between(self, first: int, last: int) -> bytes:
+        """The bytes of the copy from one offset to another one."""
+        return b"".join(part[begin:end] for part, begin, end in self._pieces(first, last))
+
+    def with_properties(self, rev: int, section: bytes) -> bytes:
+        """The bytes of a revision with other properties."""
+        head = b"Revision-number: %d\nAt: %s\n" % (rev, self._head(rev)["at"])
+        return head + (body_of(section) if section else b"\n") + self.blocks_of(rev)
+
+    def _read_head(self, rev: int) -> re.Match[bytes]:
+        """The block of a revision."""
+        self._check(rev)
+        place, length = self.index.revisions[rev], self.index.kept.base
+        found = REVISION.match(self.first, place) if place < length else REVISION.match(self.later, place - length)
+        if found is None or int(found["rev"]) != rev:
+            raise Damaged
+        return found
+
+    def _begin(self, rev: int) -> int:
+        """The offset in the copy at which the section of a revision ends."""
+        found = self._head(rev)
+        return self.index.revisions[rev] + found.start("section") - found.start() + int(found["length"] or 0)
+
+    def _blocks_of(self, rev: int) -> Iterator[re.Match[bytes]]:
+        """The block of a revision and those of its records."""
+        self._check(rev)
+        return self._blocks(self.index.revisions[rev], self._end(rev))
+
+    def blocks_of(self, rev: int) -> bytes:
+        """The blocks of the records of a revision."""
+        return self.between(self._begin(rev), self._end(rev))
+
+    def revision(self, rev: int) -> Revision:
+        return revision_of(self._head(rev))
+
+    def section(self, rev: int) -> tuple[int, bytes]:
+        """The offset of a revision in the given dump, and its property section."""
+        found = self._head(rev)
+        return int(found["at"]), section_of_revision(found)
+
+    def nodes(self, rev: int) -> Iterator[Node]:
+        """What is listed of the records of a revision."""
+        for found, _, _ in self._nodes(rev, rev):
+            yield found.group("path", "kind", "action", "from_rev", "from_path", "text", "properties")
+
+    def records(self, first: int = 0, last: int | None = None) -> Iterator[Record]:
+        """The records of revisions, in the order of the dump. They are numbered from 1 in the first one."""
+        for found, number, rev in self._nodes(first, last):
+            yield record_of(found, number, rev, self.index.format)
+
+    def telling(self) -> Iterator[Record]:
+        """The records that make or unmake a path, or change its mergeinfo: few of all. They are numbered by themselves."""
+        for number, (found, rev) in enumerate(self._telling(), 1):
+            record = record_of(found, number, rev, self.index.format)
+            if record.action != "change" or record.mergeinfo is not None:
+                yield record
+
+    def _telling(self) -> Iterator[tuple[re.Match[bytes], int]]:
+        """The blocks of records that may tell something, with their revisions. Each that has a section is one of them,
+        so that what only looks like one, in the section of a revision or of a record, is known by its place."""
+        if not self.is_as_written():
+            raise Damaged
+        rev, end = -1, 0
+        for part, begin in (self.first, 0), (self.later, self.index.kept.base):
+            for found in TELLING.finditer(part):
+                place = begin + found.start()
+                of_place = bisect.bisect_right(self.index.revisions, place) - 1
+                if of_place > rev:
+                    rev, end = of_place, self._begin(of_place)
+                if place >= end and rev >= 0:
+                    end = begin + found.end() + digits.number(found["length"] or b"0")
+                    yield found, rev
+
+    def _nodes(self, first: int = 0, last: int | None = None) -> Iterator[tuple[re.Match[bytes], int, int]]:
+        """The blocks of records of revisions, with the number of each and its revision."""
+        number = 0
+        for rev in range(first, 1 + (self.head if last is None else last)):
+            for found in self._blocks_of(rev):
+                if found["path"] is not None:
+                    number += 1
+                    yield found, number, rev
+
+    def blocks(self) -> Iterator[tuple[int, Record | None]]:
+        """The offset in the given dump of each block, and its record, if it has one."""
+        rev, number, end = -1, 0, len(FIRST_LINE)
+        of_revisions = chain.from_iterable(map(self._blocks_of, range(self.head + 1)))
+        for found in chain(self._blocks(end, self._end(-1)), of_revisions):
+            end = found.end() + digits.number(found["length"] or b"0")
+            record = None
+            if found["rev"] is not None:
+                rev = digits.number(found["rev"])
+            elif found["path"] is not None:
+                number += 1
+                record = record_of(found, number, rev, self.index.format)
+            yield digits.number(found["at"]), record
+        # A part that came later is well formed to its end.
+        last = None if self.later else MARK.match(self.first, end)
+        if last:
+            yield digits.number(last[1]), None
+
+    def block_at(self, place: int) -> int:
+        """The offset in the given dump of what stands at an offset in the copy."""
+        if place == 0:
+            return 0
+        for part, at, _ in self._pieces(place, self.index.length):
+            if found := MARK.match(part, at):
+                return digits.number(found[1])
+        return self.index.size
+
+
+def part_of(file: BinaryIO, length: int) -> Bytes:
+    """The first bytes of a file, which no one changes, so that they can be mapped."""
+    if os.fstat(file.fileno()).st_size < length:
+        raise Damaged
+    # Nothing can't be mapped.
+    return mmap.mmap(file.fileno(), length, access=mmap.ACCESS_READ) if length else b""
+
+
+def section_of(found: re.Match[bytes]) -> bytes:
+    """The property section of a block."""
+    return found.string[found.end() : found.end() + digits.number(found["length"] or b"0")]
+
+
+def section_of_revision(found: re.Match[bytes]) -> bytes:
+    begin = found.start("section")
+    return found.string[begin : begin + int(found["length"] or 0)]
+
+
+def revision_of(found: re.Match[bytes]) -> Revision:
+    """What the block of a revision says."""
+    rev, at, length, _, length_of_author, author, date, length_of_message = found.groups()
+    if author is not None and len(author) == int(length_of_author):
+        begin = found.end()
+        end = begin + int(length_of_message)
+        end_of_section = found.start("section") + int(length or 0)
+        if found.string[end:end_of_section] == END:
+            message = found.string[begin:end]
+            values = {b"svn:author": author, b"svn:date": date, b"svn:log": message}
+            return Revision(int(rev), author, date, message, int(at), values)
+    values = properties_of(section_of_revision(found))
+    get = values.get
+    return Revision(int(rev), get(b"svn:author"), get(b"svn:date"), get(b"svn:log"), int(at), values)
+
+
+def properties_of(section: bytes) -> dict[bytes, bytes]:
+    """The properties of a revision, as far as they have their form, which svnhist does not judge."""
+    values = {}
+    at = 0
+    while found := ENTRY.match(section, at):
+        begin = found.end()
+        end = begin + int(found[2])
+        values[found[1]] = section[begin:end]
+        at = end + 1
+    return values
+
+
+def record_of(found: re.Match[bytes], number: int, rev: int, version: int) -> Record:
+    path, kind, action, from_rev, from_path, delta, at, text, properties, _ = found.groups()[-10:]
+    return Record(
+        number,
+        rev,
+        clean(path),
+        (action or b"").decode("latin-1"),
+        None if kind is None else kind.decode("latin-1"),
+        (clean(from_path), digits.number(from_rev)) if from_rev and from_path is not None else None,
+        setting_of(section_of(found), version == 3 and delta is not None),
+        digits.number(at),
+        text is not None,
+        properties is not None,
+    )
+
+
+def setting_of(section: bytes, is_delta: bool) -> Setting | None:
+    """What a property section does to mergeinfo."""
+    if not section:
+        return None
+    if is_one_mergeinfo(section):
+        return Setting(section[section.index(b"\n", len(ONE_MERGEINFO)) + 1 : -len(END)])
+    try:
+        values = [value for name, value in entries_of(section, is_delta) if name == MERGEINFO]
+    except Malformed:
+        # For this svnhist refuses the dump.
+        return None
+    if values:
+        return Setting(values[-1])
+    return None if is_delta else Setting(None)

@@ -1,0 +1,449 @@
+"""Reads a dump once and copies of it what questions need: its records, the values of `svn:mergeinfo` and, if asked, the
+properties of revisions. Texts are skipped by their length.
+
+The copy is a dump of the same format, about which svnhist answers the same. Where the dump is not well formed, the copy
+ends with the block that is at fault, so that svnhist refuses it there, for its reason.
+"""
+from __future__ import annotations
+
+import re
+import zlib
+from collections.abc import Callable
+from dataclasses import dataclass, field
+
+from svnask.copy.window import Window
+from svnask.digits import number
+
+Write = Callable[[bytes], object]
+Headers = dict[bytes, bytes]
+
+MAGIC = b"SVN-fs-dump-format-version: "
+FORMATS = {MAGIC + b"2\n": 2, MAGIC + b"3\n": 3}
+LAST_LINE = b"PROPS-END\n"
+NO_PROPERTIES = b"Prop-content-length: 10\nContent-length: 10\n\n" + LAST_LINE + b"\n"
+MERGEINFO = b"svn:mergeinfo"
+DATE = b"K 8\nsvn:date\n"
+ONE_MERGEINFO = b"K 13\nsvn:mergeinfo\nV "
+# The headers by which a block is a revision, a record or the identity of the repository; the first one decides.
+KINDS = (b"Revision-number", b"Node-path", b"UUID")
+OF_RECORDS = (
+    b"Node-path",
+    b"Node-kind",
+    b"Node-action",
+    b"Node-copyfrom-rev",
+    b"Node-copyfrom-path",
+    b"Prop-delta",
+    b"Text-delta",
+)
+LENGTHS = (b"Prop-content-length", b"Text-content-length", b"Content-length")
+READ = frozenset(KINDS + OF_RECORDS + LENGTHS)
+LONGEST = (1 << 63) - 1
+# A header that makes a block of no kind.
+UNKNOWN = b"Unknown: 1\n"
+COPIED = b"\nNode-copyfrom-path: "
+COPY = re.compile(rb"Node-path: ([^\n]*)\n(?s:.*)Node-copyfrom-rev: ([0-9]+)\nNode-copyfrom-path: ([^\n]*)\n")
+# What a record says of its text and its properties, by whether it gave and changed them.
+MODS = {
+    (False, False): b"",
+    (True, False): b"Mods: text\n",
+    (False, True): b"Mods: properties\n",
+    (True, True): b"Mods: text properties\n",
+}
+# How many pieces of a copy are written at once. One that is longer is not held back.
+MANY, LONG = 1024, 1 << 16
+# The headers of a revision as Subversion writes them, and those of a record that changes a text alone.
+REVISION = re.compile(rb"(Revision-number: .*\n)Prop-content-length: ([0-9]{1,18})\nContent-length: \2\n\n")
+CHANGE = re.compile(
+    rb"\n*(Node-path: .*\nNode-kind: .*\nNode-action: .*\n)(?:Text-content-md5: .*\nText-content-sha1: .*\n)?"
+    rb"Text-content-length: ([0-9]{1,18})\n(?:Text-content-md5: .*\nText-content-sha1: .*\n)?"
+    rb"Content-length: \2\n\n"
+)
+# The headers of a record in the orders in which Subversion writes them. Those of another one are read line by line.
+SKIPPED = rb"(?:Text-(?:copy-source|content|delta-base)-(?:md5|sha1): [^\n]*\n)*"
+RECORD = re.compile(
+    rb"\n*(Node-path: [^\n]*\n(?:Node-kind: [^\n]*\n)?Node-action: [^\n]*\n"
+    rb"(?:Node-copyfrom-rev: [^\n]*\nNode-copyfrom-path: [^\n]*\n)?)"
+    + SKIPPED
+    + rb"(Prop-delta: true\n)?(Text-delta: true\n)?"
+    + SKIPPED
+    + rb"(?:Prop-content-length: ([0-9]{1,18})\n)?(Text-delta: true\n)?(?:Text-content-length: ([0-9]{1,18})\n)?"
+    + SKIPPED
+    + rb"(?:Content-length: ([0-9]{1,18})\n)?\n"
+)
+
+
+class Malformed(Exception):
+    """A block does not have its form, or the dump ends in it."""
+
+
+@dataclass
+class Copy:
+    """What is known of a copy beside its bytes."""
+
+    format: int = 0
+    uuid: bytes | None = None
+    records: int = 0
+    # How many of them come before the last revision.
+    records_before: int = 0
+    # The offset in the copy of each revision.
+    revisions: list[int] = field(default_factory=list)
+    # Whether these are the revisions from 0 on, each once.
+    is_from_0: bool = True
+    # The revision and the path of each copy of a path of the revision before to itself.
+    renewals: list[tuple[int, bytes]] = field(default_factory=list)
+    # The runs of revisions after the first one that have no date, as a repository shows those that a user may not read.
+    undated: list[tuple[int, int]] = field(default_factory=list)
+    # The checksum of the bytes before the first revision, and of those of each revision.
+    sums: list[int] = field(default_factory=lambda: [0])
+    # How many bytes the copy has, and how many of the given dump were read.
+    length: int = 0
+    read: int = 0
+    # Why the dump is not well formed, where it isn't.
+    fault: str | None = None
+
+    def add(self, piece: bytes) -> None:
+        """Takes the next bytes of the copy."""
+        self.length += len(piece)
+        self.sums[-1] = zlib.crc32(piece, self.sums[-1])
+
+    def begin_revision(self, section: bytes) -> None:
+        """Takes the property section of the next revision, which begins here."""
+        rev = len(self.revisions)
+        if rev and DATE not in section:
+            first = self.undated.pop()[0] if self.undated and self.undated[-1][1] == rev - 1 else rev
+            self.undated.append((first, rev))
+        self.records_before = self.records
+        self.revisions.append(self.length)
+        self.sums.append(0)
+
+
+def clean(path: bytes) -> bytes:
+    """A path as svnhist prints it."""
+    whole = b"/%s/" % path
+    if b"//" not in whole:
+        return whole[:-1]
+    return b"/" + b"/".join(filter(None, path.split(b"/")))
+
+
+def number_of(digits: bytes) -> int:
+    if not digits.isdigit():
+        raise Malformed("a length is not a number")
+    return number(digits)
+
+
+def text_at(section: bytes, at: int, letter: bytes) -> tuple[bytes, int]:
+    """The name or the value at a place of a property section, and the place after it."""
+    end = section.find(b"\n", at)
+    if end < 0 or not section.startswith(letter, at):
+        raise Malformed("a property does not have its form")
+    stop = end + 1 + number_of(section[at + len(letter) : end])
+    if not section.startswith(b"\n", stop):
+        raise Malformed("a property does not have its length")
+    return section[end + 1 : stop], stop + 1
+
+
+def entries_of(section: bytes, is_delta: bool) -> list[tuple[bytes, bytes | None]]:
+    """The names and the values of a property section; without a value where the property is deleted."""
+    entries: list[tuple[bytes, bytes | None]] = []
+    at = 0
+    while at + len(LAST_LINE) != len(section) or not section.endswith(LAST_LINE):
+        value: bytes | None = None
+        if is_delta and section.startswith(b"D ", at):
+            name, at = text_at(section, at, b"D ")
+        else:
+            name, at = text_at(section, at, b"K ")
+            value, at = text_at(section, at, b"V ")
+        entries.append((name, value))
+    return entries
+
+
+def entry(name: bytes, value: bytes | None) -> bytes:
+    if value is None:
+        return b"D %d\n%s\n" % (len(name), name)
+    return b"K %d\n%s\nV %d\n%s\n" % (len(name), name, len(value), value)
+
+
+def body_of(section: bytes) -> bytes:
+    """The last headers of a block that has this property section alone, and the section."""
+    return b"Prop-content-length: %d\nContent-length: %d\n\n%s\n" % (len(section), len(section), section)
+
+
+def is_one_mergeinfo(section: bytes) -> bool:
+    """Whether a property section sets `svn:mergeinfo` and nothing else. Long values need not be taken apart then."""
+    if not section.startswith(ONE_MERGEINFO):
+        return False
+    digits, _, _ = section[len(ONE_MERGEINFO) : len(ONE_MERGEINFO) + 32].partition(b"\n")
+    return (
+        digits.isdigit()
+        and len(ONE_MERGEINFO) + len(digits) + int(digits) + 12 == len(section)
+        and section.endswith(b"\n" + LAST_LINE)
+    )
+
+
+def mergeinfo_alone(section: bytes, is_delta: bool) -> bytes:
+    """A property section with `svn:mergeinfo` alone: its last entry, or each of them where the section has changes. A
+    list without it says something, too: that there is none."""
+    if section == LAST_LINE or is_one_mergeinfo(section):
+        return section
+    entries = entries_of(section, is_delta)
+    if len(entries) == 1 and entries[0][0] == MERGEINFO:
+        return section
+    kept = [entry(name, value) for name, value in entries if name == MERGEINFO]
+    return b"".join(kept if is_delta else kept[-1:]) + LAST_LINE
+
+
+def names_any(section: bytes, is_delta: bool, front: bytes) -> bool:
+    """Whether a property section changes properties, given the headers before it. An empty list does where there were
+    some: in a record that neither changes nor copies there were none."""
+    if not section or section != LAST_LINE:
+        return bool(section)
+    return not is_delta and (b"Node-action: change\n" in front or COPIED in front)
+
+
+class Stripper:
+    """Copies a dump, block after block.
+
+    With `places` each block of the copy has a header `At`, the offset of the block in the given dump, and a record that
+    gave a text or changed properties has one that says so, `Mods`. svnhist ignores both. With `people` the revisions
+    keep their properties, such as author, date and message.
+    """
+
+    def __init__(
+        self, source: Window, write: Write, places: bool = False, people: bool = False, known: Copy | None = None
+    ) -> None:
+        self.source = source
+        self.copy = known or Copy()
+        self._write = write
+        self._places = places
+        self._people = people
+        self._is_piece = False
+
+    def run(self, seen: Callable[[int], object] = lambda read: None, has_first_line: bool = True) -> Copy:
+        """Copies the whole dump, or what comes after a part that is known. `seen` is told now and then how many bytes
+        were read. A piece that Subversion wrote has the first line of a dump and its UUID again."""
+        self._is_piece = has_first_line and self.copy.format > 0
+        try:
+            at = self._first_line() if has_first_line else 0
+            turn = 0
+            while at >= 0:
+                at = self._block(at)
+                turn += 1
+                if turn & 0xFF == 0:
+                    seen(self.source.base + at)
+            if self.source.is_cut:
+                raise Malformed("the dump was cut while it was read")
+        except Malformed as fault:
+            self.copy.fault = str(fault)
+        self.copy.read = self.source.read
+        return self.copy
+
+    def _put(self, piece: bytes) -> None:
+        self.copy.add(piece)
+        self._write(piece)
+
+    def _place(self, at: int) -> bytes:
+        return b"At: %d\n" % (self.source.base + at) if self._places else b""
+
+    def _mods(self, has_text: bool, has_properties: bool) -> bytes:
+        return MODS[has_text, has_properties] if self._places else b""
+
+    def _first_line(self) -> int:
+        source = self.source
+        source.want(0, len(MAGIC) + 2)
+        line = bytes(source.data[: len(MAGIC) + 2])
+        if self._is_piece:
+            if FORMATS.get(line) != self.copy.format:
+                raise Malformed("a piece of a dump has not the format of the dump")
+            return len(line)
+        self.copy.format = FORMATS.get(line, 0)
+        if self.copy.format == 0:
+            self._put(bytes(source.data[: 1 << 16]))
+            raise Malformed("the input is no dump in format 2 or 3")
+        self._put(line + b"\n")
+        return len(line)
+
+    def _block(self, at: int) -> int:
+        """Copies the block that begins at this place or after some newlines. The place after it, or -1 at the end."""
+        at = self.source.next_block(at)
+        if at < 0:
+            return at
+        for copy in self._revision_in_order, self._records:
+            after = copy(at)
+            if after != at:
+                return after
+        return self._any_block(at)
+
+    def _revision_in_order(self, at: int) -> int:
+        """Copies a revision whose headers are in the order of Subversion and which is whole in the window, or none. The
+        place after it."""
+        data = self.source.data
+        found = REVISION.match(data, at)
+        if found is None or found.end() + int(found[2]) > len(data):
+            return at
+        after = found.end() + int(found[2])
+        self._put_revision(found[1] + self._place(at), data[found.end() : after])
+        return after
+
+    def _records(self, at: int) -> int:
+        """Copies records from this place on as long as their headers are in an order of Subversion, their properties
+        have their form and they are whole in the window; nearly all are. The place after them."""
+        before = -1
+        while before != at:
+            before = at
+            at = self._record_in_order(self._texts(at))
+        return at
+
+    def _texts(self, at: int) -> int:
+        """Copies records that change a text alone, which most do, in less than half of the time of other ones."""
+        data, base, end, match = self.source.data, self.source.base, len(self.source.data), CHANGE.match
+        pieces: list[bytes] = []
+        while found := match(data, at):
+            front, length = found.groups()
+            after = found.end() + int(length)
+            if after > end or len(pieces) > MANY:
+                break
+            pieces.append(front)
+            pieces.append(b"At: %d\nMods: text\n\n" % (base + found.start(1)) if self._places else b"\n")
+            at = after
+        self._put(b"".join(pieces))
+        self.copy.records += len(pieces) // 2
+        return at
+
+    def _record_in_order(self, at: int) -> int:
+        """Copies one record as `_records` does, or none."""
+        data = self.source.data
+        found = RECORD.match(data, at)
+        if found is None:
+            return at
+        front, delta, text_delta, properties, later_delta, text, body = found.groups()
+        section, rest = int(properties or 0), int(text or 0)
+        whole = section + rest if body is None else int(body)
+        begin = found.end()
+        if whole < section + rest or begin + whole > len(data) or (text_delta and later_delta):
+            return at
+        has_properties = False
+        try:
+            kept = b"\n"
+            if properties is not None:
+                has_changes = self.copy.format == 3 and delta is not None
+                given = data[begin : begin + section]
+                kept = body_of(mergeinfo_alone(given, has_changes))
+                has_properties = names_any(given, has_changes, front)
+        except Malformed:
+            return at
+        if COPIED in front:
+            self._note_copy(front)
+        deltas = (delta or b"") + (text_delta or later_delta or b"")
+        mods = self._mods(text is not None, has_properties)
+        self._put(b"%s%s%s%s%s" % (front, deltas, self._place(found.start(1)), mods, kept))
+        self.copy.records += 1
+        return begin + whole
+
+    def _note_copy(self, front: bytes) -> None:
+        found = COPY.search(front)
+        rev = len(self.copy.revisions) - 1
+        if found and number(found[2]) == rev - 1 and clean(found[1]) == clean(found[3]):
+            self.copy.renewals.append((rev, clean(found[1])))
+
+    def _any_block(self, at: int) -> int:
+        """Copies a block whose headers come in any order."""
+        source = self.source
+        end = source.data.find(b"\n\n", at)
+        lines = bytes(source.data[at : end + 2] if end >= 0 else source.data[at:])
+        place = self._place(at)
+        # What the copy has of a block that is not well formed or not whole.
+        raw = place + lines
+        try:
+            if end < 0:
+                raise Malformed("the dump ends within the headers of a block")
+            headers = headers_of(lines[:-1])
+            section, rest = lengths_of(headers)
+        except Malformed:
+            self._put(raw)
+            raise
+        kind = next((name for name in KINDS if name in headers), None)
+        if kind is None:
+            self._after(raw, b"", end + 2, section + rest)
+            self._put((place or UNKNOWN) + b"\n")
+            raise Malformed("a block is neither a revision nor a record")
+        kept = OF_RECORDS if kind == b"Node-path" else (kind,)
+        head = b"".join(b"%s: %s\n" % (name, headers[name]) for name in kept if name in headers) + place
+        if kind == b"Revision-number":
+            return self._revision(head, raw, end + 2, section, rest)
+        if kind == b"Node-path":
+            self._note_copy(head)
+            self.copy.records += 1
+            is_delta = self.copy.format == 3 and headers.get(b"Prop-delta") == b"true"
+            given = section if b"Prop-content-length" in headers else -1
+            return self._record(head, raw, end + 2, given, rest, is_delta, b"Text-content-length" in headers)
+        if self.copy.uuid is None:
+            self.copy.uuid = headers[kind]
+        if not self._is_piece:
+            self._put(head + b"\n")
+        return self._after(raw, b"", end + 2, section + rest)
+
+    def _section(self, raw: bytes, at: int, length: int) -> tuple[bytes, int]:
+        """The next bytes of the dump, which are a property section, and the place after them."""
+        at = self.source.want(at, length)
+        section = bytes(self.source.data[at : at + length])
+        if len(section) < length:
+            self._put(raw + section)
+            raise Malformed("the dump ends within a body")
+        return section, at + length
+
+    def _after(self, raw: bytes, section: bytes, at: int, rest: int) -> int:
+        """The place after the rest of a body, of which nothing is kept."""
+        at = self.source.skip(at, rest)
+        if at > len(self.source.data):
+            self._put(raw + section)
+            raise Malformed("the dump ends within a body")
+        return at
+
+    def _record(self, head: bytes, raw: bytes, at: int, length: int, rest: int, is_delta: bool, has_text: bool) -> int:
+        if length < 0:
+            at = self._after(raw, b"", at, rest)
+            self._put(head + self._mods(has_text, False) + b"\n")
+            return at
+        section, at = self._section(raw, at, length)
+        at = self._after(raw, section, at, rest)
+        kept = section
+        try:
+            kept = mergeinfo_alone(section, is_delta) if length > 0 else section
+        finally:
+            # A section that is not well formed is kept as it is.
+            self._put(head + self._mods(has_text, names_any(section, is_delta, head)) + body_of(kept))
+        return at
+
+    def _revision(self, head: bytes, raw: bytes, at: int, length: int, rest: int) -> int:
+        section, at = self._section(raw, at, length)
+        at = self._after(raw, section, at, rest)
+        self._put_revision(head, section)
+        return at
+
+    def _put_revision(self, head: bytes, section: bytes) -> None:
+        if not head.startswith(b"Revision-number: %d\n" % len(self.copy.revisions)):
+            self.copy.is_from_0 = False
+        self.copy.begin_revision(section)
+        # svnhist does not judge the properties of revisions, so they are kept as they are.
+        self._put(head + (body_of(section) if self._people and section else b"\n"))
+
+
+def headers_of(lines: bytes) -> Headers:
+    """The headers of a block, each line ended by a newline."""
+    headers: Headers = {}
+    for line in lines.split(b"\n")[:-1]:
+        name, colon, value = line.partition(b":")
+        if not name or not colon or (name in headers and name in READ):
+            raise Malformed("a line is no header, or one that the block has already")
+        headers[name] = value[1:] if value.startswith(b" ") else value
+    return headers
+
+
+def lengths_of(headers: Headers) -> tuple[int, int]:
+    """The length of the property section of a block, and of the rest of its body."""
+    properties, text, body = [number_of(headers.get(name, b"0")) for name in LENGTHS]
+    if b"Content-length" not in headers:
+        body = properties + text
+    if body < properties + text or body > LONGEST:
+        raise Malformed("the lengths of a block do not fit")
+    return properties, body - properties

@@ -1,0 +1,546 @@
+"""The history that a dump has: what svnhist answers about it, and who committed what."""
+from __future__ import annotations
+
+import bisect
+import os
+import stat
+import threading
+import warnings
+import weakref
+from collections.abc import Callable, Iterable, Iterator, Sequence
+from contextlib import closing
+from types import ModuleType, TracebackType
+from typing import TYPE_CHECKING, BinaryIO
+
+from svnask.copy.changes import (
+    NUL_FOR_SLASH,
+    WITHOUT_KIND,
+    Change,
+    KnownBlocks,
+    Place,
+    changes_of,
+    is_at_or_below,
+    place_of,
+)
+from svnask.copy.store import Index, Record, Revision, Store
+from svnask.copy.strip import clean
+from svnask.engine.queries import A, Answer, Answers, Locate, Located, Log, Logged, Query, Segments, Where, is_askable
+from svnask.engine.talk import Talk
+from svnask.errors import Damaged, Denied, Failed, Refused
+from svnask.history import dates
+from svnask.history.lives import Tree
+from svnask.mergeinfo.values import Explicit
+from svnask.sources.dump import Dump
+from svnask.sources.opening import source_of
+from svnask.sources.progress import Progress, Told
+from svnask.sources.source import Source
+
+if TYPE_CHECKING:
+    from svnask.branches.questions import Holder, Left, Listed
+    from svnask.picture.graph import Graph
+
+# So few changes of a revision are looked through one by one.
+FEW = 16
+# The longest header that is looked for in a dump.
+HEADER = 1 << 16
+
+
+class History:
+    """A dump or a repository, read once. What is asked of it is answered by svnhist; revisions have what the dump says
+    of them.
+
+    >>> with History.open("interop/branches.dump") as history:
+    ...     history.head, history.log(b"trunk", 13).revisions
+    (13, [5, 2, 1])
+
+    In the examples of the methods `history` is this one. It is closed at the end of `with`, or by `close`.
+    """
+
+    def __init__(self, store: Store, file: int | None = None, source: Source = Source("")) -> None:
+        self._store = store
+        self._state = os.stat(store.base)
+        # The descriptor of the dump, where it is a file.
+        self._file = file
+        self.source = source
+        # Whether nothing is asked after what is asked now.
+        self.is_last_question = False
+        # Takes what is to be known beside an answer, such as that no path matches a pattern.
+        self.notice: Callable[[str], object] = warn
+        # What is asked, from the first question on, and what ends it where nobody closes the history.
+        self._lock = threading.Lock()
+        self._talk: Talk | None = None
+        self._end: Callable[[], object] | None = None
+        # Why svnhist refuses the dump, once it has.
+        self._refused: Refused | None = None
+        self._changes: dict[int, list[Change]] = {}
+        self._keys: dict[int, list[bytes]] = {}
+        self._known_blocks = KnownBlocks()
+        self._tree: Tree | None = None
+        self._explicit: Explicit | None = None
+
+    @classmethod
+    def open(
+        cls, dump: str | BinaryIO, is_cached: bool = True, seen: Callable[[int], object] = lambda read: None
+    ) -> History:
+        """The history of a file, by its name or opened, or of a repository, by its folder or its URL.
+
+        `-` is the standard input. What is read is kept in the cache, unless `is_cached` is false. `seen` is told now and
+        then how many bytes of a dump, or up to which revision a repository was read.
+
+        >>> with History.open("interop/merges.dump", is_cached=False) as merges:
+        ...     merges.head
+        19
+        """
+        if not isinstance(dump, str):
+            return cls.of(Dump(str(dump.name), dump), Told(seen), is_cached)
+        with closing(source_of(dump)) as source:
+            return cls.of(source, Told(seen), is_cached)
+
+    @classmethod
+    def of(cls, source: Source, progress: Progress, is_cached: bool = True, is_offline: bool = False) -> History:
+        """The history of a source, as it is now or, without asking it, as it was when it was read last."""
+        try:
+            store = source.store(progress, is_cached, is_offline)
+            return cls(store, of_file(source.file) if isinstance(source, Dump) else None, source)
+        except OSError as error:
+            raise Failed(f"cannot read {source.name}, or copy what is needed of it: {error.strerror}") from error
+
+    @property
+    def is_from_cache(self) -> bool:
+        """Whether another run read the dump.
+
+        >>> with History.open("interop/merges.dump", is_cached=False) as merges:
+        ...     merges.is_from_cache
+        False
+        """
+        return self._store.is_loaded
+
+    def may_be_stale(self, error: Refused | Damaged) -> bool:
+        """Return whether an error may come from what the cache has, so that the source has to be read anew."""
+        return self._store.is_loaded or self._store.is_kept and isinstance(error, Damaged)
+
+    def forget(self) -> None:
+        """Takes what was read out of the cache."""
+        self._store.forget()
+
+    @property
+    def is_whole(self) -> bool:
+        """Whether the dump has its form from its first byte to its last one, and revisions from 0 on.
+
+        >>> history.is_whole
+        True
+        """
+        return self.index.is_whole and self.head >= 0
+
+    def __enter__(self) -> History:
+        return self
+
+    def __exit__(
+        self, kind: type[BaseException] | None, value: BaseException | None, trace: TracebackType | None
+    ) -> None:
+        self.close()
+
+    def close(self) -> None:
+        """Ends the program that is asked, and removes what was read, unless it is in the cache."""
+        self.rest()
+        self._store.close()
+        if self._file is not None:
+            os.close(self._file)
+            self._file = None
+
+    @property
+    def index(self) -> Index:
+        """What is known of the dump as a whole.
+
+        >>> history.index.format, history.index.records, history.index.size
+        (2, 22, 5930)
+        """
+        return self._store.index
+
+    @property
+    def head(self) -> int:
+        """The youngest revision, or -1 where the dump has none.
+
+        >>> history.head
+        13
+        """
+        return self._store.head
+
+    def begin(self) -> None:
+        """Has svnhist read the dump meanwhile, since questions will follow."""
+        self._talking()
+
+    def renew(self, source: Source, progress: Progress, is_cached: bool = True, is_offline: bool = False) -> None:
+        """Goes on with the source as it is now, by the name that it is given now."""
+        self.source = source
+        try:
+            if not self._is_current(source, is_cached, is_offline):
+                self.take(source.store(progress, is_cached, is_offline))
+                if self._file is not None:
+                    os.close(self._file)
+                self._file = of_file(source.file) if isinstance(source, Dump) else None
+        except OSError as error:
+            raise Failed(f"cannot read {source.name}, or copy what is needed of it: {error.strerror}") from error
+
+    def _is_current(self, source: Source, is_cached: bool, is_offline: bool) -> bool:
+        """Whether the source is as it was read, and the cache has what this history has. Another run may have read
+        properties anew."""
+        entry = source.entry() if is_cached else None
+        if entry is not None and not entry.is_newest(self.index):
+            return False
+        return is_offline or source.is_as_kept(self._store)
+
+    def take(self, store: Store) -> None:
+        """Goes on with another store of the same dump. Where only more came later, svnhist is given that."""
+        before, self._store = self._store, store
+        state, self._state = self._state, os.stat(store.base)
+        self._refused = None
+        self._changes.clear()
+        self._keys.clear()
+        self._tree = self._explicit = None
+        is_same = os.path.samestat(state, self._state) and len(store.later) >= len(before.later)
+        if self._talk is not None and is_same:
+            self._talk.grow(store.later[len(before.later) :])
+        else:
+            self.rest()
+        before.close()
+
+    def rest(self) -> None:
+        """Ends the program that is asked. The next question starts it again."""
+        if self._end is not None:
+            self._end()
+        self._talk = self._end = None
+
+    def _talking(self) -> Talk:
+        """The talk with svnhist, a new one where there is none that goes on."""
+        if self._refused is not None:
+            raise self._refused
+        with self._lock:
+            if self._talk is None or self._talk.is_over:
+                self.rest()
+                self._talk = Talk(self._store.base, self._store.later)
+                self._end = weakref.finalize(self, self._talk.close)
+            return self._talk
+
+    def ask(self, queries: Iterable[Query[A]]) -> Iterator[A]:
+        """The answers to queries, in their order, while svnhist gives them. `Refused` where it refuses the dump.
+
+        svnhist reads the dump for the first question, and each later one costs what its answers cost. Others may be
+        asked between two answers. Where the rest of them is not taken, or svnhist fails, the next question has it read
+        the dump again.
+
+        >>> for answer in history.ask([Log(b"trunk", 13, (3, 13)), Locate(b"none", 13, 1)]):
+        ...     answer.status, answer.lines
+        ('ok', [b'r5 /trunk'])
+        ('no-such-path', [])
+        """
+        asked = list(queries)
+        if not asked:
+            self.check()
+            return
+        talk = self._talking()
+        try:
+            yield from talk.ask(asked)
+        except Refused as refused:
+            raise self._judged(refused) from refused
+
+    def answers(self, queries: Iterable[Query[Answer]]) -> Answers:
+        """The answer to each of some queries, which are asked together.
+
+        >>> query = Log(b"trunk", 13)
+        >>> history.answers([query, query])[query].lines
+        [b'r5 /trunk', b'r2 /trunk', b'r1 /trunk']
+        """
+        return Answers((answer.query, answer) for answer in self.ask(dict.fromkeys(queries)))
+
+    def front(self) -> bytes:
+        """The first bytes of the dump, without texts.
+
+        >>> history.front()[:31]
+        b'SVN-fs-dump-format-version: 2\\n\\n'
+        """
+        return self._store.between(0, 1 << 12)
+
+    def check(self) -> None:
+        """Raises `Refused` where svnhist refuses the dump.
+
+        >>> history.check()
+        >>> with History.open("interop/branches.svn") as other:
+        ...     other.check()
+        Traceback (most recent call last):
+        svnask.errors.Refused: dump refused: 1 Magic at byte 0
+        """
+        talk = self._talking()
+        try:
+            youngest = talk.ready()
+        except Refused as refused:
+            raise self._judged(refused) from refused
+        if youngest != self.head:
+            raise Damaged
+
+    def _judged(self, refused: Refused) -> Refused:
+        """The refusal, which stays, with the offset of the given dump, which is longer than what svnhist reads."""
+        if self._refused is None:
+            place = self._store.block_at(refused.place) if refused.unit == "byte" else refused.place
+            self._refused = Refused(refused.number, refused.name, refused.unit, place)
+        return self._refused
+
+    def locate(self, path: bytes, rev: int, at: int) -> Located:
+        """Where a path of one revision was in another one.
+
+        >>> history.locate(b"tags/one-1.0", 13, 2).path
+        b'/trunk'
+        """
+        return one(self.ask([Locate(path, rev, at)]))
+
+    def segments(self, path: bytes, rev: int) -> Segments:
+        """The location segments of a path, the newest first.
+
+        >>> history.segments(b"branches/one", 5).segments
+        [Segment(lo=3, hi=5, path=b'/branches/one'), Segment(lo=1, hi=2, path=b'/trunk')]
+        """
+        return one(self.ask([Where(path, rev)]))
+
+    def log(self, path: bytes, rev: int) -> Logged:
+        """The operative revisions of a path, the newest first.
+
+        >>> history.log(b"branches/two", 13).revisions
+        [11, 9, 5, 2, 1]
+        """
+        return one(self.ask([Log(path, rev)]))
+
+    def askable(self, paths: Iterable[bytes]) -> Iterator[bytes]:
+        """Those of some paths about which svnhist can be asked. Of others the history gives notice.
+
+        >>> list(history.askable([b"/trunk"]))
+        [b'/trunk']
+        """
+        for path in paths:
+            if is_askable(path):
+                yield path
+            else:
+                shown = path.decode("utf-8", "surrogateescape")
+                self.notice(f"a path with a tab or a newline is left out: '{shown}'")
+
+    def kind(self, path: bytes, rev: int) -> str | None:
+        """Whether a path of a revision is a `file` or a `dir`, as the record says that added it first.
+
+        >>> history.kind(b"/trunk/main.c", 13), history.kind(b"/trunk", 13), history.kind(b"/none", 13)
+        ('file', 'dir', None)
+        """
+        return self.kinds([(path, rev)]).get((path, rev))
+
+    def kinds(self, places: Iterable[Place]) -> dict[Place, str]:
+        """The kinds of paths of revisions, as far as they are there.
+
+        >>> history.kinds([(b"/trunk", 13), (b"/none", 13)])
+        {(b'/trunk', 13): 'dir'}
+        """
+        made = {(path, rev): self.tree.made(clean(path), rev) for path, rev in places if 0 <= rev <= self.head}
+        kinds: dict[Place | None, str] = {(b"/", 0): "dir"}
+        for rev in {first[1] for first in made.values() if first is not None}:
+            for record in self.records(rev, rev):
+                if record.kind is not None and record.action in ("add", "replace"):
+                    kinds[record.path, rev] = record.kind
+        return {place: kinds[first] for place, first in made.items() if first in kinds}
+
+    def revision(self, rev: int) -> Revision:
+        """Who committed a revision, when, and with which message.
+
+        >>> history.revision(9).author, history.revision(9).message
+        (b'alice', b'Branch and change in one revision')
+        """
+        return self._store.revision(self.known(rev))
+
+    def known(self, rev: int) -> int:
+        """The number of a revision that there is.
+
+        >>> history.known(14)
+        Traceback (most recent call last):
+        svnask.errors.Denied: E160006: No such revision 14
+        """
+        if not 0 <= rev <= self.head:
+            raise Denied("E160006", f"No such revision {rev}")
+        return rev
+
+    def records(self, first: int = 0, last: int | None = None) -> Iterator[Record]:
+        """The records of these revisions, in the order of the dump.
+
+        >>> [(record.action, record.path, record.source) for record in history.records(10, 11)][0]
+        ('add', b'/branches/one-again', (b'/branches/one', 5))
+        """
+        return self._store.records(first, last)
+
+    def _read_telling(self) -> tuple[Tree, Explicit]:
+        """Reads what made and unmade paths, and gave them mergeinfo. The records are not kept."""
+        explicit = Explicit(())
+
+        def applied() -> Iterator[Record]:
+            for record in self._store.telling():
+                explicit.apply(record)
+                yield record
+
+        return Tree(applied()), explicit
+
+    @property
+    def tree(self) -> Tree:
+        """What was at each path of each revision. It is made once.
+
+        >>> history.tree.exists(b"/branches/one", 7), history.tree.exists(b"/branches/one", 8)
+        (True, False)
+        """
+        if self._tree is None:
+            self._tree, self._explicit = self._read_telling()
+        return self._tree
+
+    @property
+    def explicit(self) -> Explicit:
+        """The values of mergeinfo of all paths. They are read once.
+
+        >>> history.explicit.text(b"/trunk", 13) is None
+        True
+        """
+        if self._explicit is None:
+            self._tree, self._explicit = self._read_telling()
+        return self._explicit
+
+    def blocks(self) -> Iterator[tuple[int, Record | None]]:
+        """The offset of each block of the dump, and its record, if it has one.
+
+        >>> [(at, record.path) for at, record in history.blocks() if record is not None][0]
+        (363, b'/branches')
+        """
+        return self._store.blocks()
+
+    def header(self, at: int) -> list[bytes]:
+        """The header lines of the block at an offset of the dump, where that is a file.
+
+        >>> history.header(3874)
+        [b'Revision-number: 9', b'Prop-content-length: 133', b'Content-length: 133']
+        """
+        if self._file is None:
+            return []
+        text = os.pread(self._file, HEADER, at).lstrip(b"\n")
+        return text.split(b"\n\n", 1)[0].split(b"\n")
+
+    def is_read_from(self, name: str) -> bool:
+        """Whether the dump is the file of a name.
+
+        >>> history.is_read_from("interop/branches.dump"), history.is_read_from("interop/none.dump")
+        (True, False)
+        """
+        return self._file is not None and os.path.exists(name) and os.path.samestat(os.stat(name), os.fstat(self._file))
+
+    def changes(self, rev: int) -> list[Change]:
+        """The changed paths of a revision, as `svn log -v` lists them.
+
+        >>> [(change.letter, change.path, change.source) for change in history.changes(10)]
+        [('A', b'/branches/one-again', (b'/branches/one', 5))]
+        """
+        if rev not in self._changes:
+            self.known(rev)
+            found = self._known_blocks.changes(self._store.blocks_of(rev))
+            self._changes[rev] = changes_of(self._store.nodes(rev)) if found is None else found
+        return self._changes[rev]
+
+    def changes_below(self, rev: int, top: bytes) -> list[Change]:
+        """The changed paths of a revision that are at or below a path.
+
+        >>> [change.path for change in history.changes_below(9, b"/branches/two/lib")]
+        [b'/branches/two/lib/two.c', b'/branches/two/lib/util.c']
+        """
+        changes = self.changes(rev)
+        if top == b"/" or len(changes) < FEW:
+            return [change for change in changes if is_at_or_below(change.path, top)]
+        if rev not in self._keys:
+            self._keys[rev] = [NUL_FOR_SLASH(change.path) for change in changes]
+        keys, key = self._keys[rev], NUL_FOR_SLASH(top)
+        # What is below has a NUL where others have a later letter.
+        return changes[bisect.bisect_left(keys, key) : bisect.bisect_left(keys, key + b"\1")]
+
+    def find_kinds(self, revs: Iterable[int]) -> None:
+        """Has `changes` of these revisions say the kind of each path, of which no record of a deletion speaks.
+
+        >>> history.find_kinds([8])
+        >>> [(change.letter, change.path, change.kind) for change in history.changes(8)]
+        [('D', b'/branches/one', 'dir')]
+        """
+        lacking: list[tuple[int, int, Place]] = []
+        for rev in revs:
+            if WITHOUT_KIND.search(self._store.blocks_of(rev)):
+                made = [record for record in self.records(rev, rev) if record.action in ("add", "replace")]
+                for at, change in enumerate(self.changes(rev)):
+                    if change.kind is None:
+                        lacking.append((rev, at, place_of(change, rev, made)))
+        if lacking:
+            kinds = self.kinds(place for *_, place in lacking)
+            for rev, at, place in lacking:
+                changes = self._changes[rev]
+                changes[at] = changes[at]._replace(kind=kinds.get(place))
+
+    def branches(self, patterns: Sequence[bytes] = ()) -> list[Listed]:
+        """The lives of all branches and tags, or of the paths that match a pattern, as the verb `branches` lists them.
+
+        >>> [each.life.path for each in history.branches([b"/tags/*"])]
+        [b'/tags/begun', b'/tags/lib', b'/tags/one-1.0']
+        """
+        return list(all_branches().listed(self, patterns))
+
+    def contains(self, rev: int, patterns: Sequence[bytes] = ()) -> list[Holder]:
+        """The branches and tags of today that have a revision, in their history or merged.
+
+        >>> history.contains(9)
+        [Holder(path=b'/branches/two', how='history')]
+        """
+        return list(all_branches().holders(self, patterns, rev))
+
+    def unmerged(self, into: bytes | None = None, patterns: Sequence[bytes] = ()) -> list[Left]:
+        """What of each branch of today is still to be merged into a path of today, or else into the trunk of its own
+        project, each revision with whether it was merged in part.
+
+        >>> history.unmerged(b"/trunk", [b"/branches/two"])
+        [Left(path=b'/branches/two', revisions=[(9, False), (11, False)])]
+        """
+        target = None if into is None else all_branches().Target(into, self.head)
+        return [each.left for each in all_branches().unmerged(self, patterns, target)]
+
+    def graph(self, patterns: Sequence[bytes] = ()) -> Graph:
+        """The branches and tags with their copies and merges, as the verb `graph` draws them.
+
+        >>> len(history.graph().lanes)
+        8
+        """
+        # pylint: disable-next=import-outside-toplevel, cyclic-import
+        from svnask.picture.graph import graph_of
+
+        return graph_of(self, patterns)
+
+    def revision_at(self, date: str) -> int:
+        """The youngest revision at a date, in one of the forms that `svn` takes in braces.
+
+        >>> history.revision_at("2024-01-01T00:05:30Z")
+        5
+        """
+        return dates.revision_at(dates.given(date), self.head, lambda rev: self.revision(rev).date)
+
+
+def warn(text: str) -> None:
+    warnings.warn(text, stacklevel=3)
+
+
+def all_branches() -> ModuleType:
+    """The module of questions about all branches, which stands on this one."""
+    # pylint: disable-next=import-outside-toplevel, cyclic-import
+    from svnask.branches import questions as branches
+
+    return branches
+
+
+def of_file(file: BinaryIO | None) -> int | None:
+    """A descriptor of a file, of which any part can be read again."""
+    return os.dup(file.fileno()) if file is not None and stat.S_ISREG(os.fstat(file.fileno()).st_mode) else None
+
+
+def one(answers: Iterator[A]) -> A:
+    (found,) = answers
+    return found

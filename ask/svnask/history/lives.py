@@ -1,0 +1,380 @@
+"""The lives of branches and tags: when a path that matches a pattern came to be, from where, and when it went.
+
+A path that was deleted and made anew has several lives. One also begins or ends where a directory above it is copied,
+moved or deleted, of which no record names the path.
+"""
+from __future__ import annotations
+
+import bisect
+import fnmatch
+import functools
+from collections.abc import Iterable, Iterator, Sequence
+from typing import NamedTuple
+
+from svnask import projects
+from svnask.copy.changes import Place, components, joined, rest_below, tops_of
+from svnask.copy.store import Record
+from svnask.errors import Failed
+
+# As the last component of a pattern, the branches at any depth.
+ANY_DEPTH = b"**"
+# How many folders of branches come with copies of what they are in, at most. Some histories double with each copy.
+MOST_COPIED = 100000
+
+
+class Life(NamedTuple):
+    """A path from the revision that made it up to the last one that has it."""
+
+    path: bytes
+    first: int
+    last: int
+    # Where it was copied from, if it was.
+    source: Place | None
+    # Whether it is there in the youngest revision.
+    is_alive: bool
+
+    def has(self, rev: int) -> bool:
+        return self.first <= rev <= self.last
+
+    def continues(self, other: Life) -> bool:
+        """Whether this is the other one under another name: it was moved."""
+        return self.source == (other.path, other.last) and self.first == other.last + 1 and not other.is_alive
+
+
+class Event(NamedTuple):
+    """A record that made or unmade all that is at and below its path."""
+
+    rev: int
+    number: int
+    action: str
+    source: Place | None
+
+
+class Tree:
+    """What was at each path of each revision, by the records that made or unmade it."""
+
+    def __init__(self, records: Iterable[Record]) -> None:
+        self._events: dict[bytes, list[Event]] = {}
+        self._names: dict[bytes, set[bytes]] = {}
+        self._known: dict[Place, bool] = {}
+        self._made: dict[Place, Place | None] = {}
+        # The revisions that made or unmade a path.
+        self.revisions: set[int] = set()
+        for record in records:
+            if record.action != "change":
+                self.revisions.add(record.rev)
+                self._events.setdefault(record.path, []).append(
+                    Event(record.rev, record.number, record.action, record.source)
+                )
+                top, _, name = record.path.rpartition(b"/")
+                if name:
+                    self._names.setdefault(top or b"/", set()).add(name)
+
+    def events(self, path: bytes) -> list[tuple[bytes, Event]]:
+        """The events of a path and of those above it, in the order of the dump, with the path of each."""
+        found = [(top, event) for top in tops_of(path) for event in self._events.get(top, ())]
+        return sorted(found, key=lambda each: each[1].number)
+
+    def exists(self, path: bytes, rev: int) -> bool:
+        """Whether a path is in the tree of a revision: in its own, or in that which it was copied from, and so on."""
+        place: Place | None = (path, rev)
+        passed: list[Place] = []
+        is_there = False
+        while place is not None and place not in self._known:
+            passed.append(place)
+            is_there, place = self._step(*place)
+        if place is not None:
+            is_there = self._known[place]
+        self._known.update((each, is_there) for each in passed)
+        return is_there
+
+    def _step(self, path: bytes, rev: int) -> tuple[bool, Place | None]:
+        """Whether a path is in the tree of a revision, or else the place on which that depends."""
+        if path == b"/":
+            return True, None
+        newest: Event | None = None
+        place = path
+        for top in tops_of(path):
+            events = self._events.get(top, [])
+            at = count_up_to(events, rev)
+            if at and (newest is None or newest.number < events[at - 1].number):
+                newest, place = events[at - 1], top
+        if newest is None or newest.action == "delete":
+            return False, None
+        if newest.source is None:
+            return path == place, None
+        # Where a copy is not from an older revision, svnhist refuses the dump.
+        return False, moved(path, place, newest.source) if newest.source[1] < newest.rev else None
+
+    def source(self, path: bytes, rev: int) -> Place | None:
+        """Where the node at a path of a revision was copied from last, if it was."""
+        return self._step(path, rev)[1]
+
+    def made(self, path: bytes, rev: int) -> Place | None:
+        """The place at which a path of a revision was made, before it was copied, if it is there."""
+        place: Place | None = (path, rev)
+        found: Place | None = None
+        passed: list[Place] = []
+        while place is not None and place not in self._made:
+            passed.append(place)
+            is_there, place = self._step(*place)
+            if is_there:
+                found = self._place_of_event(*passed[-1])
+        if place is not None:
+            found = self._made[place]
+        # Of what was not copied nothing is kept: there may be much of that.
+        self._made.update((each, found) for each in passed[:-1])
+        return found
+
+    def _place_of_event(self, path: bytes, rev: int) -> Place:
+        """A path with the revision of its last event up to one. The root has been there from the first one on."""
+        events = self._events.get(path, [])
+        at = count_up_to(events, rev)
+        return path, events[at - 1].rev if at else 0
+
+    def is_made(self, path: bytes, rev: int) -> bool:
+        """Whether a record of a revision made or unmade a path or one above it."""
+        for top in tops_of(path):
+            events = self._events.get(top, [])
+            at = count_up_to(events, rev)
+            if at and events[at - 1].rev == rev:
+                return True
+        return False
+
+    def after(self, path: bytes, top: bytes, event: Event) -> bool:
+        """Whether a path is there after an event of it or of a path above it."""
+        if event.action == "delete":
+            return False
+        if event.source is None:
+            return path == top
+        return self.exists(*moved(path, top, event.source))
+
+    def names(self, path: bytes) -> set[bytes]:
+        """The names of all that was ever directly below a path, by its own records or those of what it was copied
+        from."""
+        found: set[bytes] = set()
+        seen: set[Place] = set()
+        left: list[tuple[bytes, int | None]] = [(path, None)]
+        while left:
+            place, rev = left.pop()
+            found.update(self._names.get(place, ()))
+            for source in self._sources(place, rev):
+                if source not in seen:
+                    seen.add(source)
+                    left.append(source)
+        return found
+
+    def _sources(self, path: bytes, rev: int | None) -> Iterator[Place]:
+        """Where a path was copied from, up to a revision if one is given."""
+        for top in tops_of(path):
+            for event in self._events.get(top, ()):
+                if event.source is not None and (rev is None or event.rev <= rev):
+                    yield moved(path, top, event.source)
+
+    def copies(self) -> list[tuple[bytes, Event]]:
+        """The copies, in the order of the dump, with their paths."""
+        found = [(path, event) for path, events in self._events.items() for event in events if event.source is not None]
+        return sorted(found, key=lambda each: each[1].number)
+
+    @functools.cached_property
+    def _copies_of(self) -> dict[Place, list[Place]]:
+        """Where each place was copied to, and in which revisions."""
+        found: dict[Place, list[Place]] = {}
+        for path, event in self.copies():
+            assert event.source is not None
+            found.setdefault(event.source, []).append((path, event.rev))
+        return found
+
+    def moved_to(self, life: Life) -> bytes | None:
+        """Where a life that ended goes on as a copy of its last revision, if it does."""
+        end = life.last + 1
+        for top in tops_of(life.path):
+            for path, rev in self._copies_of.get((top, life.last), ()):
+                place = joined(path, rest_below(life.path, top))
+                if rev == end and self.exists(place, end):
+                    return place
+        return None
+
+    @functools.cached_property
+    def branches(self) -> list[bytes]:
+        """The paths of the trunks, the branches and the tags, and of what was copied from one of them as a whole to a
+        place that is in none of them. A directory of branches is none itself."""
+        found = dict.fromkeys(self._named())
+        for path, event in self.copies():
+            assert event.source is not None
+            if event.source[0] in found and not any(
+                top in found and not self._may_be_folder(top) for top in tops_of(path)
+            ):
+                found[path] = None
+        kept = {path for path in found if not self._is_in_copy(path, found)}
+        folders = tops_above(kept)
+        return [path for path in found if path in kept and not (path in folders and self._may_be_folder(path))]
+
+    def _named(self) -> list[bytes]:
+        """The paths that ever were and are trunks, branches or tags by their names."""
+        found: dict[bytes, None] = {}
+        for path in self._special():
+            if projects.is_named(path):
+                found[path] = None
+            elif not projects.is_in_named(path):
+                found.update((joined(path, name), None) for name in sorted(self.names(path)))
+        return sorted(found, key=components)
+
+    def _special(self) -> list[bytes]:
+        """The paths that ever were and are a trunk or a folder of branches or tags by their last component: those of
+        records, or of what is in a folder by a record, and those that came with a copy of what they are in."""
+        found = {top for path in self._events for top in (path, parent_of(path)) if projects.is_special(top)}
+        rising = sorted(found)
+        count = 0
+        for path, event in self.copies():
+            if projects.is_in_named(path):
+                continue
+            for new in [*self._special_below(rising, path, event)]:
+                if new not in found and self.exists(new, event.rev):
+                    found.add(new)
+                    bisect.insort(rising, new)
+                    count += 1
+                    if count > MOST_COPIED:
+                        raise Failed(f"there are more than {MOST_COPIED} folders of branches and tags", 1)
+        return rising
+
+    def _special_below(self, rising: list[bytes], path: bytes, event: Event) -> Iterator[bytes]:
+        """Where a copy may have put such paths. What it is of may have come with copies itself."""
+        place = event.source
+        while place is not None:
+            source = place[0]
+            front = source if source.endswith(b"/") else source + b"/"
+            for each in rising[bisect.bisect_left(rising, front) : bisect.bisect_left(rising, front[:-1] + b"0")]:
+                yield joined(path, rest_below(each, source))
+            # Of a copy that is in no branch they are known.
+            place = self._step(*place)[1] if projects.is_in_named(source) else None
+
+    def _is_in_copy(self, path: bytes, branches: dict[bytes, None]) -> bool:
+        """Whether a path is in a branch that is none by its name."""
+        _, *above = tops_of(path)
+        return any(top in branches and not projects.is_named(top) for top in above)
+
+    def _may_be_folder(self, path: bytes) -> bool:
+        """Whether a path was never a trunk or a copy."""
+        is_trunk = projects.is_named(path) and projects.kind_of(path) == projects.TRUNK
+        return not is_trunk and not any(event.source is not None for event in self._events.get(path, ()))
+
+    @functools.cached_property
+    def _folders(self) -> set[bytes]:
+        """The paths that branches are below."""
+        return tops_above(self.branches)
+
+    def is_folder(self, path: bytes) -> bool:
+        """Whether a path is a directory of branches, and none itself."""
+        return self._may_be_folder(path) and path in self._folders
+
+    def matching(self, pattern: bytes) -> list[bytes]:
+        """The paths that ever were and match a pattern, component by component. At its end `**` stands for the branches
+        at any depth."""
+        *parts, last = components(pattern) or [b""]
+        if last == ANY_DEPTH:
+            tops = set(self.matching(b"/" + b"/".join(parts)))
+            return [path for path in self.branches if not tops.isdisjoint(tops_above([path]))]
+        found = [b"/"]
+        for part in components(pattern):
+            if is_plain(part):
+                found = [joined(top, part) for top in found]
+            else:
+                found = [
+                    joined(top, name)
+                    for top in found
+                    for name in sorted(self.names(top))
+                    if fnmatch.fnmatchcase(letters(name), letters(part))
+                ]
+        return found
+
+    def lives(self, path: bytes, head: int) -> Iterator[Life]:
+        """The lives of a path, the first one first. That of the root begins with revision 0."""
+        life = Life(path, 0, head, None, True) if path == b"/" else None
+        for top, event in self.events(path):
+            is_there = self.after(path, top, event)
+            if life is not None and life.first < event.rev:
+                yield life._replace(last=event.rev - 1, is_alive=False)
+            source = moved(path, top, event.source) if event.source is not None else None
+            life = Life(path, event.rev, head, source, True) if is_there else None
+        if life is not None:
+            yield life
+
+
+def parent_of(path: bytes) -> bytes:
+    return path.rpartition(b"/")[0] or b"/"
+
+
+def tops_above(paths: Iterable[bytes]) -> set[bytes]:
+    """The paths above some others."""
+    found: set[bytes] = set()
+    for path in paths:
+        while path != b"/":
+            path = parent_of(path)
+            if path in found:
+                break
+            found.add(path)
+    return found
+
+
+def moves_of(lives: Sequence[Life]) -> dict[Life, Life]:
+    """Of those of some lives that go on with another one of them under a new name, that other one."""
+    ends = {(life.path, life.last): life for life in lives}
+    pairs = [(ends[life.source], life) for life in lives if life.source in ends]
+    return {life: later for life, later in pairs if later.continues(life)}
+
+
+def chains_of(lives: Sequence[Life]) -> list[list[Life]]:
+    """The lives, each one after that which it continues, if it continues any."""
+    moves = moves_of(lives)
+    later = set(moves.values())
+    chains = []
+    for life in lives:
+        if life not in later:
+            chains.append([life])
+            while chains[-1][-1] in moves:
+                chains[-1].append(moves[chains[-1][-1]])
+    return chains
+
+
+def count_up_to(events: Sequence[Event], rev: int) -> int:
+    """How many of the events are of revisions up to this one."""
+    low, high = 0, len(events)
+    while low < high:
+        middle = (low + high) // 2
+        if events[middle].rev <= rev:
+            low = middle + 1
+        else:
+            high = middle
+    return low
+
+
+def moved(path: bytes, top: bytes, source: Place) -> Place:
+    """Where a path came from with a copy of a path at or above it."""
+    return joined(source[0], rest_below(path, top)), source[1]
+
+
+def letters(name: bytes) -> str:
+    """A name as letters. A byte that is not UTF-8 is one, too."""
+    return name.decode("utf-8", "surrogateescape")
+
+
+def is_plain(part: bytes) -> bool:
+    return not any(letter in part for letter in b"*?[")
+
+
+def lives_in(tree: Tree, patterns: Sequence[bytes], head: int) -> list[Life]:
+    """The lives of all paths that match a pattern, in the order of paths and revisions."""
+    return lives_at(tree, {path for pattern in patterns for path in tree.matching(pattern)}, head)
+
+
+def lives_at(tree: Tree, paths: Iterable[bytes], head: int) -> list[Life]:
+    """The lives of some paths, in the order of paths and revisions."""
+    return [life for path in sorted(paths, key=components) for life in tree.lives(path, head)]
+
+
+def unmatched(tree: Tree, patterns: Sequence[bytes], head: int) -> Iterator[bytes]:
+    """The patterns that no path ever matched."""
+    for pattern in patterns:
+        if not any(True for path in tree.matching(pattern) for _ in tree.lives(path, head)):
+            yield pattern

@@ -1,0 +1,1 @@
+"""The log of a path: which revisions, and how they are printed."""

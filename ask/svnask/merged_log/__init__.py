@@ -1,0 +1,1 @@
+"""The log with what was merged: `log -g`."""

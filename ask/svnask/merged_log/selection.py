@@ -1,0 +1,291 @@
+"""`log -g`: the revisions of a log with those that were merged in them.
+
+`svn log -g` walks from merge to merge, and what it leaves out depends on what it walked before, even where that is a
+fault of it. So this is the same walk: each revision of the range in turn, then what its mergeinfo gained or lost, as
+ranges of revisions of other paths, each of which is walked in the same way.
+"""
+from __future__ import annotations
+
+import bisect
+from collections.abc import Iterable, Iterator, Sequence
+from operator import attrgetter
+from typing import NamedTuple, Union
+
+from svnask.copy.changes import is_at_or_below
+from svnask.errors import Denied
+from svnask.history.history import History
+from svnask.history.targets import Target, decoded, known
+from svnask.log.selection import Item, Options, copied_in, parts
+from svnask.merged_log.parts import Part, parts_of
+from svnask.merges.gains import Interval, Intervals, has, united
+from svnask.merges.traces import Cut, Traces
+from svnask.merges.value_changes import MergeinfoChanges
+
+END = Item(-1)
+NO_RUN = 0, -1
+# What a walk gives: some items, or a part that is walked before it goes on.
+Step = Union[list[Item], Part]
+
+
+class Range(NamedTuple):
+    """The revisions between two, the youngest or the oldest one first."""
+
+    low: int
+    high: int
+    is_falling: bool
+    limit: int
+
+
+class Searched:
+    """What was walked below some merge: for each path the rising runs of its revisions, of which none touches another."""
+
+    def __init__(self) -> None:
+        self._runs: dict[bytes, list[Interval]] = {}
+
+    def has(self, path: bytes, low: int, high: int) -> bool:
+        """Whether all of a range of a path was walked."""
+        return high <= self._run(path, low)[1]
+
+    def left(self, path: bytes, low: int, high: int) -> Interval:
+        """What Subversion walks of a range of which not all was walked. The first run that reaches into it from before
+        has it begin with the last revision of that run, which is walked again. Else one that reaches out of its end has
+        it end with the first revision of that run."""
+        is_empty = low > high
+        first, last = (high, low) if is_empty else (low, high)
+        begin, end = self._run(path, first), self._run(path, last)
+        if begin != NO_RUN:
+            first = begin[1]
+        elif end != NO_RUN:
+            last = end[0]
+        return (last, first) if is_empty else (first, last)
+
+    def _run(self, path: bytes, rev: int) -> Interval:
+        """The run that has a revision."""
+        runs = self._runs.get(path, [])
+        at = bisect.bisect_left(runs, (rev + 1,)) - 1
+        return runs[at] if at >= 0 and rev <= runs[at][1] else NO_RUN
+
+    def add(self, path: bytes, low: int, high: int) -> None:
+        runs = self._runs.setdefault(path, [])
+        first = last = bisect.bisect_left(runs, (low,))
+        if first and low <= runs[first - 1][1] + 1:
+            first -= 1
+        while last < len(runs) and runs[last][0] <= high + 1:
+            last += 1
+        joined = [*runs[first:last], (low, high)]
+        runs[first:last] = [(min(lo for lo, _ in joined), max(hi for _, hi in joined))]
+
+
+class Walker:
+    """Walks the ranges of a log."""
+
+    def __init__(self, history: History, stops_on_copy: bool) -> None:
+        self._history = history
+        self.traces = Traces(history, history.tree, stops_on_copy)
+        self._changes = MergeinfoChanges(history, history.explicit, self.traces)
+        # Where the targets were themselves in the range.
+        self._own: Intervals = {}
+        # The revisions that were sent as merged ones, and those that were left out since the last one that was sent.
+        self._sent: set[int] = set()
+        self._left_out: list[int] = []
+        # Subversion keeps this for a falling range alone.
+        self._searched: Searched | None = None
+        # In how many revisions that were sent what is sent now was merged, for a server, which sends no other ends.
+        self._depth = 0
+
+    def items(self, paths: list[bytes], first: int, last: int, limit: int) -> list[Item]:
+        """The revisions between two, with those that were merged in them."""
+        asked = Range(min(first, last), max(first, last), first >= last, limit)
+        self._own = self._own_of(paths, asked)
+        self._sent = set()
+        self._depth = 0
+        self._searched = Searched() if asked.is_falling else None
+        found: list[Item] = []
+        # Walks in walks may be deeper than calls of Python.
+        walks: list[Iterator[Step]] = [self._top(paths, asked)]
+        begun: list[Part] = []
+        while walks:
+            step = next(walks[-1], None)
+            if isinstance(step, list):
+                found += step
+            elif step is not None:
+                self._check(step, begun)
+                begun.append(step)
+                walks.append(self._walk(step))
+            else:
+                walks.pop()
+                del begun[-1:]
+        return found
+
+    def _check(self, part: Part, begun: list[Part]) -> None:
+        if self._searched is None and part in begun:
+            raise Denied(
+                "E195002",
+                f"-g with a rising range is not taken where 'svn' does not end: r{part.last} was merged in itself",
+            )
+
+    def _own_of(self, paths: list[bytes], asked: Range) -> Intervals:
+        found: Intervals = {}
+        # The paths at which one of the targets was, went and came again, or was copied onto itself.
+        broken: set[bytes] = set()
+        for cut in self._cuts(paths, asked.high):
+            own: Intervals = {}
+            for segment in cut.segments:
+                lo, hi = max(segment.lo, asked.low), min(segment.hi, asked.high)
+                if segment.path is not None and lo <= hi:
+                    own.setdefault(segment.path, []).append((lo, hi))
+                    if copied_in(self._history, segment, hi) > lo:
+                        broken.add(segment.path)
+            broken.update(path for path, intervals in own.items() if len(intervals) > 1)
+            for path in own:
+                if path in found and path in broken:
+                    raise Denied(
+                        "E195002",
+                        f"-g is not taken where 'svn' fails: two targets were at '{decoded(path)}', with a break",
+                    )
+                found[path] = united([*found.get(path, []), *own[path]])
+        return found
+
+    def _cuts(self, paths: Iterable[bytes], rev: int) -> list[Cut]:
+        return [cut for cut in (self.traces.cut(path, rev) for path in paths) if cut is not None]
+
+    def _top(self, paths: list[bytes], asked: Range) -> Iterator[Step]:
+        cuts = self._cuts(paths, asked.high)
+        revisions = falling(cuts, asked.low, asked.high)
+        # With several ranges, the limit of the later ones may be below 0: then they have one revision each.
+        most = max(asked.limit, 1) if asked.limit else len(revisions)
+        revisions = revisions[:most] if asked.is_falling else revisions[::-1][:most]
+        merged = self._merged(cuts, revisions)
+        items: list[Item] = []
+        for rev in revisions:
+            # A server lists the paths of those that were left out before with this one, too.
+            items.append(Item(rev, rev in merged, left_out=tuple(self._left_out)))
+            self._left_out.clear()
+            if rev in merged:
+                self._depth += 1
+                yield items
+                items = []
+                yield from self._below(merged[rev])
+        yield items
+
+    def _walk(self, part: Part) -> Iterator[Step]:
+        """The revisions of a part that was merged, the youngest one first."""
+        paths, low, high = self._not_searched(part)
+        if paths:
+            known(self._history, high)
+        cuts = self._cuts(paths, high)
+        revisions = falling(cuts, low, high)
+        merged = self._merged(cuts, revisions)
+        is_apart = all(self._is_apart(cut, low) for cut in cuts)
+        items: list[Item] = []
+        for rev in revisions:
+            if self._is_sent(rev, is_apart):
+                items.append(Item(rev, rev in merged, part.is_reverse, tuple(self._left_out)))
+                self._left_out.clear()
+                self._depth += rev in merged
+            else:
+                self._left_out.append(rev)
+            if rev in merged:
+                yield items
+                items = []
+                yield from self._below(merged[rev])
+        yield items
+
+    def _merged(self, cuts: list[Cut], revisions: list[int]) -> dict[int, list[Part]]:
+        """What was merged in each of some revisions, if anything was. It is looked up where each path goes on before
+        the revision, but as of the revision itself."""
+        found: dict[int, list[Part]] = {}
+        changing = self._changes.revisions
+        for rev in revisions:
+            if rev in changing:
+                paths = [path for path in (cut.path_before(rev) for cut in cuts) if path is not None]
+                gained, lost = self._changes.of_paths(paths, rev)
+                if gained or lost:
+                    found[rev] = sorted(
+                        [*parts_of(gained, False), *parts_of(lost, True)], key=attrgetter("first", "last")
+                    )
+        self.traces.find((path, part.last) for each in found.values() for part in each for path in part.paths)
+        return found
+
+    def _below(self, merged: list[Part]) -> Iterator[Step]:
+        yield from reversed(merged)
+        if self._depth or not self._history.source.is_remote:
+            self._depth -= 1
+            yield [END]
+            self._left_out.clear()
+
+    def _not_searched(self, part: Part) -> tuple[Sequence[bytes], int, int]:
+        """The paths of a part that were not walked already, and the range that is left of it. Of the only path that is
+        left a part of the range may be left."""
+        low, high = part.first, part.last
+        if self._searched is None:
+            return part.paths, low, high
+        left = list(part.paths)
+        for path in part.paths:
+            if self._searched.has(path, min(low, high), max(low, high)):
+                left.remove(path)
+            elif len(left) == 1:
+                low, high = self._searched.left(path, low, high)
+        for path in left:
+            self._searched.add(path, min(low, high), max(low, high))
+        return left, low, high
+
+    def _is_sent(self, rev: int, is_apart: bool) -> bool:
+        """Whether a merged revision is sent: once, and not where it changed nothing but what the targets were then."""
+        if rev in self._sent or not (is_apart or self._is_elsewhere(rev)):
+            return False
+        self._sent.add(rev)
+        return True
+
+    def _is_apart(self, cut: Cut, low: int) -> bool:
+        """Whether a path was, from a revision on, neither below nor above where the targets ever were. What changed it,
+        or copied what is above it, is elsewhere then."""
+        paths = [segment.path for segment in cut.segments if segment.hi >= low]
+        return not any(
+            each is None or is_at_or_below(each, own) or is_at_or_below(own, each)
+            for each in paths
+            for own in self._own
+        )
+
+    def _is_elsewhere(self, rev: int) -> bool:
+        """Whether a revision changed a path that is not at or below where the targets were then."""
+        own = [path for path, intervals in self._own.items() if has(intervals, rev)]
+        return any(not any(is_at_or_below(change.path, top) for top in own) for change in self._history.changes(rev))
+
+
+def falling(cuts: list[Cut], low: int, high: int) -> list[int]:
+    """The revisions of some walks that are in a range, the youngest one first."""
+    if len(cuts) == 1:
+        return cuts[0].between(low, high)[::-1]
+    return sorted({rev for cut in cuts for rev in cut.between(low, high)}, reverse=True)
+
+
+def received(items: Iterable[Item], limit: int) -> Iterator[Item]:
+    """The items of a server that a client takes with a limit, which counts those that seem to be at the top."""
+    depth = count = 0
+    for item in items:
+        if depth == 0:
+            count += 1
+            if count > limit:
+                continue
+        depth += item.has_merges if item.rev >= 0 else -1
+        yield item
+
+
+def items_of(history: History, target: Target, below: Sequence[bytes], options: Options) -> list[Item]:
+    """The items of a log with what was merged. A limit counts each item of several ranges, ends too. What `svn` prints of
+    a repository on the same machine has ends that a server does not send."""
+    walker = Walker(history, options.stops_on_copy)
+    found: list[Item] = []
+    for part in parts(history, target, below, options):
+        for walk in part.walks:
+            walker.traces.add(walk)
+        limit = options.limit - len(found) if options.limit is not None else 0
+        if limit < 0 and history.source.root.startswith("svn"):
+            # This protocol has no numbers below 0, so svnserve takes it for a large one.
+            limit = 0
+        items = walker.items(part.paths, part.first, part.last, limit)
+        found += received(items, limit) if history.source.is_remote and limit > 0 else items
+        if len(found) == options.limit:
+            break
+    return found

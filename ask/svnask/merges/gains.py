@@ -1,0 +1,256 @@
+"""Which revisions each branch gained by merges, and in which of its revisions it gained them.
+
+This is what mergeinfo says, that of the branch itself or what it inherits. It can't tell a merge from a revision that
+was only recorded as merged. What the source of a copy had is not gained by the copy.
+"""
+from __future__ import annotations
+
+import bisect
+from collections.abc import Iterable, Iterator, Sequence
+from typing import NamedTuple
+
+from svnask.copy.changes import tops_of
+from svnask.engine.queries import Answer, Inherited, Mergeinfo, Query, Segments, Where, is_askable
+from svnask.history.lives import Life
+from svnask.mergeinfo.values import Explicit
+
+Interval = tuple[int, int]
+# For each path some revisions, as rising intervals.
+Intervals = dict[bytes, list[Interval]]
+# For each source path a rangelist of mergeinfo, as svnhist prints it.
+Rangelists = dict[bytes, str]
+
+
+class Gain(NamedTuple):
+    """The revisions of a source, rising, that one revision of a target gained. `lost` is the revision in which the
+    mergeinfo of the target lost them again, and `is_carried` says that another source which was merged then had them by
+    a merge of its own."""
+
+    source: Life
+    target: Life
+    rev: int
+    revisions: list[int]
+    lost: int | None
+    is_carried: bool
+
+
+class Held(NamedTuple):
+    """Rising revisions of a source, and when the target gained and lost them."""
+
+    source: Life
+    revisions: list[int]
+    gained: int
+    lost: int | None
+
+
+def split(held: Held, intervals: Sequence[Interval], lost: int) -> tuple[Held, Held]:
+    """Those that are left, and those in some intervals, which are lost."""
+    gone = {rev for lo, hi in intervals for rev in between(held.revisions, lo, hi)}
+    left = [rev for rev in held.revisions if rev not in gone] if gone else held.revisions
+    return held._replace(revisions=left), held._replace(revisions=sorted(gone), lost=lost)
+
+
+def between(revisions: list[int], lo: int, hi: int) -> list[int]:
+    """Those of rising revisions that are in an interval."""
+    return revisions[bisect.bisect_left(revisions, lo) : bisect.bisect_right(revisions, hi)]
+
+
+class Sources:
+    """The lives that are merged from, by their paths."""
+
+    def __init__(self, operative: dict[Life, list[int]]) -> None:
+        self._operative = operative
+        self._by_path: dict[bytes, list[Life]] = {}
+        for life in operative:
+            self._by_path.setdefault(life.path, []).append(life)
+
+    def at(self, path: bytes) -> list[Life]:
+        return self._by_path.get(path, [])
+
+    def revisions(self, life: Life, intervals: Iterable[Interval]) -> list[int]:
+        """The operative revisions of a life that are in some rising intervals."""
+        found: list[int] = []
+        for lo, hi in intervals:
+            found += between(self._operative[life], lo, hi)
+        return found
+
+
+class Tally:
+    """What one target has gained so far."""
+
+    def __init__(self, sources: Sources, own: Intervals) -> None:
+        self._sources = sources
+        self._own = own
+        self._value: Rangelists = {}
+        self._held: dict[Life, list[Held]] = {}
+        self._lost: list[Held] = []
+
+    def begin(self, value: Rangelists) -> None:
+        """Takes what the source of the copy had."""
+        self._value = value
+
+    def turn(self, rev: int, value: Rangelists) -> None:
+        """Takes the mergeinfo from a revision on."""
+        for path in self._value.keys() | value.keys():
+            if self._value.get(path) == value.get(path):
+                continue
+            before, after = intervals_of(self._value.get(path, "")), intervals_of(value.get(path, ""))
+            lost, gained = minus(before, after), minus(minus(after, before), self._own.get(path, []))
+            for source in self._sources.at(path):
+                self._lose(source, lost, rev)
+                revisions = self._sources.revisions(source, gained)
+                if revisions:
+                    self._held.setdefault(source, []).append(Held(source, revisions, rev, None))
+        self._value = value
+
+    def _lose(self, source: Life, intervals: Sequence[Interval], rev: int) -> None:
+        if intervals and source in self._held:
+            parts = [split(each, intervals, rev) for each in self._held[source]]
+            self._held[source] = [left for left, _ in parts if left.revisions]
+            self._lost += [gone for _, gone in parts if gone.revisions]
+
+    def all(self) -> list[Held]:
+        return self._lost + [each for all_of in self._held.values() for each in all_of]
+
+
+def has(intervals: Sequence[Interval], rev: int) -> bool:
+    """Whether a revision is in some rising intervals."""
+    at = bisect.bisect_left(intervals, (rev + 1,)) - 1
+    return at >= 0 and rev <= intervals[at][1]
+
+
+def minus(these: Sequence[Interval], those: Sequence[Interval]) -> list[Interval]:
+    """What is in some intervals and not in others. Both rise."""
+    left = []
+    at = 0
+    for lo, hi in these:
+        while at < len(those) and those[at][1] < lo:
+            at += 1
+        after = at
+        while after < len(those) and those[after][0] <= hi:
+            if those[after][0] > lo:
+                left.append((lo, those[after][0] - 1))
+            lo = those[after][1] + 1
+            after += 1
+        if lo <= hi:
+            left.append((lo, hi))
+    return left
+
+
+def united(intervals: list[Interval]) -> list[Interval]:
+    """Intervals in any order as rising ones, of which none touches another."""
+    found: list[Interval] = []
+    for lo, hi in sorted(intervals) if len(intervals) > 1 else intervals:
+        if found and lo <= found[-1][1] + 1:
+            found[-1] = found[-1][0], max(hi, found[-1][1])
+        else:
+            found.append((lo, hi))
+    return found
+
+
+def intervals_of(ranges: str) -> list[Interval]:
+    """The intervals of a rangelist, with those that are not inheritable."""
+    found = []
+    for each in ranges.split(",") if ranges else ():
+        lo, dash, hi = each.rstrip("*").partition("-")
+        found.append((int(lo), int(hi if dash else lo)))
+    return found
+
+
+def own_history(segments: Segments) -> Intervals:
+    """Where a target was itself."""
+    found: Intervals = {}
+    for segment in reversed(segments.segments):
+        if segment.path is not None:
+            found.setdefault(segment.path, []).append((segment.lo, segment.hi))
+    return found
+
+
+def candidates(explicit: Explicit, life: Life) -> list[int]:
+    """The revisions in which the mergeinfo of a life may change: its first one, and those with an event of its path or
+    of one above it."""
+    later = {rev for path in tops_of(life.path) for rev in explicit.events(path) if life.first < rev <= life.last}
+    return [life.first, *sorted(later)]
+
+
+def queries_of(explicit: Explicit, life: Life) -> list[Query[Answer]]:
+    """Where a life was, its mergeinfo in each candidate, and before that what its source had: nothing where neither ever
+    had any."""
+    places = [life.path] if life.source is None else [life.path, life.source[0]]
+    if not any(explicit.events(top) for path in places for top in tops_of(path)):
+        return []
+    asked: list[Query[Answer]] = [Where(life.path, life.last)]
+    if life.source is not None and is_askable(life.source[0]):
+        asked.append(Mergeinfo(*life.source))
+    return asked + [Mergeinfo(life.path, rev) for rev in candidates(explicit, life)]
+
+
+class Asked(NamedTuple):
+    """A query about a life."""
+
+    life: Life
+    query: Query[Answer]
+
+
+def gains_of(operative: dict[Life, list[int]], asked: Iterable[Asked], answers: Iterator[Answer]) -> list[Gain]:
+    """What each of these lives gained from the others, given their operative revisions and the answers, which are the
+    next ones, to the queries about them."""
+    sources = Sources(operative)
+    tallies: dict[Life, Tally] = {}
+    for (life, _), answer in zip(asked, answers):
+        if isinstance(answer, Segments):
+            tallies[life] = Tally(sources, own_history(answer))
+        elif isinstance(answer, Inherited) and answer.ok:
+            if life.source == (answer.query.path, answer.query.rev):
+                tallies[life].begin(answer.value)
+            else:
+                tallies[life].turn(answer.query.rev, answer.value)
+    return joined({life: tally.all() for life, tally in tallies.items()})
+
+
+def joined(held: dict[Life, list[Held]]) -> list[Gain]:
+    """The revisions that one revision of a target gained of one source, as one gain."""
+    found: dict[tuple[Life, int, Life, int | None, bool], list[int]] = {}
+    for target, each, is_carried in told_apart(held):
+        found.setdefault((target, each.gained, each.source, each.lost, is_carried), []).extend(each.revisions)
+    gains = [
+        Gain(source, target, rev, sorted(revs), lost, is_carried)
+        for (target, rev, source, lost, is_carried), revs in found.items()
+    ]
+    return sorted(gains, key=lambda gain: (gain.rev, gain.target, gain.revisions[-1], gain.source))
+
+
+def told_apart(held: dict[Life, list[Held]]) -> Iterator[tuple[Life, Held, bool]]:
+    """What a target gained, and whether another source carried it along."""
+    gained: dict[Life, dict[int, list[Held]]] = {}
+    for target, all_of in held.items():
+        for each in all_of:
+            gained.setdefault(target, {}).setdefault(each.gained, []).append(each)
+    turns = {life: sorted(of_life) for life, of_life in gained.items()}
+    for target, of_target in gained.items():
+        for together in of_target.values():
+            carried: dict[Life, set[int]] = {}
+            for each in together:
+                for rev in turns_in(turns.get(each.source, []), each.revisions):
+                    for brought in gained[each.source][rev]:
+                        carried.setdefault(brought.source, set()).update(brought.revisions)
+            for each in together:
+                yield from halves(target, each, carried.get(each.source, set()))
+
+
+def turns_in(turns: list[int], revisions: list[int]) -> Iterator[int]:
+    """Those of some rising revisions that are among others."""
+    for rev in between(turns, revisions[0], revisions[-1]):
+        if between(revisions, rev, rev):
+            yield rev
+
+
+def halves(target: Life, held: Held, carried: set[int]) -> Iterator[tuple[Life, Held, bool]]:
+    """What was merged itself, and what was carried along."""
+    if not carried or carried.isdisjoint(held.revisions):
+        yield target, held, False
+        return
+    for is_carried in (False, True):
+        revisions = [rev for rev in held.revisions if (rev in carried) == is_carried]
+        if revisions:
+            yield target, held._replace(revisions=revisions), is_carried

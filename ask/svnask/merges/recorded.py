@@ -1,0 +1,115 @@
+"""What was only recorded as merged: mergeinfo has it, and the revision that gave it changed nothing else.
+
+That is the test of the picture, too. A revision counts as recorded where each revision by which a path has it changed
+nothing but mergeinfo at and below that path. A copy has it as what it was copied from.
+"""
+from __future__ import annotations
+
+from collections.abc import Iterable
+from typing import NamedTuple
+
+from svnask.copy.changes import Place, is_at_or_below, rest_below, tops_of
+from svnask.history.history import History
+from svnask.history.lives import Life
+from svnask.mergeinfo.values import Explicit
+from svnask.merges.gains import Intervals, candidates, minus, united
+from svnask.merges.value_changes import Difference, Malformed, Values, difference
+
+
+def is_mergeinfo_alone(history: History, explicit: Explicit, life: Life, rev: int) -> bool:
+    """Return whether a revision changed nothing but mergeinfo at and below a life, by its records. Of other properties
+    that change along with it they say nothing."""
+    changed = explicit.settings.get(rev, set())
+    return life.first < rev and all(
+        record.action == "change" and not record.has_text and record.path in changed
+        for record in history.records(rev, rev)
+        if is_at_or_below(record.path, life.path)
+    )
+
+
+class Nearest(NamedTuple):
+    """The text of mergeinfo that a path has or inherits, and the rest of the path below that which has it."""
+
+    text: bytes
+    rest: bytes
+
+
+class Recorded:
+    """The revisions that paths have by records alone, for each source path."""
+
+    def __init__(self, history: History) -> None:
+        self._history, self._explicit = history, history.explicit
+        self._values = Values()
+        self._known: dict[Place, Intervals] = {}
+
+    def of(self, places: Iterable[Place]) -> list[Intervals]:
+        """What each of some places has that was only recorded."""
+        asked = list(places)
+        needed = self._needed(asked)
+        for life in sorted(needed, key=lambda life: life.first):
+            self._walk(life, sorted(needed[life]))
+        return [self._known[place] for place in asked]
+
+    def _needed(self, places: list[Place]) -> dict[Life, set[int]]:
+        """The lives of some places and of what they were copied from, each with the revisions that are asked for."""
+        needed: dict[Life, set[int]] = {}
+        left = [place for place in places if place not in self._known]
+        while left:
+            path, rev = left.pop()
+            life = next(each for each in self._history.tree.lives(path, self._history.head) if each.has(rev))
+            if life not in needed and life.source is not None and life.source not in self._known:
+                left.append(life.source)
+            needed.setdefault(life, set()).add(rev)
+        return needed
+
+    def _walk(self, life: Life, revisions: list[int]) -> None:
+        """Notes what a life has in some rising revisions."""
+        found = dict(self._known[life.source]) if life.source is not None else {}
+        before = self._nearest(*life.source) if life.source is not None else None
+        left = iter(revisions)
+        following = next(left, None)
+        for rev in candidates(self._explicit, life):
+            while following is not None and following < rev:
+                self._known[life.path, following] = dict(found)
+                following = next(left, None)
+            now = self._nearest(life.path, rev)
+            if now != before:
+                is_alone = is_mergeinfo_alone(self._history, self._explicit, life, rev)
+                change(found, self._difference(before, now), is_alone)
+            before = now
+        for each in (following, *left) if following is not None else ():
+            self._known[life.path, each] = found
+
+    def _nearest(self, path: bytes, rev: int) -> Nearest | None:
+        for top in tops_of(path):
+            text = self._explicit.text(top, rev)
+            if text is not None:
+                return Nearest(text, rest_below(path, top))
+        return None
+
+    def _difference(self, before: Nearest | None, now: Nearest | None) -> Difference:
+        if before is not None and now is not None and not before.rest and not now.rest:
+            try:
+                return self._values.difference(before.text, now.text)
+            except Malformed:
+                pass
+        return difference(self._effective(before), self._effective(now))
+
+    def _effective(self, nearest: Nearest | None) -> Intervals:
+        """What a text says, which is nothing where it is malformed."""
+        if nearest is None:
+            return {}
+        try:
+            text, rest = nearest
+            return self._values.inheritable(text, rest) if rest else self._values.whole(text)
+        except Malformed:
+            return {}
+
+
+def change(found: Intervals, more: Difference, is_alone: bool) -> None:
+    """Takes what mergeinfo gained and lost in a revision that perhaps changed nothing else."""
+    for path, intervals in more.lost.items():
+        found[path] = minus(found.get(path, []), intervals)
+    for path, intervals in more.gained.items():
+        before = found.get(path, [])
+        found[path] = united([*before, *intervals]) if is_alone else minus(before, intervals)

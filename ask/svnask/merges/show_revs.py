@@ -1,0 +1,357 @@
+"""`mergeinfo --show-revs`: what `svn mergeinfo` prints of a source and a target.
+
+What svnhist answers is taken from it: where both were, the log of the source, the mergeinfo of the target and of paths
+below it, and, but for `-R`, what was merged and what is eligible. `svn` also looks at the changed paths of a revision,
+lists some revisions that svnhist does not, and reads some texts that are malformed for svnhist; that is added here.
+"""
+from __future__ import annotations
+
+import bisect
+import itertools
+from collections import ChainMap
+from collections.abc import Iterable, Iterator, Mapping, MutableMapping
+from typing import NamedTuple
+
+from svnask.copy.changes import Change, is_at_or_below, joined, rest_below, tops_of
+from svnask.engine.queries import Answer, Answers, Inherited, Log, Mergeinfo, Pair, Query, Segment, Where
+from svnask.errors import Denied
+from svnask.history.history import History
+from svnask.history.targets import Target
+from svnask.log import selection as log
+from svnask.mergeinfo.values import Explicit, Run, Value, runs_of, value_of
+
+# For each path the revisions in which a history was there, and those of them that its log lists.
+Located = dict[bytes, list[range]]
+Listed = dict[bytes, set[int]]
+
+
+class Lines(NamedTuple):
+    """For each source path its revisions that are inheritable, and those that are not."""
+
+    inheritable: MutableMapping[bytes, set[int]]
+    other: Mapping[bytes, set[int]]
+    # Their paths in order.
+    names: list[bytes]
+    # For each path at which source and target both were, the revisions then, and the last one in which they were the
+    # same.
+    own: Listed = {}
+    last_own: dict[bytes, int] = {}
+
+    def with_history(self, own: Listed, last_own: dict[bytes, int]) -> Lines:
+        """These and what the target has of a source because it was there itself."""
+        revs = {path: self.inheritable.get(path, set()) | revs for path, revs in own.items()}
+        return Lines(ChainMap(revs, self.inheritable), self.other, self.names, own, last_own)
+
+    def at_or_below(self, top: bytes) -> Iterator[bytes]:
+        """The source paths at or below one, some of them twice."""
+        yield top
+        yield from (path for path in self.own if is_at_or_below(path, top))
+        # What is below has a slash where others have a zero, the next letter, or a later one.
+        front = top.rstrip(b"/")
+        begin, end = (bisect.bisect_left(self.names, front + letter) for letter in (b"/", b"0"))
+        yield from itertools.islice(self.names, begin, end)
+
+    def newest(self, path: bytes) -> int:
+        """The youngest revision that counts as merged from exactly this path, or 0."""
+        revs = max(self.inheritable.get(path, ()), default=0), max(self.other.get(path, ()), default=0)
+        return max(*revs, self.last_own.get(path, 0))
+
+
+class Question(NamedTuple):
+    """What is asked: `merged` or `eligible`, whether below the target, too, and for which revisions."""
+
+    verb: str
+    is_recursive: bool = False
+    range: tuple[int, int] | None = None
+
+
+def revisions_in(runs: Iterable[Run], most: int, inheritable: bool) -> set[int]:
+    found: set[int] = set()
+    for run in runs:
+        if run.inheritable == inheritable:
+            found.update(range(run.lo, min(run.hi, most) + 1))
+    return found
+
+
+def lines_of(value: Value, most: int) -> Lines:
+    """What a value says. A revision that is inheritable in one of several lines of a path is inheritable."""
+    whole = {path: revisions_in(runs, most, True) for path, runs in value.items()}
+    other = {path: revisions_in(runs, most, False) - whole[path] for path, runs in value.items()}
+    return Lines(whole, other, sorted(whole))
+
+
+def inherited(lines: Lines, rest: bytes) -> Lines:
+    found = {joined(path, rest): revs for path, revs in lines.inheritable.items()}
+    return Lines(found, {}, sorted(found))
+
+
+class Catalog(NamedTuple):
+    """The mergeinfo of a target, its own or inherited, and, if asked, that of each path below it that has its own."""
+
+    target: Target
+    entries: dict[bytes, Lines]
+
+    def nearest(self, path: bytes) -> bytes | None:
+        """The nearest entry at or above a path."""
+        return next((each for each in tops_of(path) if each in self.entries), None)
+
+
+def segments_of(history: History, answers: Answers, target: Target) -> list[Segment]:
+    """The segments of a path, which must be there."""
+    answer = answers[Where(*target)]
+    if not answer.ok:
+        raise log.not_reached(history, target)
+    return answer.segments
+
+
+def located(segments: list[Segment], bounds: tuple[int, int]) -> Located:
+    """Where a path was, from revision 1 on and between the bounds."""
+    found: Located = {}
+    for segment in segments:
+        if segment.path is not None:
+            revs = range(max(segment.lo, bounds[0], 1), min(segment.hi, bounds[1]) + 1)
+            if revs:
+                found.setdefault(segment.path, []).append(revs)
+    return found
+
+
+def listed_in(places: Located, listed: list[int]) -> Listed:
+    """Those of the rising revisions of a log in which its path was at each place."""
+    return {
+        path: {
+            rev
+            for each in ranges
+            for rev in listed[bisect.bisect_left(listed, each.start) : bisect.bisect_left(listed, each.stop)]
+        }
+        for path, ranges in places.items()
+    }
+
+
+def shifted(history: Listed, rest: bytes) -> Listed:
+    return {joined(path, rest): revs for path, revs in history.items()}
+
+
+def common(lines: Mapping[bytes, set[int]], source: Listed) -> set[int]:
+    """The revisions that some line has at the place where the source was then."""
+    return set().union(*(lines[path] & revs for path, revs in source.items() if path in lines)) if lines else set()
+
+
+def shared(own: Located, source: Listed) -> Listed:
+    """The revisions in which the target was at the place of the source."""
+    return {
+        path: {rev for rev in source[path] if any(rev in each for each in ranges)}
+        for path, ranges in own.items()
+        if path in source
+    }
+
+
+class Sorted(NamedTuple):
+    """The revisions of a source that all entries have, and those that only some have, or not for what is below."""
+
+    whole: set[int]
+    partial: set[int]
+
+
+def sort_out(catalog: Catalog, source: Listed) -> Sorted:
+    wholes: list[set[int]] = []
+    partial: set[int] = set()
+    for path, lines in catalog.entries.items():
+        there = shifted(source, rest_below(path, catalog.target.path))
+        wholes.append(common(lines.inheritable, there))
+        partial |= common(lines.other, there)
+    whole = set().union(*wholes) if wholes else set()
+    lacking = {rev for rev in whole if any(rev not in each for each in wholes)}
+    return Sorted(whole - lacking, partial | lacking)
+
+
+def last_shared(these: list[range], those: list[range]) -> int:
+    """The last revision that both have, or 0."""
+    pairs = [(max(one.start, other.start), min(one.stop, other.stop)) for one in these for other in those]
+    return max((stop - 1 for start, stop in pairs if start < stop), default=0)
+
+
+def add_own_history(catalog: Catalog, own: Located, there: Located, source: Listed) -> None:
+    """What the target has of the source because it was there itself counts as merged."""
+    both = shared(own, source)
+    last = {path: last_shared(ranges, there[path]) for path, ranges in own.items() if path in there}
+    for path, lines in catalog.entries.items():
+        rest = rest_below(path, catalog.target.path)
+        below_it = {joined(place, rest): rev for place, rev in last.items()}
+        catalog.entries[path] = lines.with_history(shifted(both, rest), below_it)
+
+
+class Coverage:
+    """Whether all that a revision changed of a source is merged, path by path."""
+
+    def __init__(self, history: History, catalog: Catalog, source: Iterable[bytes]) -> None:
+        self._history = history
+        self._catalog = catalog
+        self._tops = set(source)
+
+    def is_covered(self, rev: int) -> bool:
+        """Whether a revision changed anything, and all that it changed of the source is merged."""
+        changes = self._history.changes(rev)
+        return bool(changes) and all(self._is_change_covered(change, rev) for change in self._some_of(rev, changes))
+
+    def _some_of(self, rev: int, changes: list[Change]) -> Iterable[Change]:
+        """The changes of the source, and where these are not found quicker, others, too."""
+        if len(changes) <= len(self._tops):
+            return changes
+        return (change for top in self._tops for change in self._history.changes_below(rev, top))
+
+    def _is_change_covered(self, change: Change, rev: int) -> bool:
+        # Where one path of the source is below another one, the longer one counts.
+        top = next((top for top in tops_of(change.path) if top in self._tops), None)
+        if top is None or (change.path == top and change.letter != "M"):
+            return True
+        place = joined(self._catalog.target.path, rest_below(change.path, top))
+        entry = self._catalog.nearest(place)
+        if entry is None:
+            return False
+        lines = self._catalog.entries[entry]
+        if entry == place and change.letter != "M" and lines.newest(change.path) > rev:
+            return True
+        parts = [lines.inheritable] + ([lines.other] if entry == place else [])
+        return any(rev in part.get(path, ()) for path in lines.at_or_below(top) for part in parts)
+
+
+def bounds_of(source: Target, question: Question) -> tuple[int, int]:
+    if question.range is None:
+        return 1, source.rev
+    for rev in question.range:
+        if rev > source.rev:
+            raise Denied("E160006", f"No such revision {rev}")
+    return min(question.range), max(question.range)
+
+
+def below(explicit: Explicit, target: Target) -> Iterator[Mergeinfo]:
+    """The queries for the mergeinfo of each path at or below a target that has its own."""
+    return (Mergeinfo(path, target.rev) for path, _ in explicit.below(*target))
+
+
+def queries_about(explicit: Explicit, target: Target, question: Question) -> list[Query[Answer]]:
+    """What is asked of svnhist about a target, whatever the source is."""
+    return [Where(*target), Mergeinfo(*target), *(below(explicit, target) if question.is_recursive else ())]
+
+
+def queries_of_pair(source: Target, target: Target, question: Question) -> list[Query[Answer]]:
+    """What is asked of svnhist for a question besides."""
+    pairs = [] if question.is_recursive else [Pair(*source, verb, *target) for verb in ("merged", "eligible")]
+    return [Where(*source), Log(*source), *pairs]
+
+
+def queries_of(explicit: Explicit, source: Target, target: Target, question: Question) -> list[Query[Answer]]:
+    """All that is asked of svnhist for a question."""
+    return queries_about(explicit, target, question) + queries_of_pair(source, target, question)
+
+
+def as_answered(
+    answers: Answers, source: Target, target: Target, question: Question, found: Sorted, same: set[int]
+) -> Sorted:
+    """What svnhist says of the operative revisions, and of other ones what was found here. `same` are those in which
+    source and target were one path."""
+    if question.is_recursive:
+        return found
+    merged, eligible = answers[Pair(*source, "merged", *target)], answers[Pair(*source, "eligible", *target)]
+    logged = answers[Log(*source)]
+    if not merged.ok or not eligible.ok:
+        return found
+    operative = set(logged.revisions)
+    partial = {each.rev for each in merged.revisions if not each.inheritable}
+    if question.verb == "merged":
+        whole = {each.rev for each in merged.revisions if each.inheritable}
+    else:
+        # For svnhist one that was merged in part is not eligible.
+        partial -= same
+        whole = operative - partial - {each.rev for each in eligible.revisions}
+    return Sorted(found.whole - operative | whole, found.partial - operative | partial)
+
+
+class Merges:
+    """What was merged from sources, or is to be, given what svnhist answers to the queries about their targets."""
+
+    def __init__(self, history: History, explicit: Explicit, answers: Answers) -> None:
+        self._history = history
+        self._explicit = explicit
+        self._answers = answers
+        self._known: dict[Mergeinfo, Lines | None] = {}
+
+    def shown(
+        self, source: Target, target: Target, question: Question, about_source: Answers | None = None
+    ) -> list[tuple[int, bool]]:
+        """The revisions of a source, with whether a star follows. The answers to the queries of the pair may be given by
+        themselves."""
+        history, answers = self._history, self._answers if about_source is None else about_source
+        is_merged = question.verb == "merged"
+        own = located(segments_of(history, self._answers, target), (1, target.rev))
+        catalog = self._catalog(target, question.is_recursive)
+        if not catalog.entries:
+            if is_merged:
+                return []
+            catalog.entries[target.path] = Lines({}, {}, [])
+        segments = segments_of(history, answers, source)
+        there = located(segments, bounds_of(source, question))
+        trace = log.Trace(segments, answers[Log(*source)].revisions)
+        listed = listed_in(there, log.listed(history, trace))
+        if not is_merged:
+            add_own_history(catalog, own, there, listed)
+        same = set().union(*shared(own, listed).values())
+        found = as_answered(answers, source, target, question, sort_out(catalog, listed), same)
+        chosen = found.whole | found.partial if is_merged else set().union(*listed.values()) - found.whole
+        coverage = Coverage(history, catalog, there)
+        shown = []
+        for rev in sorted(chosen & set().union(*listed.values())):
+            starred = rev in found.partial
+            covered = (starred or not is_merged) and coverage.is_covered(rev)
+            if covered and not is_merged:
+                continue
+            shown.append((rev, starred and not covered))
+        return shown[::-1] if question.range and question.range[0] > question.range[1] else shown
+
+    def has_none(self, target: Target, is_recursive: bool) -> bool:
+        """Whether a target that is there has no mergeinfo, so that nothing was merged from wherever."""
+        is_there = self._answers[Mergeinfo(*target)].status != "no-such-path"
+        return is_there and not self._catalog(target, is_recursive).entries
+
+    def _catalog(self, target: Target, is_recursive: bool) -> Catalog:
+        queries = [Mergeinfo(*target), *(below(self._explicit, target) if is_recursive else ())]
+        found = {query.path: self._lines(query) for query in queries}
+        return Catalog(target, {path: lines for path, lines in found.items() if lines is not None})
+
+    def _lines(self, query: Mergeinfo) -> Lines | None:
+        """The mergeinfo of a path. It is read once."""
+        if query not in self._known:
+            self._known[query] = self._read(query, self._answers[query])
+        return self._known[query]
+
+    def _read(self, query: Mergeinfo, answer: Inherited) -> Lines | None:
+        if answer.status == "malformed-mergeinfo":
+            return self._read_less_strictly(query)
+        if not answer.ok:
+            # The target is there, and so is each path below it that has a value.
+            raise RuntimeError(f"svnhist says {answer.status} of {query!r}")
+        if not answer.text and not self._has_value(query):
+            return None
+        value = {path: runs_of(ranges.encode("ascii")) for path, ranges in answer.value.items()}
+        return lines_of(value, self._history.head)
+
+    def _has_value(self, query: Mergeinfo) -> bool:
+        """Whether a path or one above it has a value. Its effective mergeinfo may be empty even so."""
+        return any(self._explicit.text(path, query.rev) is not None for path in tops_of(query.path))
+
+    def _read_less_strictly(self, query: Mergeinfo) -> Lines | None:
+        """What a text that is malformed for svnhist says to Subversion, which is less strict."""
+        for above in tops_of(query.path):
+            text = self._explicit.text(above, query.rev)
+            if text is not None:
+                value = value_of(text)
+                if value is None:
+                    return None
+                lines = lines_of(value, self._history.head)
+                return lines if above == query.path else inherited(lines, rest_below(query.path, above))
+        return None
+
+
+def show_revs_text(shown: list[tuple[int, bool]]) -> Iterator[bytes]:
+    for rev, starred in shown:
+        yield b"r%d%s\n" % (rev, b"*" if starred else b"")

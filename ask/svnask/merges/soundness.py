@@ -1,0 +1,184 @@
+"""Whether the values of `svn:mergeinfo` are sound: what they name was there and was changed, and each says something."""
+from __future__ import annotations
+
+import bisect
+from collections.abc import Iterable, Iterator, Sequence
+from typing import NamedTuple
+
+from svnask.copy.changes import joined, rest_below, tops_of
+from svnask.engine.queries import Answers, Log, is_askable
+from svnask.history.history import History
+from svnask.history.lives import Tree, unmatched
+from svnask.history.targets import decoded
+from svnask.mergeinfo.values import Explicit, Run, Value, value_of
+
+MALFORMED = "can't be read"
+NO_PATH = "there never was such a path"
+NO_REVISION = "the path is not in these revisions"
+NOT_OPERATIVE = "nothing was changed there"
+LACKING = "is lacking, and {} has it"
+INHERITED = "is the same as what {} gives, and could go"
+
+
+class Finding(NamedTuple):
+    """What is wrong with the value of a path: with its revisions of a source, if one is named."""
+
+    path: bytes
+    source: bytes | None
+    ranges: bytes
+    reason: str
+
+
+class Span(NamedTuple):
+    """Neighbouring revisions."""
+
+    lo: int
+    hi: int
+
+
+def text_of(spans: Iterable[Span]) -> bytes:
+    """Revisions as a rangelist has them."""
+    return b",".join(b"%d" % each.lo if each.lo == each.hi else b"%d-%d" % each for each in spans)
+
+
+def spans_of(revisions: Iterable[int]) -> list[Span]:
+    """Rising revisions as spans."""
+    found: list[Span] = []
+    for rev in revisions:
+        if found and found[-1].hi == rev - 1:
+            found[-1] = Span(found[-1].lo, rev)
+        else:
+            found.append(Span(rev, rev))
+    return found
+
+
+def without(span: Span, others: Sequence[Span]) -> Iterator[Span]:
+    """What of a span is in none of some others, which are rising."""
+    lo = span.lo
+    for other in others:
+        if other.hi >= lo and other.lo <= span.hi:
+            if other.lo > lo:
+                yield Span(lo, other.lo - 1)
+            lo = other.hi + 1
+    if lo <= span.hi:
+        yield Span(lo, span.hi)
+
+
+class Paths:
+    """The lives of paths, and their operative revisions as far as these were asked."""
+
+    def __init__(self, history: History) -> None:
+        self._history = history
+        self._tree = Tree(history.records())
+        self._lives: dict[bytes, list[Span]] = {}
+        self._operative: dict[bytes, list[int]] = {}
+
+    def lives(self, path: bytes) -> list[Span]:
+        if path not in self._lives:
+            found = self._tree.lives(path, self._history.head)
+            self._lives[path] = [Span(life.first, life.last) for life in found]
+        return self._lives[path]
+
+    def ask(self, paths: Iterable[bytes]) -> None:
+        """Asks for the operative revisions of paths, all in one run of svnhist."""
+        unknown = [path for path in dict.fromkeys(paths) if path not in self._operative]
+        new = list(self._history.askable(unknown))
+        queries = {path: [Log(path, life.hi, (life.lo, life.hi)) for life in self.lives(path)] for path in new}
+        answers: Answers = self._history.answers(query for each in queries.values() for query in each)
+        for path in new:
+            self._operative[path] = sorted(rev for query in queries[path] for rev in answers[query].revisions)
+
+    def operative(self, path: bytes, span: Span) -> list[int]:
+        """The operative revisions of a path in a span, rising."""
+        found = self._operative.get(path, [])
+        return found[bisect.bisect_left(found, span.lo) : bisect.bisect_right(found, span.hi)]
+
+
+class Nearest(NamedTuple):
+    """The nearest path above one that has a value, and what it gives there."""
+
+    path: bytes
+    value: dict[bytes, list[Run]]
+
+
+def whole_runs(runs: Iterable[Run]) -> list[Run]:
+    return [run for run in runs if run.inheritable]
+
+
+def inherited(explicit: Explicit, path: bytes, head: int) -> Nearest | None:
+    """What the nearest value above a path gives it, if that can be read."""
+    for above in [each for each in tops_of(path) if each != path]:
+        text = explicit.text(above, head)
+        if text is not None:
+            value = value_of(text)
+            if value is None:
+                return None
+            rest = rest_below(path, above)
+            return Nearest(above, {joined(source, rest): whole_runs(runs) for source, runs in value.items()})
+    return None
+
+
+def findings_of_source(paths: Paths, path: bytes, source: bytes, runs: Sequence[Run]) -> Iterator[Finding]:
+    """What is wrong with the revisions that a value names of a source."""
+    lives = paths.lives(source)
+    spans = sorted(Span(run.lo, run.hi) for run in runs)
+    if not lives:
+        yield Finding(path, source, text_of(spans), NO_PATH)
+        return
+    gone = [each for span in spans for each in without(span, lives)]
+    if gone:
+        yield Finding(path, source, text_of(gone), NO_REVISION)
+    idle = [span for span in spans if not paths.operative(source, span) and not list(without(span, lives))]
+    if idle:
+        yield Finding(path, source, text_of(idle), NOT_OPERATIVE)
+
+
+def operative_of(paths: Paths, source: bytes, runs: Iterable[Run]) -> set[int]:
+    return {rev for run in runs for rev in paths.operative(source, Span(run.lo, run.hi))}
+
+
+def findings_of_nearest(paths: Paths, path: bytes, value: Value, nearest: Nearest) -> Iterator[Finding]:
+    """Where a value says less than what the nearest one above gives, or the same."""
+    above = decoded(nearest.path)
+    is_same, is_empty = True, True
+    for source in sorted({*value, *nearest.value}):
+        given = operative_of(paths, source, nearest.value.get(source, ()))
+        own = operative_of(paths, source, value.get(source, ()))
+        whole = operative_of(paths, source, whole_runs(value.get(source, ())))
+        is_same, is_empty = is_same and given == own == whole, is_empty and not own
+        if given - own:
+            yield Finding(path, source, text_of(spans_of(sorted(given - own))), LACKING.format(above))
+    # A value of which nothing was ever changed is told of by its sources.
+    if value == nearest.value or (is_same and not is_empty):
+        yield Finding(path, None, b"", INHERITED.format(above))
+
+
+def findings(history: History, patterns: Sequence[bytes]) -> list[Finding]:
+    """What is wrong with the values of the youngest revision, at and below the paths that match a pattern, or else the
+    path at which the source begins."""
+    explicit, tree = history.explicit, history.tree
+    matching = {path for pattern in patterns for path in tree.matching(pattern)}
+    for pattern in unmatched(tree, patterns, history.head):
+        history.notice(f"no path matches '{decoded(pattern)}'")
+    paths = Paths(history)
+    values = {
+        path: value_of(text)
+        for path, text in explicit.below(b"/" if patterns else history.source.path, history.head)
+        if not patterns or not matching.isdisjoint(tops_of(path))
+    }
+    nearest = {path: inherited(explicit, path, history.head) for path in values}
+    paths.ask(source for value in values.values() for source in value or ())
+    paths.ask(source for each in nearest.values() if each is not None for source in each.value)
+    found: list[Finding] = []
+    for path, value in values.items():
+        if value is None:
+            found.append(Finding(path, None, b"", MALFORMED))
+            continue
+        for source, runs in sorted(value.items()):
+            if not is_askable(source):
+                continue
+            found += findings_of_source(paths, path, source, runs)
+        above = nearest[path]
+        if above is not None:
+            found += findings_of_nearest(paths, path, value, above)
+    return found

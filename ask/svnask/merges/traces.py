@@ -1,0 +1,143 @@
+"""Where paths were and which revisions `svn log` lists of them. Each life of a path is asked for once, and without what
+came before a copy: that is of the life of another path."""
+from __future__ import annotations
+
+import bisect
+from collections.abc import Iterable, Sequence
+from typing import NamedTuple
+
+from svnask.copy.changes import Place
+from svnask.engine.queries import Log, Segment, Where, is_askable
+from svnask.history.history import History
+from svnask.history.lives import Life, Tree
+from svnask.log.selection import Trace, Walk, copied_in, listed
+
+
+class Piece(NamedTuple):
+    """A segment before the older ones that it goes on with, and the rising revisions that `svn log` lists in it."""
+
+    segments: Sequence[Segment]
+    revisions: list[int]
+
+    def has(self, rev: int) -> bool:
+        return self.segments[0].lo <= rev <= self.segments[0].hi
+
+    def between(self, low: int, high: int) -> list[int]:
+        """The revisions of a range, rising. Others of the list are of other segments."""
+        low, high = max(low, self.segments[0].lo), min(high, self.segments[0].hi)
+        first = bisect.bisect_left(self.revisions, low)
+        return self.revisions[first : bisect.bisect_right(self.revisions, high, first)]
+
+
+class Cut(NamedTuple):
+    """A path from one of its revisions on, with its segments, the newest one first."""
+
+    traces: Traces
+    rev: int
+    segments: Sequence[Segment]
+    # Where a log stops that stops on a copy, or else 0.
+    least: int
+
+    def between(self, low: int, high: int) -> list[int]:
+        """The revisions of a range that `svn log` lists, rising."""
+        low, high = max(low, self.least), min(high, self.rev)
+        parts = []
+        for segment in self.segments:
+            if segment.hi < low:
+                break
+            if segment.lo <= high:
+                parts.append(self.traces.of(segment).between(low, min(high, segment.hi)))
+        return parts[0] if len(parts) == 1 else [rev for part in reversed(parts) for rev in part]
+
+    def path_before(self, rev: int) -> bytes | None:
+        """Where the path was in the newest revision that is listed before one, or else in the oldest one. The first
+        revision of a segment is listed."""
+        if self.least:
+            return self.segments[0].path
+        return next((segment.path for segment in self.segments if segment.lo < rev), self.segments[-1].path)
+
+
+class Traces:
+    """The pieces of paths."""
+
+    def __init__(self, history: History, tree: Tree, stops_on_copy: bool) -> None:
+        self._history = history
+        self._tree = tree
+        self._stops_on_copy = stops_on_copy
+        self._known: dict[bytes, list[Piece]] = {}
+
+    def add(self, walk: Walk) -> None:
+        segments = there(walk.found.segments)
+        for at in range(len(segments)):
+            self._add(Piece(segments[at:], walk.revisions))
+
+    def _add(self, piece: Piece) -> None:
+        path, rev = piece.segments[0].path or b"", piece.segments[0].hi
+        if self._piece(path, rev) is None:
+            self._known.setdefault(path, []).append(piece)
+
+    def _piece(self, path: bytes, rev: int) -> Piece | None:
+        return next((piece for piece in self._known.get(path, ()) if piece.has(rev)), None)
+
+    def exists(self, path: bytes, rev: int) -> bool:
+        return self._piece(path, rev) is not None or self._tree.exists(path, rev)
+
+    def find(self, places: Iterable[Place]) -> None:
+        """Asks about those of some places that are not known, all at once."""
+        asked: dict[bytes, list[Life]] = {}
+        for path, rev in places:
+            if self._piece(path, rev) is None and not any(has(life, rev) for life in asked.get(path, ())):
+                life = self._life(path, rev)
+                if life is not None:
+                    asked.setdefault(path, []).append(life)
+        if asked:
+            self._ask([(life.path, life.last) for lives in asked.values() for life in lives])
+
+    def _life(self, path: bytes, rev: int) -> Life | None:
+        """The life of a path that has a revision, if svnhist can be asked about it."""
+        head = self._history.head
+        if rev > head or not is_askable(path) or not self._tree.exists(path, rev):
+            return None
+        return next(life for life in self._tree.lives(path, head) if has(life, rev))
+
+    def _ask(self, places: Sequence[Place]) -> None:
+        """Asks about some places, and through these about older ones of which svnhist can't be asked."""
+        located = self._history.answers(Where(*place) for place in places)
+        asked = {
+            Log(*place, (segment.lo, segment.hi)): segments[at:]
+            for place in places
+            for segments in [there(located[Where(*place)].segments)]
+            for at, segment in enumerate(segments)
+            if at == 0 or not is_askable(segment.path or b"")
+        }
+        logged = self._history.answers(asked)
+        for query, segments in asked.items():
+            self._add(Piece(segments, listed(self._history, Trace(segments[:1], logged[query].revisions))))
+
+    def of(self, segment: Segment) -> Piece:
+        """The piece of a segment of a path that is known."""
+        path = segment.path or b""
+        if self._piece(path, segment.hi) is None:
+            self.find([(path, segment.hi)])
+        found = self._piece(path, segment.hi)
+        assert found is not None
+        return found
+
+    def cut(self, path: bytes, rev: int) -> Cut | None:
+        """A path from one of its revisions on, if it is there."""
+        if self._piece(path, rev) is None:
+            self.find([(path, rev)])
+        piece = self._piece(path, rev)
+        if piece is None:
+            return None
+        least = copied_in(self._history, piece.segments[0], rev) if self._stops_on_copy else 0
+        return Cut(self, rev, piece.segments, least)
+
+
+def has(life: Life, rev: int) -> bool:
+    return life.first <= rev <= life.last
+
+
+def there(segments: Iterable[Segment]) -> list[Segment]:
+    """The segments in which a path was somewhere."""
+    return [each for each in segments if each.path is not None]

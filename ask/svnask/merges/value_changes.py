@@ -1,0 +1,372 @@
+"""What mergeinfo gained and lost in a revision, as `svn log -g` sees it."""
+from __future__ import annotations
+
+import functools
+import re
+from collections.abc import Container, Iterator, Sequence
+from typing import NamedTuple
+
+from svnask.copy.changes import NUL_FOR_SLASH, Place, is_at_or_below, joined, rest_below, source_of, tops_of
+from svnask.copy.store import Record
+from svnask.history.history import History
+from svnask.mergeinfo.values import Explicit, Run, line_of, lines_of, source_path
+from svnask.merges.gains import Interval, Intervals, minus, united
+from svnask.merges.traces import Traces
+
+RECENT = 64
+SIMPLE_RUN = re.compile(rb"([0-9]{1,9})(?:-([0-9]{1,9}))?")
+SIMPLE = re.compile(rb"[0-9]{1,9}(?:-[0-9]{1,9})?(?:,[0-9]{1,9}(?:-[0-9]{1,9})?)*\Z")
+
+
+class Difference(NamedTuple):
+    """What mergeinfo gained, and what it lost."""
+
+    gained: Intervals
+    lost: Intervals
+
+    def add(self, other: Difference) -> None:
+        for total, more in zip(self, other):
+            for path, intervals in more.items():
+                total[path] = united([*total[path], *intervals]) if path in total else intervals
+
+
+class Line(NamedTuple):
+    """A line of a value: its revisions, and those of them that are inherited. For Subversion a range goes on where
+    revisions are no longer inherited as another one."""
+
+    path: bytes
+    whole: list[Interval]
+    inheritable: list[Interval]
+    # Whether it is as Subversion writes it: a clean path, and runs that rise.
+    is_plain: bool
+
+
+class Malformed(Exception):
+    """A value can't be read."""
+
+
+class Values:
+    """Values of `svn:mergeinfo`. Those of one path have most in common: each line is read once, and of one that changed
+    mostly the ranges alone that did."""
+
+    def __init__(self) -> None:
+        self._lines: dict[bytes, Line] = {}
+        # Those known to have a plain line for each of their paths, by their identity: long texts are slow to hash.
+        self._plain: dict[int, bytes] = {}
+        self._last = b""
+        # What a path has after a revision it mostly has before the next one.
+        self.whole = functools.lru_cache(RECENT)(self._whole)
+
+    def difference(self, before: bytes, now: bytes) -> Difference:
+        """What a path gained and lost that has one text and then another one. `Malformed` where either is."""
+        # A log mostly goes back.
+        is_back = id(before) not in self._plain
+        known, other = (now, before) if is_back else (before, now)
+        if self._is_plain(known):
+            try:
+                found = difference(*differing(known, other))
+                self._plain[id(other)] = other
+                return Difference(found.lost, found.gained) if is_back else found
+            except ValueError:
+                pass
+        return difference(self.whole(before), self.whole(now))
+
+    def _is_plain(self, text: bytes) -> bool:
+        is_plain = id(text) in self._plain or self._is_like_last(text)
+        if not is_plain:
+            lines = self._of(text)
+            is_plain = len({line.path for line in lines if line.is_plain}) == len(lines)
+        if is_plain:
+            self._plain[id(text)] = self._last = text
+        return is_plain
+
+    def _is_like_last(self, text: bytes) -> bool:
+        """Whether a text has plain lines where it is not as the last one that has."""
+        try:
+            differing(self._last, text)
+        except ValueError:
+            return False
+        return True
+
+    def _whole(self, text: bytes) -> Intervals:
+        """What a text says, whether it is inherited or not."""
+        found: Intervals = {}
+        for line in self._of(text):
+            before = found.get(line.path)
+            found[line.path] = line.whole if before is None else united([*before, *line.whole])
+        return found
+
+    def inheritable(self, text: bytes, rest: bytes = b"") -> Intervals:
+        """What a path below that has the text inherits."""
+        found: Intervals = {}
+        for line in self._of(text):
+            if line.inheritable:
+                path = joined(line.path, rest)
+                before = found.get(path)
+                found[path] = line.inheritable if before is None else united([*before, *line.inheritable])
+        return found
+
+    def _of(self, text: bytes) -> list[Line]:
+        try:
+            return [self._lines.get(line) or self._read(line) for line in lines_of(text)]
+        except ValueError as error:
+            raise Malformed from error
+
+    def _read(self, line: bytes) -> Line:
+        found = self._lines[line] = line_in(line)
+        return found
+
+
+def line_in(text: bytes) -> Line:
+    """What a line says. `ValueError` where Subversion can't read it."""
+    name, _, ranges = text.rpartition(b":")
+    simple = simple_runs(ranges)
+    if simple is not None and name.startswith(b"/"):
+        path = source_path(name)
+        return Line(path, simple, simple, path == name)
+    path, runs = line_of(text)
+    inheritable = intervals_of(runs, True)
+    is_plain = text.startswith(path + b":") and is_rising(runs)
+    return Line(path, sorted(inheritable + intervals_of(runs, False)), inheritable, is_plain)
+
+
+def simple_runs(ranges: bytes) -> list[Interval] | None:
+    """What most rangelists say: those without `*` that rise. Runs that touch are one."""
+    if not SIMPLE.match(ranges):
+        return None
+    found: list[Interval] = []
+    end = 0
+    for first, last in SIMPLE_RUN.findall(ranges):
+        lo, hi = int(first), int(last or first)
+        if lo <= end or (last and hi <= lo):
+            return None
+        if lo == end + 1 and found:
+            lo, _ = found.pop()
+        found.append((lo, hi))
+        end = hi
+    return found
+
+
+def intervals_of(runs: list[Run], inheritable: bool) -> list[Interval]:
+    return united([(run.lo, run.hi) for run in runs if run.inheritable == inheritable])
+
+
+def is_rising(runs: list[Run]) -> bool:
+    return all(before.hi < run.lo for before, run in zip(runs, runs[1:]))
+
+
+def differing(known: bytes, other: bytes) -> tuple[Intervals, Intervals]:
+    """The lines in which two texts differ, of those of one path the ranges from the first to the last difference. The
+    known one has a plain line for each path. `ValueError` where the other one may not have."""
+    these, those = map(lines_of, middles(known, other))
+    left = ranges_of(without(these, those))
+    more = ranges_of(without(those, these))
+    if len(those) != len(these) - len(left) + len(more):
+        raise ValueError("a path has two lines")
+    for path in more:
+        if path in left:
+            left[path], more[path] = cut(left[path], more[path])
+        elif b"\n%s:" % path in b"\n" + known:
+            raise ValueError("a path has two lines")
+    return read(left), read(more)
+
+
+def middles(these: bytes, those: bytes) -> tuple[bytes, bytes]:
+    """Two texts without the lines that they have in common at their begins and at their ends."""
+    first = these.rfind(b"\n", 0, common(these, those)) + 1
+    these, those = these[first:], those[first:]
+    # The newline before the last lines stays: it ends a line of these texts.
+    newline = these.find(b"\n", len(these) - common_at_end(these, those))
+    last = len(these) - 1 - newline if newline >= 0 else 0
+    return these[: len(these) - last], those[: len(those) - last]
+
+
+def without(lines: list[bytes], others: list[bytes]) -> list[bytes]:
+    known = set(others)
+    return [line for line in lines if line not in known]
+
+
+def ranges_of(lines: list[bytes]) -> dict[bytes, bytes]:
+    """The rangelists of plain lines, by their paths."""
+    pairs = [line.rpartition(b":") for line in lines]
+    return {path: ranges for path, _, ranges in pairs}
+
+
+def read(lines: dict[bytes, bytes]) -> Intervals:
+    """What lines say. `ValueError` where one is not plain."""
+    found = {}
+    for path, ranges in lines.items():
+        line = line_in(b"%s:%s" % (path, ranges))
+        if not line.is_plain:
+            raise ValueError("not a plain line")
+        found[path] = line.whole
+    return found
+
+
+def cut(these: bytes, those: bytes) -> tuple[bytes, bytes]:
+    """The ranges in which two rangelists differ, with one on each side that they have in common."""
+    if b"," not in these or b"," not in those:
+        return these, those
+    first = front(these, those)
+    these, those = these[first:], those[first:]
+    last = front(these[::-1], those[::-1])
+    return these[: len(these) - last], those[: len(those) - last]
+
+
+def front(these: bytes, those: bytes) -> int:
+    """How far two rangelists have ranges in common, but for the last one of these."""
+    end = these.rfind(b",", 0, common(these, those))
+    return these.rfind(b",", 0, max(end, 0)) + 1
+
+
+def common(these: bytes, those: bytes) -> int:
+    """How many bytes two texts have in common at their begin."""
+    low, high = 0, min(len(these), len(those))
+    while low < high:
+        middle = (low + high + 1) // 2
+        if these[low:middle] == those[low:middle]:
+            low = middle
+        else:
+            high = middle - 1
+    return low
+
+
+def common_at_end(these: bytes, those: bytes) -> int:
+    """How many bytes two texts have in common at their end."""
+    length, other = len(these), len(those)
+    low, high = 0, min(length, other)
+    while low < high:
+        middle = (low + high + 1) // 2
+        if these[length - middle : length - low] == those[other - middle : other - low]:
+            low = middle
+        else:
+            high = middle - 1
+    return low
+
+
+class MergeinfoChanges:
+    """What the mergeinfo of paths gained and lost, revision by revision."""
+
+    def __init__(self, history: History, explicit: Explicit, traces: Traces) -> None:
+        self._history = history
+        self._explicit = explicit
+        self._traces = traces
+        self._values = Values()
+        self._known: dict[int, dict[bytes, Difference]] = {}
+        self._copies: dict[int, list[Record]] = {}
+
+    @property
+    def revisions(self) -> Container[int]:
+        """The revisions in which the mergeinfo of any path may have changed."""
+        return self._explicit.settings
+
+    def of_paths(self, paths: Sequence[bytes], rev: int) -> Difference:
+        """What the mergeinfo at and below some paths gained and lost in a revision that has any."""
+        found = Difference({}, {})
+        changed = self._changed(rev) if any(self._may_change(path, rev) for path in paths) else {}
+        if changed:
+            for path in paths:
+                if path not in changed and self._traces.exists(path, rev):
+                    self._add_inherited(found, path, rev)
+            for path, more in changed.items():
+                if any(is_at_or_below(path, top) for top in paths):
+                    found.add(more)
+        return found
+
+    def _may_change(self, path: bytes, rev: int) -> bool:
+        """Whether a revision gave mergeinfo to a path below or above one or to itself, or made one of these."""
+        near = (is_at_or_below(each, path) or is_at_or_below(path, each) for each in self._explicit.settings[rev])
+        return any(near) or self._history.tree.is_made(path, rev)
+
+    def _changed(self, rev: int) -> dict[bytes, Difference]:
+        """What each changed path gained and lost: none where any of their values is malformed."""
+        if rev not in self._known:
+            try:
+                self._known[rev] = dict(self._differences(rev))
+            except Malformed:
+                self._known[rev] = {}
+        return self._known[rev]
+
+    def _differences(self, rev: int) -> Iterator[tuple[bytes, Difference]]:
+        for path, base in self._bases(rev):
+            before = self._explicit.text(*base) if base is not None else None
+            now = self._explicit.text(path, rev)
+            if before is not None and now is not None and before != now:
+                yield path, self._values.difference(before, now)
+            elif before != now:
+                self._values.whole(before or now or b"")
+                old = self._effective(*base) if base is not None else None
+                yield path, difference(old, self._effective(path, rev))
+
+    def _bases(self, rev: int) -> Iterator[tuple[bytes, Place | None]]:
+        """The paths to which a revision gave another text, in their order, and where each was before or what it was
+        copied from."""
+        paths = self._explicit.settings[rev]
+        if rev not in self._history.tree.revisions:
+            for path in sorted(paths, key=NUL_FOR_SLASH):
+                yield path, (path, rev - 1)
+            return
+        for change in self._history.changes(rev):
+            if change.letter != "D" and change.path in paths:
+                yield change.path, self._base(change.path, rev) if change.letter == "M" else change.source
+
+    def _base(self, path: bytes, rev: int) -> Place:
+        """Where a path was before a revision, or what it was copied from in it."""
+        if rev not in self._copies:
+            is_new = any(change.letter in ("A", "R") for change in self._history.changes(rev))
+            records = self._history.records(rev, rev) if is_new else ()
+            self._copies[rev] = [record for record in records if record.action in ("add", "replace")]
+        return source_of(self._copies[rev], path) or (path, rev - 1)
+
+    def _add_inherited(self, found: Difference, path: bytes, rev: int) -> None:
+        """Adds what a path gained and lost of what it inherits, where that is not as it was."""
+        base = self._base(path, rev)
+        if not self._traces.exists(*base):
+            return
+        before, now = self._inherited(*base), self._inherited(path, rev)
+        if before is None or before == now:
+            return
+        found.add(difference(self._effective(*base), self._effective(path, rev)))
+
+    def _effective(self, path: bytes, rev: int) -> Intervals | None:
+        """The mergeinfo that a path has or inherits, None where there is none or it is malformed."""
+        for top in tops_of(path):
+            text = self._explicit.text(top, rev)
+            if text is not None:
+                try:
+                    return (
+                        self._values.whole(text)
+                        if top == path
+                        else self._values.inheritable(text, rest_below(path, top))
+                    )
+                except Malformed:
+                    return None
+        return None
+
+    def _inherited(self, path: bytes, rev: int) -> Intervals | None:
+        """The mergeinfo of the nearest path above, as it stands there."""
+        _, *above = tops_of(path)
+        for top in above:
+            text = self._explicit.text(top, rev)
+            if text is not None:
+                try:
+                    return self._values.inheritable(text)
+                except Malformed:
+                    return None
+        return None
+
+
+def difference(old: Intervals | None, new: Intervals | None) -> Difference:
+    return Difference(left_of(new or {}, old or {}), left_of(old or {}, new or {}))
+
+
+def left_of(these: Intervals, those: Intervals) -> Intervals:
+    """What some mergeinfo has and other has not. A path that only the one has is there without revisions, too."""
+    found = {}
+    for path, intervals in these.items():
+        other = those.get(path)
+        if other != intervals:
+            rest = intervals if other is None else united(minus(intervals, other))
+            if rest or other is None:
+                found[path] = rest
+    return found

@@ -1,0 +1,1 @@
+"""The picture of a history, from lanes to SVG."""

@@ -1,0 +1,331 @@
+"""`serve` and `stop`: a server keeps a history open, and answers the questions of other calls about it.
+
+It has a socket in the folder of the cache, which only its user can use. A call sends its arguments, and gets a status,
+lines for standard error, and an open file with what goes to standard output. Where it gets no such reply, it answers the
+question itself.
+"""
+from __future__ import annotations
+
+import argparse
+import contextlib
+import ctypes
+import io
+import json
+import os
+import select
+import socket
+import sys
+import tempfile
+import threading
+import time
+from collections.abc import Callable, Iterator
+from contextlib import closing
+from types import TracebackType
+from typing import IO, Any
+
+from svnask import __version__
+from svnask.asking import running as cli
+from svnask.cli.verbs.kept import KeptVerb
+from svnask.engine import talk as engine
+from svnask.errors import Damaged, Error, Failed
+from svnask.serving import sockets as places
+from svnask.serving.client import CARRIED, SAME, connection_of
+from svnask.serving.kept import Kept, place_of
+from svnask.sources.subversion import Access
+
+# How long a request may take to come, and how long it may be.
+PATIENCE, LONGEST = 10, 1 << 22
+# How long `select` is asked to wait: it takes no number of seconds of any length.
+LONGEST_WAIT = 24 * 3600
+STOP = b"stop\n"
+# How many seconds pass before the server looks again whether a caller is there, or a descriptor is free.
+PAUSE = 0.2
+# How many links are followed.
+LINKS = 40
+
+
+def serve(given: argparse.Namespace) -> None:
+    """Answers questions until nobody has asked for long, or until it is told to stop."""
+    top = places.folder()
+    if given.dump == "-" or top is None:
+        raise Failed("only what is kept in a cache can be served, and no pipe", 2)
+    with Kept(given) as kept:
+        prepare(kept, given)
+        os.makedirs(top, mode=0o700, exist_ok=True)
+        with places.opened(top) as folder, Server(kept, folder) as server:
+            line = cli.object_line({"source": kept.place}) if given.json else b"serving %s\n" % os.fsencode(kept.place)
+            sys.stdout.buffer.write(line)
+            sys.stdout.buffer.flush()
+            server.run(given.stop_after)
+
+
+def prepare(kept: Kept, given: argparse.Namespace) -> None:
+    """Has the history be read. What the cache has of it is made anew where it is refused."""
+    for is_again in (False, True):
+        with closing(cli.source_in(given)) as source:
+            history = kept.updated(given, source)
+        try:
+            cli.check(history, given.dump)
+            return
+        except cli.Stale as stale:
+            history.forget()
+            kept.forget()
+            if is_again:
+                raise Damaged from stale
+
+
+def stop(dump: str, access: Access = Access()) -> None:
+    """Ends the server of a dump, and waits until it has ended."""
+    connection = connection_of(dump, access.words)
+    if connection is None:
+        raise Failed(f"{dump} is not served", 1)
+    with connection:
+        connection.sendall(STOP)
+        connection.recv(1)
+
+
+def listener(folder: int, name: str) -> socket.socket:
+    """A socket in an open folder, which has no other one of this name."""
+    places.remove_left(folder, name)
+    with places.locked(folder):
+        found = socket.socket(socket.AF_UNIX)
+        mask = os.umask(0o177)
+        try:
+            found.bind(f"/proc/self/fd/{folder}/{name}")
+            found.listen()
+        except OSError as error:
+            found.close()
+            raise Failed(f"cannot serve: there is a server, or {name} is in the cache: {error.strerror}", 1) from error
+        finally:
+            os.umask(mask)
+    return found
+
+
+class Gone(BaseException):
+    """The caller is gone, and nobody waits for the answer."""
+
+
+class Caller:
+    """Who asks a question. Where they go before it is answered, the program that is asked is ended, and `Gone` is raised
+    in the thread that answers, wherever that is."""
+
+    def __init__(self, connection: socket.socket, end: Callable[[], object]) -> None:
+        self._connection, self._end = connection, end
+        self._answering = threading.get_ident()
+        self._is_answered = threading.Event()
+        self._watch = threading.Thread(target=self._wait, daemon=True)
+
+    def __enter__(self) -> Caller:
+        self._watch.start()
+        return self
+
+    def __exit__(
+        self, kind: type[BaseException] | None, value: BaseException | None, trace: TracebackType | None
+    ) -> None:
+        # It may be raised here, too, but not twice within a pause.
+        for _ in range(2):
+            with contextlib.suppress(Gone):
+                self._is_answered.set()
+                self._watch.join()
+
+    def _wait(self) -> None:
+        while not self._is_answered.wait(PAUSE):
+            # What catches all exceptions may catch this one, so it is raised until the thread is here no more.
+            if self._is_gone():
+                self._end()
+                ctypes.pythonapi.PyThreadState_SetAsyncExc(ctypes.c_ulong(self._answering), ctypes.py_object(Gone))
+
+    def _is_gone(self) -> bool:
+        try:
+            ready, _, _ = select.select([self._connection], [], [], 0)
+            return bool(ready) and not self._connection.recv(1, socket.MSG_PEEK)
+        except OSError:
+            return True
+
+
+class Server:
+    """A socket, and the history about which is asked there."""
+
+    def __init__(self, kept: Kept, folder: int) -> None:
+        self._kept = kept
+        self._folder, self._name = folder, places.socket_name(kept.place)
+        # What those of a caller have to be, before the program has its own.
+        self._variables = {name: os.environ.get(name) for name in SAME}
+        os.environ["SVNHIST_LIVE"] = os.path.abspath(engine.find_engine())
+        # One question is answered at a time.
+        self._lock = threading.Lock()
+        self._stopping: socket.socket | None = None
+        # A byte comes here when a request has ended.
+        self._ended, self._end = socket.socketpair()
+        self._socket = listener(folder, self._name)
+
+    def __enter__(self) -> Server:
+        return self
+
+    def __exit__(
+        self, kind: type[BaseException] | None, value: BaseException | None, trace: TracebackType | None
+    ) -> None:
+        with contextlib.suppress(OSError):
+            os.unlink(self._name, dir_fd=self._folder)
+        self._socket.close()
+        self._kept.rest()
+        # A question that is not answered yet fails now, and gives the history free.
+        self._lock.acquire(timeout=PATIENCE)
+        self._kept.forget()
+        for each in (self._ended, self._end, self._stopping):
+            if each is not None:
+                each.close()
+
+    def run(self, stop_after: float) -> None:
+        """Takes requests until it is told to stop, or until nothing was asked for so many seconds."""
+        running, last = 0, time.monotonic()
+        while self._stopping is None:
+            left = None if running else last + stop_after - time.monotonic()
+            if left is not None and left <= 0:
+                return
+            wait = None if left is None else min(left, LONGEST_WAIT)
+            ready, _, _ = select.select([self._socket, self._ended], [], [], wait)
+            if self._ended in ready:
+                running, last = running - len(self._ended.recv(1 << 10)), time.monotonic()
+            if self._socket in ready:
+                connection = self._accepted()
+                if connection is not None:
+                    threading.Thread(target=self._take, args=(connection,), daemon=True).start()
+                    running += 1
+
+    def _accepted(self) -> socket.socket | None:
+        """A new connection. Where there are no descriptors for one, others may soon be closed."""
+        try:
+            return self._socket.accept()[0]
+        except OSError:
+            time.sleep(PAUSE)
+            return None
+
+    def _take(self, connection: socket.socket) -> None:
+        """Answers one request. What fails with it is the other end's, which then answers the question itself."""
+        try:
+            with connection, contextlib.suppress(Exception):
+                connection.settimeout(PATIENCE)
+                if places.peer_of(connection) == os.geteuid():
+                    self._answer(connection, line_from(connection))
+        finally:
+            # Nobody waits for it where the server ends.
+            with contextlib.suppress(OSError):
+                self._end.send(b"\0")
+
+    def _answer(self, connection: socket.socket, line: bytes) -> None:
+        if line == STOP:
+            with self._lock:
+                self._stopping = connection.dup()
+            return
+        request = json.loads(line)
+        variables = request["variables"]
+        if request["version"] != __version__ or any(variables[name] != self._variables[name] for name in SAME):
+            return
+        with tempfile.TemporaryFile(dir=places.folder()) as output:
+            with self._lock, as_called(request):
+                ending = self._told_unless_gone(connection, request["words"], output)
+            if ending is not None:
+                output.seek(0)
+                text = json.dumps({"status": ending.status, "said": ending.said}).encode("ascii") + b"\n"
+                sent = socket.send_fds(connection, [text], [output.fileno()])
+                connection.sendall(text[sent:])
+
+    def _told_unless_gone(self, connection: socket.socket, words: list[str], output: IO[bytes]) -> cli.Ending | None:
+        """How a question ends. None also where the caller went meanwhile."""
+        try:
+            with Caller(connection, self._kept.rest):
+                return self._told(words, output)
+        except Gone:
+            # The history may have been at anything.
+            self._kept.forget()
+            return None
+
+    def _told(self, words: list[str], output: IO[bytes]) -> cli.Ending | None:
+        """How a question ends. None where that is for the caller to find out: it is no question to this server, or
+        something failed."""
+        notes = io.StringIO()
+        try:
+            given = cli.parsed(words)
+            if not is_for_server(given):
+                return None
+            with closing(cli.source_in(given)) as source:
+                if place_of(source) != self._kept.place:
+                    return None
+                history = self._kept.updated(given, source)
+                with contextlib.redirect_stderr(notes):
+                    cli.tell(history, given, output.write)
+            ending = cli.Ending(0, [])
+        except Error as error:
+            ending = cli.ending_of(error)
+        except cli.Stale:
+            self._kept.forget()
+            return None
+        except SystemExit:
+            return None
+        output.flush()
+        return cli.Ending(ending.status, noted(notes) + ending.said) if ending.status in (0, 1, 2) else None
+
+
+def noted(notes: io.StringIO) -> list[str]:
+    """The lines that were said beside an answer."""
+    return notes.getvalue().split("\n")[:-1]
+
+
+def is_for_server(given: argparse.Namespace) -> bool:
+    """Whether a call is a question that a server answers: one that names no file of the caller's own, as /dev/stdin
+    is."""
+    if given.verb in cli.COMMANDS or isinstance(cli.verb_of(given), KeptVerb) or given.no_cache:
+        return False
+    paths = [given.dump] if "://" not in given.dump else []
+    names = [name for name in (*paths, vars(given).get("queries"), vars(given).get("output")) if name]
+    others = [name for name in names if os.path.exists(name) and not os.path.isfile(name) and name != given.dump]
+    return not others and not any(map(is_of_process, names))
+
+
+def is_of_process(name: str) -> bool:
+    """Whether a name, or one that it is a link to, may mean another file in another process."""
+    for _ in range(LINKS):
+        folder = os.path.realpath(os.path.dirname(os.path.abspath(name)))
+        if folder.split("/")[1] in ("dev", "proc"):
+            return True
+        name = os.path.join(folder, os.path.basename(name))
+        if not os.path.islink(name):
+            return False
+        name = os.path.join(folder, os.readlink(name))
+    return True
+
+
+def line_from(connection: socket.socket) -> bytes:
+    """A request. `ValueError` where it is no line, or too long."""
+    text = b""
+    while not text.endswith(b"\n"):
+        piece = connection.recv(1 << 16)
+        if not piece or len(text) > LONGEST:
+            raise ValueError("no request")
+        text += piece
+    return text
+
+
+@contextlib.contextmanager
+def as_called(request: dict[str, Any]) -> Iterator[None]:
+    """Does something as the caller would: in its folder, and with its time zone and its mask of modes."""
+    kept = {name: os.environ.get(name) for name in CARRIED}
+    mask = os.umask(request["mask"])
+    try:
+        os.chdir(request["folder"])
+        set_variables({name: request["variables"][name] for name in CARRIED})
+        yield
+    finally:
+        set_variables(kept)
+        os.umask(mask)
+        os.chdir("/")
+
+
+def set_variables(variables: dict[str, str | None]) -> None:
+    for name, value in variables.items():
+        if value is None:
+            os.environ.pop(name, None)
+        else:
+            os.environ[name] = value
+    time.tzset()

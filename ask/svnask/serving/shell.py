@@ -1,0 +1,115 @@
+"""`shell`: question after question about a history that stays open, a line each."""
+from __future__ import annotations
+
+import argparse
+import os
+import shlex
+import signal
+import sys
+from collections.abc import Iterator
+from contextlib import closing
+
+from svnask.asking import running as cli
+from svnask.cli.verbs import VERBS
+from svnask.cli.verbs.kept import KeptVerb
+from svnask.errors import Damaged, Error, Usage
+from svnask.serving.kept import Kept
+from svnask.texts import say
+
+HELP = "type a question, as after 'svnask SOURCE': log trunk; or VERB --help, or exit\nverbs: %s\n"
+QUESTIONS = [verb.name for verb in VERBS if not isinstance(verb, KeptVerb)]
+
+
+def run(given: argparse.Namespace) -> int:
+    """Answers each line, and gives the status of the last one that had no answer."""
+    if given.dump == "-":
+        raise Usage("the shell reads its questions from the standard input: name a file or a repository")
+    if sys.stdin is None:
+        return 0
+    # Names below are those of the folder in which it was called.
+    if "://" not in given.dump:
+        given.dump = os.path.abspath(given.dump)
+    status = 0
+    with Kept(given) as kept:
+        for line in lines():
+            if line.strip() in ("exit", "quit"):
+                break
+            status = asked(kept, given, line) or status
+    return status
+
+
+def lines() -> Iterator[str]:
+    """The lines of the standard input, which can be edited on a terminal. An interrupt there begins a new one."""
+    if not (sys.stdin.isatty() and sys.stdout.isatty()):
+        for line in sys.stdin.buffer:
+            yield os.fsdecode(line)
+        return
+    import readline  # pylint: disable=import-outside-toplevel, unused-import # noqa: F401
+
+    while True:
+        try:
+            yield input("svnask> ")
+        except EOFError:
+            sys.stdout.write("\n")
+            return
+        except cli.Stopped as stopped:
+            if stopped.args[0] != signal.SIGINT:
+                raise
+            sys.stdout.write("\n")
+
+
+def asked(kept: Kept, given: argparse.Namespace, line: str) -> int:
+    """The status of one question."""
+    try:
+        words = shlex.split(line.rstrip("\n"))
+        if words in (["help"], ["?"]):
+            sys.stdout.write(HELP % ", ".join(QUESTIONS))
+        elif words:
+            tell(kept, question(given, words))
+        sys.stdout.flush()
+    except SystemExit:
+        # The help of a verb was printed.
+        sys.stdout.flush()
+    except ValueError as error:
+        return failed(Usage(f"{error}: '{line.rstrip()}'"))
+    except Error as error:
+        return failed(error)
+    except cli.Stopped as stopped:
+        # On a terminal it ends the question alone. What is left of the answer is not read.
+        if stopped.args[0] != signal.SIGINT or not sys.stdin.isatty():
+            raise
+        kept.rest()
+        return 128 + int(signal.SIGINT)
+    return 0
+
+
+def question(given: argparse.Namespace, words: list[str]) -> argparse.Namespace:
+    options = ["--json"] * given.json + ["--no-cache"] * given.no_cache + ["--offline"] * given.offline
+    options += [f"--below={given.below}"] * bool(given.below)
+    found = cli.parsed([*options, given.dump, *words])
+    if found.verb in cli.COMMANDS or isinstance(cli.verb_of(found), KeptVerb):
+        raise Usage(f"'{found.verb}' is not a question")
+    found.access = given.access
+    return found
+
+
+def tell(kept: Kept, asking: argparse.Namespace) -> None:
+    """Prints an answer. What the cache has of the dump is made anew where it is refused."""
+    for _ in range(2):
+        with closing(cli.source_in(asking)) as source:
+            history = kept.updated(asking, source)
+        try:
+            cli.tell(history, asking, sys.stdout.buffer.write)
+            sys.stdout.buffer.flush()
+            return
+        except cli.Stale:
+            history.forget()
+            kept.forget()
+    raise Damaged
+
+
+def failed(error: Error) -> int:
+    sys.stdout.flush()
+    ending = cli.ending_of(error)
+    say(*ending.said)
+    return ending.status

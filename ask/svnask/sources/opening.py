@@ -1,0 +1,118 @@
+"""The source that a word names, and what is kept of all sources."""
+from __future__ import annotations
+
+import os
+import sys
+from collections.abc import Iterable, Iterator
+from contextlib import closing, suppress
+from typing import IO, BinaryIO, NamedTuple
+
+from svnask.asking.words import IS_URL
+from svnask.copy.store import Index, Store
+from svnask.copy.strip import Copy
+from svnask.errors import Failed, Usage
+from svnask.sources import cache
+from svnask.sources.dump import Dump
+from svnask.sources.entries import read_index
+from svnask.sources.progress import Progress
+from svnask.sources.repository import Address, Asked, Folder
+from svnask.sources.source import Source
+from svnask.sources.subversion import Access
+from svnask.texts import say
+
+
+def source_of(name: str, access: Access = Access(), is_offline: bool = False) -> Source:
+    """The source that a word names."""
+    if IS_URL.match(name):
+        return Address(name, access, is_offline)
+    folder = Folder(name, access)
+    is_repository = os.path.isdir(os.path.join(name, "db")) and os.path.isfile(os.path.join(name, "format"))
+    if is_repository or is_offline and not os.path.isfile(name) and folder.is_kept:
+        return folder
+    return Dump(name, opened(name, is_offline))
+
+
+def opened(name: str, is_offline: bool) -> BinaryIO | None:
+    if name == "-" and sys.stdin is None:
+        raise Failed("cannot read the standard input: it is closed")
+    try:
+        if name != "-":
+            return open(name, "rb")
+        if sys.stdin.isatty():
+            say("svnask: waiting for a dump from the terminal, as 'svnadmin dump -q REPO | svnask - ..' gives one")
+        return sys.stdin.buffer
+    except IsADirectoryError as error:
+        raise Failed(about_folder(name)) from error
+    except (OSError, ValueError) as error:
+        if is_offline:
+            return None
+        raise Failed("cannot read %s: %s" % (name, getattr(error, "strerror", error))) from error
+
+
+def about_folder(name: str) -> str:
+    """Why a folder is not a source, and for a working copy what to name in its place."""
+    if os.path.isdir(os.path.join(name, ".svn")):
+        return f"{name} is a working copy: give its URL, which 'svn info --show-item url' prints"
+    return f"{name} is a directory, but not a repository"
+
+
+def with_properties(source: Source, progress: Progress) -> None:
+    """Has the copy of a repository in the cache have the properties that all revisions have now."""
+    entry = source.entry()
+    if not isinstance(source, Asked) or entry is None:
+        raise Usage("--properties is for a repository: those of a dump do not change")
+    with entry.locked(lambda: progress.waits(source.name)):
+        kept = entry.load()
+        if kept is None:
+            raise Failed("the cache can't be written")
+        with closing(kept), entry.first_file() as (file, named):
+            index = rewritten(kept, source.new_properties(), file)
+        entry.commit(index._replace(kept=named._replace(state=kept.index.kept.state, base=index.length))).close()
+
+
+def rewritten(kept: Store, sections: Iterable[tuple[int, bytes]], file: IO[bytes]) -> Index:
+    """Writes a copy with other properties of revisions. Those that are not given stay."""
+    given = iter(sections)
+    following = next(given, None)
+    copy = Copy()
+
+    def write(piece: bytes) -> None:
+        copy.add(piece)
+        file.write(piece)
+
+    write(kept.between(0, kept.index.revisions[0]))
+    for rev in range(kept.head + 1):
+        _, section = kept.section(rev)
+        if following is not None and following[0] == rev:
+            section = following[1]
+            following = next(given, None)
+        copy.begin_revision(section)
+        write(kept.with_properties(rev, section))
+    found = kept.index._replace(revisions=copy.revisions, length=copy.length)
+    return found._replace(undated=copy.undated, sums=copy.sums)
+
+
+class Held(NamedTuple):
+    """What is kept of a source."""
+
+    kind: str
+    place: bytes
+    youngest: int
+    size: int
+    used: float
+
+
+def held() -> Iterator[Held]:
+    """All that is kept, what was used last first."""
+    top = cache.folder()
+    found = []
+    for each in cache.folders(top) if top is not None else ():
+        index = read_index(each.path)
+        # Another run may take it out of the cache meanwhile.
+        with suppress(FileNotFoundError):
+            if index is None:
+                continue
+            kind, place = index.kept.kind.decode("ascii", "replace"), index.kept.place
+            size, used = cache.size_of(each.path), each.stat().st_mtime
+            found.append(Held(kind, place, len(index.revisions) - 1, size, used))
+    yield from sorted(found, key=lambda each: (-each.used, each.place))

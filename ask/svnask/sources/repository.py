@@ -1,0 +1,247 @@
+"""A repository itself, by its folder or its URL, of which Subversion is asked."""
+from __future__ import annotations
+
+import os
+import re
+import tempfile
+from collections.abc import Iterable, Iterator, Sequence
+from contextlib import contextmanager
+from typing import IO
+
+from svnask.asking.words import of_asker
+from svnask.copy import strip
+from svnask.copy.store import Index, Kept, Store, properties_of
+from svnask.copy.strip import Copy, Stripper
+from svnask.copy.window import Window
+from svnask.errors import Error, Failed, Unreached
+from svnask.sources import cache
+from svnask.sources import subversion as repositories
+from svnask.sources.entries import Entry
+from svnask.sources.progress import Progress
+from svnask.sources.source import Source, index_of_copy, known_of, whole_part
+from svnask.sources.subversion import Access, Properties, Repository, canonical
+
+LINE_END = re.compile(rb"\r\n?")
+OFFLINE = "--offline answers from what is kept of it"
+
+
+class Asked(Source):
+    """A repository, of which Subversion is asked."""
+
+    root: str
+
+    def __init__(self, name: str, access: Access) -> None:
+        super().__init__(name)
+        self.access = access
+        self._now: Repository | None = None
+        self._last: tuple[int, Properties] = (-1, {})
+        # Whether more is shown than before, once that was asked.
+        self._is_more: bool | None = None
+
+    @contextmanager
+    def advised(self) -> Iterator[None]:
+        """Has a failure tell what is possible without the repository, where something is kept."""
+        try:
+            yield
+        except Error as error:
+            if self.is_kept:
+                error.advice = (*error.advice, OFFLINE)
+            raise
+
+    def store(self, progress: Progress, is_cached: bool = True, is_offline: bool = False) -> Store:
+        with self.advised():
+            return super().store(progress, is_cached, is_offline)
+
+    @property
+    def now(self) -> Repository:
+        """The repository as it was when it was asked first."""
+        if self._now is None:
+            self._now = self.access.look(self.root)
+        return self._now
+
+    @property
+    def asked(self) -> str:
+        """The URL by which it answers."""
+        return self.root
+
+    def entry(self) -> Entry | None:
+        top = cache.folder()
+        return None if top is None else Entry(top, self.kind, self.place)
+
+    @property
+    def is_kept(self) -> bool:
+        entry = self.entry()
+        return entry is not None and entry.is_there
+
+    @property
+    def place(self) -> bytes:
+        return self.root.encode("utf-8", "surrogateescape")
+
+    def dumped(self, first: int, last: int) -> Sequence[str]:
+        """The command that prints revisions as a dump."""
+        return self.access.dumped(self.root, first, last)
+
+    def is_as_kept(self, kept: Store) -> bool:
+        return self.now.youngest == kept.head and self._is_same(kept)
+
+    def _is_same(self, kept: Store) -> bool:
+        """Whether the repository is the one of which there is a copy, and its last revision as it was."""
+        if self.now.uuid != kept.index.uuid or not 0 <= kept.head <= self.now.youngest:
+            return False
+        if self._last[0] != kept.head:
+            self._last = kept.head, self.access.properties(self.asked, kept.head)
+        if self._shows_more(kept):
+            return False
+        return normal(self._last[1]) == normal(properties_of(kept.section(kept.head)[1]))
+
+    def _shows_more(self, kept: Store) -> bool:
+        """Whether a revision has a date that had none. So it is after a user was given rights to what it changed."""
+        undated = kept.index.undated
+        if undated and self._is_more is None:
+            self._is_more = self.access.has_date(self.root, undated)
+        return bool(undated and self._is_more)
+
+    def grown(self, entry: Entry, kept: Store, progress: Progress) -> Store | None:
+        index = kept.index
+        if not self._is_same(kept):
+            return None
+        known = known_of(index)
+        with entry.later_file(kept) as file:
+            reason = self._fetched(file, known, progress)
+        return self._committed(entry, known, reason, index)
+
+    def first(self, entry: Entry, progress: Progress) -> Store:
+        copy = Copy()
+        with entry.first_file() as (file, kept):
+            reason = self._fetched(file, copy, progress)
+        return self._committed(entry, copy, reason, index_of_copy(Copy(), 0, kept))
+
+    def _committed(self, entry: Entry, copy: Copy, reason: Error | None, before: Index) -> Store:
+        """The copy, which is kept. Where the rest did not come, that is of the revisions that came whole."""
+        if reason is None:
+            return entry.commit(index_of_copy(copy, copy.read, before.kept))
+        if copy.is_from_0 and len(copy.revisions) > len(before.revisions) + 1:
+            part = whole_part(copy)
+            name = "later" if before.length else "dump"
+            os.truncate(entry.path(f"{name}.{before.kept.generation}"), part.length - before.kept.base)
+            entry.commit(index_of_copy(part, part.read, before.kept)).close()
+        raise reason
+
+    def copied(self, file: IO[bytes], kept: Kept, progress: Progress) -> Index:
+        copy = Copy()
+        reason = self._fetched(file, copy, progress)
+        if reason is not None:
+            raise reason
+        return index_of_copy(copy, copy.read, kept)
+
+    def _fetched(self, file: IO[bytes], copy: Copy, progress: Progress) -> Error | None:
+        """Copies the revisions that come after those of a copy. Why not all came, if they did not."""
+        first, last = len(copy.revisions), self.now.youngest
+        words = self.dumped(first, last)
+        try:
+            with repositories.printed(*words) as stream:
+                stripper = Stripper(Window(stream, copy.read), file.write, places=True, people=True, known=copy)
+                stripper.run(lambda read: progress.of_revisions(len(copy.revisions) - 1, first, last))
+        except Error as error:
+            return error
+        if copy.fault is not None or not copy.is_from_0 or len(copy.revisions) <= last:
+            return Failed("%s printed something other than r%d to r%d: %s" % (words[0], first, last, copy.fault))
+        return None
+
+    def new_properties(self) -> Iterable[tuple[int, bytes]]:
+        """The property section of each revision, as it is now."""
+        for rev, found in self.access.all_properties(self.root, self.now.youngest):
+            yield rev, b"".join(strip.entry(*each) for each in found.items()) + strip.LAST_LINE
+
+
+def normal(properties: Properties) -> Properties:
+    """Properties as svnrdump writes them, which has each line end in one way, and a value before a byte zero."""
+    return {name: LINE_END.sub(b"\n", value).partition(b"\0")[0] for name, value in properties.items()}
+
+
+class Folder(Asked):
+    """The folder of a repository."""
+
+    kind = b"folder"
+
+    def __init__(self, name: str, access: Access) -> None:
+        super().__init__(name, access)
+        self.folder = os.path.realpath(name)
+        self.root = repositories.url_of_folder(self.folder)
+
+    @property
+    def place(self) -> bytes:
+        return os.fsencode(self.folder)
+
+    def dumped(self, first: int, last: int) -> Sequence[str]:
+        return "svnadmin", "dump", "-q", "--incremental", "-r", f"{first}:{last}", self.folder
+
+    def new_properties(self) -> Iterable[tuple[int, bytes]]:
+        with tempfile.TemporaryFile() as file:
+            with repositories.printed("svnadmin", "dump-revprops", "-q", self.folder) as stream:
+                stripper = Stripper(Window(stream), file.write, people=True)
+                found = stripper.run()
+            if found.fault is not None:
+                raise Failed(f"svnadmin printed something other than properties: {found.fault}")
+            yield from sections_in(file, found)
+
+
+def sections_in(file: IO[bytes], copy: Copy) -> Iterator[tuple[int, bytes]]:
+    """The property section of each revision in a file."""
+    for rev, (begin, end) in enumerate(zip(copy.revisions, [*copy.revisions[1:], copy.length])):
+        file.seek(begin)
+        yield rev, file.read(end - begin).partition(b"\n\n")[2]
+
+
+class Address(Asked):
+    """A repository by a URL, which may be that of a path in it."""
+
+    kind = b"url"
+
+    def __init__(self, name: str, access: Access, is_offline: bool) -> None:
+        super().__init__(name, access)
+        self._url = canonical(name)
+        self.root = self._kept_root(self._url)
+        if not is_offline:
+            with self.advised():
+                self._url, self._now = self._look(self._url)
+            self.root = self._now.root
+        elif not self.root:
+            raise Failed(f"nothing is kept of {name}", 1)
+        path = repositories.path_below(canonical(name), self.root)
+        if path is None:
+            raise Failed(f"{name} is not below the root of its repository, {self.root}", 1)
+        self.path = path
+
+    @property
+    def asked(self) -> str:
+        """The URL by which it answers: the root may be one that this user may not read."""
+        return self._url
+
+    @property
+    def place(self) -> bytes:
+        return of_asker(self.root, self.access.words).encode("utf-8", "surrogateescape")
+
+    def _look(self, url: str) -> tuple[str, Repository]:
+        """The repository that has a path, or had it, and the URL by which it answered: that of the path, or else one above
+        it, the root that is kept before others."""
+        first: Unreached | None = None
+        for each in dict.fromkeys([url, *filter(None, [self.root]), *repositories.ancestors(url)]):
+            try:
+                return each, self.access.look(each)
+            except Unreached as error:
+                first = first or error
+                if not error.is_none_there and each != self.root:
+                    raise first from error
+        raise first or Failed(f"'{url}' is no URL")
+
+    def _kept_root(self, url: str) -> str:
+        """The root of the repository of which something is kept, and which has a URL."""
+        top = cache.folder()
+        if top is None:
+            return ""
+        for each in repositories.ancestors(url):
+            place = of_asker(each, self.access.words).encode("utf-8", "surrogateescape")
+            if Entry(top, self.kind, place).is_there:
+                return each
+        return ""
