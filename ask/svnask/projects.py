@@ -7,7 +7,7 @@ from __future__ import annotations
 
 import re
 
-from svnask.copy.changes import components
+from svnask.paths import components
 
 TRUNK, BRANCH, TAG = "trunk", "branch", "tag"
 KINDS = (TRUNK, BRANCH, TAG)

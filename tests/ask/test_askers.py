@@ -6,9 +6,10 @@ import os
 import subprocess
 
 from dev.dumps import added, changed, dump_of, section
-from svnask.asking.words import of_asker, source_word
+from svnask.asking.words import source_word
 from svnask.serving import client
 from svnask.sources import subversion as repositories
+from svnask.sources.access import of_asker
 from svnask.sources.progress import Told
 from tests.ask import base, grown
 

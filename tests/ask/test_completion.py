@@ -17,6 +17,7 @@ from unittest import mock
 from dev import running
 from dev.dumps import DIR, Node, Source, added, changed, deleted, dump_of
 from dev.tree import ROOT
+from svnask import files
 from svnask.asking import running as cli
 from svnask.cli import command, completion
 from svnask.cli.completion import BASH, lines_for
@@ -55,7 +56,7 @@ class CompletionTest(base.UtcTest):
     def setUp(self) -> None:
         super().setUp()
         with closing(source_of(DUMP)) as source, closing(source.store(Progress())) as store:
-            top = cache.folder()
+            top = files.cache_folder()
             assert top is not None
             entry = Entry(top, Address.kind, ROOT_URL.encode())
             cache.make(entry.folder)

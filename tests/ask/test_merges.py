@@ -7,7 +7,6 @@ from unittest import mock
 
 from dev.dumps import FILE, added, changed, copied, dump_of, mergeinfo
 from svnask.branches import questions as branches
-from svnask.copy.changes import Place
 from svnask.engine import talk as engine
 from svnask.engine.queries import Answer, Log, Logged
 from svnask.engine.queries import Merges as Merged
@@ -16,6 +15,7 @@ from svnask.history.history import History
 from svnask.history.lives import Life
 from svnask.merges import gains as merges
 from svnask.merges.gains import Gain, Interval, minus
+from svnask.paths import Place
 from tests.ask import base
 
 F = b"trunk/f"

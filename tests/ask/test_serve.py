@@ -17,8 +17,7 @@ from unittest import mock
 from dev import running
 from dev.dumps import Revision, added, changed, dump_of
 from dev.tree import ROOT, SVNASK
-from svnask.serving import client
-from svnask.serving import sockets as places
+from svnask.serving import client, sockets
 from svnask.serving.server import Caller, Gone
 from tests.ask import base
 
@@ -200,7 +199,7 @@ class Serve(base.Case):
         """A server in the place of another one, which takes a request and ends in the middle of its reply."""
         top = str(self.cache / "svnhist")
         os.makedirs(top, mode=0o700, exist_ok=True)
-        path = os.path.join(top, places.socket_name(str(self.dump)))
+        path = os.path.join(top, sockets.socket_name(str(self.dump)))
         with socket.socket(socket.AF_UNIX) as listener, open(file or os.devnull, "rb") as output:
             listener.bind(path)
             listener.listen()
@@ -309,7 +308,7 @@ class Serve(base.Case):
 
     def test_a_file_in_the_place_of_the_socket_stays(self) -> None:
         self.assertEqual(base.run(self.dump, "info").status, 0)
-        file = self.cache / "svnhist" / places.socket_name(str(self.dump))
+        file = self.cache / "svnhist" / sockets.socket_name(str(self.dump))
         file.write_bytes(b"precious")
         self.assertEqual(base.run(self.dump, "info").status, 0)
         done = base.run(self.dump, "serve")

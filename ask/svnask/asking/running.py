@@ -16,23 +16,14 @@ from typing import Any, Callable, NamedTuple, NoReturn
 
 from svnask import __version__
 from svnask.asking.refusals import about_record, explained
-from svnask.asking.words import (
-    IS_URL,
-    OF_ALL,
-    REACHED,
-    REACHED_ALONE,
-    joined,
-    ordered,
-    places,
-    split_access,
-    with_source,
-)
+from svnask.asking.words import OF_ALL, joined, ordered, places, with_source
 from svnask.cli.verbs import VERBS
 from svnask.cli.verbs.base import Object, Verb, counted
 from svnask.cli.verbs.kept import KeptVerb
 from svnask.errors import Damaged, Denied, Error, Failed, Refused, Unsound, Usage
 from svnask.history.history import History
 from svnask.history.targets import path_in, path_of
+from svnask.sources.access import IS_URL, REACHED, REACHED_ALONE, split_access
 from svnask.sources.opening import source_of
 from svnask.sources.progress import Bar
 from svnask.sources.repository import Address

@@ -2,24 +2,18 @@
 imported, since each question looks for a server by them first."""
 from __future__ import annotations
 
-import hashlib
-import os
 import re
 from collections.abc import Iterable, Sequence
 
+from svnask.paths import split_peg
+from svnask.sources.access import IS_URL, REACHED, split_access
+
 # The options that take a value, and the names of those that have a short one.
 LONG = {"-r": "--revision", "-c": "--change", "-l": "--limit", "-o": "--output"}
-# How a repository is reached. These options are those of svn, with a value and without one.
-REACHED = frozenset(("--username", "--password", "--config-dir", "--config-option", "--trust-server-cert-failures"))
-REACHED_ALONE = frozenset(("--non-interactive", "--force-interactive", "--no-auth-cache", "--trust-server-cert"))
-# Those of them that say who asks.
-ASKER = ("--username", "--config-dir", "--config-option")
 VALUED = frozenset(
     (*LONG.values(), *REACHED, "--into", "--show-revs", "--depth", "--with-revprop", "--search", "--search-and")
     + ("--since", "--width", "--height", "--below", "--targets")
 )
-# A word that is a URL.
-IS_URL = re.compile(r"[A-Za-z][A-Za-z0-9+.-]*://")
 NUMBER = re.compile("-[0-9]")
 # The verbs that svn has, too, and the one that is about all sources.
 OF_SVN, OF_ALL = ("log", "mergeinfo"), "sources"
@@ -41,37 +35,6 @@ def joined(arguments: Iterable[str]) -> list[str]:
             value = next(left, None)
         found.append(word if value is None else f"{name}={value}")
     return found
-
-
-def split_peg(text: str) -> tuple[str, str]:
-    """The path and the peg. The peg is after the last `@` of the last component; an `@` at the end says that there is
-    none, and lets a path have one."""
-    folder, slash, name = text.rpartition("/")
-    front, sign, peg = name.rpartition("@")
-    return (folder + slash + front, peg) if sign else (text, "")
-
-
-def split_access(words: list[str]) -> tuple[tuple[str, ...], list[str]]:
-    """The options by which a repository is reached, and the other words."""
-    end = words.index("--") if "--" in words else len(words)
-    own = [word for word in words[:end] if word in REACHED_ALONE or "=" in word and word.partition("=")[0] in REACHED]
-    return tuple(own), [word for word in words[:end] if word not in own] + words[end:]
-
-
-def of_asker(url: str, access: Sequence[str]) -> str:
-    """The URL of a repository with the options that say who asks, since a server may show each user another history.
-    Options of a configuration may have a password, so their checksum stands for them."""
-    if url.startswith("file:"):
-        return url
-    found: dict[str, str] = {}
-    for name, sign, value in (word.partition("=") for word in access):
-        if sign and name in ASKER:
-            found[name] = found.get(name, "") + "\n" + value if name == ASKER[2] else value
-    if ASKER[1] in found:
-        found[ASKER[1]] = os.path.realpath(found[ASKER[1]])
-    if ASKER[2] in found:
-        found[ASKER[2]] = hashlib.sha256(found[ASKER[2]].encode("utf-8", "surrogateescape")).hexdigest()[:16]
-    return " ".join([url, *(f"{name}={found[name]}" for name in ASKER if name in found)])
 
 
 def source_word(words: Sequence[str]) -> tuple[str, tuple[str, ...]] | None:

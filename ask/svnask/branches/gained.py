@@ -4,7 +4,6 @@ from __future__ import annotations
 from collections.abc import Iterable, Iterator, Sequence
 from typing import NamedTuple
 
-from svnask.copy.changes import is_at_or_below
 from svnask.engine.queries import Answers, Log, Mergeinfo, Where, is_askable
 from svnask.errors import Denied
 from svnask.history.history import History
@@ -14,6 +13,7 @@ from svnask.log import selection as log
 from svnask.mergeinfo.values import Run, runs_of
 from svnask.merges.gains import Intervals, has
 from svnask.merges.recorded import Recorded
+from svnask.paths import is_at_or_below
 
 
 class Part(NamedTuple):

@@ -4,11 +4,11 @@ from __future__ import annotations
 from collections.abc import Iterable, Iterator, Sequence
 from typing import NamedTuple
 
-from svnask.copy.changes import Place, components, joined, rest_below, tops_of
 from svnask.copy.store import Record
 from svnask.engine.queries import Locate, Segment, Where, is_askable
 from svnask.history.history import History
 from svnask.history.targets import Target
+from svnask.paths import Place, components, joined, rest_below, tops_of
 
 
 class Step(NamedTuple):

@@ -7,7 +7,6 @@ from collections.abc import Iterable, Iterator, Sequence
 from typing import NamedTuple
 
 from svnask import projects
-from svnask.copy.changes import Place, components, is_at_or_below, tops_of
 from svnask.engine.queries import Answer, Answers, Log, Logged, Mergeinfo, Query, Where
 from svnask.errors import Denied
 from svnask.history.history import History
@@ -18,6 +17,7 @@ from svnask.mergeinfo.values import runs_of
 from svnask.merges import show_revs as mergeinfo
 from svnask.merges.gains import Intervals, between, has
 from svnask.merges.recorded import Recorded
+from svnask.paths import Place, components, is_at_or_below, tops_of
 
 # How many revisions are looked through at first for the last change of a life, and how many times more at each further
 # look.

@@ -22,22 +22,14 @@ from collections.abc import Iterable, Iterator, Sequence
 from typing import NamedTuple
 
 from svnask.asking.running import Parser, parser
-from svnask.asking.words import (
-    IS_URL,
-    OF_ALL,
-    OF_SVN,
-    REACHED,
-    REACHED_ALONE,
-    is_option,
-    joined,
-    of_asker,
-    split_access,
-    split_peg,
-)
+from svnask.asking.words import OF_ALL, OF_SVN, is_option, joined
 from svnask.copy.branch_names import kept_branches
 from svnask.copy.store import Front
+from svnask.files import cache_folder
 from svnask.history.targets import decoded, path_in, path_of
+from svnask.paths import split_peg
 from svnask.sources import cache
+from svnask.sources.access import IS_URL, REACHED, REACHED_ALONE, of_asker, split_access
 from svnask.sources.dump import Dump
 from svnask.sources.entries import Entry, read_front
 from svnask.sources.repository import Address, Folder
@@ -90,7 +82,7 @@ class Place(NamedTuple):
 
 def place_of(source: str, access: Sequence[str] = ()) -> Place | None:
     """What is kept of the source that a word names, as it is reached by some options."""
-    top = cache.folder()
+    top = cache_folder()
     if top is None:
         return None
     if IS_URL.match(source):
@@ -112,7 +104,7 @@ def place_in(top: str, kind: bytes, name: bytes, root: str = "") -> Place | None
 
 def kept_urls() -> Iterator[str]:
     """The URLs of the repositories of which something is kept."""
-    top = cache.folder()
+    top = cache_folder()
     for each in cache.folders(top) if top is not None else ():
         front = read_front(each.path)
         if front is not None and front.kept.kind == Address.kind:

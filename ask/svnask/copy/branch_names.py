@@ -13,11 +13,10 @@ from collections import defaultdict
 from collections.abc import Iterable, Iterator
 from typing import NamedTuple
 
-from svnask.copy.changes import joined, rest_below, tops_of
+from svnask import files
 from svnask.copy.store import Front
-from svnask.copy.strip import clean
+from svnask.paths import clean, joined, rest_below, tops_of
 from svnask.projects import TRUNK, is_in_named, is_named, kind_of
-from svnask.sources import cache
 
 # How many bytes are looked through at once, and how many more belong to a block that begins or ends there.
 PIECE, EDGE = 1 << 20, 1 << 13
@@ -82,7 +81,7 @@ def events_in(text: bytes) -> Iterator[Event]:
 def events_of(span: Span) -> list[Event]:
     """The events whose blocks begin in a span, in their order."""
     begin = max(span.begin - EDGE, 0)
-    with open(span.path, "rb", opener=cache.opener) as file:
+    with open(span.path, "rb", opener=files.opener) as file:
         text = os.pread(file.fileno(), span.end + EDGE - begin, begin)
     found = sorted(events_in(text))
     return [event for event in found if span.begin <= event.at + begin < span.end]

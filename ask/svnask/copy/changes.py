@@ -2,19 +2,16 @@
 from __future__ import annotations
 
 import re
-from collections.abc import Iterable, Iterator
-from operator import methodcaller
+from collections.abc import Iterable
 from typing import NamedTuple
 
 from svnask.copy.store import Node, Record
-from svnask.copy.strip import MERGEINFO, clean
+from svnask.copy.strip import MERGEINFO
 from svnask.digits import number
+from svnask.paths import NUL_FOR_SLASH, Place, clean, is_at_or_below, joined, rest_below, tops_of
 
-# A path and a revision.
-Place = tuple[bytes, int]
 # How `svn log -v` writes what a record does.
 LETTERS = {b"add": "A", b"change": "M", b"delete": "D", b"replace": "R"}
-NUL_FOR_SLASH = methodcaller("replace", b"/", b"\0")
 # The offset in the block of a record, what stands before a section, and a block without these.
 OFFSET = re.compile(rb"\nAt: .*")
 SECTION = re.compile(rb"\nProp-content-length: ([0-9]{1,18})\nContent-length: .*\n\n")
@@ -42,34 +39,6 @@ class Change(NamedTuple):
     def line(self) -> bytes:
         line = b"   %s %s" % (self.letter.encode("ascii"), self.path)
         return line + b" (from %s:%d)" % self.source if self.source else line
-
-
-def components(path: bytes) -> list[bytes]:
-    return [part for part in path.split(b"/") if part]
-
-
-def is_at_or_below(path: bytes, top: bytes) -> bool:
-    return path == top or path.startswith(top if top.endswith(b"/") else top + b"/")
-
-
-def joined(top: bytes, rest: bytes) -> bytes:
-    """The path of what is below another one."""
-    if not rest:
-        return top
-    return top + rest if top.endswith(b"/") else top + b"/" + rest
-
-
-def rest_below(path: bytes, top: bytes) -> bytes:
-    assert is_at_or_below(path, top)
-    return path[len(top) :].lstrip(b"/")
-
-
-def tops_of(path: bytes) -> Iterator[bytes]:
-    """A path and those above it, the nearest first."""
-    yield path
-    while path != b"/":
-        path = path.rpartition(b"/")[0] or b"/"
-        yield path
 
 
 class Unusual(Exception):

@@ -12,18 +12,10 @@ from collections.abc import Iterator
 from itertools import chain
 from typing import IO, Any, BinaryIO, NamedTuple, Union
 
-from svnask import digits
-from svnask.copy.strip import (
-    LAST_LINE,
-    MERGEINFO,
-    ONE_MERGEINFO,
-    Malformed,
-    body_of,
-    clean,
-    entries_of,
-    is_one_mergeinfo,
-)
+from svnask import digits, files
+from svnask.copy.strip import LAST_LINE, MERGEINFO, ONE_MERGEINFO, Malformed, body_of, entries_of, is_one_mergeinfo
 from svnask.errors import Damaged
+from svnask.paths import clean
 from svnask.sources import cache
 
 # A part of a copy.
@@ -209,7 +201,7 @@ class Store:
         self.is_kept = is_kept
         self._folder = folder
         generation, length = index.kept.generation, index.kept.base
-        self._file = open(os.path.join(folder, "dump.%d" % generation), "rb", opener=cache.opener)
+        self._file = open(os.path.join(folder, "dump.%d" % generation), "rb", opener=files.opener)
         try:
             own = "/proc/%d/fd/%d" % (os.getpid(), self._file.fileno())
             self.base = own if os.path.exists(own) else self._file.name
@@ -218,7 +210,7 @@ class Store:
             self.first = part_of(self._file, length)
             self.later: Bytes = b""
             if index.length > length:
-                with open(os.path.join(folder, "later.%d" % generation), "rb", opener=cache.opener) as later:
+                with open(os.path.join(folder, "later.%d" % generation), "rb", opener=files.opener) as later:
                     self.later = part_of(later, index.length - length)
         except BaseException:
             self._file.close()

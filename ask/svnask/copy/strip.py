@@ -13,6 +13,7 @@ from dataclasses import dataclass, field
 
 from svnask.copy.window import Window
 from svnask.digits import number
+from svnask.paths import clean
 
 Write = Callable[[bytes], object]
 Headers = dict[bytes, bytes]
@@ -115,14 +116,6 @@ class Copy:
         self.records_before = self.records
         self.revisions.append(self.length)
         self.sums.append(0)
-
-
-def clean(path: bytes) -> bytes:
-    """A path as svnhist prints it."""
-    whole = b"/%s/" % path
-    if b"//" not in whole:
-        return whole[:-1]
-    return b"/" + b"/".join(filter(None, path.split(b"/")))
 
 
 def number_of(digits: bytes) -> int:

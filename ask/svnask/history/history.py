@@ -12,24 +12,15 @@ from contextlib import closing
 from types import ModuleType, TracebackType
 from typing import TYPE_CHECKING, BinaryIO
 
-from svnask.copy.changes import (
-    NUL_FOR_SLASH,
-    WITHOUT_KIND,
-    Change,
-    KnownBlocks,
-    Place,
-    changes_of,
-    is_at_or_below,
-    place_of,
-)
+from svnask.copy.changes import WITHOUT_KIND, Change, KnownBlocks, changes_of, place_of
 from svnask.copy.store import Index, Record, Revision, Store
-from svnask.copy.strip import clean
 from svnask.engine.queries import A, Answer, Answers, Locate, Located, Log, Logged, Query, Segments, Where, is_askable
 from svnask.engine.talk import Talk
 from svnask.errors import Damaged, Denied, Failed, Refused
 from svnask.history import dates
 from svnask.history.lives import Tree
-from svnask.mergeinfo.values import Explicit
+from svnask.mergeinfo.explicit import Explicit
+from svnask.paths import NUL_FOR_SLASH, Place, clean, is_at_or_below
 from svnask.sources.dump import Dump
 from svnask.sources.opening import source_of
 from svnask.sources.progress import Progress, Told

@@ -12,9 +12,9 @@ from collections.abc import Iterable, Iterator, Sequence
 from typing import NamedTuple
 
 from svnask import projects
-from svnask.copy.changes import Place, components, joined, rest_below, tops_of
 from svnask.copy.store import Record
 from svnask.errors import Failed
+from svnask.paths import Place, components, joined, moved, parent_of, rest_below, tops_above, tops_of
 
 # As the last component of a pattern, the branches at any depth.
 ANY_DEPTH = b"**"
@@ -301,22 +301,6 @@ class Tree:
             yield life
 
 
-def parent_of(path: bytes) -> bytes:
-    return path.rpartition(b"/")[0] or b"/"
-
-
-def tops_above(paths: Iterable[bytes]) -> set[bytes]:
-    """The paths above some others."""
-    found: set[bytes] = set()
-    for path in paths:
-        while path != b"/":
-            path = parent_of(path)
-            if path in found:
-                break
-            found.add(path)
-    return found
-
-
 def moves_of(lives: Sequence[Life]) -> dict[Life, Life]:
     """Of those of some lives that go on with another one of them under a new name, that other one."""
     ends = {(life.path, life.last): life for life in lives}
@@ -347,11 +331,6 @@ def count_up_to(events: Sequence[Event], rev: int) -> int:
         else:
             high = middle
     return low
-
-
-def moved(path: bytes, top: bytes, source: Place) -> Place:
-    """Where a path came from with a copy of a path at or above it."""
-    return joined(source[0], rest_below(path, top)), source[1]
 
 
 def letters(name: bytes) -> str:

@@ -4,10 +4,11 @@ from __future__ import annotations
 import re
 from typing import NamedTuple
 
-from svnask.asking.words import IS_URL, split_peg
 from svnask.digits import number
 from svnask.errors import Denied
 from svnask.history.history import History
+from svnask.paths import split_peg
+from svnask.sources.access import IS_URL
 from svnask.sources.subversion import canonical, path_below
 
 NUMBER = re.compile(r"r*([0-9]+)\Z")

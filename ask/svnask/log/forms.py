@@ -6,12 +6,13 @@ from collections.abc import Iterable, Iterator, Sequence
 from dataclasses import dataclass, field
 from typing import NamedTuple
 
-from svnask.copy.changes import Change, components
+from svnask.copy.changes import Change
 from svnask.copy.store import Revision
 from svnask.history.history import History
 from svnask.log.processes import count_of_processes, made
 from svnask.log.search import Group, is_found
 from svnask.log.selection import Item
+from svnask.paths import components
 
 AUTHOR, DATE, MESSAGE = b"svn:author", b"svn:date", b"svn:log"
 SHOWN = frozenset((AUTHOR, DATE, MESSAGE))

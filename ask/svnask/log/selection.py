@@ -7,11 +7,11 @@ from dataclasses import dataclass
 from operator import attrgetter
 from typing import NamedTuple
 
-from svnask.copy.changes import Place, is_at_or_below, joined, tops_of
 from svnask.engine.queries import Log, Segment, Where
 from svnask.errors import Denied
 from svnask.history.history import History
 from svnask.history.targets import Target, decoded, known
+from svnask.paths import Place, is_at_or_below, joined, tops_of
 
 
 @dataclass

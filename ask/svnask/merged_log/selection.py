@@ -11,7 +11,6 @@ from collections.abc import Iterable, Iterator, Sequence
 from operator import attrgetter
 from typing import NamedTuple, Union
 
-from svnask.copy.changes import is_at_or_below
 from svnask.errors import Denied
 from svnask.history.history import History
 from svnask.history.targets import Target, decoded, known
@@ -20,6 +19,7 @@ from svnask.merged_log.parts import Part, parts_of
 from svnask.merges.gains import Interval, Intervals, has, united
 from svnask.merges.traces import Cut, Traces
 from svnask.merges.value_changes import MergeinfoChanges
+from svnask.paths import is_at_or_below
 
 END = Item(-1)
 NO_RUN = 0, -1

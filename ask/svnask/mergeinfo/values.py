@@ -1,13 +1,9 @@
 """Values of `svn:mergeinfo`: what a text says, and which paths have one through the revisions."""
 from __future__ import annotations
 
-import bisect
 import re
-from collections.abc import Iterable, Iterator
 from typing import NamedTuple
 
-from svnask.copy.changes import joined
-from svnask.copy.store import Record
 from svnask.digits import number
 
 RANGE = re.compile(rb"([0-9]+)(?:-([0-9]+))?(\*?)\Z")
@@ -83,72 +79,3 @@ def value_of(text: bytes) -> Value | None:
     except ValueError:
         return None
     return value
-
-
-class Explicit:
-    """The texts of `svn:mergeinfo` that paths have themselves, revision by revision."""
-
-    def __init__(self, records: Iterable[Record]) -> None:
-        self._paths: list[bytes] = []
-        # For each path that ever had a text, the revisions in which that changed, and what it had from then on.
-        self._revs: dict[bytes, list[int]] = {}
-        self._texts: dict[bytes, list[bytes | None]] = {}
-        # For each revision the paths to which a record gave another text than they had, or what they were copied from.
-        self.settings: dict[int, set[bytes]] = {}
-        for record in records:
-            self.apply(record)
-
-    def text(self, path: bytes, rev: int) -> bytes | None:
-        """The text of a path in a revision."""
-        revs = self._revs.get(path)
-        if revs is None:
-            return None
-        at = bisect.bisect_right(revs, rev)
-        return self._texts[path][at - 1] if at else None
-
-    def events(self, path: bytes) -> list[int]:
-        """The revisions in which the text of a path was put, changed or taken away, rising."""
-        return self._revs.get(path, [])
-
-    def below(self, top: bytes, rev: int) -> Iterator[tuple[bytes, bytes]]:
-        """The paths at or below one that have a text in a revision, and these."""
-        for path in self._known(top):
-            text = self.text(path, rev)
-            if text is not None:
-                yield path, text
-
-    def _known(self, top: bytes) -> list[bytes]:
-        """The paths at or below one that ever had a text."""
-        front = top if top.endswith(b"/") else top + b"/"
-        first, last = bisect.bisect_left(self._paths, front), bisect.bisect_left(self._paths, front[:-1] + b"0")
-        if top == b"/":
-            return list(self._paths)
-        return ([top] if top in self._revs else []) + self._paths[first:last]
-
-    def _put(self, path: bytes, rev: int, text: bytes | None) -> None:
-        if path not in self._revs:
-            if text is None:
-                return
-            bisect.insort(self._paths, path)
-            self._revs[path], self._texts[path] = [], []
-        if self._revs[path] and self._revs[path][-1] == rev:
-            self._texts[path][-1] = text
-        else:
-            self._revs[path].append(rev)
-            self._texts[path].append(text)
-
-    def apply(self, record: Record) -> None:
-        """Takes the next record of a dump."""
-        if record.action != "change":
-            for path, _ in list(self.below(record.path, record.rev)):
-                self._put(path, record.rev, None)
-        if record.source is not None and record.action in ("add", "replace"):
-            source, rev = record.source
-            top = record.path
-            for path, text in list(self.below(source, rev)):
-                rest = path[len(source) :].lstrip(b"/")
-                self._put(joined(top, rest), record.rev, text)
-        if record.mergeinfo is not None and record.action != "delete":
-            if record.mergeinfo.text != self.text(record.path, record.rev):
-                self.settings.setdefault(record.rev, set()).add(record.path)
-            self._put(record.path, record.rev, record.mergeinfo.text)

@@ -9,7 +9,7 @@ from svnask.errors import Denied
 from svnask.history.history import History
 from svnask.history.targets import Target, decoded
 from svnask.log import selection as log
-from svnask.mergeinfo.values import Explicit
+from svnask.mergeinfo.explicit import Explicit
 from svnask.merges import show_revs as mergeinfo
 
 HEADING = b"""\

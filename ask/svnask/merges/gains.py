@@ -9,10 +9,10 @@ import bisect
 from collections.abc import Iterable, Iterator, Sequence
 from typing import NamedTuple
 
-from svnask.copy.changes import tops_of
 from svnask.engine.queries import Answer, Inherited, Mergeinfo, Query, Segments, Where, is_askable
 from svnask.history.lives import Life
-from svnask.mergeinfo.values import Explicit
+from svnask.mergeinfo.explicit import Explicit
+from svnask.paths import tops_of
 
 Interval = tuple[int, int]
 # For each path some revisions, as rising intervals.

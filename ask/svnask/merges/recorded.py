@@ -8,12 +8,12 @@ from __future__ import annotations
 from collections.abc import Iterable
 from typing import NamedTuple
 
-from svnask.copy.changes import Place, is_at_or_below, rest_below, tops_of
 from svnask.history.history import History
 from svnask.history.lives import Life
-from svnask.mergeinfo.values import Explicit
+from svnask.mergeinfo.explicit import Explicit
 from svnask.merges.gains import Intervals, candidates, minus, united
 from svnask.merges.value_changes import Difference, Malformed, Values, difference
+from svnask.paths import Place, is_at_or_below, rest_below, tops_of
 
 
 def is_mergeinfo_alone(history: History, explicit: Explicit, life: Life, rev: int) -> bool:

@@ -12,13 +12,15 @@ from collections import ChainMap
 from collections.abc import Iterable, Iterator, Mapping, MutableMapping
 from typing import NamedTuple
 
-from svnask.copy.changes import Change, is_at_or_below, joined, rest_below, tops_of
+from svnask.copy.changes import Change
 from svnask.engine.queries import Answer, Answers, Inherited, Log, Mergeinfo, Pair, Query, Segment, Where
 from svnask.errors import Denied
 from svnask.history.history import History
 from svnask.history.targets import Target
 from svnask.log import selection as log
-from svnask.mergeinfo.values import Explicit, Run, Value, runs_of, value_of
+from svnask.mergeinfo.explicit import Explicit
+from svnask.mergeinfo.values import Run, Value, runs_of, value_of
+from svnask.paths import is_at_or_below, joined, rest_below, tops_of
 
 # For each path the revisions in which a history was there, and those of them that its log lists.
 Located = dict[bytes, list[range]]

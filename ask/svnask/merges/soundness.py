@@ -5,12 +5,13 @@ import bisect
 from collections.abc import Iterable, Iterator, Sequence
 from typing import NamedTuple
 
-from svnask.copy.changes import joined, rest_below, tops_of
 from svnask.engine.queries import Answers, Log, is_askable
 from svnask.history.history import History
 from svnask.history.lives import Tree, unmatched
 from svnask.history.targets import decoded
-from svnask.mergeinfo.values import Explicit, Run, Value, value_of
+from svnask.mergeinfo.explicit import Explicit
+from svnask.mergeinfo.values import Run, Value, value_of
+from svnask.paths import joined, rest_below, tops_of
 
 MALFORMED = "can't be read"
 NO_PATH = "there never was such a path"

@@ -6,11 +6,11 @@ import bisect
 from collections.abc import Iterable, Sequence
 from typing import NamedTuple
 
-from svnask.copy.changes import Place
 from svnask.engine.queries import Log, Segment, Where, is_askable
 from svnask.history.history import History
 from svnask.history.lives import Life, Tree
 from svnask.log.selection import Trace, Walk, copied_in, listed
+from svnask.paths import Place
 
 
 class Piece(NamedTuple):

@@ -6,12 +6,14 @@ import re
 from collections.abc import Container, Iterator, Sequence
 from typing import NamedTuple
 
-from svnask.copy.changes import NUL_FOR_SLASH, Place, is_at_or_below, joined, rest_below, source_of, tops_of
+from svnask.copy.changes import source_of
 from svnask.copy.store import Record
 from svnask.history.history import History
-from svnask.mergeinfo.values import Explicit, Run, line_of, lines_of, source_path
+from svnask.mergeinfo.explicit import Explicit
+from svnask.mergeinfo.values import Run, line_of, lines_of, source_path
 from svnask.merges.gains import Interval, Intervals, minus, united
 from svnask.merges.traces import Traces
+from svnask.paths import NUL_FOR_SLASH, Place, is_at_or_below, joined, rest_below, tops_of
 
 RECENT = 64
 SIMPLE_RUN = re.compile(rb"([0-9]{1,9})(?:-([0-9]{1,9}))?")

@@ -14,15 +14,16 @@ from collections.abc import Iterable, Iterator, Sequence
 from typing import NamedTuple
 
 from svnask.branches import questions as branches
-from svnask.copy.changes import tops_of
 from svnask.engine.queries import Answer, Mergeinfo, Query, Where, is_askable
 from svnask.history import dates
 from svnask.history.history import History
 from svnask.history.lives import Life, Tree
-from svnask.mergeinfo.values import Explicit, line_of, lines_of
+from svnask.mergeinfo.explicit import Explicit
+from svnask.mergeinfo.values import line_of, lines_of
 from svnask.merges import gains as merges
 from svnask.merges.gains import Asked, Gain
 from svnask.merges.recorded import is_mergeinfo_alone
+from svnask.paths import tops_of
 from svnask.projects import TAG, TRUNK, kind_of
 
 MOST_OTHERS, MOST_COLUMNS = 400, 500

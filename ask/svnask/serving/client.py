@@ -10,9 +10,10 @@ import sys
 from collections.abc import Iterator, Sequence
 from typing import NamedTuple
 
-from svnask import __version__
-from svnask.asking.words import IS_URL, of_asker, source_word
-from svnask.serving import sockets as places
+from svnask import __version__, files
+from svnask.asking.words import source_word
+from svnask.serving import sockets
+from svnask.sources.access import IS_URL, of_asker
 from svnask.texts import say
 
 PIECE = 1 << 20
@@ -51,17 +52,17 @@ def places_of(source: str, access: Sequence[str]) -> Iterator[str]:
 
 def connection_of(source: str, access: Sequence[str] = ()) -> socket.socket | None:
     """A connection with the server of a source, if there is one."""
-    top = places.folder()
+    top = files.cache_folder()
     if top is None or not os.path.isdir(top):
         return None
-    with places.opened(top) as folder:
+    with sockets.opened(top) as folder:
         for place in places_of(source, access):
-            name = places.socket_name(place)
+            name = sockets.socket_name(place)
             if os.path.lexists(os.path.join(top, name)):
-                found = places.connected(folder, name)
+                found = sockets.connected(folder, name)
                 if found is not None:
                     return found
-                places.remove_left(folder, name)
+                sockets.remove_left(folder, name)
     return None
 
 

@@ -23,12 +23,12 @@ from contextlib import closing
 from types import TracebackType
 from typing import IO, Any
 
-from svnask import __version__
+from svnask import __version__, files
 from svnask.asking import running as cli
 from svnask.cli.verbs.kept import KeptVerb
 from svnask.engine import talk as engine
 from svnask.errors import Damaged, Error, Failed
-from svnask.serving import sockets as places
+from svnask.serving import sockets
 from svnask.serving.client import CARRIED, SAME, connection_of
 from svnask.serving.kept import Kept, place_of
 from svnask.sources.subversion import Access
@@ -46,13 +46,13 @@ LINKS = 40
 
 def serve(given: argparse.Namespace) -> None:
     """Answers questions until nobody has asked for long, or until it is told to stop."""
-    top = places.folder()
+    top = files.cache_folder()
     if given.dump == "-" or top is None:
         raise Failed("only what is kept in a cache can be served, and no pipe", 2)
     with Kept(given) as kept:
         prepare(kept, given)
         os.makedirs(top, mode=0o700, exist_ok=True)
-        with places.opened(top) as folder, Server(kept, folder) as server:
+        with sockets.opened(top) as folder, Server(kept, folder) as server:
             line = cli.object_line({"source": kept.place}) if given.json else b"serving %s\n" % os.fsencode(kept.place)
             sys.stdout.buffer.write(line)
             sys.stdout.buffer.flush()
@@ -86,8 +86,8 @@ def stop(dump: str, access: Access = Access()) -> None:
 
 def listener(folder: int, name: str) -> socket.socket:
     """A socket in an open folder, which has no other one of this name."""
-    places.remove_left(folder, name)
-    with places.locked(folder):
+    sockets.remove_left(folder, name)
+    with sockets.locked(folder):
         found = socket.socket(socket.AF_UNIX)
         mask = os.umask(0o177)
         try:
@@ -148,7 +148,7 @@ class Server:
 
     def __init__(self, kept: Kept, folder: int) -> None:
         self._kept = kept
-        self._folder, self._name = folder, places.socket_name(kept.place)
+        self._folder, self._name = folder, sockets.socket_name(kept.place)
         # What those of a caller have to be, before the program has its own.
         self._variables = {name: os.environ.get(name) for name in SAME}
         os.environ["SVNHIST_LIVE"] = os.path.abspath(engine.find_engine())
@@ -206,7 +206,7 @@ class Server:
         try:
             with connection, contextlib.suppress(Exception):
                 connection.settimeout(PATIENCE)
-                if places.peer_of(connection) == os.geteuid():
+                if sockets.peer_of(connection) == os.geteuid():
                     self._answer(connection, line_from(connection))
         finally:
             # Nobody waits for it where the server ends.
@@ -222,7 +222,7 @@ class Server:
         variables = request["variables"]
         if request["version"] != __version__ or any(variables[name] != self._variables[name] for name in SAME):
             return
-        with tempfile.TemporaryFile(dir=places.folder()) as output:
+        with tempfile.TemporaryFile(dir=files.cache_folder()) as output:
             with self._lock, as_called(request):
                 ending = self._told_unless_gone(connection, request["words"], output)
             if ending is not None:

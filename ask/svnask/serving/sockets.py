@@ -10,15 +10,10 @@ import stat
 import struct
 from collections.abc import Iterator
 
+from svnask.files import folder
+
 # How the names of sockets begin.
 SOCKET = "socket-"
-
-
-def folder() -> str | None:
-    """Where all folders are, or None where neither the environment nor the system names a place."""
-    named = os.environ.get("XDG_CACHE_HOME", "")
-    base = named if os.path.isabs(named) else os.path.join(os.path.expanduser("~"), ".cache")
-    return os.path.join(base, "svnhist") if os.path.isabs(base) else None
 
 
 def socket_name(place: str) -> str:

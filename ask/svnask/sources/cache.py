@@ -2,7 +2,6 @@
 from __future__ import annotations
 
 import contextlib
-import errno
 import fcntl
 import os
 import re
@@ -13,7 +12,7 @@ import time
 from collections.abc import Iterator
 
 from svnask.errors import Failed
-from svnask.serving.sockets import folder as folder  # pylint: disable=useless-import-alias,unused-import
+from svnask.files import opener
 
 LOCK = "lock"
 # How the folders of runs begin. They are given up after a day, and others are where they were not used for 30.
@@ -97,24 +96,6 @@ def size_of(path: str) -> int:
     with contextlib.suppress(OSError), os.scandir(path) as found:
         return sum(each.stat().st_size for each in found)
     return 0
-
-
-def opener(path: str, flags: int) -> int:
-    """Opens a file for `open`, without waiting. `OSError` where it is a pipe, or anything else but a regular file."""
-    descriptor = os.open(path, flags | os.O_NONBLOCK | os.O_CLOEXEC, 0o666)
-    if not stat.S_ISREG(os.fstat(descriptor).st_mode):
-        os.close(descriptor)
-        raise OSError(errno.EINVAL, "Not a regular file", path)
-    return descriptor
-
-
-def flush(path: str) -> None:
-    """Has the disk keep a file, or the names in a folder."""
-    descriptor = os.open(path, os.O_RDONLY)
-    try:
-        os.fsync(descriptor)
-    finally:
-        os.close(descriptor)
 
 
 def remove(path: str) -> None:

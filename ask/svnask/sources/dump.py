@@ -6,6 +6,7 @@ import os
 import stat
 from typing import IO, BinaryIO, NamedTuple
 
+from svnask import files
 from svnask.copy.store import Index, Kept, Store
 from svnask.copy.strip import Copy, Stripper
 from svnask.copy.window import Window
@@ -69,7 +70,7 @@ class Dump(Source):
 
     def entry(self) -> Entry | None:
         """A pipe, an empty file, one without a name and one of which a part was read are not kept."""
-        top = cache.folder()
+        top = files.cache_folder()
         place = place_of(self.file) if self.file is not None else os.path.realpath(os.fsencode(self.name))
         return None if top is None or place is None else Entry(top, self.kind, place)
 

@@ -14,6 +14,7 @@ import time
 from collections.abc import Callable, Iterator
 from typing import BinaryIO, TypeVar
 
+from svnask import files
 from svnask.copy.store import Front, Index, Kept, Store, front_of, index_of
 from svnask.errors import Damaged
 from svnask.sources import cache
@@ -88,7 +89,7 @@ class Entry:
         for _ in range(9):
             cache.make(self.folder)
             with contextlib.suppress(FileNotFoundError):
-                return open(self.path(cache.LOCK), "ab", opener=cache.opener)
+                return open(self.path(cache.LOCK), "ab", opener=files.opener)
         raise FileNotFoundError(self.folder)
 
     def _is_lock(self, file: BinaryIO) -> bool:
@@ -123,7 +124,7 @@ class Entry:
         """The file of what came later, to be written on. What a run that was killed left there is cut off."""
         path, length = self.path("later.%d" % store.index.kept.generation), len(store.later)
         try:
-            with open(path, "ab", BUFFER, opener=cache.opener) as file:
+            with open(path, "ab", BUFFER, opener=files.opener) as file:
                 file.truncate(length)
                 yield file
         except BaseException:
@@ -136,13 +137,13 @@ class Entry:
         generation = index.kept.generation
         for name in ("dump", "later"):
             if name == "dump" or index.length > index.kept.base:
-                cache.flush(self.path(f"{name}.{generation}"))
+                files.flush(self.path(f"{name}.{generation}"))
         path = self.path(INDEX + ".new")
-        with open(path, "wb", opener=cache.opener) as file:
+        with open(path, "wb", opener=files.opener) as file:
             file.write(index.text())
-        cache.flush(path)
+        files.flush(path)
         os.replace(path, self.path(INDEX))
-        cache.flush(self.folder)
+        files.flush(self.folder)
         self.clear(generation)
         cache.make_room(self.folder)
         return Store(self.folder, index, True)
@@ -174,7 +175,7 @@ def read_by(reader: Callable[[BinaryIO], T], folder: str) -> T | None:
     try:
         if not cache.is_own(folder):
             return None
-        with open(os.path.join(folder, INDEX), "rb", opener=cache.opener) as file:
+        with open(os.path.join(folder, INDEX), "rb", opener=files.opener) as file:
             return reader(file)
     except (OSError, ValueError, IndexError):
         return None

@@ -7,11 +7,12 @@ from collections.abc import Iterable, Iterator
 from contextlib import closing, suppress
 from typing import IO, BinaryIO, NamedTuple
 
-from svnask.asking.words import IS_URL
+from svnask import files
 from svnask.copy.store import Index, Store
 from svnask.copy.strip import Copy
 from svnask.errors import Failed, Usage
 from svnask.sources import cache
+from svnask.sources.access import IS_URL
 from svnask.sources.dump import Dump
 from svnask.sources.entries import read_index
 from svnask.sources.progress import Progress
@@ -104,7 +105,7 @@ class Held(NamedTuple):
 
 def held() -> Iterator[Held]:
     """All that is kept, what was used last first."""
-    top = cache.folder()
+    top = files.cache_folder()
     found = []
     for each in cache.folders(top) if top is not None else ():
         index = read_index(each.path)

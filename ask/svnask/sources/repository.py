@@ -8,14 +8,14 @@ from collections.abc import Iterable, Iterator, Sequence
 from contextlib import contextmanager
 from typing import IO
 
-from svnask.asking.words import of_asker
+from svnask import files
 from svnask.copy import strip
 from svnask.copy.store import Index, Kept, Store, properties_of
 from svnask.copy.strip import Copy, Stripper
 from svnask.copy.window import Window
 from svnask.errors import Error, Failed, Unreached
-from svnask.sources import cache
 from svnask.sources import subversion as repositories
+from svnask.sources.access import of_asker
 from svnask.sources.entries import Entry
 from svnask.sources.progress import Progress
 from svnask.sources.source import Source, index_of_copy, known_of, whole_part
@@ -65,7 +65,7 @@ class Asked(Source):
         return self.root
 
     def entry(self) -> Entry | None:
-        top = cache.folder()
+        top = files.cache_folder()
         return None if top is None else Entry(top, self.kind, self.place)
 
     @property
@@ -237,7 +237,7 @@ class Address(Asked):
 
     def _kept_root(self, url: str) -> str:
         """The root of the repository of which something is kept, and which has a URL."""
-        top = cache.folder()
+        top = files.cache_folder()
         if top is None:
             return ""
         for each in repositories.ancestors(url):

@@ -6,11 +6,12 @@ from argparse import ArgumentParser, ArgumentTypeError, Namespace
 from collections.abc import Iterator
 from typing import Any
 
-from svnask.copy.changes import Change, Place
+from svnask.copy.changes import Change
 from svnask.copy.store import Record
 from svnask.digits import number
 from svnask.history.history import History
 from svnask.history.targets import decoded, pattern_of
+from svnask.paths import Place
 
 Object = dict[str, Any]
 

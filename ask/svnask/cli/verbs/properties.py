@@ -6,12 +6,12 @@ from collections.abc import Iterator
 from typing import NamedTuple
 
 from svnask.cli.verbs.base import Object, Verb, shown
-from svnask.copy.changes import components
 from svnask.engine.queries import Where
 from svnask.errors import Denied, Usage
 from svnask.history.history import History
 from svnask.history.targets import Target, decoded, target_of
-from svnask.mergeinfo.values import Explicit
+from svnask.mergeinfo.explicit import Explicit
+from svnask.paths import components
 from svnask.sources.subversion import in_url
 
 MERGEINFO = "svn:mergeinfo"

@@ -1,0 +1,31 @@
+"""Files of the cache, and where that is. Little is imported, since each question looks there first."""
+from __future__ import annotations
+
+import errno
+import os
+import stat
+
+
+def opener(path: str, flags: int) -> int:
+    """Opens a file for `open`, without waiting. `OSError` where it is a pipe, or anything else but a regular file."""
+    descriptor = os.open(path, flags | os.O_NONBLOCK | os.O_CLOEXEC, 0o666)
+    if not stat.S_ISREG(os.fstat(descriptor).st_mode):
+        os.close(descriptor)
+        raise OSError(errno.EINVAL, "Not a regular file", path)
+    return descriptor
+
+
+def flush(path: str) -> None:
+    """Has the disk keep a file, or the names in a folder."""
+    descriptor = os.open(path, os.O_RDONLY)
+    try:
+        os.fsync(descriptor)
+    finally:
+        os.close(descriptor)
+
+
+def cache_folder() -> str | None:
+    """Where all folders are, or None where neither the environment nor the system names a place."""
+    named = os.environ.get("XDG_CACHE_HOME", "")
+    base = named if os.path.isabs(named) else os.path.join(os.path.expanduser("~"), ".cache")
+    return os.path.join(base, "svnhist") if os.path.isabs(base) else None
