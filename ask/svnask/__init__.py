@@ -37,7 +37,7 @@ if TYPE_CHECKING:
         Where,
     )
     from svnask.errors import Denied, Error, Failed, Refused, Unreached
-    from svnask.history.history import History
+    from svnask.public import History
 
 __all__ = [
     "Answer",
@@ -72,7 +72,7 @@ _MODULES = {
     ),
     "copy.changes": "Change",
     "errors": "Denied Error Failed Refused Unreached",
-    "history.history": "History",
+    "public": "History",
     "copy.store": "Record Revision",
 }
 _PLACES = {name: module for module, names in _MODULES.items() for name in names.split()}

@@ -15,8 +15,8 @@ from unittest import mock
 from dev import running
 from dev.dumps import Properties, revision_properties
 from dev.tree import INTEROP, SVNASK, programs
+from svnask import History
 from svnask.asking import running as cli
-from svnask.history.history import History
 from tests.base import FolderTest, ProgramTest
 
 Word = Union[str, Path]

@@ -17,14 +17,13 @@ from unittest import mock
 from dev import running
 from dev.dumps import DIR, Node, Source, added, changed, deleted, dump_of
 from dev.tree import ROOT
-from svnask import files
+from svnask import History, files
 from svnask.asking import running as cli
 from svnask.cli import command, completion
 from svnask.cli.completion import BASH, lines_for
 from svnask.cli.verbs import VERBS
 from svnask.cli.verbs.places import SegmentsVerb
 from svnask.copy import branch_names as kept_branches
-from svnask.history.history import History
 from svnask.history.lives import lives_in
 from svnask.sources import cache
 from svnask.sources.entries import Entry, read_front

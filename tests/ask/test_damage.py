@@ -8,9 +8,9 @@ from collections.abc import Callable
 from pathlib import Path
 from unittest import mock
 
+from svnask import History
 from svnask.copy.store import Store
 from svnask.errors import Damaged
-from svnask.history.history import History
 from tests.ask import base
 
 QUESTIONS = (

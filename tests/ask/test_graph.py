@@ -28,7 +28,7 @@ from dev.dumps import (
     section,
 )
 from dev.tree import DOCS
-from svnask.history.history import History
+from svnask import History
 from svnask.picture import svg as picture
 from svnask.picture.fitting import fitted
 from svnask.picture.graph import MOST_OTHERS, Graph, Merge, View, drawable, graph_of

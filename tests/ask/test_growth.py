@@ -13,8 +13,8 @@ from unittest import mock
 from dev.dumps import Dump, Properties, Revision
 from dev.running import run
 from dev.tree import ROOT
+from svnask import History
 from svnask.copy.strip import Stripper
-from svnask.history.history import History
 from svnask.sources import entries
 from svnask.sources import opening as sources
 from svnask.sources import repository as repository_source

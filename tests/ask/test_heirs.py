@@ -4,9 +4,9 @@ from __future__ import annotations
 import json
 from collections.abc import Iterator
 
+from svnask import History
 from svnask.branches.heirs import Heir, heirs
 from svnask.engine.queries import Locate
-from svnask.history.history import History
 from svnask.history.lives import Tree
 from svnask.history.targets import Target
 from tests.ask import base

@@ -6,12 +6,12 @@ from typing import NamedTuple, Optional
 from unittest import mock
 
 from dev.dumps import FILE, added, changed, copied, dump_of, mergeinfo
+from svnask import History
 from svnask.branches import questions as branches
 from svnask.engine import talk as engine
 from svnask.engine.queries import Answer, Log, Logged
 from svnask.engine.queries import Merges as Merged
 from svnask.engine.queries import Pair, Query, Segments, Where
-from svnask.history.history import History
 from svnask.history.lives import Life
 from svnask.merges import gains as merges
 from svnask.merges.gains import Gain, Interval, minus

@@ -12,10 +12,10 @@ from pathlib import Path
 from unittest import mock
 
 from dev.dumps import Dump, Revision, added, changed, dump_of, mergeinfo
+from svnask import History
 from svnask.engine import talk as engine
 from svnask.engine.queries import Answer, Line, Locate, Log, Logged, Query, Where
 from svnask.errors import Denied, Failed, Refused
-from svnask.history.history import History
 from svnask.sources.opening import source_of
 from svnask.sources.progress import Progress
 from tests.ask import base

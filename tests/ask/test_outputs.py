@@ -3,11 +3,11 @@ from __future__ import annotations
 
 from dev.tree import INTEROP
 from interop import outputs
+from svnask import History
 from svnask.asking import running as cli
 from svnask.cli.verbs import VERBS
 from svnask.cli.verbs.kept import KeptVerb
 from svnask.errors import Error
-from svnask.history.history import History
 from tests.ask import base
 
 PROJECTS = INTEROP / "projects.svnask"

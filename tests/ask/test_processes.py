@@ -12,7 +12,7 @@ from typing import Any, Callable
 from unittest import mock
 
 from dev.dumps import FILE, added, changed, dump_of
-from svnask.history.history import History
+from svnask import History
 from svnask.log import forms as log_forms
 from svnask.log import processes
 from svnask.log.processes import made

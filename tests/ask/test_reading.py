@@ -9,11 +9,11 @@ from unittest import mock
 
 from dev.dumps import FILE, Revision, added, first_lines
 from dev.tree import INTEROP
+from svnask import History
 from svnask.copy.strip import Stripper
 from svnask.copy.window import Window
 from svnask.engine.queries import Line
 from svnask.errors import Failed, Refused
-from svnask.history.history import History
 from svnask.sources import cache
 from svnask.sources import dump as dump_source
 from svnask.sources import entries

@@ -8,8 +8,8 @@ from unittest import mock
 
 from dev import running
 from dev.dumps import FILE, Dump, Revision, added
+from svnask import History
 from svnask.errors import Unreached
-from svnask.history.history import History
 from svnask.sources.subversion import Access, canonical, path_below
 from tests.ask import base, grown, served_beside_svn
 

@@ -21,7 +21,7 @@ from svnask.cli.verbs import VERBS
 from svnask.cli.verbs.base import Object, Verb, counted
 from svnask.cli.verbs.kept import KeptVerb
 from svnask.errors import Damaged, Denied, Error, Failed, Refused, Unsound, Usage
-from svnask.history.history import History
+from svnask.history.open_history import OpenHistory
 from svnask.history.targets import path_in, path_of
 from svnask.sources.access import IS_URL, REACHED, REACHED_ALONE, split_access
 from svnask.sources.opening import source_of
@@ -183,7 +183,7 @@ def verb_of(given: argparse.Namespace) -> Verb:
     return next(verb for verb in VERBS if verb.name == given.verb)
 
 
-def lines_of(history: History, given: argparse.Namespace) -> Iterator[bytes]:
+def lines_of(history: OpenHistory, given: argparse.Namespace) -> Iterator[bytes]:
     verb = verb_of(given)
     if verb.judges:
         history.begin()
@@ -218,16 +218,16 @@ def answer(given: argparse.Namespace, source: Source) -> None:
     raise Failed("the cache is damaged again and again: --no-cache reads the dump anew")
 
 
-def read(given: argparse.Namespace, source: Source) -> History:
+def read(given: argparse.Namespace, source: Source) -> OpenHistory:
     with closing(Bar()) as bar:
-        return History.of(source, bar, not given.no_cache, given.offline)
+        return OpenHistory.of(source, bar, not given.no_cache, given.offline)
 
 
 class Stale(Exception):
     """What the cache has of a dump is refused or damaged, and nothing was printed."""
 
 
-def tell(history: History, given: argparse.Namespace, write: Callable[[bytes], object]) -> None:
+def tell(history: OpenHistory, given: argparse.Namespace, write: Callable[[bytes], object]) -> None:
     """Answers a question about a history."""
     is_begun = False
     history.notice = note
@@ -249,7 +249,7 @@ def note(text: str) -> None:
     say(f"svnask: {text}")
 
 
-def check(history: History, dump: str) -> None:
+def check(history: OpenHistory, dump: str) -> None:
     try:
         history.check()
     except (Refused, Damaged) as error:
@@ -258,14 +258,14 @@ def check(history: History, dump: str) -> None:
         raise explained_of(error, history, dump) from error
 
 
-def explained_of(error: Refused | Damaged, history: History, dump: str) -> Failed:
+def explained_of(error: Refused | Damaged, history: OpenHistory, dump: str) -> Failed:
     """The error, with what a refusal means."""
     if isinstance(error, Refused):
         return Failed(str(error), error.status, advice(error, history, dump))
     return error
 
 
-def advice(refused: Refused, history: History, dump: str) -> list[str]:
+def advice(refused: Refused, history: OpenHistory, dump: str) -> list[str]:
     if refused.unit == "record":
         found = [about_record(each) for each in history.records() if each.number == refused.place]
         return [*found, HIDDEN] if isinstance(history.source, Address) and refused.number in OF_HIDDEN else found

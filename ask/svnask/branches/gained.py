@@ -6,8 +6,8 @@ from typing import NamedTuple
 
 from svnask.engine.queries import Answers, Log, Mergeinfo, Where, is_askable
 from svnask.errors import Denied
-from svnask.history.history import History
 from svnask.history.lives import Tree
+from svnask.history.open_history import OpenHistory
 from svnask.history.targets import Target, decoded
 from svnask.log import selection as log
 from svnask.mergeinfo.values import Run, runs_of
@@ -61,7 +61,7 @@ def parts_of(tree: Tree, head: int, path: bytes, runs: Iterable[Run]) -> Iterato
                 yield Part(path, Log(path, hi, (lo, hi)), run.inheritable)
 
 
-def held(history: History, targets: Sequence[Target]) -> list[Held]:
+def held(history: OpenHistory, targets: Sequence[Target]) -> list[Held]:
     """What each of some targets has."""
     answers = history.answers(query for each in targets for query in (Where(*each), Log(*each), Mergeinfo(*each)))
     for target in targets:
@@ -82,7 +82,7 @@ def held(history: History, targets: Sequence[Target]) -> list[Held]:
     return [held_by(history, answers, target, parts[target], of_target) for target, of_target in zip(targets, recorded)]
 
 
-def held_by(history: History, answers: Answers, target: Target, parts: Iterable[Part], recorded: Intervals) -> Held:
+def held_by(history: OpenHistory, answers: Answers, target: Target, parts: Iterable[Part], recorded: Intervals) -> Held:
     trace = log.Trace(answers[Where(*target)].segments, answers[Log(*target)].revisions)
     found = Held(set(log.listed(history, trace)), set(), set())
     for path, query, inheritable in parts:
@@ -92,7 +92,7 @@ def held_by(history: History, answers: Answers, target: Target, parts: Iterable[
     return found
 
 
-def is_copy_alone(history: History, rev: int) -> bool:
+def is_copy_alone(history: OpenHistory, rev: int) -> bool:
     """Whether a revision made branches or tags by copies and changed nothing else."""
     changes = history.changes(rev)
     copies = [change.path for change in changes if change.source is not None]
@@ -103,7 +103,7 @@ def is_copy_alone(history: History, rev: int) -> bool:
     )
 
 
-def gained(history: History, before: Target, after: Target) -> list[Gained]:
+def gained(history: OpenHistory, before: Target, after: Target) -> list[Gained]:
     """The revisions that the second target has and the first one lacks, the newest first. Those that only copied are
     left out."""
     of_before, of_after = held(history, [before, after])

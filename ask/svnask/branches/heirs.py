@@ -6,7 +6,7 @@ from typing import NamedTuple
 
 from svnask.copy.store import Record
 from svnask.engine.queries import Locate, Segment, Where, is_askable
-from svnask.history.history import History
+from svnask.history.open_history import OpenHistory
 from svnask.history.targets import Target
 from svnask.paths import Place, components, joined, rest_below, tops_of
 
@@ -76,7 +76,7 @@ def copies_of(segments: Sequence[Segment], peg: int) -> Iterator[tuple[int, Plac
             yield rev, (source, source_rev)
 
 
-def ended(history: History, copies: Iterable[tuple[int, Place]]) -> set[tuple[int, Place]]:
+def ended(history: OpenHistory, copies: Iterable[tuple[int, Place]]) -> set[tuple[int, Place]]:
     """Those of some copies whose source ended with them: the path was there until the revision before, and what is
     there then, if anything, does not come from it."""
     asked = [copy for copy in copies if is_askable(copy[1][0])]
@@ -89,7 +89,7 @@ def ended(history: History, copies: Iterable[tuple[int, Place]]) -> set[tuple[in
     return {copy for copy, before, after in zip(asked, answers, answers) if before.path == copy[1][0] != after.path}
 
 
-def heirs(history: History, target: Target, last: int) -> Iterator[Heir]:
+def heirs(history: OpenHistory, target: Target, last: int) -> Iterator[Heir]:
     """The paths of a revision that were the target in its peg revision, in the order of paths. The way of each is not
     held: in a chain of copies all of them are as long as the square of the chain."""
     candidates = Candidates(history.records(), target, last)

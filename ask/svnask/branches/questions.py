@@ -9,8 +9,8 @@ from typing import NamedTuple
 from svnask import projects
 from svnask.engine.queries import Answer, Answers, Log, Logged, Mergeinfo, Query, Where
 from svnask.errors import Denied
-from svnask.history.history import History
 from svnask.history.lives import Life, chains_of, is_plain, lives_at, moves_of, unmatched
+from svnask.history.open_history import OpenHistory
 from svnask.history.targets import Target, decoded
 from svnask.log import selection as log
 from svnask.mergeinfo.values import runs_of
@@ -28,7 +28,7 @@ HISTORY, MERGED, IN_PART, RECORDED = "history", "merged", "merged in part", "rec
 CHANGED, AGAIN, DELETED, RENAMED = "changed", "made again", "deleted", "renamed"
 
 
-def lives_of(history: History, patterns: Sequence[bytes], kinds: Sequence[str] = projects.KINDS) -> list[Life]:
+def lives_of(history: OpenHistory, patterns: Sequence[bytes], kinds: Sequence[str] = projects.KINDS) -> list[Life]:
     """The lives of all paths that match a pattern, or else those of the trunks, the branches and the tags at and below
     the path at which the source begins. That no path ever matched a pattern is an error where it is a path itself, since
     that is mostly a mistake. Where nothing matches, the history gives notice of it."""
@@ -55,7 +55,7 @@ def place_text(top: bytes) -> str:
     return "in this history" if top == b"/" else f"at or below '{decoded(top)}'"
 
 
-def alive_in(history: History, lives: Iterable[Life]) -> list[Life]:
+def alive_in(history: OpenHistory, lives: Iterable[Life]) -> list[Life]:
     """The lives that are there today."""
     lives = list(lives)
     alive = [life for life in lives if life.is_alive]
@@ -72,7 +72,7 @@ def answered(answer: Answer) -> list[int]:
     return answer.revisions
 
 
-def last_changes(history: History, lives: Sequence[Life]) -> dict[Life, int]:
+def last_changes(history: OpenHistory, lives: Sequence[Life]) -> dict[Life, int]:
     """The newest operative revision of each life. That of a long one would be long, so its end is asked first."""
     found: dict[Life, int] = {}
     # The last life of a chain may be long, and each of those before it is asked together with what it continues.
@@ -102,7 +102,7 @@ class Listed(NamedTuple):
     is_folder: bool
 
 
-def listed(history: History, patterns: Sequence[bytes]) -> Iterator[Listed]:
+def listed(history: OpenHistory, patterns: Sequence[bytes]) -> Iterator[Listed]:
     """The lives of all paths that match a pattern, or of the trunk, the branches and the tags."""
     lives = lives_of(history, patterns)
     changes = last_changes(history, lives)
@@ -163,7 +163,7 @@ class Asked(NamedTuple):
             yield self.where
 
 
-def holders(history: History, patterns: Sequence[bytes], rev: int) -> Iterator[Holder]:
+def holders(history: OpenHistory, patterns: Sequence[bytes], rev: int) -> Iterator[Holder]:
     """The branches and tags of today that have a revision of one of them."""
     changed = {change.path for change in history.changes(rev)}
     alive = alive_in(history, lives_of(history, patterns))
@@ -195,7 +195,7 @@ class Naming(NamedTuple):
     is_whole: bool
 
 
-def namings(history: History, value: dict[bytes, str], changed: set[bytes], rev: int) -> Iterator[Naming]:
+def namings(history: OpenHistory, value: dict[bytes, str], changed: set[bytes], rev: int) -> Iterator[Naming]:
     """The sources of which mergeinfo has a revision, and which the revision changed, given all that it changed."""
     for source, ranges in value.items():
         for run in runs_of(ranges.encode("ascii")):
@@ -232,7 +232,7 @@ class Compared(NamedTuple):
         return log.Trace(self.answers[Where(*self.source)].segments, self.answers[Log(*self.source)].revisions)
 
 
-def unmerged(history: History, patterns: Sequence[bytes], into: Target | None) -> Iterator[Compared]:
+def unmerged(history: OpenHistory, patterns: Sequence[bytes], into: Target | None) -> Iterator[Compared]:
     """What of each branch of today is still to be merged into a target, or into the trunk of its own project:
     `svn mergeinfo --show-revs eligible`."""
     explicit = history.explicit
@@ -250,7 +250,7 @@ def unmerged(history: History, patterns: Sequence[bytes], into: Target | None) -
         yield Compared(Left(source.path, revisions), source, target, answers)
 
 
-def recorded_of(history: History, compared: Iterable[Compared]) -> Iterator[tuple[Left, list[int]]]:
+def recorded_of(history: OpenHistory, compared: Iterable[Compared]) -> Iterator[tuple[Left, list[int]]]:
     """What is left of branches, and of each the revisions that were only recorded as merged."""
     recorded = Recorded(history)
     for each in compared:
@@ -258,7 +258,7 @@ def recorded_of(history: History, compared: Iterable[Compared]) -> Iterator[tupl
         yield each.left, list(only_recorded(history, of_target, each.trace))
 
 
-def only_recorded(history: History, recorded: Intervals, trace: log.Trace) -> Iterator[int]:
+def only_recorded(history: OpenHistory, recorded: Intervals, trace: log.Trace) -> Iterator[int]:
     """The revisions of a source that were only recorded, each at the path where the source was then."""
     revisions = log.listed(history, trace)
     for segment in reversed(trace.segments):
@@ -268,7 +268,7 @@ def only_recorded(history: History, recorded: Intervals, trace: log.Trace) -> It
             yield from (rev for rev in revisions[begin:end] if has(found, rev))
 
 
-def targets_of(history: History, alive: Sequence[Life], into: Target | None) -> dict[Life, Target]:
+def targets_of(history: OpenHistory, alive: Sequence[Life], into: Target | None) -> dict[Life, Target]:
     """The target into which each branch is to be merged, but for the branch that is that target."""
     found = {life: into for life in alive} if into is not None else own_targets(history, alive)
     left = {life: target for life, target in found.items() if life.path != target.path}
@@ -278,7 +278,7 @@ def targets_of(history: History, alive: Sequence[Life], into: Target | None) -> 
     return left
 
 
-def own_targets(history: History, alive: Sequence[Life]) -> dict[Life, Target]:
+def own_targets(history: OpenHistory, alive: Sequence[Life]) -> dict[Life, Target]:
     """The trunk of the project of each branch."""
     trunks = {life: trunk_of(history, life) for life in alive}
     found = {life: Target(trunk, history.head) for life, trunk in trunks.items() if trunk is not None}
@@ -291,7 +291,7 @@ def own_targets(history: History, alive: Sequence[Life]) -> dict[Life, Target]:
     return found
 
 
-def trunk_of(history: History, life: Life) -> bytes | None:
+def trunk_of(history: OpenHistory, life: Life) -> bytes | None:
     """The trunk of the project that a branch is of by its name, or by that of what it was copied from, if there is one
     today."""
     place: Place | None = (life.path, life.last)
@@ -321,7 +321,7 @@ class Touched(NamedTuple):
     events: list[Event]
 
 
-def touched(history: History, patterns: Sequence[bytes]) -> Iterator[Touched]:
+def touched(history: OpenHistory, patterns: Sequence[bytes]) -> Iterator[Touched]:
     """The tags that are not what they were copied from, that were made again, and those that were deleted or renamed."""
     lives = lives_of(history, patterns, (projects.TAG,))
     found = operative(lives, history.ask(logs_of(lives)))
@@ -342,7 +342,7 @@ def begin_of(life: Life, before: Life | None) -> list[Event]:
     return [] if before is None or life.continues(before) else [Event(AGAIN, life.first, life.source)]
 
 
-def end_of(history: History, life: Life) -> list[Event]:
+def end_of(history: OpenHistory, life: Life) -> list[Event]:
     """How a tag ended, unless it goes on as a copy of itself."""
     if life.is_alive:
         return []

@@ -6,7 +6,7 @@ from typing import NamedTuple
 
 from svnask.digits import number
 from svnask.errors import Denied
-from svnask.history.history import History
+from svnask.history.open_history import OpenHistory
 from svnask.paths import split_peg
 from svnask.sources.access import IS_URL
 from svnask.sources.subversion import canonical, path_below
@@ -45,7 +45,7 @@ def path_of(text: str) -> bytes:
     return b"/" + b"/".join(parts)
 
 
-def placed(history: History, text: str) -> bytes:
+def placed(history: OpenHistory, text: str) -> bytes:
     """The path of a target: of a URL that of the repository, and of a name what is below the URL of the source."""
     source = history.source
     if IS_URL.match(text) and source.root:
@@ -57,7 +57,7 @@ def placed(history: History, text: str) -> bytes:
     return path if text.startswith(("/", "^")) else path_in(source.path, path)
 
 
-def pattern_of(history: History, text: str) -> bytes:
+def pattern_of(history: OpenHistory, text: str) -> bytes:
     """The pattern that a user names: of all paths, or without a slash or `^/` of what is below the path at which the
     source begins."""
     pattern = path_of(text)
@@ -77,7 +77,7 @@ def paths_below(texts: list[str]) -> list[bytes]:
     return [path_of(text)[1:] for text in texts]
 
 
-def revision_of(history: History, text: str) -> int:
+def revision_of(history: OpenHistory, text: str) -> int:
     """A revision by its number, `HEAD` or `{DATE}`. It may be above the youngest one."""
     found = NUMBER.match(text)
     if found:
@@ -96,26 +96,26 @@ def syntax_error(text: str) -> Denied:
     return Denied("E205000", f"Syntax error in revision argument '{text}'")
 
 
-def known(history: History, rev: int) -> int:
+def known(history: OpenHistory, rev: int) -> int:
     if rev > history.head:
         raise Denied("E160006", f"No such revision {rev}")
     return rev
 
 
-def place_of(history: History, text: str) -> Target:
+def place_of(history: OpenHistory, text: str) -> Target:
     """The path and the peg that a user names, which may be above the youngest revision. Without a peg it is that."""
     path, peg = split_peg(text)
     return Target(placed(history, path), revision_of(history, peg) if peg else history.head)
 
 
-def target_of(history: History, text: str) -> Target:
+def target_of(history: OpenHistory, text: str) -> Target:
     """The target that a user names, of a revision that there is."""
     found = place_of(history, text)
     known(history, found.rev)
     return found
 
 
-def range_of(history: History, text: str) -> tuple[int, int]:
+def range_of(history: OpenHistory, text: str) -> tuple[int, int]:
     """`LO:HI`, in either order, or one revision."""
     lo, colon, hi = split_range(text)
     first = revision_of(history, lo)
@@ -152,7 +152,7 @@ def changes_of_option(texts: list[str]) -> list[tuple[int, int]]:
     return [change_of_option(word) for text in texts for word in re.split("[, \n\r\t\v]+", text) if word]
 
 
-def ranges_of(history: History, ranges: list[str], changes: list[str]) -> list[tuple[int, int]] | None:
+def ranges_of(history: OpenHistory, ranges: list[str], changes: list[str]) -> list[tuple[int, int]] | None:
     """The ranges of `-r` and `-c`, or none where neither is given."""
     changed = changes_of_option(changes)
     if ranges and changed:

@@ -8,7 +8,7 @@ from typing import NamedTuple
 
 from svnask.copy.changes import Change
 from svnask.copy.store import Revision
-from svnask.history.history import History
+from svnask.history.open_history import OpenHistory
 from svnask.log.processes import count_of_processes, made
 from svnask.log.search import Group, is_found
 from svnask.log.selection import Item
@@ -79,7 +79,7 @@ def as_wanted(revision: Revision, names: frozenset[bytes] | None) -> Revision:
     return revision._replace(author=author, date=date, message=message, properties=kept)
 
 
-def changes_of(history: History, item: Item) -> list[Change]:
+def changes_of(history: OpenHistory, item: Item) -> list[Change]:
     """The changed paths that are listed with a revision: those of the ones that were left out before it, too."""
     if not item.left_out:
         return history.changes(item.rev)
@@ -95,7 +95,7 @@ def paths_of(changes: Iterable[Change]) -> Iterator[bytes]:
 
 
 def entries(
-    history: History, items: Iterable[Item], wanted: Wanted, form: Form, via: tuple[int, ...] = ()
+    history: OpenHistory, items: Iterable[Item], wanted: Wanted, form: Form, via: tuple[int, ...] = ()
 ) -> Iterator[Entry | None]:
     """The entries of a log, and None after those that were merged in one. Revision 0 has one where its message is
     wanted and there."""
@@ -134,7 +134,7 @@ def parts_of(items: Sequence[Item]) -> Iterator[Part]:
                 via = (*via, item.rev)
 
 
-def printed(history: History, items: Sequence[Item], wanted: Wanted, form: Form) -> Iterator[bytes]:
+def printed(history: OpenHistory, items: Sequence[Item], wanted: Wanted, form: Form) -> Iterator[bytes]:
     """A log, piece after piece. One that is long is printed by several processes, unless something else is asked of the
     history later."""
 

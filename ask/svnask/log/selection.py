@@ -9,7 +9,7 @@ from typing import NamedTuple
 
 from svnask.engine.queries import Log, Segment, Where
 from svnask.errors import Denied
-from svnask.history.history import History
+from svnask.history.open_history import OpenHistory
 from svnask.history.targets import Target, decoded, known
 from svnask.paths import Place, is_at_or_below, joined, tops_of
 
@@ -50,12 +50,12 @@ class Trace(NamedTuple):
         return self.at(rev) is None and any(each.lo <= rev <= each.hi for each in self.segments)
 
 
-def not_found(history: History, target: Target, rev: int) -> Denied:
+def not_found(history: OpenHistory, target: Target, rev: int) -> Denied:
     text = f"File not found: revision {rev}, path '{decoded(target.path)}'"
     return Denied("E160013", text, [*ended(history, target.path, rev)])
 
 
-def ended(history: History, path: bytes, rev: int) -> Iterator[str]:
+def ended(history: OpenHistory, path: bytes, rev: int) -> Iterator[str]:
     """Where a path ended that is not there any more, and what it became."""
     tree = history.tree
     life = max(
@@ -69,7 +69,7 @@ def ended(history: History, path: bytes, rev: int) -> Iterator[str]:
     yield f"svnask: it was {how} in r{life.last + 1}; 'heirs {decoded(path)}@{last.rev}' lists all that comes from it"
 
 
-def file_above(history: History, path: bytes, rev: int) -> bytes | None:
+def file_above(history: OpenHistory, path: bytes, rev: int) -> bytes | None:
     """The file in the middle of a path that is not there, if there is one."""
     _, *above = tops_of(path)
     for top in above:
@@ -79,7 +79,7 @@ def file_above(history: History, path: bytes, rev: int) -> bytes | None:
     return None
 
 
-def not_reached(history: History, target: Target) -> Denied:
+def not_reached(history: OpenHistory, target: Target) -> Denied:
     """The error where a path is not there: another one where a file is in its middle."""
     file = file_above(history, *target)
     if file is not None:
@@ -91,7 +91,7 @@ def not_located(target: Target, rev: int) -> Denied:
     return Denied("E195012", f"Unable to find repository location for '{decoded(target.path)}' in revision {rev}")
 
 
-def traces(history: History, places: Iterable[Place]) -> Iterator[tuple[Place, Trace | None]]:
+def traces(history: OpenHistory, places: Iterable[Place]) -> Iterator[tuple[Place, Trace | None]]:
     """Where each of some paths was and when it changed, if it is there."""
     queries = {place: (Where(*place), Log(*place)) for place in places}
     answers = history.answers(query for pair in queries.values() for query in pair)
@@ -100,12 +100,12 @@ def traces(history: History, places: Iterable[Place]) -> Iterator[tuple[Place, T
         yield place, Trace(where.segments, answers[logged].revisions) if where.ok else None
 
 
-def trace(history: History, target: Target) -> Trace | None:
+def trace(history: OpenHistory, target: Target) -> Trace | None:
     ((_, found),) = traces(history, [target])
     return found
 
 
-def renewed(history: History, segments: list[Segment]) -> Iterator[int]:
+def renewed(history: OpenHistory, segments: list[Segment]) -> Iterator[int]:
     """The revisions in which a path came with a copy of a path above it from the revision before to itself. `svn log`
     lists them, and for svnhist nothing happens to the path there."""
     for rev, top in history.index.renewals:
@@ -119,13 +119,13 @@ def renewed(history: History, segments: list[Segment]) -> Iterator[int]:
                 yield rev
 
 
-def may_list_more(history: History) -> bool:
+def may_list_more(history: OpenHistory) -> bool:
     """Return whether `svn log` may list revisions of a path other than the root that svnhist does not."""
     copies = (event.source for _, event in history.tree.copies())
     return bool(history.index.renewals) or any(source is not None and source[0] == b"/" for source in copies)
 
 
-def copied_in(history: History, segment: Segment, rev: int) -> int:
+def copied_in(history: OpenHistory, segment: Segment, rev: int) -> int:
     """The revision that made a path by a copy, or that made it first: where `--stop-on-copy` stops, from a revision of
     its segment on. A copy of a path to itself begins no segment, and all that is below was copied, too."""
     path = segment.path or b"/"
@@ -141,13 +141,13 @@ def of_root(segments: list[Segment]) -> Iterator[int]:
             yield from range(segment.lo, segment.hi + 1)
 
 
-def listed(history: History, found: Trace) -> list[int]:
+def listed(history: OpenHistory, found: Trace) -> list[int]:
     """All revisions that `svn log` lists, rising. Revision 0 is listed for the root alone."""
     others = {*renewed(history, found.segments), *of_root(found.segments)}
     return sorted(others.union(found.revisions)) if others else found.revisions[::-1]
 
 
-def reached(history: History, target: Target, youngest: int) -> Trace:
+def reached(history: OpenHistory, target: Target, youngest: int) -> Trace:
     """The trace of a target from the youngest revision of some ranges, or from its peg if that is later."""
     later = Target(target.path, max(target.rev, youngest))
     found = trace(history, later)
@@ -169,7 +169,7 @@ class Walk(NamedTuple):
     found: Trace
     revisions: list[int]
 
-    def between(self, history: History, low: int, high: int, stops_on_copy: bool) -> list[int]:
+    def between(self, history: OpenHistory, low: int, high: int, stops_on_copy: bool) -> list[int]:
         """The revisions of a range, rising, from where the path was in the last one."""
         segment = self.found.at(high)
         assert segment is not None
@@ -185,7 +185,7 @@ class Part(NamedTuple):
     paths: list[bytes]
     walks: list[Walk]
 
-    def revisions(self, history: History, stops_on_copy: bool) -> list[int]:
+    def revisions(self, history: OpenHistory, stops_on_copy: bool) -> list[int]:
         """The revisions of the range, in its order. Each one is listed once."""
         low, high = min(self.first, self.last), max(self.first, self.last)
         found = [walk.between(history, low, high, stops_on_copy) for walk in self.walks]
@@ -193,7 +193,7 @@ class Part(NamedTuple):
         return rising if self.first < self.last else rising[::-1]
 
 
-def parts(history: History, target: Target, below: Sequence[bytes], options: Options) -> Iterator[Part]:
+def parts(history: OpenHistory, target: Target, below: Sequence[bytes], options: Options) -> Iterator[Part]:
     """The ranges of a log. The target is looked up in the youngest revision of all, and each one begins where it was in
     its own; a range before the path was made is left out. Paths below the target are taken in its place."""
     ranges = options.ranges or [(target.rev, 0)]
@@ -221,7 +221,7 @@ def parts(history: History, target: Target, below: Sequence[bytes], options: Opt
             yield Part(first, last, [path], walks_of(history, [path], high, options))
 
 
-def entries(history: History, target: Target, below: Sequence[bytes], options: Options) -> list[int]:
+def entries(history: OpenHistory, target: Target, below: Sequence[bytes], options: Options) -> list[int]:
     """The revisions of a log, range after range."""
     revisions: list[int] = []
     for part in parts(history, target, below, options):
@@ -232,7 +232,7 @@ def entries(history: History, target: Target, below: Sequence[bytes], options: O
     return revisions[: options.limit]
 
 
-def walks_of(history: History, paths: Sequence[bytes], rev: int, options: Options) -> list[Walk]:
+def walks_of(history: OpenHistory, paths: Sequence[bytes], rev: int, options: Options) -> list[Walk]:
     """The walks of paths of a revision, which must be there."""
     walks = []
     for place, found in traces(history, [(path, rev) for path in paths]):

@@ -12,7 +12,7 @@ from operator import attrgetter
 from typing import NamedTuple, Union
 
 from svnask.errors import Denied
-from svnask.history.history import History
+from svnask.history.open_history import OpenHistory
 from svnask.history.targets import Target, decoded, known
 from svnask.log.selection import Item, Options, copied_in, parts
 from svnask.merged_log.parts import Part, parts_of
@@ -79,7 +79,7 @@ class Searched:
 class Walker:
     """Walks the ranges of a log."""
 
-    def __init__(self, history: History, stops_on_copy: bool) -> None:
+    def __init__(self, history: OpenHistory, stops_on_copy: bool) -> None:
         self._history = history
         self.traces = Traces(history, history.tree, stops_on_copy)
         self._changes = MergeinfoChanges(history, history.explicit, self.traces)
@@ -272,7 +272,7 @@ def received(items: Iterable[Item], limit: int) -> Iterator[Item]:
         yield item
 
 
-def items_of(history: History, target: Target, below: Sequence[bytes], options: Options) -> list[Item]:
+def items_of(history: OpenHistory, target: Target, below: Sequence[bytes], options: Options) -> list[Item]:
     """The items of a log with what was merged. A limit counts each item of several ranges, ends too. What `svn` prints of
     a repository on the same machine has ends that a server does not send."""
     walker = Walker(history, options.stops_on_copy)

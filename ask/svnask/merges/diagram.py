@@ -6,7 +6,7 @@ from typing import NamedTuple
 
 from svnask.engine.queries import Answers, Where
 from svnask.errors import Denied
-from svnask.history.history import History
+from svnask.history.open_history import OpenHistory
 from svnask.history.targets import Target, decoded
 from svnask.log import selection as log
 from svnask.mergeinfo.explicit import Explicit
@@ -45,7 +45,7 @@ class Summary(NamedTuple):
 class Branches:
     """What is asked of two branches, in one run of svnhist."""
 
-    def __init__(self, history: History, source: Target, target: Target) -> None:
+    def __init__(self, history: OpenHistory, source: Target, target: Target) -> None:
         self.source = source
         self.target = target
         self._history = history
@@ -94,7 +94,7 @@ class Branches:
         return [rev for rev, _ in self._merges.shown(source, target, question)]
 
 
-def summary(history: History, source: Target, target: Target) -> Summary:
+def summary(history: OpenHistory, source: Target, target: Target) -> Summary:
     branches = Branches(history, source, target)
     ancestor = branches.ancestor()
     if ancestor is None or (ancestor == Target(b"/", 0) and b"/" not in (source.path, target.path)):

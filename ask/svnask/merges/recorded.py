@@ -8,15 +8,15 @@ from __future__ import annotations
 from collections.abc import Iterable
 from typing import NamedTuple
 
-from svnask.history.history import History
 from svnask.history.lives import Life
+from svnask.history.open_history import OpenHistory
 from svnask.mergeinfo.explicit import Explicit
 from svnask.merges.gains import Intervals, candidates, minus, united
 from svnask.merges.value_changes import Difference, Malformed, Values, difference
 from svnask.paths import Place, is_at_or_below, rest_below, tops_of
 
 
-def is_mergeinfo_alone(history: History, explicit: Explicit, life: Life, rev: int) -> bool:
+def is_mergeinfo_alone(history: OpenHistory, explicit: Explicit, life: Life, rev: int) -> bool:
     """Return whether a revision changed nothing but mergeinfo at and below a life, by its records. Of other properties
     that change along with it they say nothing."""
     changed = explicit.settings.get(rev, set())
@@ -37,7 +37,7 @@ class Nearest(NamedTuple):
 class Recorded:
     """The revisions that paths have by records alone, for each source path."""
 
-    def __init__(self, history: History) -> None:
+    def __init__(self, history: OpenHistory) -> None:
         self._history, self._explicit = history, history.explicit
         self._values = Values()
         self._known: dict[Place, Intervals] = {}

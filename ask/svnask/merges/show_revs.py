@@ -15,7 +15,7 @@ from typing import NamedTuple
 from svnask.copy.changes import Change
 from svnask.engine.queries import Answer, Answers, Inherited, Log, Mergeinfo, Pair, Query, Segment, Where
 from svnask.errors import Denied
-from svnask.history.history import History
+from svnask.history.open_history import OpenHistory
 from svnask.history.targets import Target
 from svnask.log import selection as log
 from svnask.mergeinfo.explicit import Explicit
@@ -98,7 +98,7 @@ class Catalog(NamedTuple):
         return next((each for each in tops_of(path) if each in self.entries), None)
 
 
-def segments_of(history: History, answers: Answers, target: Target) -> list[Segment]:
+def segments_of(history: OpenHistory, answers: Answers, target: Target) -> list[Segment]:
     """The segments of a path, which must be there."""
     answer = answers[Where(*target)]
     if not answer.ok:
@@ -185,7 +185,7 @@ def add_own_history(catalog: Catalog, own: Located, there: Located, source: List
 class Coverage:
     """Whether all that a revision changed of a source is merged, path by path."""
 
-    def __init__(self, history: History, catalog: Catalog, source: Iterable[bytes]) -> None:
+    def __init__(self, history: OpenHistory, catalog: Catalog, source: Iterable[bytes]) -> None:
         self._history = history
         self._catalog = catalog
         self._tops = set(source)
@@ -272,7 +272,7 @@ def as_answered(
 class Merges:
     """What was merged from sources, or is to be, given what svnhist answers to the queries about their targets."""
 
-    def __init__(self, history: History, explicit: Explicit, answers: Answers) -> None:
+    def __init__(self, history: OpenHistory, explicit: Explicit, answers: Answers) -> None:
         self._history = history
         self._explicit = explicit
         self._answers = answers

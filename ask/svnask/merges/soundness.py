@@ -6,8 +6,8 @@ from collections.abc import Iterable, Iterator, Sequence
 from typing import NamedTuple
 
 from svnask.engine.queries import Answers, Log, is_askable
-from svnask.history.history import History
 from svnask.history.lives import Tree, unmatched
+from svnask.history.open_history import OpenHistory
 from svnask.history.targets import decoded
 from svnask.mergeinfo.explicit import Explicit
 from svnask.mergeinfo.values import Run, Value, value_of
@@ -68,7 +68,7 @@ def without(span: Span, others: Sequence[Span]) -> Iterator[Span]:
 class Paths:
     """The lives of paths, and their operative revisions as far as these were asked."""
 
-    def __init__(self, history: History) -> None:
+    def __init__(self, history: OpenHistory) -> None:
         self._history = history
         self._tree = Tree(history.records())
         self._lives: dict[bytes, list[Span]] = {}
@@ -154,7 +154,7 @@ def findings_of_nearest(paths: Paths, path: bytes, value: Value, nearest: Neares
         yield Finding(path, None, b"", INHERITED.format(above))
 
 
-def findings(history: History, patterns: Sequence[bytes]) -> list[Finding]:
+def findings(history: OpenHistory, patterns: Sequence[bytes]) -> list[Finding]:
     """What is wrong with the values of the youngest revision, at and below the paths that match a pattern, or else the
     path at which the source begins."""
     explicit, tree = history.explicit, history.tree

@@ -7,8 +7,8 @@ from collections.abc import Iterable, Sequence
 from typing import NamedTuple
 
 from svnask.engine.queries import Log, Segment, Where, is_askable
-from svnask.history.history import History
 from svnask.history.lives import Life, Tree
+from svnask.history.open_history import OpenHistory
 from svnask.log.selection import Trace, Walk, copied_in, listed
 from svnask.paths import Place
 
@@ -60,7 +60,7 @@ class Cut(NamedTuple):
 class Traces:
     """The pieces of paths."""
 
-    def __init__(self, history: History, tree: Tree, stops_on_copy: bool) -> None:
+    def __init__(self, history: OpenHistory, tree: Tree, stops_on_copy: bool) -> None:
         self._history = history
         self._tree = tree
         self._stops_on_copy = stops_on_copy

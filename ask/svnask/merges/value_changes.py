@@ -8,7 +8,7 @@ from typing import NamedTuple
 
 from svnask.copy.changes import source_of
 from svnask.copy.store import Record
-from svnask.history.history import History
+from svnask.history.open_history import OpenHistory
 from svnask.mergeinfo.explicit import Explicit
 from svnask.mergeinfo.values import Run, line_of, lines_of, source_path
 from svnask.merges.gains import Interval, Intervals, minus, united
@@ -249,7 +249,7 @@ def common_at_end(these: bytes, those: bytes) -> int:
 class MergeinfoChanges:
     """What the mergeinfo of paths gained and lost, revision by revision."""
 
-    def __init__(self, history: History, explicit: Explicit, traces: Traces) -> None:
+    def __init__(self, history: OpenHistory, explicit: Explicit, traces: Traces) -> None:
         self._history = history
         self._explicit = explicit
         self._traces = traces

@@ -16,8 +16,8 @@ from typing import NamedTuple
 from svnask.branches import questions as branches
 from svnask.engine.queries import Answer, Mergeinfo, Query, Where, is_askable
 from svnask.history import dates
-from svnask.history.history import History
 from svnask.history.lives import Life, Tree
+from svnask.history.open_history import OpenHistory
 from svnask.mergeinfo.explicit import Explicit
 from svnask.mergeinfo.values import line_of, lines_of
 from svnask.merges import gains as merges
@@ -115,7 +115,7 @@ class Graph(NamedTuple):
 class Drawable(NamedTuple):
     """What can be drawn of a history: the lanes from the top, and what they gained."""
 
-    history: History
+    history: OpenHistory
     view: View
     lanes: list[Lane]
     gains: list[Gain]
@@ -132,13 +132,13 @@ class Drawable(NamedTuple):
         return Graph(self.view, drawn, copies, merged, list(dots_of(drawn, columns)), columns, places)
 
 
-def graph_of(history: History, patterns: Sequence[bytes], view: View = View()) -> Graph:
+def graph_of(history: OpenHistory, patterns: Sequence[bytes], view: View = View()) -> Graph:
     """The graph of the lives of all paths that match a pattern."""
     found = drawable(history, patterns, view)
     return found.graph(found.lanes)
 
 
-def drawable(history: History, patterns: Sequence[bytes], view: View = View()) -> Drawable:
+def drawable(history: OpenHistory, patterns: Sequence[bytes], view: View = View()) -> Drawable:
     """What can be drawn of the lives of all paths that match a pattern."""
     tree, explicit = history.tree, history.explicit
     lives = branches.lives_of(history, patterns)
@@ -369,7 +369,7 @@ def by_source(lane: Lane) -> tuple[int, int, bytes]:
 class Merging:
     """Makes arrows of gains."""
 
-    def __init__(self, history: History, explicit: Explicit, parts: Parts) -> None:
+    def __init__(self, history: OpenHistory, explicit: Explicit, parts: Parts) -> None:
         self._history, self._explicit, self._parts = history, explicit, parts
         self._is_alone: dict[tuple[Life, int], bool] = {}
 
@@ -417,7 +417,7 @@ def keys_of(lanes: list[Lane], copies: list[Copy], merged: list[Merge], since: i
         yield max(merge.revisions[-1], since - 1)
 
 
-def columns_of(history: History, lanes: list[Lane], keys: set[int], view: View) -> tuple[list[int], list[int]]:
+def columns_of(history: OpenHistory, lanes: list[Lane], keys: set[int], view: View) -> tuple[list[int], list[int]]:
     """The columns and their places."""
     drawn = sorted({rev for lane in lanes for rev in lane.revisions} | keys)
     others = [rev for rev in drawn if rev not in keys]
@@ -430,7 +430,7 @@ def columns_of(history: History, lanes: list[Lane], keys: set[int], view: View) 
     return columns, list(range(len(columns)))
 
 
-def parts_of_time(history: History, revisions: list[int], count: int) -> tuple[list[int], list[int]]:
+def parts_of_time(history: OpenHistory, revisions: list[int], count: int) -> tuple[list[int], list[int]]:
     """The newest of rising revisions in each part of the time that has any, and the number of that part. Where dates do
     not rise, a part ends where it does for Subversion."""
     begin, end = (microseconds(history, each) for each in (revisions, reversed(revisions)))
@@ -447,13 +447,13 @@ def parts_of_time(history: History, revisions: list[int], count: int) -> tuple[l
     return columns, places
 
 
-def date_of(history: History, rev: int) -> bytes:
+def date_of(history: OpenHistory, rev: int) -> bytes:
     """The date of a revision. One that has none, or none that can be read, is taken for the oldest."""
     date = history.revision(rev).date or b""
     return OLDEST if dates.read(date) is None else date
 
 
-def microseconds(history: History, revisions: Iterable[int]) -> int:
+def microseconds(history: OpenHistory, revisions: Iterable[int]) -> int:
     """The first date that some revisions have, if one has any."""
     found = next((date for rev in revisions if (date := date_of(history, rev)) != OLDEST), OLDEST)
     seconds, micros = dates.read(found) or (0, 0)

@@ -5,7 +5,7 @@ from collections.abc import Iterator
 from html import escape
 from typing import NamedTuple
 
-from svnask.history.history import History
+from svnask.history.open_history import OpenHistory
 from svnask.picture.graph import Copy, Dot, Graph, Left, Merge
 from svnask.picture.layout import GAP, TAIL, TOP, Layout, Place
 from svnask.picture.titles import Titles, about_copy, about_end, about_lane, dated
@@ -70,7 +70,7 @@ def text(x: float, y: float, content: str, kind: str, anchor: str = "start") -> 
 class Picture:
     """A graph as SVG, piece after piece, from what lies at the back to the front."""
 
-    def __init__(self, history: History, graph: Graph) -> None:
+    def __init__(self, history: OpenHistory, graph: Graph) -> None:
         self._history = history
         self._graph = graph
         self._layout = Layout(graph)
@@ -336,6 +336,6 @@ def chosen(places: list[float], room: float, apart: float) -> list[int]:
     return found + ([last] if last > 0 and places[last] - places[found[-1]] >= room else [])
 
 
-def svg_of(history: History, graph: Graph) -> Iterator[bytes]:
+def svg_of(history: OpenHistory, graph: Graph) -> Iterator[bytes]:
     """The file, piece after piece."""
     return (piece.encode("utf-8") for piece in Picture(history, graph).pieces())

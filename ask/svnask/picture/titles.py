@@ -2,8 +2,8 @@
 from __future__ import annotations
 
 from svnask.history import dates
-from svnask.history.history import History
 from svnask.history.lives import Life
+from svnask.history.open_history import OpenHistory
 from svnask.log.plain import first_line, head_line
 from svnask.picture.graph import Copy, Dot, Graph, Lane, Merge
 from svnask.texts import readable
@@ -22,12 +22,12 @@ def name_of(life: Life) -> str:
     return readable(life.path)
 
 
-def dated(history: History, rev: int) -> str:
+def dated(history: OpenHistory, rev: int) -> str:
     shown = dates.shown(history.revision(rev).date)
     return shown[:10] if shown[0].isdigit() else shown
 
 
-def about_revision(history: History, rev: int) -> str:
+def about_revision(history: OpenHistory, rev: int) -> str:
     """A revision in two lines: who committed it and when, and the first line of the message."""
     revision = history.revision(rev)
     return "%s\n%s" % (readable(head_line(revision)), readable(first_line(revision)))
@@ -43,7 +43,7 @@ def about_move(before: Life, life: Life) -> str:
     return f"r{life.first}: moved from {name_of(before)} to {name_of(life)}"
 
 
-def about_end(history: History, life: Life) -> str:
+def about_end(history: OpenHistory, life: Life) -> str:
     rev = life.last + 1
     return f"r{rev}: {name_of(life)} is deleted or replaced\n{about_revision(history, rev)}"
 
@@ -60,7 +60,7 @@ def span_of(life: Life) -> str:
 class Titles:
     """What is shown of each mark under the pointer."""
 
-    def __init__(self, history: History, graph: Graph) -> None:
+    def __init__(self, history: OpenHistory, graph: Graph) -> None:
         self._history = history
         self._graph = graph
         # What is to be told of a revision of a lane.

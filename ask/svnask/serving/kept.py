@@ -7,7 +7,7 @@ from contextlib import closing
 from types import TracebackType
 
 from svnask.asking import running as cli
-from svnask.history.history import History
+from svnask.history.open_history import OpenHistory
 from svnask.sources.progress import Bar
 from svnask.sources.repository import Address
 from svnask.sources.source import Source
@@ -26,7 +26,7 @@ class Kept:
         with closing(cli.source_in(given)) as source:
             self.place = place_of(source)
         self._no_cache = given.no_cache
-        self._history: History | None = None
+        self._history: OpenHistory | None = None
 
     def __enter__(self) -> Kept:
         return self
@@ -47,7 +47,7 @@ class Kept:
             self._history.close()
             self._history = None
 
-    def updated(self, given: argparse.Namespace, source: Source) -> History:
+    def updated(self, given: argparse.Namespace, source: Source) -> OpenHistory:
         """The history, which is open, as its source is now. It uses no cache if it began without one."""
         given.no_cache = given.no_cache or self._no_cache
         if self._history is None:

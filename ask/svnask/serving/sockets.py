@@ -10,8 +10,6 @@ import stat
 import struct
 from collections.abc import Iterator
 
-from svnask.files import folder
-
 # How the names of sockets begin.
 SOCKET = "socket-"
 

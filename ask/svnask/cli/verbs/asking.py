@@ -8,7 +8,7 @@ from svnask.asking.refusals import bad_query
 from svnask.cli.verbs.base import Object, Verb
 from svnask.engine.queries import Answer, Line
 from svnask.errors import Failed
-from svnask.history.history import History
+from svnask.history.open_history import OpenHistory
 from svnask.history.targets import decoded
 
 
@@ -19,7 +19,7 @@ class AskVerb(Verb):
     def arguments(self, parser: ArgumentParser) -> None:
         parser.add_argument("queries", metavar="QUERIES", help="a file of queries as svnhist takes them")
 
-    def answers(self, history: History, given: Namespace) -> Iterator[tuple[bytes, Answer]]:
+    def answers(self, history: OpenHistory, given: Namespace) -> Iterator[tuple[bytes, Answer]]:
         try:
             with open(given.queries, "rb") as file:
                 lines = file.read().split(b"\n")
@@ -30,7 +30,7 @@ class AskVerb(Verb):
         for answer in history.ask([Line(b"", 0, line) for line in lines]):
             yield answer.query.line(), answer
 
-    def text(self, history: History, given: Namespace) -> Iterator[bytes]:
+    def text(self, history: OpenHistory, given: Namespace) -> Iterator[bytes]:
         for line, answer in self.answers(history, given):
             status = answer.status
             if status == "bad-query":
@@ -39,7 +39,7 @@ class AskVerb(Verb):
                 yield line + b"\t" + status.encode("utf-8") + b"\n"
             yield from (line + b"\t" + result + b"\n" for result in answer.lines)
 
-    def objects(self, history: History, given: Namespace) -> Iterator[Object]:
+    def objects(self, history: OpenHistory, given: Namespace) -> Iterator[Object]:
         for line, answer in self.answers(history, given):
             found: Object = {
                 "query": decoded(line),

@@ -9,7 +9,7 @@ from typing import Any
 from svnask.copy.changes import Change
 from svnask.copy.store import Record
 from svnask.digits import number
-from svnask.history.history import History
+from svnask.history.open_history import OpenHistory
 from svnask.history.targets import decoded, pattern_of
 from svnask.paths import Place
 
@@ -29,16 +29,16 @@ class Verb:
     def arguments(self, parser: ArgumentParser) -> None:
         """Tells the parser what follows the verb."""
 
-    def text(self, history: History, given: Namespace) -> Iterator[bytes]:
+    def text(self, history: OpenHistory, given: Namespace) -> Iterator[bytes]:
         """What is printed, piece after piece."""
         raise NotImplementedError
 
-    def objects(self, history: History, given: Namespace) -> Iterator[Object]:
+    def objects(self, history: OpenHistory, given: Namespace) -> Iterator[Object]:
         """The same for a script, one object a line."""
         raise NotImplementedError
 
 
-def patterns_of(history: History, given: Namespace) -> list[bytes]:
+def patterns_of(history: OpenHistory, given: Namespace) -> list[bytes]:
     return [pattern_of(history, pattern) for pattern in given.patterns]
 
 
@@ -75,7 +75,7 @@ def object_of_change(change: Change) -> Object:
     return found
 
 
-def object_of_revision(history: History, rev: int) -> Object:
+def object_of_revision(history: OpenHistory, rev: int) -> Object:
     revision = history.revision(rev)
     return {
         "revision": rev,

@@ -6,8 +6,8 @@ from collections.abc import Iterator
 
 from svnask.branches import questions as branches
 from svnask.cli.verbs.base import Object, Verb, add_patterns, object_of_place, object_of_revision, patterns_of, shown
-from svnask.history.history import History
 from svnask.history.lives import Life
+from svnask.history.open_history import OpenHistory
 from svnask.history.targets import decoded, known, revision_of, target_of
 from svnask.log.plain import author_of, date_of, summary_of
 
@@ -30,7 +30,7 @@ class BranchesVerb(Verb):
     def arguments(self, parser: ArgumentParser) -> None:
         add_patterns(parser, "**")
 
-    def text(self, history: History, given: Namespace) -> Iterator[bytes]:
+    def text(self, history: OpenHistory, given: Namespace) -> Iterator[bytes]:
         for each in branches.listed(history, patterns_of(history, given)):
             life = each.life
             fields = [life.path, b"r%d-r%d" % (life.first, life.last)]
@@ -41,7 +41,7 @@ class BranchesVerb(Verb):
                 fields.append(b"moved to " + each.moved_to.path)
             yield b"\t".join(fields + [b"folder"] * each.is_folder) + b"\n"
 
-    def objects(self, history: History, given: Namespace) -> Iterator[Object]:
+    def objects(self, history: OpenHistory, given: Namespace) -> Iterator[Object]:
         for each in branches.listed(history, patterns_of(history, given)):
             found = dict(object_of_life(each.life), last_change=each.last_change, is_moved=each.is_moved)
             moved_to = None if each.moved_to is None else decoded(each.moved_to.path)
@@ -56,16 +56,16 @@ class ContainsVerb(Verb):
         parser.add_argument("revision", metavar="REV")
         add_patterns(parser, "**")
 
-    def holders(self, history: History, given: Namespace) -> Iterator[branches.Holder]:
+    def holders(self, history: OpenHistory, given: Namespace) -> Iterator[branches.Holder]:
         return branches.holders(
             history, patterns_of(history, given), known(history, revision_of(history, given.revision))
         )
 
-    def text(self, history: History, given: Namespace) -> Iterator[bytes]:
+    def text(self, history: OpenHistory, given: Namespace) -> Iterator[bytes]:
         for path, how in self.holders(history, given):
             yield b"%s\t%s\n" % (path, how.encode())
 
-    def objects(self, history: History, given: Namespace) -> Iterator[Object]:
+    def objects(self, history: OpenHistory, given: Namespace) -> Iterator[Object]:
         for path, how in self.holders(history, given):
             yield {"path": decoded(path), "how": how}
 
@@ -81,18 +81,18 @@ class UnmergedVerb(Verb):
         )
         parser.add_argument("--log", action="store_true", help="also author and first line of the message")
 
-    def compared(self, history: History, given: Namespace) -> Iterator[branches.Compared]:
+    def compared(self, history: OpenHistory, given: Namespace) -> Iterator[branches.Compared]:
         into = None if given.into is None else target_of(history, given.into)
         return branches.unmerged(history, patterns_of(history, given), into)
 
-    def text(self, history: History, given: Namespace) -> Iterator[bytes]:
+    def text(self, history: OpenHistory, given: Namespace) -> Iterator[bytes]:
         for compared in self.compared(history, given):
             path, revisions = compared.left
             for rev, is_partial in revisions:
                 about = b"\t" + summary_of(history.revision(rev)) if given.log else b""
                 yield b"%s\tr%d%s%s\n" % (path, rev, b"*" if is_partial else b"", about)
 
-    def objects(self, history: History, given: Namespace) -> Iterator[Object]:
+    def objects(self, history: OpenHistory, given: Namespace) -> Iterator[Object]:
         for (path, revisions), recorded in branches.recorded_of(history, self.compared(history, given)):
             found = sorted(
                 [
@@ -112,14 +112,14 @@ class ChangedTagsVerb(Verb):
     def arguments(self, parser: ArgumentParser) -> None:
         add_patterns(parser, "all tags")
 
-    def text(self, history: History, given: Namespace) -> Iterator[bytes]:
+    def text(self, history: OpenHistory, given: Namespace) -> Iterator[bytes]:
         for life, _, _, events in branches.touched(history, patterns_of(history, given)):
             made = b"%s@%d\tmade in r%d %s" % (life.path, life.last, life.first, origin_of(life))
             for event in events:
                 revision = history.revision(event.rev)
                 yield b"\t".join((made, text_of_event(event), author_of(revision), date_of(revision))) + b"\n"
 
-    def objects(self, history: History, given: Namespace) -> Iterator[Object]:
+    def objects(self, history: OpenHistory, given: Namespace) -> Iterator[Object]:
         for life, is_changed_when_made, revisions, events in branches.touched(history, patterns_of(history, given)):
             found = dict(object_of_life(life), is_changed_when_made=is_changed_when_made, changed=revisions)
             yield {**found, "events": [object_of_event(history, event) for event in events]}
@@ -130,7 +130,7 @@ def text_of_event(event: branches.Event) -> bytes:
     return what + b" to " + event.other[0] if event.what == branches.RENAMED and event.other is not None else what
 
 
-def object_of_event(history: History, event: branches.Event) -> Object:
+def object_of_event(history: OpenHistory, event: branches.Event) -> Object:
     revision = history.revision(event.rev)
     found: Object = {"what": event.what, "revision": event.rev}
     found.update(author=shown(revision.author), date=shown(revision.date))

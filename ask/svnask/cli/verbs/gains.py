@@ -6,7 +6,7 @@ from collections.abc import Iterator
 
 from svnask.branches.gained import Gained, gained
 from svnask.cli.verbs.base import Object, Verb, object_of_revision
-from svnask.history.history import History
+from svnask.history.open_history import OpenHistory
 from svnask.history.targets import target_of
 from svnask.log import selection as log
 from svnask.log.forms import Wanted, printed
@@ -22,10 +22,10 @@ class NewVerb(Verb):
         parser.add_argument("after", metavar="TO[@PEG]", help="the branch or tag that has them")
         parser.add_argument("-v", "--verbose", action="store_true", help="as 'svn log -v' prints them")
 
-    def gained(self, history: History, given: Namespace) -> list[Gained]:
+    def gained(self, history: OpenHistory, given: Namespace) -> list[Gained]:
         return gained(history, target_of(history, given.before), target_of(history, given.after))
 
-    def text(self, history: History, given: Namespace) -> Iterator[bytes]:
+    def text(self, history: OpenHistory, given: Namespace) -> Iterator[bytes]:
         found = self.gained(history, given)
         if given.verbose:
             yield from printed(history, [log.Item(each.rev) for each in found], Wanted(is_verbose=True), PlainForm())
@@ -33,6 +33,6 @@ class NewVerb(Verb):
         for each in found:
             yield b"r%d\t%s\n" % (each.rev, summary_of(history.revision(each.rev)))
 
-    def objects(self, history: History, given: Namespace) -> Iterator[Object]:
+    def objects(self, history: OpenHistory, given: Namespace) -> Iterator[Object]:
         for each in self.gained(history, given):
             yield {**object_of_revision(history, each.rev), "how": each.how}

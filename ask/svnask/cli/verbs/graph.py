@@ -11,7 +11,7 @@ from collections.abc import Iterable, Iterator
 from svnask.cli.verbs.base import Object, Verb, add_patterns, counted, patterns_of, shown
 from svnask.cli.verbs.branches import object_of_life
 from svnask.errors import Failed, Usage
-from svnask.history.history import History
+from svnask.history.open_history import OpenHistory
 from svnask.history.targets import known, revision_of
 from svnask.picture import fitting, graph, layout
 from svnask.picture import svg as picture
@@ -45,7 +45,7 @@ class GraphVerb(Verb):
         )
         parser.add_argument("--unfolded", action="store_true", help="a line of its own for each branch and tag")
 
-    def text(self, history: History, given: Namespace) -> Iterator[bytes]:
+    def text(self, history: OpenHistory, given: Namespace) -> Iterator[bytes]:
         if given.output is not None and history.is_read_from(given.output):
             raise Usage(f"-o {given.output} would overwrite the dump")
         if given.output == "":
@@ -59,7 +59,7 @@ class GraphVerb(Verb):
         else:
             write(given.output, pieces)
 
-    def objects(self, history: History, given: Namespace) -> Iterator[Object]:
+    def objects(self, history: OpenHistory, given: Namespace) -> Iterator[Object]:
         for option, value in (
             ("-o", given.output),
             ("--by-time", given.by_time or None),
@@ -91,7 +91,7 @@ class GraphVerb(Verb):
             }
 
 
-def drawable(history: History, given: Namespace) -> graph.Drawable:
+def drawable(history: OpenHistory, given: Namespace) -> graph.Drawable:
     since = 0 if given.since is None else known(history, revision_of(history, given.since))
     width = WIDTH if given.width is None else given.width
     if width < FEWEST:

@@ -9,7 +9,7 @@ from functools import partial
 
 from svnask.cli.verbs.base import Object, Verb
 from svnask.errors import Failed, Usage
-from svnask.history.history import History
+from svnask.history.open_history import OpenHistory
 from svnask.history.targets import decoded, encoded
 from svnask.sources.dump import Dump
 from svnask.sources.entries import read_index
@@ -31,10 +31,10 @@ class KeptVerb(Verb):
         """What is printed of an object where objects are not asked for."""
         return encoded(self.form.format(**found))
 
-    def text(self, history: History, given: Namespace) -> Iterator[bytes]:
+    def text(self, history: OpenHistory, given: Namespace) -> Iterator[bytes]:
         return iter(())
 
-    def objects(self, history: History, given: Namespace) -> Iterator[Object]:
+    def objects(self, history: OpenHistory, given: Namespace) -> Iterator[Object]:
         return iter(())
 
 
@@ -51,7 +51,7 @@ class UpdateVerb(KeptVerb):
             before = read_index(entry.folder) if entry is not None else None
             head = len(before.revisions) - 1 if before is not None else -1
             store = source.store(bar)
-            with History(store, None, source) as history:
+            with OpenHistory(store, None, source) as history:
                 youngest = store.head
                 if isinstance(source, Dump):
                     history.check()

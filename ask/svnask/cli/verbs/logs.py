@@ -9,7 +9,7 @@ from typing import Any
 from svnask.cli.verbs.base import Object, Verb, object_of_revision
 from svnask.digits import number
 from svnask.errors import Denied, Failed, Usage
-from svnask.history.history import History
+from svnask.history.open_history import OpenHistory
 from svnask.history.targets import encoded, known, paths_below, ranges_of, revision_of, target_of
 from svnask.log import selection as log
 from svnask.log.forms import AUTHOR, DATE, SHOWN, Entry, Form, Wanted, as_wanted, entries, printed
@@ -66,7 +66,7 @@ class LogVerb(Verb):
         for option, about in ((SEARCH, OF_SEARCH), (SEARCH_AND, OF_SEARCH_AND)):
             parser.add_argument(option, dest="groups", metavar="PATTERN", action=Searched, default=[], help=about)
 
-    def options(self, history: History, given: Namespace) -> log.Options:
+    def options(self, history: OpenHistory, given: Namespace) -> log.Options:
         """Which revisions are asked for."""
         limit = None
         if given.limit is not None:
@@ -78,7 +78,7 @@ class LogVerb(Verb):
                 raise Denied("E200004", "Argument to --limit must be positive")
         return log.Options(ranges_of(history, given.ranges, given.changes), limit, given.stop_on_copy, given.merges)
 
-    def items(self, history: History, given: Namespace) -> list[log.Item]:
+    def items(self, history: OpenHistory, given: Namespace) -> list[log.Item]:
         if given.diff:
             raise Usage(NO_CONTENTS)
         target, *paths = [*filter(None, [given.target]), *given.paths, *lines_of(given.targets)] or [""]
@@ -87,7 +87,7 @@ class LogVerb(Verb):
             return merged_log.items_of(history, *asked)
         return [*map(log.Item, log.entries(history, *asked))]
 
-    def text(self, history: History, given: Namespace) -> Iterator[bytes]:
+    def text(self, history: OpenHistory, given: Namespace) -> Iterator[bytes]:
         wanted = wanted_of(given)
         items = self.items(history, given)
         if given.xml and given.verbose:
@@ -98,7 +98,7 @@ class LogVerb(Verb):
     def form(given: Namespace) -> Form:
         return XmlForm(given.incremental) if given.xml else PlainForm(given.quiet, given.incremental)
 
-    def objects(self, history: History, given: Namespace) -> Iterator[Object]:
+    def objects(self, history: OpenHistory, given: Namespace) -> Iterator[Object]:
         if given.xml:
             raise Usage("--xml prints no objects: it is not taken with --json")
         wanted = wanted_of(given)
@@ -168,13 +168,13 @@ class ShowVerb(Verb):
     def arguments(self, parser: ArgumentParser) -> None:
         parser.add_argument("revision", metavar="REV", help="a number, HEAD or a {DATE}")
 
-    def revision(self, history: History, given: Namespace) -> int:
+    def revision(self, history: OpenHistory, given: Namespace) -> int:
         history.check()
         return known(history, revision_of(history, given.revision))
 
-    def text(self, history: History, given: Namespace) -> Iterator[bytes]:
+    def text(self, history: OpenHistory, given: Namespace) -> Iterator[bytes]:
         revision = as_wanted(history.revision(self.revision(history, given)), None)
         yield PlainForm().entry(Entry(revision, history.changes(revision.number))) + RULE
 
-    def objects(self, history: History, given: Namespace) -> Iterator[Object]:
+    def objects(self, history: OpenHistory, given: Namespace) -> Iterator[Object]:
         yield object_of_revision(history, self.revision(history, given))

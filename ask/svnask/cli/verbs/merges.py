@@ -7,7 +7,7 @@ from collections.abc import Iterator
 from svnask.cli.verbs.base import Object, Verb, add_patterns, object_of_place, object_of_revision, patterns_of, shown
 from svnask.engine.queries import Mergeinfo
 from svnask.errors import Denied, Unsound, Usage
-from svnask.history.history import History, one
+from svnask.history.open_history import OpenHistory, one
 from svnask.history.targets import decoded, encoded, known, place_of, range_of, target_of
 from svnask.log import selection as log
 from svnask.log.forms import Wanted, printed
@@ -64,7 +64,7 @@ class MergeinfoVerb(Verb):
         if len(given.ranges) > 1:
             raise Denied("E205000", "Multiple revision arguments encountered; can't specify -r more than once")
 
-    def value(self, history: History, given: Namespace) -> dict[bytes, str]:
+    def value(self, history: OpenHistory, given: Namespace) -> dict[bytes, str]:
         target = target_of(history, given.source)
         answer = one(history.ask([Mergeinfo(*target)]))
         if answer.status == "malformed-mergeinfo":
@@ -73,7 +73,7 @@ class MergeinfoVerb(Verb):
             raise log.not_found(history, target, target.rev)
         return answer.value
 
-    def revisions(self, history: History, given: Namespace) -> list[tuple[int, bool]]:
+    def revisions(self, history: OpenHistory, given: Namespace) -> list[tuple[int, bool]]:
         bounds = range_of(history, given.ranges[0]) if given.ranges else None
         target = target_of(history, given.target)
         source = place_of(history, given.source)
@@ -90,15 +90,15 @@ class MergeinfoVerb(Verb):
         answers = history.answers(mergeinfo.queries_of(explicit, source, target, question))
         return mergeinfo.Merges(history, explicit, answers).shown(source, target, question)
 
-    def summary(self, history: History, given: Namespace) -> diagram.Summary:
+    def summary(self, history: OpenHistory, given: Namespace) -> diagram.Summary:
         source = target_of(history, given.source)
         return diagram.summary(history, source, target_of(history, given.target))
 
-    def log(self, history: History, given: Namespace) -> Iterator[bytes]:
+    def log(self, history: OpenHistory, given: Namespace) -> Iterator[bytes]:
         items = [log.Item(rev) for rev, _ in self.revisions(history, given)]
         return printed(history, items, Wanted(is_verbose=given.verbose), PlainForm(given.quiet, given.incremental))
 
-    def text(self, history: History, given: Namespace) -> Iterator[bytes]:
+    def text(self, history: OpenHistory, given: Namespace) -> Iterator[bytes]:
         self.judge(given)
         if given.log:
             return self.log(history, given)
@@ -108,7 +108,7 @@ class MergeinfoVerb(Verb):
             return diagram.text(self.summary(history, given))
         return (b"%s:%s\n" % (path, ranges.encode("ascii")) for path, ranges in self.value(history, given).items())
 
-    def objects(self, history: History, given: Namespace) -> Iterator[Object]:
+    def objects(self, history: OpenHistory, given: Namespace) -> Iterator[Object]:
         self.judge(given)
         if given.show_revs:
             for rev, starred in self.revisions(history, given):
@@ -138,7 +138,7 @@ class CheckMergeinfoVerb(Verb):
     def arguments(self, parser: ArgumentParser) -> None:
         add_patterns(parser, "all paths")
 
-    def text(self, history: History, given: Namespace) -> Iterator[bytes]:
+    def text(self, history: OpenHistory, given: Namespace) -> Iterator[bytes]:
         found = findings(history, patterns_of(history, given))
         for each in found:
             named = b"" if each.source is None else b"%s:%s " % (each.source, each.ranges)
@@ -146,7 +146,7 @@ class CheckMergeinfoVerb(Verb):
         if found:
             raise Unsound
 
-    def objects(self, history: History, given: Namespace) -> Iterator[Object]:
+    def objects(self, history: OpenHistory, given: Namespace) -> Iterator[Object]:
         found = findings(history, patterns_of(history, given))
         for each in found:
             named = {"source": shown(each.source), "ranges": each.ranges.decode("ascii") or None}

@@ -8,7 +8,7 @@ from svnask.branches import heirs
 from svnask.cli.verbs.base import Object, Verb, object_of_place, shown
 from svnask.engine.queries import Locate, Segments
 from svnask.errors import Usage
-from svnask.history.history import History
+from svnask.history.open_history import OpenHistory
 from svnask.history.targets import decoded, known, revision_of, target_of
 from svnask.log import selection as log
 
@@ -21,7 +21,7 @@ class WhereVerb(Verb):
         parser.add_argument("target", metavar="PATH[@PEG]")
         parser.add_argument("revision", metavar="REV", help="the other revision")
 
-    def answer(self, history: History, given: Namespace) -> bytes | None:
+    def answer(self, history: OpenHistory, given: Namespace) -> bytes | None:
         """Where the target was in a revision. In a later one it is at its own path, if what is there comes from it."""
         target = target_of(history, given.target)
         rev = known(history, revision_of(history, given.revision))
@@ -33,10 +33,10 @@ class WhereVerb(Verb):
             return answers[earlier].path
         return target.path if answers[later].path == target.path else None
 
-    def text(self, history: History, given: Namespace) -> Iterator[bytes]:
+    def text(self, history: OpenHistory, given: Namespace) -> Iterator[bytes]:
         yield (self.answer(history, given) or b"-") + b"\n"
 
-    def objects(self, history: History, given: Namespace) -> Iterator[Object]:
+    def objects(self, history: OpenHistory, given: Namespace) -> Iterator[Object]:
         yield {"path": shown(self.answer(history, given))}
 
 
@@ -47,17 +47,17 @@ class SegmentsVerb(Verb):
     def arguments(self, parser: ArgumentParser) -> None:
         parser.add_argument("target", metavar="PATH[@PEG]")
 
-    def answer(self, history: History, given: Namespace) -> Segments:
+    def answer(self, history: OpenHistory, given: Namespace) -> Segments:
         target = target_of(history, given.target)
         answer = history.segments(*target)
         if not answer.ok:
             raise log.not_found(history, target, target.rev)
         return answer
 
-    def text(self, history: History, given: Namespace) -> Iterator[bytes]:
+    def text(self, history: OpenHistory, given: Namespace) -> Iterator[bytes]:
         yield self.answer(history, given).text + b"\n"
 
-    def objects(self, history: History, given: Namespace) -> Iterator[Object]:
+    def objects(self, history: OpenHistory, given: Namespace) -> Iterator[Object]:
         for segment in self.answer(history, given).segments:
             yield {"first": segment.lo, "last": segment.hi, "path": shown(segment.path)}
 
@@ -72,7 +72,7 @@ class HeirsVerb(Verb):
             "revision", metavar="REV", nargs="?", default="HEAD", help="the later revision; HEAD if none is given"
         )
 
-    def heirs(self, history: History, given: Namespace) -> Iterator[heirs.Heir]:
+    def heirs(self, history: OpenHistory, given: Namespace) -> Iterator[heirs.Heir]:
         target = target_of(history, given.target)
         rev = known(history, revision_of(history, given.revision))
         if rev < target.rev:
@@ -81,11 +81,11 @@ class HeirsVerb(Verb):
             raise log.not_found(history, target, target.rev)
         return heirs.heirs(history, target, rev)
 
-    def text(self, history: History, given: Namespace) -> Iterator[bytes]:
+    def text(self, history: OpenHistory, given: Namespace) -> Iterator[bytes]:
         for heir in self.heirs(history, given):
             yield b"%s\t%s\n" % (heir.path, b", ".join(map(text_of_step, heir.way)) or b"itself")
 
-    def objects(self, history: History, given: Namespace) -> Iterator[Object]:
+    def objects(self, history: OpenHistory, given: Namespace) -> Iterator[Object]:
         for heir in self.heirs(history, given):
             yield {"path": decoded(heir.path), "way": [object_of_step(step) for step in heir.way]}
 

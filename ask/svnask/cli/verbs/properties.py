@@ -8,7 +8,7 @@ from typing import NamedTuple
 from svnask.cli.verbs.base import Object, Verb, shown
 from svnask.engine.queries import Where
 from svnask.errors import Denied, Usage
-from svnask.history.history import History
+from svnask.history.open_history import OpenHistory
 from svnask.history.targets import Target, decoded, target_of
 from svnask.mergeinfo.explicit import Explicit
 from svnask.paths import components
@@ -47,7 +47,7 @@ class PropgetVerb(Verb):
             "--no-newline", "--strict", dest="bare", action="store_true", help="without a newline at the end"
         )
 
-    def found(self, history: History, given: Namespace) -> list[Found]:
+    def found(self, history: OpenHistory, given: Namespace) -> list[Found]:
         """All that is printed. A target without a value has one below it, or the question has no answer."""
         if given.property != MERGEINFO:
             raise Usage(f"of the properties of paths svnask knows {MERGEINFO} alone")
@@ -65,7 +65,7 @@ class PropgetVerb(Verb):
         explicit = Explicit(history.records())
         return [each for target in targets for each in found_at(explicit, target, given.recursive)]
 
-    def text(self, history: History, given: Namespace) -> Iterator[bytes]:
+    def text(self, history: OpenHistory, given: Namespace) -> Iterator[bytes]:
         has_path = given.recursive or len(given.targets) > 1
         for each in self.found(history, given):
             if given.verbose:
@@ -73,7 +73,7 @@ class PropgetVerb(Verb):
             else:
                 yield (b"%s - " % each.path if has_path else b"") + each.text + (b"" if given.bare else b"\n")
 
-    def objects(self, history: History, given: Namespace) -> Iterator[Object]:
+    def objects(self, history: OpenHistory, given: Namespace) -> Iterator[Object]:
         for path, text in self.found(history, given):
             yield {"path": decoded(path), "value": shown(text)}
 

@@ -7,10 +7,10 @@ import stat
 import threading
 import warnings
 import weakref
-from collections.abc import Callable, Iterable, Iterator, Sequence
+from collections.abc import Callable, Iterable, Iterator
 from contextlib import closing
-from types import ModuleType, TracebackType
-from typing import TYPE_CHECKING, BinaryIO
+from types import TracebackType
+from typing import BinaryIO, TypeVar
 
 from svnask.copy.changes import WITHOUT_KIND, Change, KnownBlocks, changes_of, place_of
 from svnask.copy.store import Index, Record, Revision, Store
@@ -26,17 +26,14 @@ from svnask.sources.opening import source_of
 from svnask.sources.progress import Progress, Told
 from svnask.sources.source import Source
 
-if TYPE_CHECKING:
-    from svnask.branches.questions import Holder, Left, Listed
-    from svnask.picture.graph import Graph
-
 # So few changes of a revision are looked through one by one.
 FEW = 16
 # The longest header that is looked for in a dump.
 HEADER = 1 << 16
+H = TypeVar("H", bound="OpenHistory")
 
 
-class History:
+class OpenHistory:
     """A dump or a repository, read once. What is asked of it is answered by svnhist; revisions have what the dump says
     of them.
 
@@ -71,8 +68,8 @@ class History:
 
     @classmethod
     def open(
-        cls, dump: str | BinaryIO, is_cached: bool = True, seen: Callable[[int], object] = lambda read: None
-    ) -> History:
+        cls: type[H], dump: str | BinaryIO, is_cached: bool = True, seen: Callable[[int], object] = lambda read: None
+    ) -> H:
         """The history of a file, by its name or opened, or of a repository, by its folder or its URL.
 
         `-` is the standard input. What is read is kept in the cache, unless `is_cached` is false. `seen` is told now and
@@ -88,7 +85,7 @@ class History:
             return cls.of(source, Told(seen), is_cached)
 
     @classmethod
-    def of(cls, source: Source, progress: Progress, is_cached: bool = True, is_offline: bool = False) -> History:
+    def of(cls: type[H], source: Source, progress: Progress, is_cached: bool = True, is_offline: bool = False) -> H:
         """The history of a source, as it is now or, without asking it, as it was when it was read last."""
         try:
             store = source.store(progress, is_cached, is_offline)
@@ -123,7 +120,7 @@ class History:
         """
         return self.index.is_whole and self.head >= 0
 
-    def __enter__(self) -> History:
+    def __enter__(self: H) -> H:
         return self
 
     def __exit__(
@@ -469,43 +466,6 @@ class History:
                 changes = self._changes[rev]
                 changes[at] = changes[at]._replace(kind=kinds.get(place))
 
-    def branches(self, patterns: Sequence[bytes] = ()) -> list[Listed]:
-        """The lives of all branches and tags, or of the paths that match a pattern, as the verb `branches` lists them.
-
-        >>> [each.life.path for each in history.branches([b"/tags/*"])]
-        [b'/tags/begun', b'/tags/lib', b'/tags/one-1.0']
-        """
-        return list(all_branches().listed(self, patterns))
-
-    def contains(self, rev: int, patterns: Sequence[bytes] = ()) -> list[Holder]:
-        """The branches and tags of today that have a revision, in their history or merged.
-
-        >>> history.contains(9)
-        [Holder(path=b'/branches/two', how='history')]
-        """
-        return list(all_branches().holders(self, patterns, rev))
-
-    def unmerged(self, into: bytes | None = None, patterns: Sequence[bytes] = ()) -> list[Left]:
-        """What of each branch of today is still to be merged into a path of today, or else into the trunk of its own
-        project, each revision with whether it was merged in part.
-
-        >>> history.unmerged(b"/trunk", [b"/branches/two"])
-        [Left(path=b'/branches/two', revisions=[(9, False), (11, False)])]
-        """
-        target = None if into is None else all_branches().Target(into, self.head)
-        return [each.left for each in all_branches().unmerged(self, patterns, target)]
-
-    def graph(self, patterns: Sequence[bytes] = ()) -> Graph:
-        """The branches and tags with their copies and merges, as the verb `graph` draws them.
-
-        >>> len(history.graph().lanes)
-        8
-        """
-        # pylint: disable-next=import-outside-toplevel, cyclic-import
-        from svnask.picture.graph import graph_of
-
-        return graph_of(self, patterns)
-
     def revision_at(self, date: str) -> int:
         """The youngest revision at a date, in one of the forms that `svn` takes in braces.
 
@@ -517,14 +477,6 @@ class History:
 
 def warn(text: str) -> None:
     warnings.warn(text, stacklevel=3)
-
-
-def all_branches() -> ModuleType:
-    """The module of questions about all branches, which stands on this one."""
-    # pylint: disable-next=import-outside-toplevel, cyclic-import
-    from svnask.branches import questions as branches
-
-    return branches
 
 
 def of_file(file: BinaryIO | None) -> int | None:
