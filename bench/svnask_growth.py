@@ -19,8 +19,7 @@ from bench.svnask_calls import python_words
 from dev import shapes
 from dev.running import Failed, Measured, measure
 from dev.tree import ROOT
-from svnask.cli.verbs import VERBS
-from svnask.cli.verbs.kept import KeptVerb
+from svnask.asking.verbs import HELP, verb_named
 
 # The shapes with their sizes.
 SHAPES: dict[Callable[[int], bytes], int] = {
@@ -61,12 +60,13 @@ class Positional(ArgumentParser):
 
 def questions(queries: Path) -> Iterator[list[str]]:
     """A question for each verb, and some more."""
-    for verb in VERBS:
-        if not isinstance(verb, KeptVerb):
+    for name in HELP:
+        verb = verb_named(name)
+        if verb.needs_history:
             parser = Positional()
             verb.arguments(parser)
             known = {**ARGUMENTS, "QUERIES": str(queries)}
-            yield [verb.name, *(known.get(name, name) for name in parser.names)]
+            yield [name, *(known.get(each, each) for each in parser.names)]
     yield from MORE
 
 

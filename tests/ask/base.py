@@ -16,7 +16,7 @@ from dev import running
 from dev.dumps import Properties, revision_properties
 from dev.tree import INTEROP, SVNASK, programs
 from svnask import History
-from svnask.asking import running as cli
+from svnask.cli import main
 from tests.base import FolderTest, ProgramTest
 
 Word = Union[str, Path]
@@ -70,7 +70,7 @@ def called(*words: Word, **variables: str) -> Done:
         with mock.patch.dict(os.environ, variables), contextlib.redirect_stdout(output), contextlib.redirect_stderr(
             said
         ):
-            status = cli.main([os.fspath(word) for word in words])
+            status = main.main([os.fspath(word) for word in words])
     finally:
         for number, handler in kept.items():
             signal.signal(number, handler)

@@ -12,8 +12,7 @@ from pathlib import Path
 from dev import running
 from dev.dumps import FILE, added, dump_of, first_lines
 from dev.tree import ROOT
-from svnask.asking import running as cli
-from svnask.cli.verbs import VERBS
+from svnask.asking.verbs import HELP
 from tests.ask import base
 
 DUMP = base.dump_of("branches")
@@ -94,7 +93,7 @@ class Command(base.Case):
             self.assertEqual((done.output, done.status in (1, 2)), (b"", True), words)
 
     def test_the_help_of_a_verb_needs_no_dump(self) -> None:
-        for verb in (*(each.name for each in VERBS), *cli.COMMANDS):
+        for verb in HELP:
             done = base.called(verb, "--help")
             self.assertEqual((done.status, done.said), (0, ""))
             front = "" if verb == "sources" else "SOURCE "

@@ -18,11 +18,11 @@ from dev import running
 from dev.dumps import DIR, Node, Source, added, changed, deleted, dump_of
 from dev.tree import ROOT
 from svnask import History, files
-from svnask.asking import running as cli
+from svnask.asking.parser import parser
+from svnask.asking.verbs import HELP
 from svnask.cli import command, completion
 from svnask.cli.completion import BASH, lines_for
-from svnask.cli.verbs import VERBS
-from svnask.cli.verbs.places import SegmentsVerb
+from svnask.cli.verbs.segments import SegmentsVerb
 from svnask.copy import branch_names as kept_branches
 from svnask.history.lives import lives_in
 from svnask.sources import cache
@@ -73,8 +73,7 @@ class CompletionTest(base.UtcTest):
 
 
 class NewVerb(SegmentsVerb):
-    name = "brand-new"
-    help = "a verb that is new"
+    """A verb that is new."""
 
     def arguments(self, parser: ArgumentParser) -> None:
         parser.add_argument("target", metavar="TARGET[@PEG]")
@@ -83,7 +82,7 @@ class NewVerb(SegmentsVerb):
 
 class Words(CompletionTest):
     def test_verbs_and_options_are_those_of_the_parser(self) -> None:
-        names = [*(verb.name for verb in VERBS), *cli.COMMANDS]
+        names = list(HELP)
         self.assertEqual(self.words(DUMP, ""), names)
         self.assertEqual(self.words(DUMP, "se"), ["segments", "serve"])
         self.assertIn("info\tthe dump: its format, revisions, dates and records", self.lines(DUMP, "i", shell="zsh"))
@@ -96,9 +95,12 @@ class Words(CompletionTest):
             self.assertIn(option, self.words(DUMP, "log", option[:4]))
 
     def test_a_new_verb_is_completed(self) -> None:
-        self.addCleanup(cli.parser.cache_clear)
-        with mock.patch.object(cli, "VERBS", [*VERBS, NewVerb()]):
-            cli.parser.cache_clear()
+        self.addCleanup(parser.cache_clear)
+        module = mock.Mock(VERB=NewVerb())
+        with mock.patch.dict(HELP, {"brand-new": "a verb that is new"}), mock.patch.dict(
+            sys.modules, {"svnask.cli.verbs.brand_new": module}
+        ):
+            parser.cache_clear()
             self.assertEqual(self.words(DUMP, "br"), ["branches", "brand-new"])
             self.assertEqual(self.words(DUMP, "brand-new", "--b"), ["--below", "--brand"])
             for words in (["tr"], ["--brand", "tr"]):

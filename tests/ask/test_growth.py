@@ -24,7 +24,8 @@ NAMES = ("branches", "merges", "renames", "values")
 # Runs the command, and kills it at a call of those by which a copy is written.
 KILLED = """
 import os, signal, sys
-from svnask import cli, strip
+from svnask.cli import main
+from svnask.copy import strip
 left = int(sys.argv.pop(1))
 
 def counted(call):
@@ -41,7 +42,7 @@ for place, name in (
     (strip.Stripper, "_put_revision"), (strip.Stripper, "_first_line"),
 ):
     setattr(place, name, counted(getattr(place, name)))
-sys.exit(cli.main())
+sys.exit(main.main())
 """
 
 

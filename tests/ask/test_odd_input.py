@@ -9,8 +9,8 @@ from unittest import mock
 from dev import running
 from dev.dumps import Dump, Revision, added, changed, copied, dump_of, mergeinfo
 from dev.tree import SVNASK
-from svnask.asking import running as cli
 from svnask.branches import questions as branches
+from svnask.cli import main
 from svnask.errors import Denied
 from svnask.history import lives
 from tests.ask import base
@@ -225,7 +225,7 @@ class Odd(base.Case):
             self.assertLessEqual(said.count("\n"), 1, (words, done))
 
     def test_a_fault_is_one_line(self) -> None:
-        with mock.patch.object(cli, "answer", side_effect=KeyError("lost\nline")):
+        with mock.patch.object(main, "tell", side_effect=KeyError("lost\nline")):
             done = base.called(DUMP, "log")
             self.assertEqual((done.status, done.output, done.said.count("\n")), (5, b"", 1))
             self.assertTrue(done.said.startswith("svnask: a fault of svnask: KeyError: "), done)

@@ -4,9 +4,9 @@ from __future__ import annotations
 from dev.tree import INTEROP
 from interop import outputs
 from svnask import History
-from svnask.asking import running as cli
-from svnask.cli.verbs import VERBS
-from svnask.cli.verbs.kept import KeptVerb
+from svnask.asking.parser import parser
+from svnask.asking.running import lines_of
+from svnask.asking.verbs import HELP, verb_named
 from svnask.errors import Error
 from tests.ask import base
 
@@ -16,8 +16,8 @@ PROJECTS = INTEROP / "projects.svnask"
 def output_of(history: History, arguments: list[str]) -> outputs.Output:
     """What svnask prints, in the form of a recorded output."""
     try:
-        words = cli.parser().parse_args(["DUMP"] + arguments)
-        return outputs.Output(arguments, 0, b"".join(cli.lines_of(history, words)))
+        words = parser(arguments[0]).parse_args(["DUMP"] + arguments)
+        return outputs.Output(arguments, 0, b"".join(lines_of(history, words)))
     except Error as error:
         return outputs.Output(arguments, error.status, str(error).partition(":")[0].encode())
 
@@ -41,4 +41,4 @@ class Outputs(base.Case):
                 done = base.called(base.dump_of("projects"), *wanted.arguments)
                 self.assertEqual((done.status, done.output + done.said.encode()), (wanted.status, wanted.text))
         asked = {each.arguments[0] for each in recorded}
-        self.assertEqual({verb.name for verb in VERBS if not isinstance(verb, KeptVerb)} - asked, {"ask"})
+        self.assertEqual({name for name in HELP if verb_named(name).needs_history} - asked, {"ask"})

@@ -33,14 +33,15 @@ ANSWERED = base.commands(
 ENDLESS = f"""
 import sys
 sys.path.insert(0, {str(ROOT / 'ask')!r})
-from svnask import cli
-tell = cli.tell
+from svnask.asking import running
+from svnask.cli import main
+tell = running.tell
 def endless(history, given, write):
     while given.verb == "graph":
         pass
     tell(history, given, write)
-cli.tell = endless
-sys.exit(cli.main(sys.argv[3:]))
+running.tell = endless
+sys.exit(main.main(sys.argv[3:]))
 """
 
 

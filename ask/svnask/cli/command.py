@@ -2,9 +2,11 @@
 from __future__ import annotations
 
 import gc
+import importlib
 import signal
 import sys
 import time
+from types import ModuleType
 from typing import NoReturn
 
 from svnask.serving.client import status_of_server
@@ -16,22 +18,22 @@ COMPLETE = "--complete"
 
 
 def main() -> int:
-    # pylint: disable=import-outside-toplevel
     if sys.argv[1:2] == [COMPLETE]:
         begun = time.monotonic()
         gc.set_threshold(*RARELY)
-        from svnask.cli.completion import complete
-
-        return complete(sys.argv[2:], begun)
+        return int(part("completion").complete(sys.argv[2:], begun))
     status = status_of_server(sys.argv[1:])
     if status is None:
         # What is read of a history lives as long as the question. To look through it for cycles again and again took a
         # quarter of the time.
         gc.set_threshold(*RARELY)
-        from svnask.asking.running import main as answer
-
-        status = answer()
+        status = int(part("main").main())
     return status
+
+
+def part(name: str) -> ModuleType:
+    """Import a module of this package, where a server does not answer."""
+    return importlib.import_module("svnask.cli." + name)
 
 
 def run() -> NoReturn:

@@ -21,7 +21,8 @@ import urllib.parse
 from collections.abc import Iterable, Iterator, Sequence
 from typing import NamedTuple
 
-from svnask.asking.running import Parser, parser
+from svnask.asking.parser import parser, parser_of_verb
+from svnask.asking.verbs import HELP
 from svnask.asking.words import OF_ALL, OF_SVN, is_option, joined
 from svnask.copy.branch_names import kept_branches
 from svnask.copy.store import Front
@@ -170,19 +171,14 @@ def typed_of(words: Sequence[str]) -> Typed:
     return Typed(plain, option, has_ended, top, split_access(joined(words))[0])
 
 
-def verbs() -> dict[str, Parser]:
-    """The parser of each verb."""
-    return next(dict(each.choices) for each in parser().actions if isinstance(each.choices, dict))
-
-
 def described(names: Iterable[str]) -> list[Word]:
     """Verbs, with their help."""
-    return [Word(name, verbs()[name].description or "") for name in names]
+    return [Word(name, HELP[name]) for name in names]
 
 
 def actions_of(verb: str) -> list[argparse.Action]:
     """What may follow a verb, or stand before one."""
-    return parser().actions if not verb else verbs()[verb].actions if verb in verbs() else []
+    return parser().actions if not verb else parser_of_verb(verb).actions if verb in HELP else []
 
 
 def option_action(verb: str, name: str) -> argparse.Action | None:
@@ -227,7 +223,7 @@ class Completion:
         if not typed.plain:
             return Found([*map(Word, self._urls(part, False)), *described((*OF_SVN, OF_ALL))], True)
         if not typed.verb:
-            return Found(described(verbs()))
+            return Found(described(HELP))
         possible = [each for each in actions_of(typed.verb) if not each.option_strings]
         taken = (each for at, each in enumerate(possible) if at == typed.arguments or each.nargs == "*")
         return self._values(next(taken, None), typed, part)

@@ -24,13 +24,15 @@ from types import TracebackType
 from typing import IO, Any
 
 from svnask import __version__, files
-from svnask.asking import running as cli
-from svnask.cli.verbs.kept import KeptVerb
+from svnask.asking import running
+from svnask.asking.open_source import OpenSource, place_of
+from svnask.asking.parser import parsed
+from svnask.asking.verb import object_line
+from svnask.asking.verbs import verb_named
 from svnask.engine import talk as engine
-from svnask.errors import Damaged, Error, Failed
+from svnask.errors import Error, Failed
 from svnask.serving import sockets
 from svnask.serving.client import CARRIED, SAME, connection_of
-from svnask.serving.kept import Kept, place_of
 from svnask.sources.subversion import Access
 
 # How long a request may take to come, and how long it may be.
@@ -49,29 +51,16 @@ def serve(given: argparse.Namespace) -> None:
     top = files.cache_folder()
     if given.dump == "-" or top is None:
         raise Failed("only what is kept in a cache can be served, and no pipe", 2)
-    with Kept(given) as kept:
-        prepare(kept, given)
+    with closing(running.source_in(given)) as named:
+        place = place_of(named)
+    with OpenSource(given) as source:
+        source.asked(given, lambda history: running.check(history, given.dump))
         os.makedirs(top, mode=0o700, exist_ok=True)
-        with sockets.opened(top) as folder, Server(kept, folder) as server:
-            line = cli.object_line({"source": kept.place}) if given.json else b"serving %s\n" % os.fsencode(kept.place)
+        with sockets.opened(top) as folder, Server(source, place, folder) as server:
+            line = object_line({"source": place}) if given.json else b"serving %s\n" % os.fsencode(place)
             sys.stdout.buffer.write(line)
             sys.stdout.buffer.flush()
             server.run(given.stop_after)
-
-
-def prepare(kept: Kept, given: argparse.Namespace) -> None:
-    """Has the history be read. What the cache has of it is made anew where it is refused."""
-    for is_again in (False, True):
-        with closing(cli.source_in(given)) as source:
-            history = kept.updated(given, source)
-        try:
-            cli.check(history, given.dump)
-            return
-        except cli.Stale as stale:
-            history.forget()
-            kept.forget()
-            if is_again:
-                raise Damaged from stale
 
 
 def stop(dump: str, access: Access = Access()) -> None:
@@ -146,9 +135,9 @@ class Caller:
 class Server:
     """A socket, and the history about which is asked there."""
 
-    def __init__(self, kept: Kept, folder: int) -> None:
-        self._kept = kept
-        self._folder, self._name = folder, sockets.socket_name(kept.place)
+    def __init__(self, source: OpenSource, place: str, folder: int) -> None:
+        self._source, self._place = source, place
+        self._folder, self._name = folder, sockets.socket_name(place)
         # What those of a caller have to be, before the program has its own.
         self._variables = {name: os.environ.get(name) for name in SAME}
         os.environ["SVNHIST_LIVE"] = os.path.abspath(engine.find_engine())
@@ -168,10 +157,10 @@ class Server:
         with contextlib.suppress(OSError):
             os.unlink(self._name, dir_fd=self._folder)
         self._socket.close()
-        self._kept.rest()
+        self._source.rest()
         # A question that is not answered yet fails now, and gives the history free.
         self._lock.acquire(timeout=PATIENCE)
-        self._kept.forget()
+        self._source.forget()
         for each in (self._ended, self._end, self._stopping):
             if each is not None:
                 each.close()
@@ -231,40 +220,42 @@ class Server:
                 sent = socket.send_fds(connection, [text], [output.fileno()])
                 connection.sendall(text[sent:])
 
-    def _told_unless_gone(self, connection: socket.socket, words: list[str], output: IO[bytes]) -> cli.Ending | None:
+    def _told_unless_gone(
+        self, connection: socket.socket, words: list[str], output: IO[bytes]
+    ) -> running.Ending | None:
         """How a question ends. None also where the caller went meanwhile."""
         try:
-            with Caller(connection, self._kept.rest):
+            with Caller(connection, self._source.rest):
                 return self._told(words, output)
         except Gone:
             # The history may have been at anything.
-            self._kept.forget()
+            self._source.forget()
             return None
 
-    def _told(self, words: list[str], output: IO[bytes]) -> cli.Ending | None:
+    def _told(self, words: list[str], output: IO[bytes]) -> running.Ending | None:
         """How a question ends. None where that is for the caller to find out: it is no question to this server, or
         something failed."""
         notes = io.StringIO()
         try:
-            given = cli.parsed(words)
+            given = parsed(words)
             if not is_for_server(given):
                 return None
-            with closing(cli.source_in(given)) as source:
-                if place_of(source) != self._kept.place:
+            with closing(running.source_in(given)) as source:
+                if place_of(source) != self._place:
                     return None
-                history = self._kept.updated(given, source)
+                history = self._source.updated(given, source)
                 with contextlib.redirect_stderr(notes):
-                    cli.tell(history, given, output.write)
-            ending = cli.Ending(0, [])
+                    running.tell(history, given, output.write)
+            ending = running.Ending(0, [])
         except Error as error:
-            ending = cli.ending_of(error)
-        except cli.Stale:
-            self._kept.forget()
+            ending = running.ending_of(error)
+        except running.Stale:
+            self._source.forget()
             return None
         except SystemExit:
             return None
         output.flush()
-        return cli.Ending(ending.status, noted(notes) + ending.said) if ending.status in (0, 1, 2) else None
+        return running.Ending(ending.status, noted(notes) + ending.said) if ending.status in (0, 1, 2) else None
 
 
 def noted(notes: io.StringIO) -> list[str]:
@@ -275,7 +266,7 @@ def noted(notes: io.StringIO) -> list[str]:
 def is_for_server(given: argparse.Namespace) -> bool:
     """Whether a call is a question that a server answers: one that names no file of the caller's own, as /dev/stdin
     is."""
-    if given.verb in cli.COMMANDS or isinstance(cli.verb_of(given), KeptVerb) or given.no_cache:
+    if not verb_named(given.verb).needs_history or given.no_cache:
         return False
     paths = [given.dump] if "://" not in given.dump else []
     names = [name for name in (*paths, vars(given).get("queries"), vars(given).get("output")) if name]

@@ -7,17 +7,15 @@ import shlex
 import signal
 import sys
 from collections.abc import Iterator
-from contextlib import closing
 
-from svnask.asking import running as cli
-from svnask.cli.verbs import VERBS
-from svnask.cli.verbs.kept import KeptVerb
-from svnask.errors import Damaged, Error, Usage
-from svnask.serving.kept import Kept
+from svnask.asking import running
+from svnask.asking.open_source import OpenSource
+from svnask.asking.parser import parsed
+from svnask.asking.verbs import HELP, verb_named
+from svnask.errors import Error, Usage
 from svnask.texts import say
 
-HELP = "type a question, as after 'svnask SOURCE': log trunk; or VERB --help, or exit\nverbs: %s\n"
-QUESTIONS = [verb.name for verb in VERBS if not isinstance(verb, KeptVerb)]
+ABOUT = "type a question, as after 'svnask SOURCE': log trunk; or VERB --help, or exit\nverbs: %s\n"
 
 
 def run(given: argparse.Namespace) -> int:
@@ -30,11 +28,11 @@ def run(given: argparse.Namespace) -> int:
     if "://" not in given.dump:
         given.dump = os.path.abspath(given.dump)
     status = 0
-    with Kept(given) as kept:
+    with OpenSource(given) as source:
         for line in lines():
             if line.strip() in ("exit", "quit"):
                 break
-            status = asked(kept, given, line) or status
+            status = asked(source, given, line) or status
     return status
 
 
@@ -52,20 +50,22 @@ def lines() -> Iterator[str]:
         except EOFError:
             sys.stdout.write("\n")
             return
-        except cli.Stopped as stopped:
+        except running.Stopped as stopped:
             if stopped.args[0] != signal.SIGINT:
                 raise
             sys.stdout.write("\n")
 
 
-def asked(kept: Kept, given: argparse.Namespace, line: str) -> int:
+def asked(source: OpenSource, given: argparse.Namespace, line: str) -> int:
     """The status of one question."""
     try:
         words = shlex.split(line.rstrip("\n"))
         if words in (["help"], ["?"]):
-            sys.stdout.write(HELP % ", ".join(QUESTIONS))
+            sys.stdout.write(ABOUT % ", ".join(name for name in HELP if verb_named(name).needs_history))
         elif words:
-            tell(kept, question(given, words))
+            asking = question(given, words)
+            source.asked(asking, lambda history: running.tell(history, asking, sys.stdout.buffer.write))
+            sys.stdout.buffer.flush()
         sys.stdout.flush()
     except SystemExit:
         # The help of a verb was printed.
@@ -74,11 +74,11 @@ def asked(kept: Kept, given: argparse.Namespace, line: str) -> int:
         return failed(Usage(f"{error}: '{line.rstrip()}'"))
     except Error as error:
         return failed(error)
-    except cli.Stopped as stopped:
+    except running.Stopped as stopped:
         # On a terminal it ends the question alone. What is left of the answer is not read.
         if stopped.args[0] != signal.SIGINT or not sys.stdin.isatty():
             raise
-        kept.rest()
+        source.rest()
         return 128 + int(signal.SIGINT)
     return 0
 
@@ -86,30 +86,15 @@ def asked(kept: Kept, given: argparse.Namespace, line: str) -> int:
 def question(given: argparse.Namespace, words: list[str]) -> argparse.Namespace:
     options = ["--json"] * given.json + ["--no-cache"] * given.no_cache + ["--offline"] * given.offline
     options += [f"--below={given.below}"] * bool(given.below)
-    found = cli.parsed([*options, given.dump, *words])
-    if found.verb in cli.COMMANDS or isinstance(cli.verb_of(found), KeptVerb):
+    found = parsed([*options, given.dump, *words])
+    if not verb_named(found.verb).needs_history:
         raise Usage(f"'{found.verb}' is not a question")
     found.access = given.access
     return found
 
 
-def tell(kept: Kept, asking: argparse.Namespace) -> None:
-    """Prints an answer. What the cache has of the dump is made anew where it is refused."""
-    for _ in range(2):
-        with closing(cli.source_in(asking)) as source:
-            history = kept.updated(asking, source)
-        try:
-            cli.tell(history, asking, sys.stdout.buffer.write)
-            sys.stdout.buffer.flush()
-            return
-        except cli.Stale:
-            history.forget()
-            kept.forget()
-    raise Damaged
-
-
 def failed(error: Error) -> int:
     sys.stdout.flush()
-    ending = cli.ending_of(error)
+    ending = running.ending_of(error)
     say(*ending.said)
     return ending.status

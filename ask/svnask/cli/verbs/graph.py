@@ -8,8 +8,7 @@ import tempfile
 from argparse import ArgumentParser, Namespace
 from collections.abc import Iterable, Iterator
 
-from svnask.cli.verbs.base import Object, Verb, add_patterns, counted, patterns_of, shown
-from svnask.cli.verbs.branches import object_of_life
+from svnask.asking.verb import Object, Verb, add_patterns, counted, object_of_life, patterns_of, shown
 from svnask.errors import Failed, Usage
 from svnask.history.open_history import OpenHistory
 from svnask.history.targets import known, revision_of
@@ -22,9 +21,6 @@ WIDTH, HEIGHT, FEWEST = graph.MOST_COLUMNS * layout.NARROWEST, 1280, 200
 
 
 class GraphVerb(Verb):
-    name = "graph"
-    help = "a picture of branches and tags, their copies and merges, as SVG for a browser"
-
     def arguments(self, parser: ArgumentParser) -> None:
         add_patterns(parser, "**")
         parser.add_argument("-o", "--output", metavar="FILE", help="where to write it, in place of the standard output")
@@ -143,3 +139,6 @@ def mode_of(name: str) -> int:
         mask = os.umask(0)
         os.umask(mask)
         return 0o666 & ~mask
+
+
+VERB = GraphVerb()

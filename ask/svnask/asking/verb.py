@@ -1,14 +1,17 @@
-"""What all verbs of the command have in common."""
+"""A verb of the command, and what several have in common."""
 from __future__ import annotations
 
+import json
 import re
+import sys
 from argparse import ArgumentParser, ArgumentTypeError, Namespace
-from collections.abc import Iterator
+from collections.abc import Iterable, Iterator
 from typing import Any
 
 from svnask.copy.changes import Change
 from svnask.copy.store import Record
 from svnask.digits import number
+from svnask.history.lives import Life
 from svnask.history.open_history import OpenHistory
 from svnask.history.targets import decoded, pattern_of
 from svnask.paths import Place
@@ -19,10 +22,10 @@ Object = dict[str, Any]
 class Verb:
     """A verb of the command."""
 
-    name = ""
-    help = ""
     # How it is called, if not after a SOURCE.
     usage: str | None = None
+    # Whether it is a question about an open history. Others run by themselves.
+    needs_history = True
     # Whether a dump that is refused has no answer.
     judges = True
 
@@ -36,6 +39,18 @@ class Verb:
     def objects(self, history: OpenHistory, given: Namespace) -> Iterator[Object]:
         """The same for a script, one object a line."""
         raise NotImplementedError
+
+    def run(self, given: Namespace) -> int:
+        """Do what needs no open history, and return the status."""
+        raise NotImplementedError
+
+
+def write_all(pieces: Iterable[bytes]) -> int:
+    """Write to the standard output, and return the status."""
+    for piece in pieces:
+        sys.stdout.buffer.write(piece)
+    sys.stdout.buffer.flush()
+    return 0
 
 
 def patterns_of(history: OpenHistory, given: Namespace) -> list[bytes]:
@@ -100,3 +115,20 @@ def object_of_record(record: Record) -> Object:
     if record.mergeinfo:
         found["mergeinfo"] = shown(record.mergeinfo.text)
     return found
+
+
+def object_of_life(life: Life) -> Object:
+    found: Object = {"path": decoded(life.path), "first": life.first, "last": life.last, "is_alive": life.is_alive}
+    if life.source is not None:
+        found["from"] = object_of_place(life.source)
+    return found
+
+
+# What JSON need not escape, but rules a terminal.
+HIGH_CONTROL = re.compile("[\x7f-\x9f]")
+
+
+def object_line(found: Object) -> bytes:
+    """An object as JSON, without any control character."""
+    line = json.dumps(found, ensure_ascii=False)
+    return HIGH_CONTROL.sub(lambda each: "\\u%04x" % ord(each[0]), line).encode("utf-8", "backslashreplace") + b"\n"

@@ -4,17 +4,16 @@ from __future__ import annotations
 from argparse import ArgumentParser, Namespace
 from collections.abc import Iterator
 
-from svnask.cli.verbs.base import Object, Verb, add_patterns, object_of_place, object_of_revision, patterns_of, shown
+from svnask.asking.verb import Object, Verb, object_of_place, object_of_revision
 from svnask.engine.queries import Mergeinfo
-from svnask.errors import Denied, Unsound, Usage
+from svnask.errors import Denied, Usage
 from svnask.history.open_history import OpenHistory, one
-from svnask.history.targets import decoded, encoded, known, place_of, range_of, target_of
+from svnask.history.targets import decoded, known, place_of, range_of, target_of
 from svnask.log import selection as log
 from svnask.log.forms import Wanted, printed
 from svnask.log.plain import PlainForm
 from svnask.merges import diagram
 from svnask.merges import show_revs as mergeinfo
-from svnask.merges.soundness import findings
 
 # The options that need another one, in the order in which `svn` judges them.
 OF_LOG = (("quiet", "--quiet (-q)"), ("verbose", "--verbose (-v)"), ("incremental", "--incremental"))
@@ -30,9 +29,6 @@ OF_RANGES = "only these revisions of the source"
 
 
 class MergeinfoVerb(Verb):
-    name = "mergeinfo"
-    help = "the mergeinfo of a path, or what 'svn mergeinfo' prints of a source and a target"
-
     def arguments(self, parser: ArgumentParser) -> None:
         parser.add_argument("source", metavar="PATH[@PEG]", help="a path; the source, if there is a target")
         parser.add_argument("target", metavar="TARGET[@PEG]", nargs="?")
@@ -131,25 +127,4 @@ def object_of_summary(found: diagram.Summary) -> Object:
     }
 
 
-class CheckMergeinfoVerb(Verb):
-    name = "check-mergeinfo"
-    help = "what is wrong with values of svn:mergeinfo, with status 1 if anything is"
-
-    def arguments(self, parser: ArgumentParser) -> None:
-        add_patterns(parser, "all paths")
-
-    def text(self, history: OpenHistory, given: Namespace) -> Iterator[bytes]:
-        found = findings(history, patterns_of(history, given))
-        for each in found:
-            named = b"" if each.source is None else b"%s:%s " % (each.source, each.ranges)
-            yield b"%s\t%s%s\n" % (each.path, named, encoded(each.reason))
-        if found:
-            raise Unsound
-
-    def objects(self, history: OpenHistory, given: Namespace) -> Iterator[Object]:
-        found = findings(history, patterns_of(history, given))
-        for each in found:
-            named = {"source": shown(each.source), "ranges": each.ranges.decode("ascii") or None}
-            yield {"path": decoded(each.path), **named, "reason": each.reason}
-        if found:
-            raise Unsound
+VERB = MergeinfoVerb()

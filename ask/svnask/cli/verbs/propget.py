@@ -5,7 +5,7 @@ from argparse import ArgumentParser, Namespace
 from collections.abc import Iterator
 from typing import NamedTuple
 
-from svnask.cli.verbs.base import Object, Verb, shown
+from svnask.asking.verb import Object, Verb, shown
 from svnask.engine.queries import Where
 from svnask.errors import Denied, Usage
 from svnask.history.open_history import OpenHistory
@@ -29,9 +29,6 @@ class Found(NamedTuple):
 
 
 class PropgetVerb(Verb):
-    name = "propget"
-    help = "the svn:mergeinfo of paths, as 'svn propget' prints it"
-
     def arguments(self, parser: ArgumentParser) -> None:
         parser.add_argument("property", metavar=MERGEINFO)
         parser.add_argument(
@@ -86,3 +83,6 @@ def found_at(explicit: Explicit, target: Target, is_recursive: bool) -> list[Fou
     if text is None:
         raise Denied("E200000", f"Property '{MERGEINFO}' not found on '{decoded(target.path)}'")
     return [Found(target.path, text)]
+
+
+VERB = PropgetVerb()

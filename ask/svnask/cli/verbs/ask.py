@@ -5,7 +5,7 @@ from argparse import ArgumentParser, Namespace
 from collections.abc import Iterator
 
 from svnask.asking.refusals import bad_query
-from svnask.cli.verbs.base import Object, Verb
+from svnask.asking.verb import Object, Verb
 from svnask.engine.queries import Answer, Line
 from svnask.errors import Failed
 from svnask.history.open_history import OpenHistory
@@ -13,9 +13,6 @@ from svnask.history.targets import decoded
 
 
 class AskVerb(Verb):
-    name = "ask"
-    help = "the answers to a list of queries, each line with its query"
-
     def arguments(self, parser: ArgumentParser) -> None:
         parser.add_argument("queries", metavar="QUERIES", help="a file of queries as svnhist takes them")
 
@@ -49,3 +46,6 @@ class AskVerb(Verb):
             if answer.status == "bad-query":
                 found["reason"] = bad_query(line)
             yield found
+
+
+VERB = AskVerb()

@@ -6,14 +6,14 @@ from argparse import SUPPRESS, Action, ArgumentParser, Namespace
 from collections.abc import Iterator
 from typing import Any
 
-from svnask.cli.verbs.base import Object, Verb, object_of_revision
+from svnask.asking.verb import Object, Verb, object_of_revision
 from svnask.digits import number
 from svnask.errors import Denied, Failed, Usage
 from svnask.history.open_history import OpenHistory
-from svnask.history.targets import encoded, known, paths_below, ranges_of, revision_of, target_of
+from svnask.history.targets import encoded, paths_below, ranges_of, target_of
 from svnask.log import selection as log
-from svnask.log.forms import AUTHOR, DATE, SHOWN, Entry, Form, Wanted, as_wanted, entries, printed
-from svnask.log.plain import RULE, PlainForm
+from svnask.log.forms import AUTHOR, DATE, SHOWN, Form, Wanted, entries, printed
+from svnask.log.plain import PlainForm
 from svnask.log.search import Glob, Group, folded
 from svnask.log.xml import XmlForm
 from svnask.merged_log import selection as merged_log
@@ -29,9 +29,6 @@ NO_CONTENTS = "svnask has no contents of files, so --diff is for 'svn log --diff
 
 
 class LogVerb(Verb):
-    name = "log"
-    help = "the log of a path, as 'svn log' prints it"
-
     def arguments(self, parser: ArgumentParser) -> None:
         parser.add_argument("target", metavar="PATH[@PEG]", nargs="?", default="", help="/ if none is given")
         parser.add_argument("paths", metavar="PATH", nargs="*", help="paths below the first one: the log is of these")
@@ -161,20 +158,4 @@ def wanted_of(given: Namespace) -> Wanted:
     return Wanted(names, given.verbose, groups)
 
 
-class ShowVerb(Verb):
-    name = "show"
-    help = "a revision, as 'svn log -v -c REV' prints it"
-
-    def arguments(self, parser: ArgumentParser) -> None:
-        parser.add_argument("revision", metavar="REV", help="a number, HEAD or a {DATE}")
-
-    def revision(self, history: OpenHistory, given: Namespace) -> int:
-        history.check()
-        return known(history, revision_of(history, given.revision))
-
-    def text(self, history: OpenHistory, given: Namespace) -> Iterator[bytes]:
-        revision = as_wanted(history.revision(self.revision(history, given)), None)
-        yield PlainForm().entry(Entry(revision, history.changes(revision.number))) + RULE
-
-    def objects(self, history: OpenHistory, given: Namespace) -> Iterator[Object]:
-        yield object_of_revision(history, self.revision(history, given))
+VERB = LogVerb()

@@ -4,8 +4,8 @@ from __future__ import annotations
 from argparse import ArgumentParser, Namespace
 from collections.abc import Iterator
 
+from svnask.asking.verb import Object, Verb, object_of_revision
 from svnask.branches.gained import Gained, gained
-from svnask.cli.verbs.base import Object, Verb, object_of_revision
 from svnask.history.open_history import OpenHistory
 from svnask.history.targets import target_of
 from svnask.log import selection as log
@@ -14,9 +14,6 @@ from svnask.log.plain import PlainForm, summary_of
 
 
 class NewVerb(Verb):
-    name = "new"
-    help = "the revisions that one branch or tag has, in its history or merged, and another one lacks"
-
     def arguments(self, parser: ArgumentParser) -> None:
         parser.add_argument("before", metavar="FROM[@PEG]", help="the branch or tag that lacks them")
         parser.add_argument("after", metavar="TO[@PEG]", help="the branch or tag that has them")
@@ -36,3 +33,6 @@ class NewVerb(Verb):
     def objects(self, history: OpenHistory, given: Namespace) -> Iterator[Object]:
         for each in self.gained(history, given):
             yield {**object_of_revision(history, each.rev), "how": each.how}
+
+
+VERB = NewVerb()

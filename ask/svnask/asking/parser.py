@@ -1,0 +1,129 @@
+"""The arguments of the command."""
+from __future__ import annotations
+
+import argparse
+import difflib
+import functools
+import os
+import re
+from typing import Any, NoReturn
+
+from svnask import __version__
+from svnask.asking.verbs import HELP, verb_named
+from svnask.asking.words import OF_ALL, joined, ordered, places, with_source
+from svnask.errors import Usage
+from svnask.sources.access import REACHED, REACHED_ALONE, split_access
+from svnask.sources.subversion import Access
+
+# What the parser says of a word that is no verb.
+NO_VERB = re.compile("argument VERB: invalid choice: '(.*)' \\(choose from", re.DOTALL)
+
+
+# What it says of arguments that are not there.
+MISSING = "the following arguments are required: "
+
+
+ABOUT = """\
+Answers a question about the history of a Subversion repository, and prints
+what 'svn' would print. SOURCE is read once, and later only what is new."""
+
+
+EXAMPLES = f"""\
+'svnask VERB --help' says what a verb takes. Examples:
+  svnask https://svn.example.org/repo log -v -l 5 trunk
+  svnask /srv/repo mergeinfo --show-revs eligible trunk branches/two
+  svnadmin dump -q /srv/repo | svnask - branches
+
+These options are passed on to svn:
+  {" ".join(sorted(REACHED_ALONE))}
+  {" ".join(sorted(REACHED)[:3])}
+  {" ".join(sorted(REACHED)[3:])}"""
+
+
+class Parser(argparse.ArgumentParser):
+    """A parser that tells of wrong arguments in one line, and takes no part of the name of an option for it."""
+
+    def __init__(self, **settings: Any) -> None:
+        super().__init__(allow_abbrev=False, **settings)
+
+    @property
+    def actions(self) -> list[argparse.Action]:
+        """The options and the arguments that it takes."""
+        return self._actions
+
+    def _get_values(self, action: argparse.Action, arg_strings: list[str]) -> Any:
+        # Before Python 3.12 the value -- of an option was taken for the end of the options.
+        if action.option_strings and arg_strings == ["--"]:
+            return self._get_value(action, "--")
+        return super()._get_values(action, arg_strings)
+
+    def error(self, message: str) -> NoReturn:
+        found = NO_VERB.match(message)
+        help_of = f"{self.prog.replace(' SOURCE', '')} --help"
+        if message.startswith(MISSING):
+            message += f": '{help_of}' says what they are"
+        raise Usage(about_verb(found[1]) if found else message)
+
+
+def about_verb(word: str) -> str:
+    """What is said of a word that is no verb."""
+    near = difflib.get_close_matches(word, HELP, 1)
+    return f"there is no verb '{word}': " + (f"is '{near[0]}' meant?" if near else "svnask --help lists them")
+
+
+@functools.lru_cache(maxsize=None)
+def parser(asked: str | None = None) -> Parser:
+    """The parser of the command line, with the arguments of the verb that is asked."""
+    made = Parser(
+        prog="svnask", description=ABOUT, epilog=EXAMPLES, formatter_class=argparse.RawDescriptionHelpFormatter
+    )
+    made.add_argument(
+        "dump", metavar="SOURCE", help="a dump, - for one from the standard input, the folder of a repository, or a URL"
+    )
+    made.add_argument("--json", action="store_true", help="print one object per line, for scripts")
+    made.add_argument("--no-cache", action="store_true", help="read the source anew, and keep nothing of it")
+    made.add_argument("--offline", action="store_true", help="answer from what is kept, without asking the repository")
+    made.add_argument(
+        "--below", metavar="PATH", default="", help="have targets and patterns begin at a path of the source"
+    )
+    made.add_argument("-V", "--version", action="version", version="svnask " + __version__)
+    verbs = made.add_subparsers(dest="verb", metavar="VERB", required=True, parser_class=Parser)
+
+    for name, about in HELP.items():
+        below = verbs.add_parser(name, help=about, description=about)
+        for option in ("--json", "--no-cache", "--offline"):
+            below.add_argument(option, action="store_true", default=argparse.SUPPRESS, help=argparse.SUPPRESS)
+        below.add_argument("--below", metavar="PATH", default=argparse.SUPPRESS, help=argparse.SUPPRESS)
+        if name == asked:
+            verb = verb_named(name)
+            below.usage = verb.usage
+            verb.arguments(below)
+    return made
+
+
+def parser_of_verb(name: str) -> Parser:
+    """The parser of a verb."""
+    found: Parser = next(each.choices[name] for each in parser(name).actions if isinstance(each.choices, dict))
+    return found
+
+
+def parsed(words: list[str]) -> argparse.Namespace:
+    """What a command line says. `SystemExit` where it is a call for help, which was printed."""
+    access, left = split_access(joined(words))
+    ready = with_source(left, HELP)
+    need_source(ready)
+    asked = next((ready[at] for at in places(ready)[1:2] if ready[at] in HELP), None)
+    return parser(asked).parse_args(ordered(ready), argparse.Namespace(access=Access(access)))
+
+
+def need_source(words: list[str]) -> None:
+    """Refuses words in which a verb stands where a source should, if there is no file of that name."""
+    plain = [words[at] for at in places(words)[:2]]
+    if (
+        plain
+        and plain[0] in HELP
+        and plain[0] != OF_ALL
+        and not set(plain[1:]) & set(HELP)
+        and not os.path.lexists(plain[0])
+    ):
+        raise Usage(f"a source is missing: svnask SOURCE {plain[0]} ..")

@@ -1,0 +1,40 @@
+"""The verbs by their names. Each stands in `svnask.cli.verbs`, by its name, and is imported when it is asked."""
+from __future__ import annotations
+
+import importlib
+
+from svnask.asking.verb import Verb
+
+# The name of each verb, and its help.
+HELP = {
+    "log": "the log of a path, as 'svn log' prints it",
+    "show": "a revision, as 'svn log -v -c REV' prints it",
+    "mergeinfo": "the mergeinfo of a path, or what 'svn mergeinfo' prints of a source and a target",
+    "check-mergeinfo": "what is wrong with values of svn:mergeinfo, with status 1 if anything is",
+    "propget": "the svn:mergeinfo of paths, as 'svn propget' prints it",
+    "where": "where a path was in another revision",
+    "segments": "where a path was in all revisions, the newest first",
+    "heirs": "each path of a later revision that comes from a path, itself or by copies, and the way there",
+    "branches": "each life of a branch or a tag: its revisions, where it came from, and its last change",
+    "contains": "the branches and tags of HEAD that have a revision, in their history or merged",
+    "unmerged": "what is still to be merged from each branch, as 'svn mergeinfo --show-revs eligible' says",
+    "new": "the revisions that one branch or tag has, in its history or merged, and another one lacks",
+    "changed-tags": "what happened to tags since they were made: changed, deleted, renamed, made again",
+    "graph": "a picture of branches and tags, their copies and merges, as SVG for a browser",
+    "record": "the record of a number, as in '16 NoParent at record 162'",
+    "byte": "what stands at an offset of the dump, as in '4 Length at byte 5930'",
+    "info": "the dump: its format, revisions, dates and records",
+    "ask": "the answers to a list of queries, each line with its query",
+    "update": "read what is new in the source",
+    "forget": "remove what is kept of the source",
+    "sources": "list the sources of which something is kept",
+    "serve": "keep the history open, and answer the questions of other calls",
+    "stop": "end a 'serve' that runs",
+    "shell": "answer question after question, one per line",
+}
+
+
+def verb_named(name: str) -> Verb:
+    """Import a verb."""
+    verb: Verb = importlib.import_module("svnask.cli.verbs." + name.replace("-", "_")).VERB
+    return verb

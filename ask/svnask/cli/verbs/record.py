@@ -1,0 +1,40 @@
+"""`record`, `byte` and `info`: what stands in the dump itself."""
+from __future__ import annotations
+
+from argparse import ArgumentParser, Namespace
+from collections.abc import Iterator
+
+from svnask.asking.refusals import about_record
+from svnask.asking.verb import Object, Verb, counted, object_of_record
+from svnask.copy.store import Record
+from svnask.errors import Failed
+from svnask.history.open_history import OpenHistory
+from svnask.history.targets import encoded
+
+
+def described(history: OpenHistory, record: Record) -> Iterator[bytes]:
+    yield encoded(about_record(record)) + b"\n"
+    yield from (b"  " + line + b"\n" for line in history.header(record.at))
+
+
+class RecordVerb(Verb):
+    judges = False
+
+    def arguments(self, parser: ArgumentParser) -> None:
+        parser.add_argument("number", metavar="K", type=counted, help="the number of a record")
+
+    def record(self, history: OpenHistory, given: Namespace) -> Record:
+        for _, record in history.blocks():
+            if record is not None and record.number == given.number:
+                return record
+        has = "the dump has %d" if history.is_whole else "%d could be read of the dump"
+        raise Failed("there is no record %d: %s" % (given.number, has % history.index.records), 1)
+
+    def text(self, history: OpenHistory, given: Namespace) -> Iterator[bytes]:
+        return described(history, self.record(history, given))
+
+    def objects(self, history: OpenHistory, given: Namespace) -> Iterator[Object]:
+        yield object_of_record(self.record(history, given))
+
+
+VERB = RecordVerb()
