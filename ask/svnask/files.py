@@ -5,6 +5,9 @@ import errno
 import os
 import stat
 
+# How the names of the sockets of servers begin.
+SOCKET = "socket-"
+
 
 def opener(path: str, flags: int) -> int:
     """Opens a file for `open`, without waiting. `OSError` where it is a pipe, or anything else but a regular file."""

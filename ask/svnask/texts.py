@@ -40,3 +40,11 @@ def drop(stream: IO[str]) -> None:
     """Has what could not be written not be tried again at the end, where Python would change the status."""
     with suppress(OSError, ValueError):
         os.dup2(os.open(os.devnull, os.O_WRONLY), stream.fileno())
+
+
+def encoded(text: str) -> bytes:
+    return text.encode("utf-8", "surrogateescape")
+
+
+def decoded(text: bytes) -> str:
+    return text.decode("utf-8", "surrogateescape")

@@ -272,7 +272,7 @@ class Finding(FolderTest):
 
     def test_where_it_is_looked_for(self) -> None:
         beside = {"SVNHIST": str(self.program("a", "svnhist")), "PATH": str(self.folder / "b")}
-        with mock.patch.dict(os.environ), mock.patch.object(engine, "HERE", str(self.folder / "c" / "ask" / "svnask")):
+        with mock.patch.dict(os.environ), mock.patch.object(engine, "MODULES", str(self.folder / "c" / "ask")):
             os.environ.pop("SVNHIST_LIVE", None)
             os.environ.pop("SVNHIST", None)
             self.assertRaisesRegex(Failed, "SVNHIST_LIVE", self.found, **beside)
@@ -293,7 +293,7 @@ class Finding(FolderTest):
         )
         for modules, programs in layouts:
             program = self.program(*programs.split("/"), "svnhist-live")
-            with mock.patch.dict(os.environ), mock.patch.object(engine, "HERE", str(self.folder / modules / "svnask")):
+            with mock.patch.dict(os.environ), mock.patch.object(engine, "MODULES", str(self.folder / modules)):
                 os.environ.pop("SVNHIST_LIVE", None)
                 os.environ.pop("SVNHIST", None)
                 self.compare(modules, str(program), self.found(PATH=other))

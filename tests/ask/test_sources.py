@@ -10,7 +10,8 @@ from dev import running
 from dev.dumps import FILE, Dump, Revision, added
 from svnask import History
 from svnask.errors import Unreached
-from svnask.sources.subversion import Access, canonical, path_below
+from svnask.sources.subversion import Subversion
+from svnask.sources.urls import canonical, path_below
 from tests.ask import base, grown, served_beside_svn
 
 ALICE = ("--username", "alice", "--password", "secret")
@@ -241,7 +242,7 @@ class Served(Case):
         self.check_said(done, 1, "E170013: ")
         self.assertIn("--offline", done.said)
         with self.assertRaises(Unreached):
-            Access().look(canonical(url))
+            Subversion().look(canonical(url))
 
     def test_svnask_prints_what_svn_prints(self) -> None:
         self.assertEqual(list(served_beside_svn.differences(self.folder, 1, 60)), [])

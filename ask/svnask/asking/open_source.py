@@ -2,7 +2,6 @@
 from __future__ import annotations
 
 import argparse
-import os
 from collections.abc import Callable
 from contextlib import closing
 from types import TracebackType
@@ -11,14 +10,7 @@ from svnask.asking.running import Stale, source_in
 from svnask.errors import Damaged
 from svnask.history.open_history import OpenHistory
 from svnask.sources.progress import Bar
-from svnask.sources.repository import Address
 from svnask.sources.source import Source
-
-
-def place_of(source: Source) -> str:
-    """What a source is known by: the URL of the root of a repository that is asked by its URL, with who asks, or the
-    path of a file or a folder."""
-    return os.fsdecode(source.place) if isinstance(source, Address) else os.path.realpath(source.name)
 
 
 class OpenSource:

@@ -2,18 +2,22 @@
 from __future__ import annotations
 
 import argparse
-import difflib
 import functools
 import os
 import re
-from typing import Any, NoReturn
+from typing import TYPE_CHECKING, Any, NoReturn
 
 from svnask import __version__
 from svnask.asking.verbs import HELP, verb_named
 from svnask.asking.words import OF_ALL, joined, ordered, places, with_source
 from svnask.errors import Usage
-from svnask.sources.access import REACHED, REACHED_ALONE, split_access
-from svnask.sources.subversion import Access
+from svnask.lazy import Lazy
+from svnask.sources.access import REACHED, REACHED_ALONE, Access, split_access
+
+if TYPE_CHECKING:
+    import difflib
+else:
+    difflib = Lazy("difflib")
 
 # What the parser says of a word that is no verb.
 NO_VERB = re.compile("argument VERB: invalid choice: '(.*)' \\(choose from", re.DOTALL)
@@ -73,7 +77,7 @@ def about_verb(word: str) -> str:
 
 @functools.lru_cache(maxsize=None)
 def parser(asked: str | None = None) -> Parser:
-    """The parser of the command line, with the arguments of the verb that is asked."""
+    """The parser of the command line, with the verb that is asked and its arguments, or with all verbs by name alone."""
     made = Parser(
         prog="svnask", description=ABOUT, epilog=EXAMPLES, formatter_class=argparse.RawDescriptionHelpFormatter
     )
@@ -89,8 +93,8 @@ def parser(asked: str | None = None) -> Parser:
     made.add_argument("-V", "--version", action="version", version="svnask " + __version__)
     verbs = made.add_subparsers(dest="verb", metavar="VERB", required=True, parser_class=Parser)
 
-    for name, about in HELP.items():
-        below = verbs.add_parser(name, help=about, description=about)
+    for name in HELP if asked is None else [asked]:
+        below = verbs.add_parser(name, help=HELP[name], description=HELP[name])
         for option in ("--json", "--no-cache", "--offline"):
             below.add_argument(option, action="store_true", default=argparse.SUPPRESS, help=argparse.SUPPRESS)
         below.add_argument("--below", metavar="PATH", default=argparse.SUPPRESS, help=argparse.SUPPRESS)

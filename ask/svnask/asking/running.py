@@ -5,7 +5,6 @@ import argparse
 import os
 import signal
 import sys
-import traceback
 from collections.abc import Iterator
 from contextlib import closing
 from typing import Callable, NamedTuple, NoReturn
@@ -18,7 +17,6 @@ from svnask.history.open_history import OpenHistory
 from svnask.history.targets import path_in, path_of
 from svnask.sources.access import IS_URL
 from svnask.sources.opening import source_of
-from svnask.sources.repository import Address
 from svnask.sources.source import Source
 from svnask.texts import say
 
@@ -107,7 +105,7 @@ def explained_of(error: Refused | Damaged, history: OpenHistory, dump: str) -> F
 def advice(refused: Refused, history: OpenHistory, dump: str) -> list[str]:
     if refused.unit == "record":
         found = [about_record(each) for each in history.records() if each.number == refused.place]
-        return [*found, HIDDEN] if isinstance(history.source, Address) and refused.number in OF_HIDDEN else found
+        return [*found, HIDDEN] if history.source.is_url and refused.number in OF_HIDDEN else found
     return explained(refused, dump, history.front())
 
 
@@ -132,7 +130,7 @@ def ending_of(error: Exception) -> Ending:
         return Ending(3, [f"svnask: cannot write: {error.strerror}"])
     if isinstance(error, MemoryError):
         return Ending(4, ["svnask: out of memory"])
-    shown = traceback.format_exception(type(error), error, error.__traceback__)
+    if os.environ.get("SVNASK_DEBUG") == "1":
+        sys.__excepthook__(type(error), error, error.__traceback__)
     fault = "svnask: a fault of svnask: %s: %s. Please report it, with what it prints where SVNASK_DEBUG=1 is set"
-    said = "".join(shown).splitlines() if os.environ.get("SVNASK_DEBUG") == "1" else []
-    return Ending(FAULT, [*said, fault % (type(error).__name__, error)])
+    return Ending(FAULT, [fault % (type(error).__name__, error)])

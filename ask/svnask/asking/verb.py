@@ -13,8 +13,9 @@ from svnask.copy.store import Record
 from svnask.digits import number
 from svnask.history.lives import Life
 from svnask.history.open_history import OpenHistory
-from svnask.history.targets import decoded, pattern_of
+from svnask.history.targets import pattern_of
 from svnask.paths import Place
+from svnask.texts import decoded
 
 Object = dict[str, Any]
 

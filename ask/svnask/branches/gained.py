@@ -8,12 +8,13 @@ from svnask.engine.queries import Answers, Log, Mergeinfo, Where, is_askable
 from svnask.errors import Denied
 from svnask.history.lives import Tree
 from svnask.history.open_history import OpenHistory
-from svnask.history.targets import Target, decoded
+from svnask.history.targets import Target
 from svnask.log import selection as log
 from svnask.mergeinfo.values import Run, runs_of
 from svnask.merges.gains import Intervals, has
 from svnask.merges.recorded import Recorded
 from svnask.paths import is_at_or_below
+from svnask.texts import decoded
 
 
 class Part(NamedTuple):

@@ -11,13 +11,14 @@ from svnask.engine.queries import Answer, Answers, Log, Logged, Mergeinfo, Query
 from svnask.errors import Denied
 from svnask.history.lives import Life, chains_of, is_plain, lives_at, moves_of, unmatched
 from svnask.history.open_history import OpenHistory
-from svnask.history.targets import Target, decoded
+from svnask.history.targets import Target
 from svnask.log import selection as log
 from svnask.mergeinfo.values import runs_of
 from svnask.merges import show_revs as mergeinfo
 from svnask.merges.gains import Intervals, between, has
 from svnask.merges.recorded import Recorded
 from svnask.paths import Place, components, is_at_or_below, tops_of
+from svnask.texts import decoded
 
 # How many revisions are looked through at first for the last change of a life, and how many times more at each further
 # look.

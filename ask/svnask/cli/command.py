@@ -2,14 +2,22 @@
 from __future__ import annotations
 
 import gc
-import importlib
+import os
 import signal
 import sys
 import time
-from types import ModuleType
-from typing import NoReturn
+from typing import TYPE_CHECKING, NoReturn
 
-from svnask.serving.client import status_of_server
+from svnask.files import SOCKET, cache_folder
+from svnask.lazy import Lazy
+
+if TYPE_CHECKING:
+    from svnask.cli import completion
+    from svnask.cli import main as question
+    from svnask.serving import client
+else:
+    completion, question = Lazy("svnask.cli.completion"), Lazy("svnask.cli.main")
+    client = Lazy("svnask.serving.client")
 
 # How many objects are made before the first collection, and how many collections before one of older objects.
 RARELY = 200000, 20, 20
@@ -21,19 +29,23 @@ def main() -> int:
     if sys.argv[1:2] == [COMPLETE]:
         begun = time.monotonic()
         gc.set_threshold(*RARELY)
-        return int(part("completion").complete(sys.argv[2:], begun))
-    status = status_of_server(sys.argv[1:])
+        return completion.complete(sys.argv[2:], begun)
+    status = client.status_of_server(sys.argv[1:]) if has_servers() else None
     if status is None:
         # What is read of a history lives as long as the question. To look through it for cycles again and again took a
         # quarter of the time.
         gc.set_threshold(*RARELY)
-        status = int(part("main").main())
+        status = question.main()
     return status
 
 
-def part(name: str) -> ModuleType:
-    """Import a module of this package, where a server does not answer."""
-    return importlib.import_module("svnask.cli." + name)
+def has_servers() -> bool:
+    """Return whether the folder of the cache has a socket of a server. Few have one, and to ask it takes modules."""
+    top = cache_folder()
+    try:
+        return top is not None and any(name.startswith(SOCKET) for name in os.listdir(top))
+    except OSError:
+        return False
 
 
 def run() -> NoReturn:

@@ -27,14 +27,15 @@ from svnask.asking.words import OF_ALL, OF_SVN, is_option, joined
 from svnask.copy.branch_names import kept_branches
 from svnask.copy.store import Front
 from svnask.files import cache_folder
-from svnask.history.targets import decoded, path_in, path_of
+from svnask.history.targets import path_in, path_of
 from svnask.paths import split_peg
 from svnask.sources import cache
 from svnask.sources.access import IS_URL, REACHED, REACHED_ALONE, of_asker, split_access
 from svnask.sources.dump import Dump
 from svnask.sources.entries import Entry, read_front
 from svnask.sources.repository import Address, Folder
-from svnask.sources.subversion import PLAIN, ancestors, canonical, path_below
+from svnask.sources.urls import PLAIN, ancestors, canonical, path_below
+from svnask.texts import decoded
 
 # After how many seconds of the call branches are no more looked for.
 LONGEST = 0.16

@@ -6,17 +6,22 @@ import functools
 import mmap
 import os
 import re
-import shutil
 import zlib
 from collections.abc import Iterator
 from itertools import chain
-from typing import IO, Any, BinaryIO, NamedTuple, Union
+from typing import IO, TYPE_CHECKING, Any, BinaryIO, NamedTuple, Union
 
 from svnask import digits, files
 from svnask.copy.strip import LAST_LINE, MERGEINFO, ONE_MERGEINFO, Malformed, body_of, entries_of, is_one_mergeinfo
 from svnask.errors import Damaged
+from svnask.lazy import Lazy
 from svnask.paths import clean
 from svnask.sources import cache
+
+if TYPE_CHECKING:
+    import shutil
+else:
+    shutil = Lazy("shutil")
 
 # A part of a copy.
 Bytes = Union[mmap.mmap, bytes]

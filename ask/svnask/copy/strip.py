@@ -9,7 +9,6 @@ from __future__ import annotations
 import re
 import zlib
 from collections.abc import Callable
-from dataclasses import dataclass, field
 
 from svnask.copy.window import Window
 from svnask.digits import number
@@ -77,30 +76,28 @@ class Malformed(Exception):
     """A block does not have its form, or the dump ends in it."""
 
 
-@dataclass
 class Copy:
     """What is known of a copy beside its bytes."""
 
-    format: int = 0
-    uuid: bytes | None = None
-    records: int = 0
-    # How many of them come before the last revision.
-    records_before: int = 0
-    # The offset in the copy of each revision.
-    revisions: list[int] = field(default_factory=list)
-    # Whether these are the revisions from 0 on, each once.
-    is_from_0: bool = True
-    # The revision and the path of each copy of a path of the revision before to itself.
-    renewals: list[tuple[int, bytes]] = field(default_factory=list)
-    # The runs of revisions after the first one that have no date, as a repository shows those that a user may not read.
-    undated: list[tuple[int, int]] = field(default_factory=list)
-    # The checksum of the bytes before the first revision, and of those of each revision.
-    sums: list[int] = field(default_factory=lambda: [0])
-    # How many bytes the copy has, and how many of the given dump were read.
-    length: int = 0
-    read: int = 0
-    # Why the dump is not well formed, where it isn't.
-    fault: str | None = None
+    def __init__(self, format: int = 0, uuid: bytes | None = None) -> None:  # pylint: disable=redefined-builtin
+        self.format, self.uuid = format, uuid
+        # How many records there are, and how many of them come before the last revision.
+        self.records, self.records_before = 0, 0
+        # The offset in the copy of each revision.
+        self.revisions: list[int] = []
+        # Whether these are the revisions from 0 on, each once.
+        self.is_from_0 = True
+        # The revision and the path of each copy of a path of the revision before to itself.
+        self.renewals: list[tuple[int, bytes]] = []
+        # The runs of revisions after the first one that have no date, as a repository shows those that a user may not
+        # read.
+        self.undated: list[tuple[int, int]] = []
+        # The checksum of the bytes before the first revision, and of those of each revision.
+        self.sums = [0]
+        # How many bytes the copy has, and how many of the given dump were read.
+        self.length, self.read = 0, 0
+        # Why the dump is not well formed, where it isn't.
+        self.fault: str | None = None
 
     def add(self, piece: bytes) -> None:
         """Takes the next bytes of the copy."""

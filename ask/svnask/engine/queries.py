@@ -9,8 +9,6 @@ from __future__ import annotations
 
 import json
 import re
-from abc import ABC, abstractmethod
-from dataclasses import dataclass
 from typing import Generic, NamedTuple, TypeVar
 
 from svnask.errors import Denied
@@ -28,6 +26,19 @@ COMMAS = bytes.maketrans(b"\n", b",")
 NO_NUMBERS = bytes(set(range(256)) - set(b"0123456789 \n"))
 
 
+class Fields:
+    """Objects that are equal where their fields are. Data classes are, too, but take longer to import."""
+
+    def __eq__(self, other: object) -> bool:
+        return type(self) is type(other) and vars(self) == vars(other)
+
+    def __hash__(self) -> int:
+        return hash((type(self), *vars(self).values()))
+
+    def __repr__(self) -> str:
+        return "%s(%s)" % (type(self).__name__, ", ".join("%s=%r" % each for each in vars(self).items()))
+
+
 class Segment(NamedTuple):
     """Neighbouring revisions in which a path was at one location, or nowhere."""
 
@@ -43,13 +54,11 @@ class Merge(NamedTuple):
     inheritable: bool
 
 
-@dataclass(frozen=True)
-class Answer:
+class Answer(Fields):
     """The status of a query and its result lines, each without its newline. Only `ok` has any."""
 
-    query: Query[Answer]
-    status: str
-    text: bytes
+    def __init__(self, query: Query[Answer], status: str, text: bytes) -> None:
+        self.query, self.status, self.text = query, status, text
 
     @property
     def ok(self) -> bool:
@@ -159,31 +168,27 @@ def peg_text(path: bytes | str, rev: int) -> bytes:
     return b"%s@%d" % (path, rev)
 
 
-class Query(ABC, Generic[A_co]):
-    """A question to svnhist. It has its own kind of answer."""
+class Query(Fields, Generic[A_co]):
+    """A question to svnhist about a path in a revision. It has its own kind of answer."""
 
-    @abstractmethod
+    def __init__(self, path: bytes, rev: int) -> None:
+        self.path, self.rev = path, rev
+
     def line(self) -> bytes:
         """The line by which svnhist is asked."""
+        raise NotImplementedError
 
-    @abstractmethod
     def answer(self, status: str, text: bytes) -> A_co:
         """The answer with this status and these result lines."""
+        raise NotImplementedError
 
 
-@dataclass(frozen=True)
-class PathQuery(Query[A_co]):
-    """What is asked of a path in a revision."""
-
-    path: bytes
-    rev: int
-
-
-@dataclass(frozen=True)
-class Locate(PathQuery[Located]):
+class Locate(Query[Located]):
     """Where a path was in the revision `at`."""
 
-    at: int
+    def __init__(self, path: bytes, rev: int, at: int) -> None:
+        super().__init__(path, rev)
+        self.at = at
 
     def line(self) -> bytes:
         return b"locate\t%s\t%d" % (peg_text(self.path, self.rev), self.at)
@@ -192,8 +197,7 @@ class Locate(PathQuery[Located]):
         return Located(self, status, text)
 
 
-@dataclass(frozen=True)
-class Where(PathQuery[Segments]):
+class Where(Query[Segments]):
     """Where a path was in all revisions."""
 
     def line(self) -> bytes:
@@ -203,11 +207,12 @@ class Where(PathQuery[Segments]):
         return Segments(self, status, text)
 
 
-@dataclass(frozen=True)
-class Log(PathQuery[Logged]):
+class Log(Query[Logged]):
     """The operative revisions of a path, in a range if one is given."""
 
-    range: Range | None = None
+    def __init__(self, path: bytes, rev: int, range: Range | None = None) -> None:  # pylint: disable=redefined-builtin
+        super().__init__(path, rev)
+        self.range = range
 
     def line(self) -> bytes:
         return b"log\t" + peg_text(self.path, self.rev) + range_text(self.range)
@@ -216,8 +221,7 @@ class Log(PathQuery[Logged]):
         return Logged(self, status, text)
 
 
-@dataclass(frozen=True)
-class Mergeinfo(PathQuery[Inherited]):
+class Mergeinfo(Query[Inherited]):
     """The mergeinfo that a path has or inherits."""
 
     def line(self) -> bytes:
@@ -227,8 +231,7 @@ class Mergeinfo(PathQuery[Inherited]):
         return Inherited(self, status, text)
 
 
-@dataclass(frozen=True)
-class Pair(PathQuery[Merges]):
+class Pair(Query[Merges]):
     """What of a source was merged into a target (`merged`), or is still to be merged (`eligible`). The source comes
     first, then the verb, then the target.
 
@@ -236,10 +239,17 @@ class Pair(PathQuery[Merges]):
     b'eligible\\ttrunk@19\\tbranches/two@19'
     """
 
-    verb: str
-    target: bytes
-    target_rev: int
-    range: Range | None = None
+    def __init__(
+        self,
+        path: bytes,
+        rev: int,
+        verb: str,
+        target: bytes,
+        target_rev: int,
+        range: Range | None = None,  # pylint: disable=redefined-builtin
+    ) -> None:
+        super().__init__(path, rev)
+        self.verb, self.target, self.target_rev, self.range = verb, target, target_rev, range
 
     def line(self) -> bytes:
         pegs = peg_text(self.path, self.rev), peg_text(self.target, self.target_rev)
@@ -249,15 +259,16 @@ class Pair(PathQuery[Merges]):
         return Merges(self, status, text)
 
 
-@dataclass(frozen=True)
-class Line(PathQuery[Answer]):
+class Line(Query[Answer]):
     """A line that a user wrote. It is asked as it is, whatever path and revision are given.
 
     >>> Line(b"", 0, b"log\\ttrunk@8").line()
     b'log\\ttrunk@8'
     """
 
-    text: bytes = b""
+    def __init__(self, path: bytes, rev: int, text: bytes = b"") -> None:
+        super().__init__(path, rev)
+        self.text = text
 
     def line(self) -> bytes:
         return self.text

@@ -7,21 +7,26 @@ import mmap
 import os
 import queue
 import re
-import shutil
 import signal
 import subprocess
 import threading
 from collections import deque
 from collections.abc import Iterator, Sequence
 from contextlib import suppress
-from dataclasses import dataclass, field
-from typing import IO, NamedTuple, Union, cast
+from typing import IO, TYPE_CHECKING, NamedTuple, Union, cast
 
 from svnask.engine.queries import A, Query
 from svnask.errors import Denied, Failed, Refused
+from svnask.lazy import Lazy
 from svnask.texts import say
 
-HERE = os.path.dirname(os.path.abspath(__file__))
+if TYPE_CHECKING:
+    import shutil
+else:
+    shutil = Lazy("shutil")
+
+# The folder that has the module.
+MODULES = os.path.dirname(os.path.dirname(os.path.dirname(os.path.abspath(__file__))))
 PIECE = 1 << 20
 MOST_WORKERS = 64
 # How many seconds a program may take to end that was told to.
@@ -55,10 +60,10 @@ def find_engine() -> str:
     installed with this module, or the one on the path."""
     named = os.environ.get("SVNHIST_LIVE")
     if named:
-        return shutil.which(named) or named
+        return named if os.sep in named else shutil.which(named) or named
     other = os.environ.get("SVNHIST")
     folders = [os.path.dirname(os.path.abspath(shutil.which(other) or other))] if other else []
-    for folder in (*folders, *folders_of_programs(os.path.dirname(HERE))):
+    for folder in (*folders, *folders_of_programs(MODULES)):
         for name in NAMES:
             beside = os.path.join(folder, name)
             if os.path.isfile(beside) and os.access(beside, os.X_OK):
@@ -91,15 +96,14 @@ class Reply(NamedTuple):
     text: bytes
 
 
-@dataclass
 class Asked:
     """The queries, by their numbers, of which the replies are still to come, and those replies that had to be read
     before somebody took them, with the error that came then."""
 
-    next: int
-    end: int
-    kept: deque[Reply] = field(default_factory=deque)
-    error: Exception | None = None
+    def __init__(self, first: int, end: int) -> None:
+        self.next, self.end = first, end
+        self.kept: deque[Reply] = deque()
+        self.error: Exception | None = None
 
 
 class Talk:

@@ -7,7 +7,7 @@
 """
 from __future__ import annotations
 
-import calendar
+import datetime
 import re
 import time
 from collections.abc import Callable
@@ -28,6 +28,8 @@ OLD = re.compile(rb"\w{3} (\d+) (\w{3}) (\d+) (\d+):(\d+):(\d+)\.(\d+) \(day \d+
 MICROS = 1000000
 # Subversion keeps each part of a date in 32 bits, and a moment in microseconds in 64. What does not fit is unreadable.
 MOST_OF_PART, MOST_SECONDS = (1 << 31) - 1, (1 << 63) // MICROS
+# The number of the first day of 1970.
+EPOCH = datetime.date(1970, 1, 1).toordinal()
 # The calendar comes back after so many years, which have so many seconds.
 CYCLE, SECONDS_OF_CYCLE = 400, 146097 * 86400
 
@@ -37,8 +39,15 @@ def moment(year: int, month: int, day: int, hour: int, minute: int, second: int,
     if year < 1970 or not 1 <= month <= 12 or max(year, day, hour, minute, second, micros) > MOST_OF_PART:
         return None
     cycles, rest = divmod(year - 1970, CYCLE)
-    seconds = calendar.timegm((1970 + rest, month, day, hour, minute, second)) + cycles * SECONDS_OF_CYCLE
+    seconds = seconds_of((1970 + rest, month, day, hour, minute, second)) + cycles * SECONDS_OF_CYCLE
     return None if not 0 <= seconds < MOST_SECONDS else (seconds + micros // MICROS, micros % MICROS)
+
+
+def seconds_of(fields: tuple[int, int, int, int, int, int]) -> int:
+    """Return the seconds since 1970 of a date by UTC, of which the day and what follows may be any."""
+    year, month, day, hour, minute, second = fields
+    days = datetime.date(year, month, 1).toordinal() - EPOCH + day - 1
+    return ((days * 24 + hour) * 60 + minute) * 60 + second
 
 
 def read(date: bytes) -> Moment | None:
@@ -173,9 +182,11 @@ def given(text: str, now: Callable[[], float] = time.time) -> Moment:
         raise unreadable(text)
     hour, minute, second = (int(part or 0) for part in clock[:3])
     micros = int(((clock[3] or "") + "000000")[:6])
-    if year < 1970 or not 1 <= month <= 12 or not 1 <= day <= calendar.monthrange(year, month)[1]:
-        raise unreadable(text)
-    if hour > 23 or minute > 59 or second > 60:
+    try:
+        datetime.date(max(year, 1970), month, day)
+    except ValueError as error:
+        raise unreadable(text) from error
+    if year < 1970 or hour > 23 or minute > 59 or second > 60:
         raise unreadable(text)
     if int(zone[2] or 0) > 23 or int(zone[3] or 0) > 59:
         raise unreadable(text)
@@ -195,7 +206,7 @@ def before(now: float, count: str, unit: str, text: str) -> Moment:
 def when_of(fields: tuple[int, int, int, int, int, int], zone: tuple[str | None, ...], now: float) -> int:
     """The seconds of a date in a zone. Of two moments with one local time it is the one with the offset of today."""
     utc, sign, hours, minutes = zone
-    seconds = calendar.timegm(fields)
+    seconds = seconds_of(fields)
     if utc:
         return seconds
     if sign:

@@ -9,7 +9,7 @@ from svnask.errors import Denied
 from svnask.history.open_history import OpenHistory
 from svnask.paths import split_peg
 from svnask.sources.access import IS_URL
-from svnask.sources.subversion import canonical, path_below
+from svnask.texts import encoded
 
 NUMBER = re.compile(r"r*([0-9]+)\Z")
 # A word of `-c`: a minus for the way back, and one number or two.
@@ -23,14 +23,6 @@ class Target(NamedTuple):
 
     path: bytes
     rev: int
-
-
-def encoded(text: str) -> bytes:
-    return text.encode("utf-8", "surrogateescape")
-
-
-def decoded(text: bytes) -> str:
-    return text.decode("utf-8", "surrogateescape")
 
 
 def path_of(text: str) -> bytes:
@@ -49,7 +41,7 @@ def placed(history: OpenHistory, text: str) -> bytes:
     """The path of a target: of a URL that of the repository, and of a name what is below the URL of the source."""
     source = history.source
     if IS_URL.match(text) and source.root:
-        found = path_below(canonical(text), source.root)
+        found = source.path_of_url(text)
         if found is None:
             raise Denied("E170000", f"'{text}' isn't in the same repository as '{source.root}'")
         return found

@@ -3,7 +3,6 @@ from __future__ import annotations
 
 from abc import ABC, abstractmethod
 from collections.abc import Iterable, Iterator, Sequence
-from dataclasses import dataclass, field
 from typing import NamedTuple
 
 from svnask.copy.changes import Change
@@ -20,14 +19,13 @@ SHOWN = frozenset((AUTHOR, DATE, MESSAGE))
 LONG, LENGTH_OF_PART = 8000, 1000
 
 
-@dataclass
-class Wanted:
+class Wanted(NamedTuple):
     """What is shown of each revision: the properties of these names, or all where there are none, and with
     `is_verbose` the changed paths. Of some groups of patterns one must match it."""
 
     names: frozenset[bytes] | None = SHOWN
     is_verbose: bool = False
-    groups: list[Group] = field(default_factory=list)
+    groups: Sequence[Group] = ()
 
 
 class Entry(NamedTuple):

@@ -3,19 +3,18 @@ from __future__ import annotations
 
 import bisect
 from collections.abc import Iterable, Iterator, Sequence
-from dataclasses import dataclass
 from operator import attrgetter
 from typing import NamedTuple
 
 from svnask.engine.queries import Log, Segment, Where
 from svnask.errors import Denied
 from svnask.history.open_history import OpenHistory
-from svnask.history.targets import Target, decoded, known
+from svnask.history.targets import Target, known
 from svnask.paths import Place, is_at_or_below, joined, tops_of
+from svnask.texts import decoded
 
 
-@dataclass
-class Options:
+class Options(NamedTuple):
     """The options of `svn log` that choose revisions."""
 
     ranges: list[tuple[int, int]] | None = None

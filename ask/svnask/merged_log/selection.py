@@ -13,13 +13,14 @@ from typing import NamedTuple, Union
 
 from svnask.errors import Denied
 from svnask.history.open_history import OpenHistory
-from svnask.history.targets import Target, decoded, known
+from svnask.history.targets import Target, known
 from svnask.log.selection import Item, Options, copied_in, parts
 from svnask.merged_log.parts import Part, parts_of
 from svnask.merges.gains import Interval, Intervals, has, united
 from svnask.merges.traces import Cut, Traces
 from svnask.merges.value_changes import MergeinfoChanges
 from svnask.paths import is_at_or_below
+from svnask.texts import decoded
 
 END = Item(-1)
 NO_RUN = 0, -1

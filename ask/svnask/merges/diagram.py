@@ -7,10 +7,11 @@ from typing import NamedTuple
 from svnask.engine.queries import Answers, Where
 from svnask.errors import Denied
 from svnask.history.open_history import OpenHistory
-from svnask.history.targets import Target, decoded
+from svnask.history.targets import Target
 from svnask.log import selection as log
 from svnask.mergeinfo.explicit import Explicit
 from svnask.merges import show_revs as mergeinfo
+from svnask.texts import decoded
 
 HEADING = b"""\
     youngest common ancestor

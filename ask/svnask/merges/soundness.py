@@ -8,10 +8,10 @@ from typing import NamedTuple
 from svnask.engine.queries import Answers, Log, is_askable
 from svnask.history.lives import Tree, unmatched
 from svnask.history.open_history import OpenHistory
-from svnask.history.targets import decoded
 from svnask.mergeinfo.explicit import Explicit
 from svnask.mergeinfo.values import Run, Value, value_of
 from svnask.paths import joined, rest_below, tops_of
+from svnask.texts import decoded
 
 MALFORMED = "can't be read"
 NO_PATH = "there never was such a path"

@@ -25,7 +25,7 @@ from typing import IO, Any
 
 from svnask import __version__, files
 from svnask.asking import running
-from svnask.asking.open_source import OpenSource, place_of
+from svnask.asking.open_source import OpenSource
 from svnask.asking.parser import parsed
 from svnask.asking.verb import object_line
 from svnask.asking.verbs import verb_named
@@ -33,7 +33,7 @@ from svnask.engine import talk as engine
 from svnask.errors import Error, Failed
 from svnask.serving import sockets
 from svnask.serving.client import CARRIED, SAME, connection_of
-from svnask.sources.subversion import Access
+from svnask.sources.access import Access
 
 # How long a request may take to come, and how long it may be.
 PATIENCE, LONGEST = 10, 1 << 22
@@ -52,7 +52,7 @@ def serve(given: argparse.Namespace) -> None:
     if given.dump == "-" or top is None:
         raise Failed("only what is kept in a cache can be served, and no pipe", 2)
     with closing(running.source_in(given)) as named:
-        place = place_of(named)
+        place = named.known_by
     with OpenSource(given) as source:
         source.asked(given, lambda history: running.check(history, given.dump))
         os.makedirs(top, mode=0o700, exist_ok=True)
@@ -241,7 +241,7 @@ class Server:
             if not is_for_server(given):
                 return None
             with closing(running.source_in(given)) as source:
-                if place_of(source) != self._place:
+                if source.known_by != self._place:
                     return None
                 history = self._source.updated(given, source)
                 with contextlib.redirect_stderr(notes):

@@ -10,8 +10,7 @@ import stat
 import struct
 from collections.abc import Iterator
 
-# How the names of sockets begin.
-SOCKET = "socket-"
+from svnask.files import SOCKET
 
 
 def socket_name(place: str) -> str:

@@ -5,6 +5,7 @@ import hashlib
 import os
 import re
 from collections.abc import Sequence
+from typing import NamedTuple
 
 # How a repository is reached. These options are those of svn, with a value and without one.
 REACHED = frozenset(("--username", "--password", "--config-dir", "--config-option", "--trust-server-cert-failures"))
@@ -42,3 +43,9 @@ def of_asker(url: str, access: Sequence[str]) -> str:
     if ASKER[2] in found:
         found[ASKER[2]] = hashlib.sha256(found[ASKER[2]].encode("utf-8", "surrogateescape")).hexdigest()[:16]
     return " ".join([url, *(f"{name}={found[name]}" for name in ASKER if name in found)])
+
+
+class Access(NamedTuple):
+    """The options of svn by which a repository is reached."""
+
+    words: tuple[str, ...] = ()

@@ -5,14 +5,21 @@ import contextlib
 import fcntl
 import os
 import re
-import shutil
 import stat
-import tempfile
 import time
 from collections.abc import Iterator
+from typing import TYPE_CHECKING
 
 from svnask.errors import Failed
 from svnask.files import opener
+from svnask.lazy import Lazy
+
+if TYPE_CHECKING:
+    import shutil
+    import tempfile
+else:
+    shutil = Lazy("shutil")
+    tempfile = Lazy("tempfile")
 
 LOCK = "lock"
 # How the folders of runs begin. They are given up after a day, and others are where they were not used for 30.

@@ -5,31 +5,36 @@ import os
 import sys
 from collections.abc import Iterable, Iterator
 from contextlib import closing, suppress
-from typing import IO, BinaryIO, NamedTuple
+from typing import IO, TYPE_CHECKING, BinaryIO, NamedTuple
 
 from svnask import files
 from svnask.copy.store import Index, Store
 from svnask.copy.strip import Copy
-from svnask.errors import Failed, Usage
+from svnask.errors import Failed
+from svnask.lazy import Lazy
 from svnask.sources import cache
-from svnask.sources.access import IS_URL
+from svnask.sources.access import IS_URL, Access
 from svnask.sources.dump import Dump
 from svnask.sources.entries import read_index
 from svnask.sources.progress import Progress
-from svnask.sources.repository import Address, Asked, Folder
 from svnask.sources.source import Source
-from svnask.sources.subversion import Access
 from svnask.texts import say
+
+if TYPE_CHECKING:
+    from svnask.sources import repository
+else:
+    repository = Lazy("svnask.sources.repository")
 
 
 def source_of(name: str, access: Access = Access(), is_offline: bool = False) -> Source:
     """The source that a word names."""
     if IS_URL.match(name):
-        return Address(name, access, is_offline)
-    folder = Folder(name, access)
+        return repository.Address(name, access, is_offline)
     is_repository = os.path.isdir(os.path.join(name, "db")) and os.path.isfile(os.path.join(name, "format"))
-    if is_repository or is_offline and not os.path.isfile(name) and folder.is_kept:
-        return folder
+    if is_repository or is_offline and not os.path.isfile(name):
+        folder = repository.Folder(name, access)
+        if is_repository or folder.is_kept:
+            return folder
     return Dump(name, opened(name, is_offline))
 
 
@@ -60,14 +65,15 @@ def about_folder(name: str) -> str:
 def with_properties(source: Source, progress: Progress) -> None:
     """Has the copy of a repository in the cache have the properties that all revisions have now."""
     entry = source.entry()
-    if not isinstance(source, Asked) or entry is None:
-        raise Usage("--properties is for a repository: those of a dump do not change")
+    sections = source.new_properties()
+    if entry is None:
+        raise Failed("the cache can't be written")
     with entry.locked(lambda: progress.waits(source.name)):
         kept = entry.load()
         if kept is None:
             raise Failed("the cache can't be written")
         with closing(kept), entry.first_file() as (file, named):
-            index = rewritten(kept, source.new_properties(), file)
+            index = rewritten(kept, sections, file)
         entry.commit(index._replace(kept=named._replace(state=kept.index.kept.state, base=index.length))).close()
 
 

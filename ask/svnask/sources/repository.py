@@ -14,12 +14,12 @@ from svnask.copy.store import Index, Kept, Store, properties_of
 from svnask.copy.strip import Copy, Stripper
 from svnask.copy.window import Window
 from svnask.errors import Error, Failed, Unreached
-from svnask.sources import subversion as repositories
-from svnask.sources.access import of_asker
+from svnask.sources import subversion, urls
+from svnask.sources.access import Access, of_asker
 from svnask.sources.entries import Entry
 from svnask.sources.progress import Progress
 from svnask.sources.source import Source, index_of_copy, known_of, whole_part
-from svnask.sources.subversion import Access, Properties, Repository, canonical
+from svnask.sources.subversion import Properties, Repository, Subversion
 
 LINE_END = re.compile(rb"\r\n?")
 OFFLINE = "--offline answers from what is kept of it"
@@ -32,7 +32,7 @@ class Asked(Source):
 
     def __init__(self, name: str, access: Access) -> None:
         super().__init__(name)
-        self.access = access
+        self.access, self.svn = access, Subversion(access.words)
         self._now: Repository | None = None
         self._last: tuple[int, Properties] = (-1, {})
         # Whether more is shown than before, once that was asked.
@@ -52,11 +52,14 @@ class Asked(Source):
         with self.advised():
             return super().store(progress, is_cached, is_offline)
 
+    def path_of_url(self, url: str) -> bytes | None:
+        return urls.path_below(urls.canonical(url), self.root)
+
     @property
     def now(self) -> Repository:
         """The repository as it was when it was asked first."""
         if self._now is None:
-            self._now = self.access.look(self.root)
+            self._now = self.svn.look(self.root)
         return self._now
 
     @property
@@ -79,7 +82,7 @@ class Asked(Source):
 
     def dumped(self, first: int, last: int) -> Sequence[str]:
         """The command that prints revisions as a dump."""
-        return self.access.dumped(self.root, first, last)
+        return self.svn.dumped(self.root, first, last)
 
     def is_as_kept(self, kept: Store) -> bool:
         return self.now.youngest == kept.head and self._is_same(kept)
@@ -89,7 +92,7 @@ class Asked(Source):
         if self.now.uuid != kept.index.uuid or not 0 <= kept.head <= self.now.youngest:
             return False
         if self._last[0] != kept.head:
-            self._last = kept.head, self.access.properties(self.asked, kept.head)
+            self._last = kept.head, self.svn.properties(self.asked, kept.head)
         if self._shows_more(kept):
             return False
         return normal(self._last[1]) == normal(properties_of(kept.section(kept.head)[1]))
@@ -98,7 +101,7 @@ class Asked(Source):
         """Whether a revision has a date that had none. So it is after a user was given rights to what it changed."""
         undated = kept.index.undated
         if undated and self._is_more is None:
-            self._is_more = self.access.has_date(self.root, undated)
+            self._is_more = self.svn.has_date(self.root, undated)
         return bool(undated and self._is_more)
 
     def grown(self, entry: Entry, kept: Store, progress: Progress) -> Store | None:
@@ -139,7 +142,7 @@ class Asked(Source):
         first, last = len(copy.revisions), self.now.youngest
         words = self.dumped(first, last)
         try:
-            with repositories.printed(*words) as stream:
+            with subversion.printed(*words) as stream:
                 stripper = Stripper(Window(stream, copy.read), file.write, places=True, people=True, known=copy)
                 stripper.run(lambda read: progress.of_revisions(len(copy.revisions) - 1, first, last))
         except Error as error:
@@ -150,7 +153,7 @@ class Asked(Source):
 
     def new_properties(self) -> Iterable[tuple[int, bytes]]:
         """The property section of each revision, as it is now."""
-        for rev, found in self.access.all_properties(self.root, self.now.youngest):
+        for rev, found in self.svn.all_properties(self.root, self.now.youngest):
             yield rev, b"".join(strip.entry(*each) for each in found.items()) + strip.LAST_LINE
 
 
@@ -167,7 +170,7 @@ class Folder(Asked):
     def __init__(self, name: str, access: Access) -> None:
         super().__init__(name, access)
         self.folder = os.path.realpath(name)
-        self.root = repositories.url_of_folder(self.folder)
+        self.root = urls.url_of_folder(self.folder)
 
     @property
     def place(self) -> bytes:
@@ -178,7 +181,7 @@ class Folder(Asked):
 
     def new_properties(self) -> Iterable[tuple[int, bytes]]:
         with tempfile.TemporaryFile() as file:
-            with repositories.printed("svnadmin", "dump-revprops", "-q", self.folder) as stream:
+            with subversion.printed("svnadmin", "dump-revprops", "-q", self.folder) as stream:
                 stripper = Stripper(Window(stream), file.write, people=True)
                 found = stripper.run()
             if found.fault is not None:
@@ -197,10 +200,11 @@ class Address(Asked):
     """A repository by a URL, which may be that of a path in it."""
 
     kind = b"url"
+    is_url = True
 
     def __init__(self, name: str, access: Access, is_offline: bool) -> None:
         super().__init__(name, access)
-        self._url = canonical(name)
+        self._url = urls.canonical(name)
         self.root = self._kept_root(self._url)
         if not is_offline:
             with self.advised():
@@ -208,7 +212,7 @@ class Address(Asked):
             self.root = self._now.root
         elif not self.root:
             raise Failed(f"nothing is kept of {name}", 1)
-        path = repositories.path_below(canonical(name), self.root)
+        path = urls.path_below(urls.canonical(name), self.root)
         if path is None:
             raise Failed(f"{name} is not below the root of its repository, {self.root}", 1)
         self.path = path
@@ -219,6 +223,10 @@ class Address(Asked):
         return self._url
 
     @property
+    def known_by(self) -> str:
+        return os.fsdecode(self.place)
+
+    @property
     def place(self) -> bytes:
         return of_asker(self.root, self.access.words).encode("utf-8", "surrogateescape")
 
@@ -226,9 +234,9 @@ class Address(Asked):
         """The repository that has a path, or had it, and the URL by which it answered: that of the path, or else one above
         it, the root that is kept before others."""
         first: Unreached | None = None
-        for each in dict.fromkeys([url, *filter(None, [self.root]), *repositories.ancestors(url)]):
+        for each in dict.fromkeys([url, *filter(None, [self.root]), *urls.ancestors(url)]):
             try:
-                return each, self.access.look(each)
+                return each, self.svn.look(each)
             except Unreached as error:
                 first = first or error
                 if not error.is_none_there and each != self.root:
@@ -240,7 +248,7 @@ class Address(Asked):
         top = files.cache_folder()
         if top is None:
             return ""
-        for each in repositories.ancestors(url):
+        for each in urls.ancestors(url):
             place = of_asker(each, self.access.words).encode("utf-8", "surrogateescape")
             if Entry(top, self.kind, place).is_there:
                 return each

@@ -2,23 +2,32 @@
 from __future__ import annotations
 
 import os
-import shutil
-import tempfile
+from collections.abc import Iterable
 from contextlib import ExitStack, closing
-from typing import IO
+from typing import IO, TYPE_CHECKING
 
 from svnask.copy.store import Index, Kept, Store
 from svnask.copy.strip import Copy
-from svnask.errors import Failed
+from svnask.errors import Failed, Usage
+from svnask.lazy import Lazy
 from svnask.sources import cache
 from svnask.sources.entries import Entry
 from svnask.sources.progress import Progress
+
+if TYPE_CHECKING:
+    import shutil
+    import tempfile
+else:
+    shutil = Lazy("shutil")
+    tempfile = Lazy("tempfile")
 
 
 class Source:
     """A source by the name that a user gives it."""
 
     kind = b""
+    # Whether a URL is asked, which may hide something from a user.
+    is_url = False
 
     def __init__(self, name: str) -> None:
         self.name = name
@@ -33,6 +42,19 @@ class Source:
 
     def entry(self) -> Entry | None:
         """The place of what is kept, if it can be kept."""
+        return None
+
+    @property
+    def known_by(self) -> str:
+        """Return what a server knows it by, which is the path of a file or a folder."""
+        return os.path.realpath(self.name)
+
+    def new_properties(self) -> Iterable[tuple[int, bytes]]:
+        """The revisions with the property sections that they have now."""
+        raise Usage("--properties is for a repository: those of a dump do not change")
+
+    def path_of_url(self, url: str) -> bytes | None:
+        """Return the path that a URL has below the root, if it is below that."""
         return None
 
     def close(self) -> None:
@@ -128,19 +150,12 @@ class Source:
 
 def known_of(index: Index) -> Copy:
     """What is known of a copy that goes on."""
-    return Copy(
-        index.format,
-        index.uuid,
-        index.records,
-        index.records,
-        list(index.revisions),
-        True,
-        list(index.renewals),
-        list(index.undated),
-        list(index.sums),
-        index.length,
-        index.size,
-    )
+    copy = Copy(index.format, index.uuid)
+    copy.records = copy.records_before = index.records
+    copy.revisions, copy.renewals = list(index.revisions), list(index.renewals)
+    copy.undated, copy.sums = list(index.undated), list(index.sums)
+    copy.length, copy.read = index.length, index.size
+    return copy
 
 
 def index_of_copy(copy: Copy, size: int, kept: Kept) -> Index:
@@ -162,9 +177,11 @@ def index_of_copy(copy: Copy, size: int, kept: Kept) -> Index:
 
 def whole_part(copy: Copy) -> Copy:
     """A copy without its last revision, of which a part may be missing."""
-    *revisions, length = copy.revisions
-    renewals = [each for each in copy.renewals if each[0] < len(revisions)]
-    undated = [(first, min(last, len(revisions) - 1)) for first, last in copy.undated if first < len(revisions)]
-    records, sums = copy.records_before, copy.sums[:-1]
-    counts = records, records, revisions, copy.is_from_0, renewals, undated, sums, length, copy.read
-    return Copy(copy.format, copy.uuid, *counts)
+    found = Copy(copy.format, copy.uuid)
+    found.records = found.records_before = copy.records_before
+    *found.revisions, found.length = copy.revisions
+    count = len(found.revisions)
+    found.is_from_0, found.read, found.sums = copy.is_from_0, copy.read, copy.sums[:-1]
+    found.renewals = [each for each in copy.renewals if each[0] < count]
+    found.undated = [(first, min(last, count - 1)) for first, last in copy.undated if first < count]
+    return found

@@ -8,7 +8,6 @@ import os
 import re
 import subprocess
 import tempfile
-import urllib.parse
 import xml.etree.ElementTree as xml
 from collections.abc import Iterator, Sequence
 from contextlib import contextmanager, suppress
@@ -18,6 +17,7 @@ from svnask.copy.store import properties_of as properties_of_section
 from svnask.digits import number
 from svnask.engine.talk import name_of
 from svnask.errors import Failed, Unreached
+from svnask.sources.urls import ancestors, canonical
 
 # The messages are in English, and a path may have any letters.
 LOCALE = {"LC_ALL": "C.UTF-8"}
@@ -35,9 +35,6 @@ PIECE = 1 << 16
 # How many revisions are named to svn one by one.
 MOST_NAMED = 500
 NAMED = {"author": b"svn:author", "date": b"svn:date", "msg": b"svn:log"}
-# The letters of a path that a URL has as they are, but for the sign of a peg revision.
-PLAIN = "/!$&'()*+,-.:=_~"
-PORTS = {"svn": ":3690", "http": ":80", "https": ":443"}
 
 Properties = dict[bytes, bytes]
 
@@ -50,8 +47,8 @@ class Repository(NamedTuple):
     youngest: int
 
 
-class Access(NamedTuple):
-    """The options of svn by which a repository is reached."""
+class Subversion(NamedTuple):
+    """The commands of Subversion, with the options by which a repository is reached."""
 
     words: tuple[str, ...] = ()
 
@@ -214,49 +211,6 @@ def failure(command: str, status: int, said: str) -> Failed | Unreached:
     return Unreached(first, rest, NONE_THERE.match(first) is not None)
 
 
-def canonical(url: str) -> str:
-    """A URL as the cache names it, without a slash at its end. All commands of Subversion take it for the same."""
-    scheme, _, rest = url.partition("://")
-    host, _, path = rest.partition("/")
-    scheme = scheme.lower()
-    user, sign, host = host.rpartition("@")
-    host = host.lower()
-    if host.endswith(PORTS.get(scheme, "/")):
-        host = host[: -len(PORTS[scheme])]
-    parts = [part for part in urllib.parse.unquote_to_bytes(encoded(path)).split(b"/") if part not in (b"", b".")]
-    return f"{scheme}://{user}{sign}{host}/" + urllib.parse.quote(b"/".join(parts), safe=PLAIN)
-
-
-def in_url(path: bytes) -> bytes:
-    """A path as Subversion writes it in a URL."""
-    return urllib.parse.quote(path, safe=PLAIN + "@").encode("ascii")
-
-
-def encoded(text: str) -> bytes:
-    return text.encode("utf-8", "surrogateescape")
-
-
-def ancestors(url: str) -> Iterator[str]:
-    """A canonical URL, and those above it."""
-    front, _, rest = url.partition("://")
-    host, _, path = rest.partition("/")
-    parts = path.split("/") if path else []
-    for count in range(len(parts), -1, -1):
-        yield f"{front}://{host}/" + "/".join(parts[:count])
-
-
 def without_peg(url: str) -> str:
     """A URL for a command that takes a peg revision. svnrdump takes none, and svn none for properties of revisions."""
     return url + "@"
-
-
-def path_below(url: str, root: str) -> bytes | None:
-    """The path that a URL has below a root, both canonical."""
-    if url == root:
-        return b"/"
-    front = root if root.endswith("/") else root + "/"
-    return b"/" + urllib.parse.unquote_to_bytes(url[len(front) :]) if url.startswith(front) else None
-
-
-def url_of_folder(folder: str) -> str:
-    return canonical("file://" + urllib.parse.quote(os.fsencode(folder)))

@@ -9,7 +9,7 @@ from svnask.asking.verb import Object, Verb
 from svnask.engine.queries import Answer, Line
 from svnask.errors import Failed
 from svnask.history.open_history import OpenHistory
-from svnask.history.targets import decoded
+from svnask.texts import decoded
 
 
 class AskVerb(Verb):

@@ -8,7 +8,7 @@ from svnask.asking.verb import Object, Verb, add_patterns, object_of_life, patte
 from svnask.branches import questions as branches
 from svnask.history.lives import Life
 from svnask.history.open_history import OpenHistory
-from svnask.history.targets import decoded
+from svnask.texts import decoded
 
 
 def origin_of(life: Life) -> bytes:

@@ -8,8 +8,8 @@ from svnask.asking.verb import Object, Verb, add_patterns, object_of_life, patte
 from svnask.branches import questions as branches
 from svnask.cli.verbs.branches import origin_of
 from svnask.history.open_history import OpenHistory
-from svnask.history.targets import decoded
 from svnask.log.plain import author_of, date_of
+from svnask.texts import decoded
 
 
 class ChangedTagsVerb(Verb):

@@ -7,8 +7,8 @@ from collections.abc import Iterator
 from svnask.asking.verb import Object, Verb, add_patterns, patterns_of, shown
 from svnask.errors import Unsound
 from svnask.history.open_history import OpenHistory
-from svnask.history.targets import decoded, encoded
 from svnask.merges.soundness import findings
+from svnask.texts import decoded, encoded
 
 
 class CheckMergeinfoVerb(Verb):

@@ -7,7 +7,8 @@ from collections.abc import Iterator
 from svnask.asking.verb import Object, Verb, add_patterns, patterns_of
 from svnask.branches import questions as branches
 from svnask.history.open_history import OpenHistory
-from svnask.history.targets import decoded, known, revision_of
+from svnask.history.targets import known, revision_of
+from svnask.texts import decoded
 
 
 class ContainsVerb(Verb):

@@ -8,8 +8,9 @@ from svnask.asking.verb import Object, Verb, object_of_place
 from svnask.branches import heirs
 from svnask.errors import Usage
 from svnask.history.open_history import OpenHistory
-from svnask.history.targets import decoded, known, revision_of, target_of
+from svnask.history.targets import known, revision_of, target_of
 from svnask.log import selection as log
+from svnask.texts import decoded
 
 
 class HeirsVerb(Verb):

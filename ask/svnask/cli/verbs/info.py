@@ -6,7 +6,7 @@ from collections.abc import Iterator
 
 from svnask.asking.verb import Object, Verb, shown
 from svnask.history.open_history import OpenHistory
-from svnask.history.targets import encoded
+from svnask.texts import encoded
 
 
 class InfoVerb(Verb):

@@ -10,13 +10,14 @@ from svnask.asking.verb import Object, Verb, object_of_revision
 from svnask.digits import number
 from svnask.errors import Denied, Failed, Usage
 from svnask.history.open_history import OpenHistory
-from svnask.history.targets import encoded, paths_below, ranges_of, target_of
+from svnask.history.targets import paths_below, ranges_of, target_of
 from svnask.log import selection as log
 from svnask.log.forms import AUTHOR, DATE, SHOWN, Form, Wanted, entries, printed
 from svnask.log.plain import PlainForm
 from svnask.log.search import Glob, Group, folded
 from svnask.log.xml import XmlForm
 from svnask.merged_log import selection as merged_log
+from svnask.texts import encoded
 
 SEARCH, SEARCH_AND = "--search", "--search-and"
 OF_RANGES = "the revisions from LO to HI, in this order; may be repeated"

@@ -8,12 +8,13 @@ from svnask.asking.verb import Object, Verb, object_of_place, object_of_revision
 from svnask.engine.queries import Mergeinfo
 from svnask.errors import Denied, Usage
 from svnask.history.open_history import OpenHistory, one
-from svnask.history.targets import decoded, known, place_of, range_of, target_of
+from svnask.history.targets import known, place_of, range_of, target_of
 from svnask.log import selection as log
 from svnask.log.forms import Wanted, printed
 from svnask.log.plain import PlainForm
 from svnask.merges import diagram
 from svnask.merges import show_revs as mergeinfo
+from svnask.texts import decoded
 
 # The options that need another one, in the order in which `svn` judges them.
 OF_LOG = (("quiet", "--quiet (-q)"), ("verbose", "--verbose (-v)"), ("incremental", "--incremental"))

@@ -9,10 +9,11 @@ from svnask.asking.verb import Object, Verb, shown
 from svnask.engine.queries import Where
 from svnask.errors import Denied, Usage
 from svnask.history.open_history import OpenHistory
-from svnask.history.targets import Target, decoded, target_of
+from svnask.history.targets import Target, target_of
 from svnask.mergeinfo.explicit import Explicit
 from svnask.paths import components
-from svnask.sources.subversion import in_url
+from svnask.sources.urls import in_url
+from svnask.texts import decoded
 
 MERGEINFO = "svn:mergeinfo"
 

@@ -9,7 +9,7 @@ from svnask.asking.verb import Object, Verb, counted, object_of_record
 from svnask.copy.store import Record
 from svnask.errors import Failed
 from svnask.history.open_history import OpenHistory
-from svnask.history.targets import encoded
+from svnask.texts import encoded
 
 
 def described(history: OpenHistory, record: Record) -> Iterator[bytes]:

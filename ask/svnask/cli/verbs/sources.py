@@ -7,8 +7,8 @@ from collections.abc import Iterator
 
 from svnask.asking.verb import Object, Verb, object_line, write_all
 from svnask.errors import Usage
-from svnask.history.targets import decoded, encoded
 from svnask.sources.opening import held
+from svnask.texts import decoded, encoded
 
 FORM = "{source}\tr{youngest}\t{bytes} bytes\tused {last_use}\n"
 

@@ -7,8 +7,9 @@ from collections.abc import Iterator
 from svnask.asking.verb import Object, Verb, add_patterns, object_of_revision, patterns_of
 from svnask.branches import questions as branches
 from svnask.history.open_history import OpenHistory
-from svnask.history.targets import decoded, target_of
+from svnask.history.targets import target_of
 from svnask.log.plain import summary_of
+from svnask.texts import decoded
 
 
 class UnmergedVerb(Verb):
