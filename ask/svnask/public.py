@@ -24,7 +24,7 @@ class History(OpenHistory):
         >>> [each.life.path for each in history.branches([b"/tags/*"])]
         [b'/tags/begun', b'/tags/lib', b'/tags/one-1.0']
         """
-        return list(questions.listed(self, patterns))
+        return list(questions.listed_branches(self, patterns))
 
     def contains(self, rev: int, patterns: Sequence[bytes] = ()) -> list[Holder]:
         """The branches and tags of today that have a revision, in their history or merged.

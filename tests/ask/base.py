@@ -70,7 +70,7 @@ def called(*words: Word, **variables: str) -> Done:
         with mock.patch.dict(os.environ, variables), contextlib.redirect_stdout(output), contextlib.redirect_stderr(
             said
         ):
-            status = main.main([os.fspath(word) for word in words])
+            status = main.answer([os.fspath(word) for word in words])
     finally:
         for number, handler in kept.items():
             signal.signal(number, handler)

@@ -64,7 +64,7 @@ class Askers(base.Case):
                     wanted = f"serving {url} --username=bob\n"
                     self.assertEqual(serving.stdout.readline().decode(), wanted)
                     for name, is_asked in (("bob", True), ("alice", False)):
-                        reply = client.asked([*user(name), url, "log", "-v"])
+                        reply = client.ask_server([*user(name), url, "log", "-v"])
                         self.assertEqual(reply is not None, is_asked, name)
                         if reply is not None:
                             os.close(reply.output)
@@ -163,7 +163,7 @@ class Messages(base.Case):
                 assert serving.stdout is not None
                 self.assertTrue(serving.stdout.readline().startswith(b"serving "))
                 for message in (b"Old", b"New"):
-                    reply = client.asked([str(self.repository), "log", "-r", "1"])
+                    reply = client.ask_server([str(self.repository), "log", "-r", "1"])
                     assert reply is not None
                     with open(reply.output, "rb") as output:
                         self.assertIn(message, output.read())

@@ -25,6 +25,7 @@ from svnask.cli.completion import BASH, lines_for
 from svnask.cli.verbs.segments import SegmentsVerb
 from svnask.copy import branch_names as kept_branches
 from svnask.history.lives import lives_in
+from svnask.serving import client
 from svnask.sources import cache
 from svnask.sources.entries import Entry, read_front
 from svnask.sources.opening import source_of
@@ -225,7 +226,7 @@ class Silence(CompletionTest):
     def test_no_server_is_asked(self) -> None:
         words = ["svnask", command.COMPLETE, BASH, BREAKS, DUMP, "inf"]
         with mock.patch.object(sys, "argv", words), mock.patch.object(
-            command, "status_of_server", side_effect=AssertionError
+            client, "status_of_server", side_effect=AssertionError
         ), mock.patch.object(completion, "complete", return_value=0) as complete:
             self.assertEqual(command.main(), 0)
         self.assertEqual(complete.call_args[0][0], words[2:])
@@ -252,7 +253,7 @@ class Silence(CompletionTest):
 
 class Branches(base.UtcTest):
     def found(self, dump: str, piece: int = kept_branches.PIECE, patience: float = PATIENCE) -> list[bytes]:
-        place = completion.place_of(dump)
+        place = completion.stored_copy_of(dump)
         assert place is not None
         with mock.patch.object(kept_branches, "PIECE", piece):
             return kept_branches.kept_branches(place.folder, place.front, time.monotonic() + patience)

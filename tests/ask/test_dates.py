@@ -44,7 +44,7 @@ class Dates(UtcTest):
             (b"", "(no date)"),
             (None, "(no date)"),
         ):
-            self.assertEqual(dates.shown(date), wanted)
+            self.assertEqual(dates.shown_date(date), wanted)
 
     def test_hours_of_a_day_are_shown_as_its_seconds_are(self) -> None:
         """Also around midnight, where clocks are put forward and back, and where local time is half an hour ahead."""

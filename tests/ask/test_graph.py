@@ -31,7 +31,7 @@ from dev.tree import DOCS
 from svnask import History
 from svnask.picture import svg as picture
 from svnask.picture.fitting import fitted
-from svnask.picture.graph import MOST_OTHERS, Graph, Merge, View, drawable, graph_of
+from svnask.picture.graph import MOST_OTHERS, Graph, LaneMerge, View, drawable, graph_of
 from svnask.picture.layout import NARROWEST, Layout, shortened, width_of
 from svnask.picture.svg import arrows_of
 from svnask.texts import readable
@@ -104,13 +104,13 @@ class Graphs(base.Case):
         self.assertEqual(
             graph.merges,
             [
-                Merge(0, 3, 7, [4, 5, 6], 18, False),
-                Merge(0, 2, 8, [5], None, False),
-                Merge(0, 2, 9, [6], None, False, True),
-                Merge(3, 0, 11, [2, 7, 10], 12, False),
-                Merge(0, 2, 13, [4], None, False),
-                Merge(0, 2, 15, [14], None, False, False, b"/trunk/dir", b"/branches/two/dir"),
-                Merge(0, 1, 19, [14], None, False, True),
+                LaneMerge(0, 3, 7, [4, 5, 6], 18, False),
+                LaneMerge(0, 2, 8, [5], None, False),
+                LaneMerge(0, 2, 9, [6], None, False, True),
+                LaneMerge(3, 0, 11, [2, 7, 10], 12, False),
+                LaneMerge(0, 2, 13, [4], None, False),
+                LaneMerge(0, 2, 15, [14], None, False, False, b"/trunk/dir", b"/branches/two/dir"),
+                LaneMerge(0, 1, 19, [14], None, False, True),
             ],
         )
         self.assertEqual(graph.columns, list(range(1, 20)))
@@ -155,31 +155,31 @@ class Graphs(base.Case):
 
     def test_merges_below_a_branch(self) -> None:
         d = B + b"/d"
-        rows: tuple[tuple[str, list[list[Node]], list[Merge]], ...] = (
+        rows: tuple[tuple[str, list[list[Node]], list[LaneMerge]], ...] = (
             (
                 "into a directory",
                 [[changed(d, mergeinfo(b"/trunk/d:4-5"))]],
-                [Merge(0, 1, 6, [5], None, False, True, D, b"/" + d)],
+                [LaneMerge(0, 1, 6, [5], None, False, True, D, b"/" + d)],
             ),
             (
                 "and taken back",
                 [[changed(d, mergeinfo(b"/trunk/d:5"))], [changed(d, mergeinfo(b""))]],
-                [Merge(0, 1, 6, [5], 7, False, True, D, b"/" + d)],
+                [LaneMerge(0, 1, 6, [5], 7, False, True, D, b"/" + d)],
             ),
             (
                 "of a directory into a branch",
                 [[changed(B, mergeinfo(b"/trunk/d:5"))]],
-                [Merge(0, 1, 6, [5], None, False, True, D)],
+                [LaneMerge(0, 1, 6, [5], None, False, True, D)],
             ),
             (
                 "of all, recorded below, too",
                 [[changed(B, M), changed(d, mergeinfo(b"/trunk/d:5"))]],
-                [Merge(0, 1, 6, [4, 5], None, False, True)],
+                [LaneMerge(0, 1, 6, [4, 5], None, False, True)],
             ),
             (
                 "inherited before",
                 [[changed(B, M)], [changed(d, mergeinfo(b"/trunk/d:5,7"))]],
-                [Merge(0, 1, 6, [4, 5], None, False, True)],
+                [LaneMerge(0, 1, 6, [4, 5], None, False, True)],
             ),
             ("of what is no branch", [[changed(d, mergeinfo(b"/vendor/d:5"))]], []),
             ("malformed", [[changed(d, mergeinfo(b"/trunk/d"))]], []),

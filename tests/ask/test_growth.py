@@ -121,7 +121,9 @@ class Growth(Case):
             grown.svn("svnadmin", "load-revprops", "-q", "--bypass-prop-validation", made.folder, given=given)
             for source in made.sources:
                 self.asked(source, "info")
-                with mock.patch.object(repository_source.Asked, "first", side_effect=AssertionError(message)):
+                with mock.patch.object(
+                    repository_source.SubversionSource, "first", side_effect=AssertionError(message)
+                ):
                     self.asked(source, "info")
 
     def test_what_came_later_is_joined(self) -> None:

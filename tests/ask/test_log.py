@@ -60,7 +60,7 @@ class Log(base.Case):
             history = self.history(base.dump_of(name))
             patterns = [b"/*", b"/*/*"]
             alive = [life.path for life in branches.lives_of(history, patterns) if life.is_alive]
-            logs = {path: log.entries(history, Target(path, history.head), [], log.Options()) for path in alive}
+            logs = {path: log.log_items(history, Target(path, history.head), [], log.Options()) for path in alive}
             for rev in range(1, history.head + 1):
                 found = [each.path for each in branches.holders(history, patterns, rev) if each.how == "history"]
                 self.assertEqual(found, [path for path in alive if rev in logs[path]], (name, rev))

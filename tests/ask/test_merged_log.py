@@ -4,8 +4,8 @@ from __future__ import annotations
 import json
 
 from dev.dumps import DIR, FILE, Node, added, changed, copied, dump_of, mergeinfo
-from svnask.merged_log.parts import Part, hash_of, in_hash_order, parts_of
-from svnask.merged_log.selection import Searched, Walker
+from svnask.merged_log.parts import MergedPart, hash_of, in_hash_order, parts_of_mergeinfo
+from svnask.merged_log.selection import Walked, Walker
 from svnask.merges.gains import Intervals
 from tests.ask import base
 
@@ -26,7 +26,9 @@ class MergedLog(base.Case):
             ({b"/a": [], b"/b": [(1, 1)]}, [(1, 1, [b"/b"])]),
         )
         for info, wanted in rows:
-            self.assertEqual(parts_of(info, False), [Part(lo, hi, tuple(paths), False) for lo, hi, paths in wanted])
+            self.assertEqual(
+                parts_of_mergeinfo(info, False), [MergedPart(lo, hi, tuple(paths), False) for lo, hi, paths in wanted]
+            )
 
     def test_paths_are_in_the_order_of_a_hash_table(self) -> None:
         self.assertEqual((hash_of(b""), hash_of(b"/"), hash_of(b"/a")), (0, 47, 1648))
@@ -35,7 +37,7 @@ class MergedLog(base.Case):
         self.assertEqual(in_hash_order([b"/b", b"/a"]), [b"/a", b"/b"])
 
     def test_what_was_searched(self) -> None:
-        searched = Searched()
+        searched = Walked()
         for low, high in ((5, 9), (10, 12), (2, 3), (20, 21)):
             searched.add(b"/a", low, high)
         rows = ((6, 8, True), (6, 12, True), (3, 5, False), (2, 3, True), (4, 4, False), (12, 13, False), (1, 2, False))

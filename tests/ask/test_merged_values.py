@@ -4,7 +4,7 @@ from __future__ import annotations
 import random
 import unittest
 
-from svnask.merges.value_changes import Difference, Malformed, Values, difference
+from svnask.merges.value_changes import Difference, MalformedValue, Values, difference
 
 PATHS = (b"/trunk", b"/b/one", b"/b/one/a", b"/a:b", b"trunk", b"//b/one/")
 # Rangelists that Subversion does not write as they are, and texts that it can't read.
@@ -60,7 +60,7 @@ def whole(before: bytes, now: bytes) -> Difference | None:
     values = Values()
     try:
         return difference(values.whole(before), values.whole(now))
-    except Malformed:
+    except MalformedValue:
         return None
 
 
@@ -68,7 +68,7 @@ class Differences(unittest.TestCase):
     def check(self, values: Values, before: bytes, now: bytes) -> bool:
         wanted = whole(before, now)
         if wanted is None:
-            with self.assertRaises(Malformed, msg=(before, now)):
+            with self.assertRaises(MalformedValue, msg=(before, now)):
                 values.difference(before, now)
             return False
         self.assertEqual(values.difference(before, now), wanted, (before, now))

@@ -34,7 +34,9 @@ class Found(NamedTuple):
 
 def gains(history: History, patterns: Sequence[bytes] = ()) -> list[Gain]:
     lives = branches.lives_of(history, patterns)
-    asked = [merges.Asked(life, each) for life in lives for each in merges.queries_of(history.explicit, life)]
+    asked = [
+        merges.LifeQuery(life, each) for life in lives for each in merges.queries_about_life(history.explicit, life)
+    ]
     answers = history.ask(branches.logs_of(lives) + [query for _, query in asked])
     return merges.gains_of(branches.operative(lives, answers), asked, answers)
 

@@ -5,7 +5,7 @@ from dev.tree import INTEROP
 from interop import outputs
 from svnask import History
 from svnask.asking.parser import parser
-from svnask.asking.running import lines_of
+from svnask.asking.running import answer_lines
 from svnask.asking.verbs import HELP, verb_named
 from svnask.errors import Error
 from tests.ask import base
@@ -17,7 +17,7 @@ def output_of(history: History, arguments: list[str]) -> outputs.Output:
     """What svnask prints, in the form of a recorded output."""
     try:
         words = parser(arguments[0]).parse_args(["DUMP"] + arguments)
-        return outputs.Output(arguments, 0, b"".join(lines_of(history, words)))
+        return outputs.Output(arguments, 0, b"".join(answer_lines(history, words)))
     except Error as error:
         return outputs.Output(arguments, error.status, str(error).partition(":")[0].encode())
 

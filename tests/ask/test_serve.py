@@ -36,10 +36,10 @@ sys.path.insert(0, {str(ROOT / 'ask')!r})
 from svnask.asking import running
 from svnask.cli import main
 tell = running.tell
-def endless(history, given, write):
+def endless(history, given, write, is_last=False):
     while given.verb == "graph":
         pass
-    tell(history, given, write)
+    tell(history, given, write, is_last)
 running.tell = endless
 sys.exit(main.main(sys.argv[3:]))
 """
@@ -73,7 +73,7 @@ class Serve(base.Case):
 
     def is_asked(self, *words: base.Word) -> bool:
         """Whether a server replies to a question."""
-        reply = client.asked([os.fspath(word) for word in words])
+        reply = client.ask_server([os.fspath(word) for word in words])
         if reply is not None:
             os.close(reply.output)
         return reply is not None

@@ -52,7 +52,7 @@ class XmlLog(base.Case):
             (b"\xff\x01", b"\xff\x01", b"\xff\x01"),
         )
         for text, as_text, as_attribute in rows:
-            self.assertEqual((xml_log.escaped(text), xml_log.attribute(text)), (as_text, as_attribute))
+            self.assertEqual((xml_log.escaped_xml(text), xml_log.attribute(text)), (as_text, as_attribute))
         self.assertEqual(xml_log.numbered(b"\x01\t\n\r\x1f\x7f\x80"), b"?\\001\t\n\r?\\031?\\127\x80")
 
     def test_properties_are_shown_that_are_asked_for(self) -> None:

@@ -9,7 +9,7 @@ from typing import TYPE_CHECKING, Any, NoReturn
 
 from svnask import __version__
 from svnask.asking.verbs import HELP, verb_named
-from svnask.asking.words import OF_ALL, joined, ordered, places, with_source
+from svnask.asking.words import OF_ALL, joined_options, ordered_words, places, with_source
 from svnask.errors import Usage
 from svnask.lazy import Lazy
 from svnask.sources.access import REACHED, REACHED_ALONE, Access, split_access
@@ -113,11 +113,11 @@ def parser_of_verb(name: str) -> Parser:
 
 def parsed(words: list[str]) -> argparse.Namespace:
     """What a command line says. `SystemExit` where it is a call for help, which was printed."""
-    access, left = split_access(joined(words))
+    access, left = split_access(joined_options(words))
     ready = with_source(left, HELP)
     need_source(ready)
     asked = next((ready[at] for at in places(ready)[1:2] if ready[at] in HELP), None)
-    return parser(asked).parse_args(ordered(ready), argparse.Namespace(access=Access(access)))
+    return parser(asked).parse_args(ordered_words(ready), argparse.Namespace(access=Access(access)))
 
 
 def need_source(words: list[str]) -> None:

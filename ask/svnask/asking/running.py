@@ -44,7 +44,7 @@ def need_folder(name: str) -> None:
             raise Failed(f"the working folder, in which {name} is, can't be found: {error.strerror}") from error
 
 
-def lines_of(history: OpenHistory, given: argparse.Namespace) -> Iterator[bytes]:
+def answer_lines(history: OpenHistory, given: argparse.Namespace) -> Iterator[bytes]:
     verb = verb_named(given.verb)
     if verb.judges:
         history.begin()
@@ -69,7 +69,7 @@ def tell(
     is_begun = False
     history.notice = note
     try:
-        for line in lines_of(history, given):
+        for line in answer_lines(history, given):
             is_begun = True
             write(line)
     except (Refused, Damaged) as error:

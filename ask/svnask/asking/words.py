@@ -19,7 +19,7 @@ NUMBER = re.compile("-[0-9]")
 OF_SVN, OF_ALL = ("log", "mergeinfo"), "sources"
 
 
-def joined(arguments: Iterable[str]) -> list[str]:
+def joined_options(arguments: Iterable[str]) -> list[str]:
     """The arguments with each option that takes a value as `--name=value`. A value may be empty, or begin with a minus
     or an equals sign: `-c -3,5` is what `svn` takes, and `-r=5` is not."""
     found: list[str] = []
@@ -39,7 +39,7 @@ def joined(arguments: Iterable[str]) -> list[str]:
 
 def source_word(words: Sequence[str]) -> tuple[str, tuple[str, ...]] | None:
     """The word that is the source of a command line, if it has one, and the options by which that is reached."""
-    access, left = split_access(joined(words))
+    access, left = split_access(joined_options(words))
     ready = with_source(left, ())
     at = places(ready)
     return (ready[at[0]], access) if at else None
@@ -70,7 +70,7 @@ def with_source(words: list[str], verbs: Iterable[str]) -> list[str]:
     return [*words[: found[0]], split_peg(urls[0])[0], *words[found[0] :]]
 
 
-def ordered(words: list[str]) -> list[str]:
+def ordered_words(words: list[str]) -> list[str]:
     """The words with the options that stand after the verb right behind it."""
     found = places(words)
     if len(found) < 2 or "--" in words:

@@ -11,13 +11,13 @@ from svnask.history.open_history import OpenHistory
 from svnask.history.targets import Target
 from svnask.log import selection as log
 from svnask.mergeinfo.values import Run, runs_of
-from svnask.merges.gains import Intervals, has
+from svnask.merges.gains import Intervals, is_in
 from svnask.merges.recorded import Recorded
 from svnask.paths import is_at_or_below
 from svnask.texts import decoded
 
 
-class Part(NamedTuple):
+class NamedPart(NamedTuple):
     """Revisions of a source path that a value names, as far as one life of that path has them."""
 
     path: bytes
@@ -25,7 +25,7 @@ class Part(NamedTuple):
     inheritable: bool
 
 
-class Held(NamedTuple):
+class HeldRevisions(NamedTuple):
     """The revisions that a path has: in its own history, and by its mergeinfo as a whole or in part, but for those that
     were only recorded as merged."""
 
@@ -44,7 +44,7 @@ class Gained(NamedTuple):
     how: str
 
 
-def value_of(answers: Answers, target: Target) -> dict[bytes, str]:
+def mergeinfo_of(answers: Answers, target: Target) -> dict[bytes, str]:
     """The mergeinfo of a target that is there."""
     answer = answers[Mergeinfo(*target)]
     if answer.status == "malformed-mergeinfo":
@@ -52,17 +52,17 @@ def value_of(answers: Answers, target: Target) -> dict[bytes, str]:
     return answer.value
 
 
-def parts_of(tree: Tree, head: int, path: bytes, runs: Iterable[Run]) -> Iterator[Part]:
+def queries_of_source(tree: Tree, head: int, path: bytes, runs: Iterable[Run]) -> Iterator[NamedPart]:
     """The queries for the operative revisions of a source path in the revisions that a value names."""
     lives = list(tree.lives(path, head))
     for run in runs:
         for life in lives:
             lo, hi = max(run.lo, life.first), min(run.hi, life.last)
             if lo <= hi:
-                yield Part(path, Log(path, hi, (lo, hi)), run.inheritable)
+                yield NamedPart(path, Log(path, hi, (lo, hi)), run.inheritable)
 
 
-def held(history: OpenHistory, targets: Sequence[Target]) -> list[Held]:
+def held_by(history: OpenHistory, targets: Sequence[Target]) -> list[HeldRevisions]:
     """What each of some targets has."""
     answers = history.answers(query for each in targets for query in (Where(*each), Log(*each), Mergeinfo(*each)))
     for target in targets:
@@ -72,23 +72,25 @@ def held(history: OpenHistory, targets: Sequence[Target]) -> list[Held]:
     parts = {
         target: [
             part
-            for path, ranges in value_of(answers, target).items()
+            for path, ranges in mergeinfo_of(answers, target).items()
             if is_askable(path)
-            for part in parts_of(tree, history.head, path, runs_of(ranges.encode("ascii")))
+            for part in queries_of_source(tree, history.head, path, runs_of(ranges.encode("ascii")))
         ]
         for target in targets
     }
     answers.update(history.answers(part.query for each in parts.values() for part in each))
     recorded = Recorded(history).of(targets)
-    return [held_by(history, answers, target, parts[target], of_target) for target, of_target in zip(targets, recorded)]
+    return [held_of(history, answers, target, parts[target], of_target) for target, of_target in zip(targets, recorded)]
 
 
-def held_by(history: OpenHistory, answers: Answers, target: Target, parts: Iterable[Part], recorded: Intervals) -> Held:
+def held_of(
+    history: OpenHistory, answers: Answers, target: Target, parts: Iterable[NamedPart], recorded: Intervals
+) -> HeldRevisions:
     trace = log.Trace(answers[Where(*target)].segments, answers[Log(*target)].revisions)
-    found = Held(set(log.listed(history, trace)), set(), set())
+    found = HeldRevisions(set(log.listed(history, trace)), set(), set())
     for path, query, inheritable in parts:
         alone = recorded.get(path, [])
-        revisions = (rev for rev in answers[query].revisions if not has(alone, rev))
+        revisions = (rev for rev in answers[query].revisions if not is_in(alone, rev))
         (found.merged if inheritable else found.partial).update(revisions)
     return found
 
@@ -107,7 +109,7 @@ def is_copy_alone(history: OpenHistory, rev: int) -> bool:
 def gained(history: OpenHistory, before: Target, after: Target) -> list[Gained]:
     """The revisions that the second target has and the first one lacks, the newest first. Those that only copied are
     left out."""
-    of_before, of_after = held(history, [before, after])
+    of_before, of_after = held_by(history, [before, after])
     whole = of_before.own | of_before.merged
     revisions = (of_after.own | of_after.merged | (of_after.partial - of_before.partial)) - whole
     return [

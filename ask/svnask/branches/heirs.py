@@ -68,7 +68,7 @@ class Candidates:
                 self._add(joined(record.path, rest_below(path, top)), record.rev)
 
 
-def copies_of(segments: Sequence[Segment], peg: int) -> Iterator[tuple[int, Place]]:
+def copies_to(segments: Sequence[Segment], peg: int) -> Iterator[tuple[int, Place]]:
     """The copies after a peg revision by which a path came to be where it is: their revisions and their sources."""
     located = [(each.lo, each.hi, each.path) for each in segments if each.path is not None]
     for (rev, _, _), (_, source_rev, source) in zip(located, located[1:]):
@@ -76,7 +76,7 @@ def copies_of(segments: Sequence[Segment], peg: int) -> Iterator[tuple[int, Plac
             yield rev, (source, source_rev)
 
 
-def ended(history: OpenHistory, copies: Iterable[tuple[int, Place]]) -> set[tuple[int, Place]]:
+def moved_copies(history: OpenHistory, copies: Iterable[tuple[int, Place]]) -> set[tuple[int, Place]]:
     """Those of some copies whose source ended with them: the path was there until the revision before, and what is
     there then, if anything, does not come from it."""
     asked = [copy for copy in copies if is_askable(copy[1][0])]
@@ -98,8 +98,8 @@ def heirs(history: OpenHistory, target: Target, last: int) -> Iterator[Heir]:
     for query, answer in zip(queries, history.ask(queries)):
         segments = answer.segments
         if any(each.lo <= target.rev <= each.hi and each.path == target.path for each in segments):
-            way = list(copies_of(segments, target.rev))
+            way = list(copies_to(segments, target.rev))
             new = [copy for copy in way if copy not in is_move]
-            moves = ended(history, [copy for copy in new if candidates.may_have_ended(copy[1][0], copy[0])])
+            moves = moved_copies(history, [copy for copy in new if candidates.may_have_ended(copy[1][0], copy[0])])
             is_move.update((copy, copy in moves) for copy in new)
             yield Heir(query.path, [Step(*copy, is_move[copy]) for copy in way])

@@ -15,7 +15,7 @@ from svnask.history.targets import Target
 from svnask.log import selection as log
 from svnask.mergeinfo.values import runs_of
 from svnask.merges import show_revs as mergeinfo
-from svnask.merges.gains import Intervals, between, has
+from svnask.merges.gains import Intervals, between, is_in
 from svnask.merges.recorded import Recorded
 from svnask.paths import Place, components, is_at_or_below, tops_of
 from svnask.texts import decoded
@@ -83,7 +83,7 @@ def last_changes(history: OpenHistory, lives: Sequence[Life]) -> dict[Life, int]
         lows = [max(part[0].first, part[0].last - window) for part in left]
         answers = history.ask([log_of(part, low) for part, low in zip(left, lows)])
         for part, low, answer in zip(left, lows, answers):
-            for life, revisions in zip(part, split(answer, part)):
+            for life, revisions in zip(part, split_by_life(answer, part)):
                 if revisions or low <= life.first:
                     found[life] = max(revisions, default=life.first)
         left = [part for part in left if part[0] not in found]
@@ -103,7 +103,7 @@ class Listed(NamedTuple):
     is_folder: bool
 
 
-def listed(history: OpenHistory, patterns: Sequence[bytes]) -> Iterator[Listed]:
+def listed_branches(history: OpenHistory, patterns: Sequence[bytes]) -> Iterator[Listed]:
     """The lives of all paths that match a pattern, or of the trunk, the branches and the tags."""
     lives = lives_of(history, patterns)
     changes = last_changes(history, lives)
@@ -120,7 +120,7 @@ def log_of(chain: Sequence[Life], low: int) -> Log:
     return Log(last.path, last.last, (low, last.last))
 
 
-def split(answer: Answer, chain: Sequence[Life]) -> list[list[int]]:
+def split_by_life(answer: Answer, chain: Sequence[Life]) -> list[list[int]]:
     """The operative revisions of each life of a chain, rising, by the answer about all of it."""
     revisions = answered(answer)[::-1]
     return [between(revisions, life.first, life.last) for life in chain]
@@ -136,7 +136,7 @@ def operative(lives: Sequence[Life], answers: Iterator[Answer]) -> dict[Life, li
     """The operative revisions of each life, rising, by the answers to its queries, which are the next ones."""
     found: dict[Life, list[int]] = {}
     for chain in chains_of(lives):
-        for life, revisions in zip(chain, split(next(answers), chain)):
+        for life, revisions in zip(chain, split_by_life(next(answers), chain)):
             # `svn log` lists a copy of a directory above to itself, and for svnhist nothing happens to the path there.
             is_renewed = life.source == (life.path, life.first - 1) and life.first not in revisions[:1]
             found[life] = [life.first] * is_renewed + revisions
@@ -150,7 +150,7 @@ class Holder(NamedTuple):
     how: str
 
 
-class Asked(NamedTuple):
+class HolderQueries(NamedTuple):
     """What is asked of a branch or a tag that may have a revision: where it was only if `svn log` may list more than
     svnhist."""
 
@@ -171,7 +171,9 @@ def holders(history: OpenHistory, patterns: Sequence[bytes], rev: int) -> Iterat
     lists_more = log.may_list_more(history)
     places = [(life.path, history.head) for life in alive]
     asked = [
-        Asked(Log(*place, (rev, rev)), Mergeinfo(*place), Where(*place) if lists_more or place[0] == b"/" else None)
+        HolderQueries(
+            Log(*place, (rev, rev)), Mergeinfo(*place), Where(*place) if lists_more or place[0] == b"/" else None
+        )
         for place in places
     ]
     answers = history.answers(query for each in asked for query in each.queries())
@@ -208,7 +210,7 @@ def namings(history: OpenHistory, value: dict[bytes, str], changed: set[bytes], 
 
 def how_merged(named: Sequence[Naming], recorded: Intervals, rev: int) -> str:
     """Whether a revision was merged, and if so whether as a whole, or only recorded."""
-    found = [each.is_whole for each in named if not has(recorded.get(each.source, ()), rev)]
+    found = [each.is_whole for each in named if not is_in(recorded.get(each.source, ()), rev)]
     return RECORDED if not found else MERGED if any(found) else IN_PART
 
 
@@ -242,7 +244,7 @@ def unmerged(history: OpenHistory, patterns: Sequence[bytes], into: Target | Non
     sources = {Target(life.path, history.head): targets[life] for life in alive if life in targets}
     question = mergeinfo.Question("eligible")
     about = (mergeinfo.queries_about(explicit, target, question) for target in set(sources.values()))
-    merges = mergeinfo.Merges(history, explicit, history.answers(itertools.chain.from_iterable(about)))
+    merges = mergeinfo.ShownMerges(history, explicit, history.answers(itertools.chain.from_iterable(about)))
     asked = {source: mergeinfo.queries_of_pair(source, target, question) for source, target in sources.items()}
     replies = history.ask(itertools.chain.from_iterable(asked.values()))
     for source, target in sources.items():
@@ -266,7 +268,7 @@ def only_recorded(history: OpenHistory, recorded: Intervals, trace: log.Trace) -
         found = recorded.get(segment.path or b"", ())
         if found:
             begin, end = bisect.bisect_left(revisions, segment.lo), bisect.bisect_right(revisions, segment.hi)
-            yield from (rev for rev in revisions[begin:end] if has(found, rev))
+            yield from (rev for rev in revisions[begin:end] if is_in(found, rev))
 
 
 def targets_of(history: OpenHistory, alive: Sequence[Life], into: Target | None) -> dict[Life, Target]:
@@ -281,7 +283,7 @@ def targets_of(history: OpenHistory, alive: Sequence[Life], into: Target | None)
 
 def own_targets(history: OpenHistory, alive: Sequence[Life]) -> dict[Life, Target]:
     """The trunk of the project of each branch."""
-    trunks = {life: trunk_of(history, life) for life in alive}
+    trunks = {life: trunk_of_life(history, life) for life in alive}
     found = {life: Target(trunk, history.head) for life, trunk in trunks.items() if trunk is not None}
     missing = [life.path for life in alive if life not in found]
     if missing and not found:
@@ -292,7 +294,7 @@ def own_targets(history: OpenHistory, alive: Sequence[Life]) -> dict[Life, Targe
     return found
 
 
-def trunk_of(history: OpenHistory, life: Life) -> bytes | None:
+def trunk_of_life(history: OpenHistory, life: Life) -> bytes | None:
     """The trunk of the project that a branch is of by its name, or by that of what it was copied from, if there is one
     today."""
     place: Place | None = (life.path, life.last)
@@ -304,7 +306,7 @@ def trunk_of(history: OpenHistory, life: Life) -> bytes | None:
     return None
 
 
-class Event(NamedTuple):
+class TagEvent(NamedTuple):
     """What happened to a tag after it was made. For a tag that was renamed `other` is where it is, for one that was made
     again what it is a copy of."""
 
@@ -319,7 +321,7 @@ class Touched(NamedTuple):
     life: Life
     is_changed_when_made: bool
     revisions: list[int]
-    events: list[Event]
+    events: list[TagEvent]
 
 
 def touched(history: OpenHistory, patterns: Sequence[bytes]) -> Iterator[Touched]:
@@ -331,24 +333,24 @@ def touched(history: OpenHistory, patterns: Sequence[bytes]) -> Iterator[Touched
     for life in lives:
         below = any(change.path != life.path for change in history.changes_below(life.first, life.path))
         of_path = before if before is not None and before.path == life.path else None
-        events = begin_of(life, of_path) + [Event(CHANGED, rev) for rev in [life.first] * below + changed[life]]
+        events = begin_of(life, of_path) + [TagEvent(CHANGED, rev) for rev in [life.first] * below + changed[life]]
         events += end_of(history, life)
         before = life
         if events:
             yield Touched(life, below, changed[life], events)
 
 
-def begin_of(life: Life, before: Life | None) -> list[Event]:
+def begin_of(life: Life, before: Life | None) -> list[TagEvent]:
     """That a tag was made again, unless it goes on as a copy of itself."""
-    return [] if before is None or life.continues(before) else [Event(AGAIN, life.first, life.source)]
+    return [] if before is None or life.continues(before) else [TagEvent(AGAIN, life.first, life.source)]
 
 
-def end_of(history: OpenHistory, life: Life) -> list[Event]:
+def end_of(history: OpenHistory, life: Life) -> list[TagEvent]:
     """How a tag ended, unless it goes on as a copy of itself."""
     if life.is_alive:
         return []
     end = life.last + 1
     moved_to = history.tree.moved_to(life)
     if moved_to is None:
-        return [Event(DELETED, end)]
-    return [] if moved_to == life.path else [Event(RENAMED, end, (moved_to, end))]
+        return [TagEvent(DELETED, end)]
+    return [] if moved_to == life.path else [TagEvent(RENAMED, end, (moved_to, end))]

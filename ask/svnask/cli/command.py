@@ -35,7 +35,7 @@ def main() -> int:
         # What is read of a history lives as long as the question. To look through it for cycles again and again took a
         # quarter of the time.
         gc.set_threshold(*RARELY)
-        status = question.main()
+        status = question.answer()
     return status
 
 

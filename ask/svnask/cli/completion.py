@@ -23,7 +23,7 @@ from typing import NamedTuple
 
 from svnask.asking.parser import parser, parser_of_verb
 from svnask.asking.verbs import HELP
-from svnask.asking.words import OF_ALL, OF_SVN, is_option, joined
+from svnask.asking.words import OF_ALL, OF_SVN, is_option, joined_options
 from svnask.copy.branch_names import kept_branches
 from svnask.copy.store import Front
 from svnask.files import cache_folder
@@ -65,14 +65,14 @@ class Word(NamedTuple):
     about: str = ""
 
 
-class Found(NamedTuple):
+class Candidates(NamedTuple):
     """What may stand at the cursor, and whether a name of a file may."""
 
     words: list[Word]
     has_files: bool = False
 
 
-class Place(NamedTuple):
+class StoredCopy(NamedTuple):
     """What is kept of a source: its folder, the front of its index, the URL of its root, if it has one, and the path
     below which plain targets are."""
 
@@ -82,7 +82,7 @@ class Place(NamedTuple):
     path: bytes = b"/"
 
 
-def place_of(source: str, access: Sequence[str] = ()) -> Place | None:
+def stored_copy_of(source: str, access: Sequence[str] = ()) -> StoredCopy | None:
     """What is kept of the source that a word names, as it is reached by some options."""
     top = cache_folder()
     if top is None:
@@ -97,11 +97,11 @@ def place_of(source: str, access: Sequence[str] = ()) -> Place | None:
     return place_in(top, Dump.kind, path) or place_in(top, Folder.kind, path)
 
 
-def place_in(top: str, kind: bytes, name: bytes, root: str = "") -> Place | None:
+def place_in(top: str, kind: bytes, name: bytes, root: str = "") -> StoredCopy | None:
     """What is kept of a source of this kind and this name."""
     entry = Entry(top, kind, name)
     front = read_front(entry.folder)
-    return Place(entry.folder, front, root) if front is not None and front.kept[:2] == (kind, name) else None
+    return StoredCopy(entry.folder, front, root) if front is not None and front.kept[:2] == (kind, name) else None
 
 
 def kept_urls() -> Iterator[str]:
@@ -169,10 +169,10 @@ def typed_of(words: Sequence[str]) -> Typed:
             has_ended = True
         elif takes_value(verb_of(plain), word):
             option = word
-    return Typed(plain, option, has_ended, top, split_access(joined(words))[0])
+    return Typed(plain, option, has_ended, top, split_access(joined_options(words))[0])
 
 
-def described(names: Iterable[str]) -> list[Word]:
+def verb_words(names: Iterable[str]) -> list[Word]:
     """Verbs, with their help."""
     return [Word(name, HELP[name]) for name in names]
 
@@ -206,7 +206,7 @@ class Completion:
     def __init__(self, until: float) -> None:
         self._until = until
 
-    def found(self, words: Sequence[str], part: str) -> Found:
+    def found(self, words: Sequence[str], part: str) -> Candidates:
         """What may stand after words, where a part of a word stands."""
         typed = typed_of(words)
         name, sign, value = part.partition("=")
@@ -216,35 +216,35 @@ class Completion:
             return self._argument(typed, part)
         if sign and takes_value(typed.verb, name):
             found = self._values(option_action(typed.verb, name), typed, value)
-            return Found([each._replace(text=f"{name}={each.text}") for each in found.words])
-        return Found(list(options(typed.verb)))
+            return Candidates([each._replace(text=f"{name}={each.text}") for each in found.words])
+        return Candidates(list(options(typed.verb)))
 
-    def _argument(self, typed: Typed, part: str) -> Found:
+    def _argument(self, typed: Typed, part: str) -> Candidates:
         """What may stand where no option does."""
         if not typed.plain:
-            return Found([*map(Word, self._urls(part, False)), *described((*OF_SVN, OF_ALL))], True)
+            return Candidates([*map(Word, self._urls(part, False)), *verb_words((*OF_SVN, OF_ALL))], True)
         if not typed.verb:
-            return Found(described(HELP))
+            return Candidates(verb_words(HELP))
         possible = [each for each in actions_of(typed.verb) if not each.option_strings]
         taken = (each for at, each in enumerate(possible) if at == typed.arguments or each.nargs == "*")
         return self._values(next(taken, None), typed, part)
 
-    def _values(self, action: argparse.Action | None, typed: Typed, part: str) -> Found:
+    def _values(self, action: argparse.Action | None, typed: Typed, part: str) -> Candidates:
         """What may stand for an argument, or for the value of an option."""
         name = action.metavar if action is not None and isinstance(action.metavar, str) else ""
         is_argument = action is not None and not action.option_strings
         if name in FILES:
-            return Found([], True)
+            return Candidates([], True)
         if name.endswith(PEG) or is_argument and name in PATHS:
-            return Found([*map(Word, self._targets(typed, part, name == PATTERN))])
-        return Found([Word(each) for each in name.split("|") if LITERAL.match(name)])
+            return Candidates([*map(Word, self._targets(typed, part, name == PATTERN))])
+        return Candidates([Word(each) for each in name.split("|") if LITERAL.match(name)])
 
     def _targets(self, typed: Typed, part: str, is_pattern: bool) -> Iterator[str]:
         if not typed.plain:
             return iter(())
         if IS_URL.match(part) or typed.is_as_svn and not typed.source:
             return self._urls(part, True, typed.access)
-        place = place_of(typed.source, typed.access)
+        place = stored_copy_of(typed.source, typed.access)
         if place is None:
             return iter(())
         return self._paths(place._replace(path=path_in(place.path, path_of(typed.below))), part, is_pattern)
@@ -254,13 +254,13 @@ class Completion:
         which the cursor is."""
         for root in dict.fromkeys(kept_urls()):
             front = root.rstrip("/")
-            place = place_of(root, access) if part.startswith(front + "/") else None
+            place = stored_copy_of(root, access) if part.startswith(front + "/") else None
             if place is None:
                 yield front + "/" if is_target else root
             else:
                 yield from (front + urllib.parse.quote(path, safe=PLAIN) for path in self._branches(place))
 
-    def _paths(self, place: Place, part: str, is_pattern: bool) -> Iterator[str]:
+    def _paths(self, place: StoredCopy, part: str, is_pattern: bool) -> Iterator[str]:
         """The branches and tags in the form in which a word begins: with `^/`, with a slash, or with neither. A pattern
         has no peg revision."""
         base = b"" if part[:1] in ("^", "/") or place.path == b"/" else place.path
@@ -269,7 +269,7 @@ class Completion:
                 text = decoded(path[len(base) :]) + "@" * (not is_pattern and b"@" in path.rpartition(b"/")[2])
                 yield "^" + text if part.startswith("^") else text if part.startswith("/") else text[1:]
 
-    def _branches(self, place: Place) -> list[bytes]:
+    def _branches(self, place: StoredCopy) -> list[bytes]:
         return kept_branches(place.folder, place.front, self._until)
 
 
@@ -312,7 +312,7 @@ def quoted(text: str, quote: str) -> str:
     return re.sub(r"""([$`"\\])""", r"\\\1", text) if quote else SPECIAL.sub(lambda found: "\\" + found[0], text)
 
 
-def for_bash(found: Found, typed: str, breaks: str) -> list[str]:
+def for_bash(found: Candidates, typed: str, breaks: str) -> list[str]:
     """The lines for bash, which puts each word in the place of what it takes for the last one."""
     part = unquoted(typed)
     texts = sorted({each.text for each in found.words if each.text.startswith(part)})
@@ -323,7 +323,7 @@ def for_bash(found: Found, typed: str, breaks: str) -> list[str]:
     return [kind, *(quoted(text[length:], quote) for text in texts if not CONTROL.search(text))]
 
 
-def for_zsh(found: Found, part: str) -> list[str]:
+def for_zsh(found: Candidates, part: str) -> list[str]:
     """The lines for zsh, which quotes words itself."""
     kept = dict.fromkeys(each for each in found.words if each.text.startswith(part) and not CONTROL.search(each.text))
     return ["and files" if found.has_files else "words", *(f"{each.text}\t{each.about}" for each in kept)]

@@ -14,7 +14,7 @@ from svnask.errors import Failed
 from svnask.texts import drop, say
 
 
-def stop(number: int, frame: object) -> NoReturn:
+def raise_stopped(number: int, frame: object) -> NoReturn:
     raise Stopped(number)
 
 
@@ -25,11 +25,11 @@ def end_by(number: int) -> NoReturn:
     raise SystemExit(128 + number)
 
 
-def main(arguments: list[str] | None = None) -> int:
+def answer(arguments: list[str] | None = None) -> int:
     for number in (signal.SIGINT, signal.SIGTERM, signal.SIGHUP):
         # What the caller has the command ignore, as nohup does, stays ignored.
         if signal.getsignal(number) != signal.SIG_IGN:
-            signal.signal(number, stop)
+            signal.signal(number, raise_stopped)
     try:
         return call(sys.argv[1:] if arguments is None else arguments)
     except Stopped as stopped:

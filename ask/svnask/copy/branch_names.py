@@ -28,7 +28,7 @@ GONE = re.compile(rb"\nNode-action: (?:delete|replace)\n")
 PATH, KIND = b"Node-path: ", b"Node-kind: "
 
 
-class Event(NamedTuple):
+class NameEvent(NamedTuple):
     """A directory that was made, or a path that was deleted."""
 
     at: int
@@ -38,7 +38,7 @@ class Event(NamedTuple):
     source: bytes = b""
 
 
-class Span(NamedTuple):
+class FileSpan(NamedTuple):
     """A part of a file of the copy."""
 
     path: str
@@ -46,12 +46,12 @@ class Span(NamedTuple):
     end: int
 
 
-def spans_of(folder: str, front: Front) -> list[Span]:
+def file_spans(folder: str, front: Front) -> list[FileSpan]:
     """The parts of a copy, in their order."""
     kept = front.kept
     lengths = {f"dump.{kept.generation}": kept.base, f"later.{kept.generation}": front.length - kept.base}
     return [
-        Span(os.path.join(folder, name), begin, min(begin + PIECE, length))
+        FileSpan(os.path.join(folder, name), begin, min(begin + PIECE, length))
         for name, length in lengths.items()
         for begin in range(0, length, PIECE)
     ]
@@ -65,20 +65,20 @@ def path_before(text: bytes, end: int) -> bytes:
     return clean(text[begin + len(PATH) : end]) if text.startswith(PATH, begin) else b""
 
 
-def events_in(text: bytes) -> Iterator[Event]:
+def events_in(text: bytes) -> Iterator[NameEvent]:
     """The events in a part of a copy. Of other directories those alone count that were copied."""
     for found in GONE.finditer(text):
         path = path_before(text, found.start())
         if path:
-            yield Event(found.start(), False, path)
+            yield NameEvent(found.start(), False, path)
     for found in MADE.finditer(text):
         path = path_before(text, found.start())
         # With a path that is replaced what was below it goes first.
         if path and (found[1] is not None or is_named(path)):
-            yield Event(found.end(), True, path, clean(found[1]) if found[1] is not None else b"")
+            yield NameEvent(found.end(), True, path, clean(found[1]) if found[1] is not None else b"")
 
 
-def events_of(span: Span) -> list[Event]:
+def events_of(span: FileSpan) -> list[NameEvent]:
     """The events whose blocks begin in a span, in their order."""
     begin = max(span.begin - EDGE, 0)
     with open(span.path, "rb", opener=files.opener) as file:
@@ -87,10 +87,10 @@ def events_of(span: Span) -> list[Event]:
     return [event for event in found if span.begin <= event.at + begin < span.end]
 
 
-class Branches:
+class BranchNames:
     """The branches and tags that are there after some events."""
 
-    def __init__(self, events: Iterable[Event]) -> None:
+    def __init__(self, events: Iterable[NameEvent]) -> None:
         # All that ever were, those that were never copied, and those that are there at and below each folder.
         self._known: set[bytes] = set()
         self._made: set[bytes] = set()
@@ -101,7 +101,7 @@ class Branches:
             else:
                 self._remove(event.path)
 
-    def _make(self, event: Event) -> None:
+    def _make(self, event: NameEvent) -> None:
         path, source = event.path, event.source
         if source and source not in self._known and self._below[source] and not is_in_named(path):
             # A project, or a folder of branches, with those in it.
@@ -134,10 +134,10 @@ class Branches:
 def kept_branches(folder: str, front: Front, until: float) -> list[bytes]:
     """The branches and tags of what is kept in a folder of the cache, looked for until a time of the clock of
     `time.monotonic`."""
-    spans = spans_of(folder, front)
-    found: dict[int, list[Event]] = {}
+    spans = file_spans(folder, front)
+    found: dict[int, list[NameEvent]] = {}
     for place in (0, *range(len(spans) - 1, 0, -1))[: len(spans)]:
         if len(found) > 1 and time.monotonic() > until:
             break
         found[place] = events_of(spans[place])
-    return Branches(event for place in sorted(found) for event in found[place]).paths()
+    return BranchNames(event for place in sorted(found) for event in found[place]).paths()

@@ -110,7 +110,7 @@ def change_of(
     return Change(clean(path), letter, place, of_node, text is not None, properties is not None)
 
 
-def source_of(records: Iterable[Record], path: bytes) -> Place | None:
+def copy_source_of(records: Iterable[Record], path: bytes) -> Place | None:
     """Where a path came from with a copy that a revision with these records made of it or of a path above it."""
     found: Place | None = None
     for record in records:
@@ -121,13 +121,13 @@ def source_of(records: Iterable[Record], path: bytes) -> Place | None:
     return found
 
 
-def place_of(change: Change, rev: int, records: Iterable[Record]) -> Place:
+def place_of_change(change: Change, rev: int, records: Iterable[Record]) -> Place:
     """A place at which a changed path is, given the records of the revision. What was deleted was there before, or came
     with a copy of a directory above it."""
     if change.letter != "D":
         return change.path, rev
     top, _, name = change.path.rpartition(b"/")
-    source = source_of(records, top or b"/")
+    source = copy_source_of(records, top or b"/")
     return (joined(source[0], name), source[1]) if source is not None else (change.path, rev - 1)
 
 

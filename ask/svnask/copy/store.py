@@ -317,7 +317,7 @@ class Store:
         return self.between(self._begin(rev), self._end(rev))
 
     def revision(self, rev: int) -> Revision:
-        return revision_of(self._head(rev))
+        return revision_of_block(self._head(rev))
 
     def section(self, rev: int) -> tuple[int, bytes]:
         """The offset of a revision in the given dump, and its property section."""
@@ -412,7 +412,7 @@ def section_of_revision(found: re.Match[bytes]) -> bytes:
     return found.string[begin : begin + int(found["length"] or 0)]
 
 
-def revision_of(found: re.Match[bytes]) -> Revision:
+def revision_of_block(found: re.Match[bytes]) -> Revision:
     """What the block of a revision says."""
     rev, at, length, _, length_of_author, author, date, length_of_message = found.groups()
     if author is not None and len(author) == int(length_of_author):

@@ -96,7 +96,7 @@ class Reply(NamedTuple):
     text: bytes
 
 
-class Asked:
+class Pending:
     """The queries, by their numbers, of which the replies are still to come, and those replies that had to be read
     before somebody took them, with the error that came then."""
 
@@ -124,7 +124,7 @@ class Talk:
         self._unready, self._youngest = 1, -1
         self._count = 0
         # Those queries of which replies may be on their way.
-        self._open: Asked | None = None
+        self._open: Pending | None = None
         self._is_closed = False
         if later:
             self.grow(later)
@@ -144,10 +144,10 @@ class Talk:
     def ask(self, queries: Sequence[Query[A]]) -> Iterator[A]:
         """The answers to queries, in their order. Others may be asked before all of them are taken. Where nobody takes
         the rest, the talk is over."""
-        lines = b"".join(line_of(query) + b"\n" for query in queries)
+        lines = b"".join(query_line(query) + b"\n" for query in queries)
         with self._lock:
             self._keep_open()
-            asked = self._open = Asked(self._count + 1, self._count + 1 + len(queries))
+            asked = self._open = Pending(self._count + 1, self._count + 1 + len(queries))
             self._count += len(queries)
             self._writer.put(lines)
         try:
@@ -171,7 +171,7 @@ class Talk:
         with self._lock:
             self._close()
 
-    def _next(self, asked: Asked) -> Reply:
+    def _next(self, asked: Pending) -> Reply:
         with self._lock:
             if asked.kept:
                 return asked.kept.popleft()
@@ -189,7 +189,7 @@ class Talk:
             assert asked is not None
             asked.error = error
 
-    def _take(self, asked: Asked) -> Reply:
+    def _take(self, asked: Pending) -> Reply:
         """The next reply, which is that to the next query."""
         self._take_ready()
         head, _, body = self._reply().partition(b"\n")
@@ -236,7 +236,7 @@ class Talk:
         return status
 
 
-def line_of(query: Query[A]) -> bytes:
+def query_line(query: Query[A]) -> bytes:
     """The line by which a query is asked."""
     line = query.line()
     if b"\n" in line:
@@ -338,12 +338,12 @@ def refusal(status: int, line: str) -> Exception:
     if status == 0:
         return Failed("svnhist-live ended before it had answered all queries")
     if status < 0:
-        return Failed("svnhist-live was ended by %s" % name_of(-status))
+        return Failed("svnhist-live was ended by %s" % name_of_signal(-status))
     said = line.partition("svnhist: ")[2]
     return Failed(said or "svnhist-live ended with status %d%s" % (status, line and ": " + line), status if said else 3)
 
 
-def name_of(number: int) -> str:
+def name_of_signal(number: int) -> str:
     """The name of a signal."""
     try:
         return signal.Signals(number).name

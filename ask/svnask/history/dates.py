@@ -50,7 +50,7 @@ def seconds_of(fields: tuple[int, int, int, int, int, int]) -> int:
     return ((days * 24 + hour) * 60 + minute) * 60 + second
 
 
-def read(date: bytes) -> Moment | None:
+def read_date(date: bytes) -> Moment | None:
     """The moment of a value of `svn:date`."""
     found = STORED.match(date)
     if found:
@@ -65,7 +65,7 @@ def read(date: bytes) -> Moment | None:
     return None
 
 
-def shown(date: bytes | None, zone: str | None = None) -> str:
+def shown_date(date: bytes | None, zone: str | None = None) -> str:
     """A value of `svn:date` as `svn log` prints it, in the local time zone or in UTC."""
     return Clock(zone).shown(date).decode("ascii")
 
@@ -97,8 +97,8 @@ class Clock:
             around = self._hours[hour] if hour in self._hours else self._hour(hour)
             if around is not None:
                 return around[0] + rest + around[1]
-        when = read(date)
-        return b"(invalid date)" if when is None else b"%s %s %s (%s)" % parts_of(when[0], self._zone)
+        when = read_date(date)
+        return b"(invalid date)" if when is None else b"%s %s %s (%s)" % date_parts(when[0], self._zone)
 
     def _hour(self, text: bytes) -> tuple[bytes, bytes] | None:
         date, _, hour = text.partition(b"T")
@@ -113,7 +113,7 @@ class Clock:
 
     def _day(self, text: bytes) -> Day | None:
         if text not in self._days:
-            noon = read(text + b"T12:00:00.0Z")
+            noon = read_date(text + b"T12:00:00.0Z")
             self._days[text] = None if noon is None else self._found(noon[0])
         return self._days[text]
 
@@ -122,11 +122,11 @@ class Clock:
         hours, rest = divmod(offsets.pop(), 3600)
         if offsets or rest:
             return None
-        days = [parts_of(noon - 3600 * hours + 86400 * each, self._zone) for each in (0, 1, -1)]
+        days = [date_parts(noon - 3600 * hours + 86400 * each, self._zone) for each in (0, 1, -1)]
         return Day(hours, days[0][2], [(front, name) for front, _, _, name in days])
 
 
-def parts_of(seconds: int, zone: str | None) -> tuple[bytes, bytes, bytes, bytes]:
+def date_parts(seconds: int, zone: str | None) -> tuple[bytes, bytes, bytes, bytes]:
     """The date, the time, the offset from UTC, and the date once more with names."""
     local = time.gmtime(seconds) if zone == "UTC" else time.localtime(seconds)
     minutes = local.tm_gmtoff // 60
@@ -228,7 +228,7 @@ def moment_of(rev: int, date_of: Callable[[int], bytes | None]) -> Moment:
     date = date_of(rev)
     if date is None:
         raise Denied("E160000", f"Failed to find time on revision {rev}")
-    found = read(date)
+    found = read_date(date)
     if found is None:
         raise Denied("E125003", "Bogus date")
     return found

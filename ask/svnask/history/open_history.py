@@ -12,7 +12,7 @@ from contextlib import closing
 from types import TracebackType
 from typing import BinaryIO, TypeVar
 
-from svnask.copy.changes import WITHOUT_KIND, Change, KnownBlocks, changes_of, place_of
+from svnask.copy.changes import WITHOUT_KIND, Change, KnownBlocks, changes_of, place_of_change
 from svnask.copy.store import Index, Record, Revision, Store
 from svnask.engine.queries import A, Answer, Answers, Locate, Located, Log, Logged, Query, Segments, Where, is_askable
 from svnask.engine.talk import Talk
@@ -459,7 +459,7 @@ class OpenHistory:
                 made = [record for record in self.records(rev, rev) if record.action in ("add", "replace")]
                 for at, change in enumerate(self.changes(rev)):
                     if change.kind is None:
-                        lacking.append((rev, at, place_of(change, rev, made)))
+                        lacking.append((rev, at, place_of_change(change, rev, made)))
         if lacking:
             kinds = self.kinds(place for *_, place in lacking)
             for rev, at, place in lacking:

@@ -28,7 +28,7 @@ class Wanted(NamedTuple):
     groups: Sequence[Group] = ()
 
 
-class Entry(NamedTuple):
+class LogEntry(NamedTuple):
     """A revision with what is shown of it."""
 
     revision: Revision
@@ -51,7 +51,7 @@ class Form(ABC):
     has_messages = True
 
     @abstractmethod
-    def entry(self, entry: Entry) -> bytes:
+    def entry(self, entry: LogEntry) -> bytes:
         """A revision."""
 
     @abstractmethod
@@ -59,7 +59,7 @@ class Form(ABC):
         """What is searched of a revision, beside its paths."""
 
 
-def cut(text: bytes) -> bytes:
+def up_to_nul(text: bytes) -> bytes:
     """A text up to its first NUL."""
     return text.partition(b"\0")[0] if b"\0" in text else text
 
@@ -73,11 +73,11 @@ def as_wanted(revision: Revision, names: frozenset[bytes] | None) -> Revision:
             return revision
     if names is not None:
         kept = {name: kept[name] for name in names if name in kept}
-    author, date, message = (value and cut(value) for value in map(kept.get, (AUTHOR, DATE, MESSAGE)))
+    author, date, message = (value and up_to_nul(value) for value in map(kept.get, (AUTHOR, DATE, MESSAGE)))
     return revision._replace(author=author, date=date, message=message, properties=kept)
 
 
-def changes_of(history: OpenHistory, item: Item) -> list[Change]:
+def listed_changes(history: OpenHistory, item: Item) -> list[Change]:
     """The changed paths that are listed with a revision: those of the ones that were left out before it, too."""
     if not item.left_out:
         return history.changes(item.rev)
@@ -92,9 +92,9 @@ def paths_of(changes: Iterable[Change]) -> Iterator[bytes]:
             yield change.source[0]
 
 
-def entries(
+def log_entries(
     history: OpenHistory, items: Iterable[Item], wanted: Wanted, form: Form, via: tuple[int, ...] = ()
-) -> Iterator[Entry | None]:
+) -> Iterator[LogEntry | None]:
     """The entries of a log, and None after those that were merged in one. Revision 0 has one where its message is
     wanted and there."""
     for item in items:
@@ -105,26 +105,26 @@ def entries(
         revision = as_wanted(history.revision(item.rev), wanted.names)
         if item.rev == 0 and (revision.message is None or not form.has_messages):
             continue
-        changes = changes_of(history, item) if wanted.is_verbose else []
+        changes = listed_changes(history, item) if wanted.is_verbose else []
         if not wanted.groups or is_found(wanted.groups, [*form.texts(revision), *paths_of(changes)]):
-            yield Entry(revision, changes, via, item.is_reverse, item.has_merges)
+            yield LogEntry(revision, changes, via, item.is_reverse, item.has_merges)
         if item.has_merges:
             via = (*via, item.rev)
 
 
-class Part(NamedTuple):
+class LogPart(NamedTuple):
     """Some items of a log, and the revisions in which the first of them was merged."""
 
     items: Sequence[Item]
     via: tuple[int, ...]
 
 
-def parts_of(items: Sequence[Item]) -> Iterator[Part]:
+def parts_of_log(items: Sequence[Item]) -> Iterator[LogPart]:
     """Parts of a log, which can be printed each by itself."""
     via: tuple[int, ...] = ()
     for begin in range(0, len(items), LENGTH_OF_PART):
         part = items[begin : begin + LENGTH_OF_PART]
-        yield Part(part, via)
+        yield LogPart(part, via)
         for item in part:
             if item.rev < 0:
                 via = via[:-1]
@@ -132,12 +132,12 @@ def parts_of(items: Sequence[Item]) -> Iterator[Part]:
                 via = (*via, item.rev)
 
 
-def printed(history: OpenHistory, items: Sequence[Item], wanted: Wanted, form: Form) -> Iterator[bytes]:
+def printed_log(history: OpenHistory, items: Sequence[Item], wanted: Wanted, form: Form) -> Iterator[bytes]:
     """A log, piece after piece. One that is long is printed by several processes, unless something else is asked of the
     history later."""
 
-    def text_of(part: Part) -> bytes:
-        found = entries(history, part.items, wanted, form, part.via)
+    def text_of(part: LogPart) -> bytes:
+        found = log_entries(history, part.items, wanted, form, part.via)
         return b"".join([form.end_of_merges if entry is None else form.entry(entry) for entry in found])
 
     yield form.begin
@@ -145,5 +145,5 @@ def printed(history: OpenHistory, items: Sequence[Item], wanted: Wanted, form: F
     if history.is_last_question and len(items) >= LONG:
         history.rest()
         count = count_of_processes()
-    yield from made(text_of, [*parts_of(items)], count)
+    yield from made(text_of, [*parts_of_log(items)], count)
     yield form.end

@@ -6,19 +6,19 @@ from collections.abc import Iterator
 
 from svnask.copy.store import Revision
 from svnask.history import dates
-from svnask.log.forms import Entry, Form, cut
+from svnask.log.forms import Form, LogEntry, up_to_nul
 
 RULE = b"-" * 72 + b"\n"
 LINE_END = re.compile(rb"\r\n|\n\r|\n|\r")
 
 
 def author_of(revision: Revision) -> bytes:
-    return b"(no author)" if revision.author is None else cut(revision.author)
+    return b"(no author)" if revision.author is None else up_to_nul(revision.author)
 
 
 def first_line(revision: Revision) -> bytes:
     """The first line of the message that is not empty."""
-    return LINE_END.split(cut(revision.message or b"").lstrip(), 1)[0]
+    return LINE_END.split(up_to_nul(revision.message or b"").lstrip(), 1)[0]
 
 
 def count_of_lines(message: bytes) -> int:
@@ -31,7 +31,7 @@ def summary_of(revision: Revision) -> bytes:
 
 
 def date_of(revision: Revision) -> bytes:
-    return dates.shown(revision.date).encode("ascii")
+    return dates.shown_date(revision.date).encode("ascii")
 
 
 def head_line(revision: Revision) -> bytes:
@@ -62,7 +62,7 @@ class PlainForm(Form):
             self._via, self._via_text = via, b", ".join([b"r%d" % rev for rev in via])
         return b"%s via: %s\n" % (b"Reverse merged" if is_reverse else b"Merged", self._via_text)
 
-    def entry(self, entry: Entry) -> bytes:
+    def entry(self, entry: LogEntry) -> bytes:
         (number, author, date, message, _, _), changes, via, is_reverse, _ = entry
         author = b"(no author)" if author is None else author
         about = b"%sr%d | %s | %s" % (RULE, number, author, self._shown(date))

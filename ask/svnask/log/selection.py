@@ -51,10 +51,10 @@ class Trace(NamedTuple):
 
 def not_found(history: OpenHistory, target: Target, rev: int) -> Denied:
     text = f"File not found: revision {rev}, path '{decoded(target.path)}'"
-    return Denied("E160013", text, [*ended(history, target.path, rev)])
+    return Denied("E160013", text, [*how_it_ended(history, target.path, rev)])
 
 
-def ended(history: OpenHistory, path: bytes, rev: int) -> Iterator[str]:
+def how_it_ended(history: OpenHistory, path: bytes, rev: int) -> Iterator[str]:
     """Where a path ended that is not there any more, and what it became."""
     tree = history.tree
     life = max(
@@ -176,7 +176,7 @@ class Walk(NamedTuple):
         return self.revisions[bisect.bisect_left(self.revisions, low) : bisect.bisect_right(self.revisions, high)]
 
 
-class Part(NamedTuple):
+class RangePart(NamedTuple):
     """A range of a log, and for each target where it was in the youngest revision of it, with the walk of that."""
 
     first: int
@@ -192,7 +192,7 @@ class Part(NamedTuple):
         return rising if self.first < self.last else rising[::-1]
 
 
-def parts(history: OpenHistory, target: Target, below: Sequence[bytes], options: Options) -> Iterator[Part]:
+def parts(history: OpenHistory, target: Target, below: Sequence[bytes], options: Options) -> Iterator[RangePart]:
     """The ranges of a log. The target is looked up in the youngest revision of all, and each one begins where it was in
     its own; a range before the path was made is left out. Paths below the target are taken in its place."""
     ranges = options.ranges or [(target.rev, 0)]
@@ -213,14 +213,14 @@ def parts(history: OpenHistory, target: Target, below: Sequence[bytes], options:
         path = segment.path or path if segment is not None else path
         if below and (segment is not None or found.is_gap(high)):
             paths = [joined(path, rest) for rest in below]
-            yield Part(first, last, paths, walks_of(history, paths, high, options))
+            yield RangePart(first, last, paths, walks_of(history, paths, high, options))
         elif segment is not None:
-            yield Part(first, last, [path], [walk])
+            yield RangePart(first, last, [path], [walk])
         elif found.is_gap(high):
-            yield Part(first, last, [path], walks_of(history, [path], high, options))
+            yield RangePart(first, last, [path], walks_of(history, [path], high, options))
 
 
-def entries(history: OpenHistory, target: Target, below: Sequence[bytes], options: Options) -> list[int]:
+def log_items(history: OpenHistory, target: Target, below: Sequence[bytes], options: Options) -> list[int]:
     """The revisions of a log, range after range."""
     revisions: list[int] = []
     for part in parts(history, target, below, options):

@@ -12,7 +12,7 @@ from collections.abc import Iterator, Sequence
 
 from svnask.copy.changes import Change
 from svnask.copy.store import Revision
-from svnask.log.forms import SHOWN, Entry, Form
+from svnask.log.forms import SHOWN, Form, LogEntry
 
 CONTROL = re.compile(rb"[\x00-\x08\x0b\x0c\x0e-\x1f\x7f]")
 SPECIAL = re.compile(rb"[\x00-\x08\x0b-\x1f\x7f&<>]")
@@ -24,14 +24,14 @@ Attribute = tuple[bytes, bytes]
 MANY = 1 << 16
 
 
-def escaped(text: bytes) -> bytes:
+def escaped_xml(text: bytes) -> bytes:
     for letter, name in IN_TEXT:
         text = text.replace(letter, name)
     return text
 
 
 def attribute(text: bytes) -> bytes:
-    text = escaped(text)
+    text = escaped_xml(text)
     for letter, name in IN_ATTRIBUTE:
         text = text.replace(letter, name)
     return text
@@ -51,7 +51,7 @@ def tagged(tag: bytes, text: bytes | None) -> bytes:
     if text is None:
         return b""
     if SPECIAL.search(text):
-        text = escaped(numbered(text))
+        text = escaped_xml(numbered(text))
     return b"<%s>%s</%s>\n" % (tag, text, tag)
 
 
@@ -69,10 +69,10 @@ def path_text(change: Change) -> bytes:
     if change.source is not None:
         path, rev = change.source
         attributes += [(b"copyfrom-path", path), (b"copyfrom-rev", b"%d" % rev)]
-    return b"%s%s</path>\n" % (opening(b"path", attributes), escaped(change.path))
+    return b"%s%s</path>\n" % (opening(b"path", attributes), escaped_xml(change.path))
 
 
-def is_plain(value: bytes) -> bool:
+def is_plain_xml(value: bytes) -> bool:
     """Whether a value can stand in XML as it is."""
     try:
         value.decode("utf-8")
@@ -83,8 +83,8 @@ def is_plain(value: bytes) -> bool:
 
 def property_text(name: bytes, value: bytes) -> bytes:
     attributes = [(b"name", name)]
-    if is_plain(value):
-        text = escaped(value)
+    if is_plain_xml(value):
+        text = escaped_xml(value)
     else:
         attributes.append((b"encoding", b"base64"))
         text = base64.encodebytes(value)
@@ -105,7 +105,7 @@ class XmlForm(Form):
         """What is there, as it is."""
         return (text for text in (revision.author, revision.date, revision.message) if text is not None)
 
-    def entry(self, entry: Entry) -> bytes:
+    def entry(self, entry: LogEntry) -> bytes:
         (number, author, date, message, _, properties), changes, via, is_reverse, has_merges = entry
         attributes = [(b"revision", b"%d" % number)]
         if via:

@@ -11,7 +11,7 @@ from svnask.merges.gains import Interval, Intervals
 FIRST_SIZE = 16
 
 
-class Part(NamedTuple):
+class MergedPart(NamedTuple):
     """Neighbouring revisions of some paths, and whether their merge was taken back."""
 
     first: int
@@ -75,7 +75,7 @@ def in_hash_order(paths: Iterable[bytes]) -> list[bytes]:
     return [path for chain in chains for _, path in chain]
 
 
-def parts_of(info: Intervals, is_reverse: bool) -> list[Part]:
+def parts_of_mergeinfo(info: Intervals, is_reverse: bool) -> list[MergedPart]:
     """The parts of some mergeinfo, cut wherever a range of a path begins or ends.
 
     A fault of Subversion is repeated: where several paths have a part, and it is the end of the last range of one of
@@ -84,21 +84,21 @@ def parts_of(info: Intervals, is_reverse: bool) -> list[Part]:
     """
     left = [Rest(path, info[path], place) for place, path in enumerate(in_hash_order(info)) if info[path]]
     heapq.heapify(left)
-    found: list[Part] = []
+    found: list[MergedPart] = []
     while len(left) > 1:
         first = left[0].first
         together = deque([heapq.heappop(left)])
         while left and left[0].first == first:
             together.append(heapq.heappop(left))
         last = min(together[0].last, left[0].first - 1) if left else together[0].last
-        found.append(Part(first, last, tuple(each.path for each in together), is_reverse))
+        found.append(MergedPart(first, last, tuple(each.path for each in together), is_reverse))
         pass_by(together, last)
         for place, each in enumerate(together):
             # Those that were changed last stand before others with the same range.
             each.place = -len(found), place
             heapq.heappush(left, each)
     for each in left:
-        found += [Part(*interval, (each.path,), is_reverse) for interval in each.intervals()]
+        found += [MergedPart(*interval, (each.path,), is_reverse) for interval in each.intervals()]
     return found
 
 

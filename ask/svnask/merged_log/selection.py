@@ -15,8 +15,8 @@ from svnask.errors import Denied
 from svnask.history.open_history import OpenHistory
 from svnask.history.targets import Target, known
 from svnask.log.selection import Item, Options, copied_in, parts
-from svnask.merged_log.parts import Part, parts_of
-from svnask.merges.gains import Interval, Intervals, has, united
+from svnask.merged_log.parts import MergedPart, parts_of_mergeinfo
+from svnask.merges.gains import Interval, Intervals, is_in, united
 from svnask.merges.traces import Cut, Traces
 from svnask.merges.value_changes import MergeinfoChanges
 from svnask.paths import is_at_or_below
@@ -25,7 +25,7 @@ from svnask.texts import decoded
 END = Item(-1)
 NO_RUN = 0, -1
 # What a walk gives: some items, or a part that is walked before it goes on.
-Step = Union[list[Item], Part]
+Step = Union[list[Item], MergedPart]
 
 
 class Range(NamedTuple):
@@ -37,7 +37,7 @@ class Range(NamedTuple):
     limit: int
 
 
-class Searched:
+class Walked:
     """What was walked below some merge: for each path the rising runs of its revisions, of which none touches another."""
 
     def __init__(self) -> None:
@@ -90,7 +90,7 @@ class Walker:
         self._sent: set[int] = set()
         self._left_out: list[int] = []
         # Subversion keeps this for a falling range alone.
-        self._searched: Searched | None = None
+        self._searched: Walked | None = None
         # In how many revisions that were sent what is sent now was merged, for a server, which sends no other ends.
         self._depth = 0
 
@@ -100,11 +100,11 @@ class Walker:
         self._own = self._own_of(paths, asked)
         self._sent = set()
         self._depth = 0
-        self._searched = Searched() if asked.is_falling else None
+        self._searched = Walked() if asked.is_falling else None
         found: list[Item] = []
         # Walks in walks may be deeper than calls of Python.
         walks: list[Iterator[Step]] = [self._top(paths, asked)]
-        begun: list[Part] = []
+        begun: list[MergedPart] = []
         while walks:
             step = next(walks[-1], None)
             if isinstance(step, list):
@@ -118,7 +118,7 @@ class Walker:
                 del begun[-1:]
         return found
 
-    def _check(self, part: Part, begun: list[Part]) -> None:
+    def _check(self, part: MergedPart, begun: list[MergedPart]) -> None:
         if self._searched is None and part in begun:
             raise Denied(
                 "E195002",
@@ -169,7 +169,7 @@ class Walker:
                 yield from self._below(merged[rev])
         yield items
 
-    def _walk(self, part: Part) -> Iterator[Step]:
+    def _walk(self, part: MergedPart) -> Iterator[Step]:
         """The revisions of a part that was merged, the youngest one first."""
         paths, low, high = self._not_searched(part)
         if paths:
@@ -192,10 +192,10 @@ class Walker:
                 yield from self._below(merged[rev])
         yield items
 
-    def _merged(self, cuts: list[Cut], revisions: list[int]) -> dict[int, list[Part]]:
+    def _merged(self, cuts: list[Cut], revisions: list[int]) -> dict[int, list[MergedPart]]:
         """What was merged in each of some revisions, if anything was. It is looked up where each path goes on before
         the revision, but as of the revision itself."""
-        found: dict[int, list[Part]] = {}
+        found: dict[int, list[MergedPart]] = {}
         changing = self._changes.revisions
         for rev in revisions:
             if rev in changing:
@@ -203,19 +203,20 @@ class Walker:
                 gained, lost = self._changes.of_paths(paths, rev)
                 if gained or lost:
                     found[rev] = sorted(
-                        [*parts_of(gained, False), *parts_of(lost, True)], key=attrgetter("first", "last")
+                        [*parts_of_mergeinfo(gained, False), *parts_of_mergeinfo(lost, True)],
+                        key=attrgetter("first", "last"),
                     )
         self.traces.find((path, part.last) for each in found.values() for part in each for path in part.paths)
         return found
 
-    def _below(self, merged: list[Part]) -> Iterator[Step]:
+    def _below(self, merged: list[MergedPart]) -> Iterator[Step]:
         yield from reversed(merged)
         if self._depth or not self._history.source.is_remote:
             self._depth -= 1
             yield [END]
             self._left_out.clear()
 
-    def _not_searched(self, part: Part) -> tuple[Sequence[bytes], int, int]:
+    def _not_searched(self, part: MergedPart) -> tuple[Sequence[bytes], int, int]:
         """The paths of a part that were not walked already, and the range that is left of it. Of the only path that is
         left a part of the range may be left."""
         low, high = part.first, part.last
@@ -250,7 +251,7 @@ class Walker:
 
     def _is_elsewhere(self, rev: int) -> bool:
         """Whether a revision changed a path that is not at or below where the targets were then."""
-        own = [path for path, intervals in self._own.items() if has(intervals, rev)]
+        own = [path for path, intervals in self._own.items() if is_in(intervals, rev)]
         return any(not any(is_at_or_below(change.path, top) for top in own) for change in self._history.changes(rev))
 
 

@@ -43,7 +43,7 @@ class Summary(NamedTuple):
     is_back: bool
 
 
-class Branches:
+class BranchPair:
     """What is asked of two branches, in one run of svnhist."""
 
     def __init__(self, history: OpenHistory, source: Target, target: Target) -> None:
@@ -53,9 +53,9 @@ class Branches:
         self._explicit = Explicit(history.records())
         question = mergeinfo.Question("merged", is_recursive=True)
         pairs = (source, target), (target, source)
-        queries = [query for pair in pairs for query in mergeinfo.queries_of(self._explicit, *pair, question)]
+        queries = [query for pair in pairs for query in mergeinfo.queries_of_question(self._explicit, *pair, question)]
         self._answers: Answers = history.answers(queries)
-        self._merges = mergeinfo.Merges(history, self._explicit, self._answers)
+        self._merges = mergeinfo.ShownMerges(history, self._explicit, self._answers)
         self._places = {each: self._located(each) for each in (source, target)}
 
     def _located(self, branch: Target) -> list[tuple[int, int, bytes]]:
@@ -96,7 +96,7 @@ class Branches:
 
 
 def summary(history: OpenHistory, source: Target, target: Target) -> Summary:
-    branches = Branches(history, source, target)
+    branches = BranchPair(history, source, target)
     ancestor = branches.ancestor()
     if ancestor is None or (ancestor == Target(b"/", 0) and b"/" not in (source.path, target.path)):
         names = decoded(source.path), source.rev, decoded(target.path), target.rev
@@ -125,7 +125,7 @@ def columns(found: Summary) -> Iterator[Sequence[str]]:
     yield column(8, str(found.source.rev), "|", "-", "", "", "-", "|", str(found.target.rev))
 
 
-def text(found: Summary) -> Iterator[bytes]:
+def diagram_text(found: Summary) -> Iterator[bytes]:
     """The diagram, as `svn mergeinfo` prints it."""
     yield HEADING
     paths = {SOURCE_ROW: found.source.path, TARGET_ROW: found.target.path}

@@ -34,7 +34,7 @@ class Gain(NamedTuple):
     is_carried: bool
 
 
-class Held(NamedTuple):
+class Tallied(NamedTuple):
     """Rising revisions of a source, and when the target gained and lost them."""
 
     source: Life
@@ -43,7 +43,7 @@ class Held(NamedTuple):
     lost: int | None
 
 
-def split(held: Held, intervals: Sequence[Interval], lost: int) -> tuple[Held, Held]:
+def split_lost(held: Tallied, intervals: Sequence[Interval], lost: int) -> tuple[Tallied, Tallied]:
     """Those that are left, and those in some intervals, which are lost."""
     gone = {rev for lo, hi in intervals for rev in between(held.revisions, lo, hi)}
     left = [rev for rev in held.revisions if rev not in gone] if gone else held.revisions
@@ -82,8 +82,8 @@ class Tally:
         self._sources = sources
         self._own = own
         self._value: Rangelists = {}
-        self._held: dict[Life, list[Held]] = {}
-        self._lost: list[Held] = []
+        self._held: dict[Life, list[Tallied]] = {}
+        self._lost: list[Tallied] = []
 
     def begin(self, value: Rangelists) -> None:
         """Takes what the source of the copy had."""
@@ -94,26 +94,26 @@ class Tally:
         for path in self._value.keys() | value.keys():
             if self._value.get(path) == value.get(path):
                 continue
-            before, after = intervals_of(self._value.get(path, "")), intervals_of(value.get(path, ""))
+            before, after = intervals_of_ranges(self._value.get(path, "")), intervals_of_ranges(value.get(path, ""))
             lost, gained = minus(before, after), minus(minus(after, before), self._own.get(path, []))
             for source in self._sources.at(path):
                 self._lose(source, lost, rev)
                 revisions = self._sources.revisions(source, gained)
                 if revisions:
-                    self._held.setdefault(source, []).append(Held(source, revisions, rev, None))
+                    self._held.setdefault(source, []).append(Tallied(source, revisions, rev, None))
         self._value = value
 
     def _lose(self, source: Life, intervals: Sequence[Interval], rev: int) -> None:
         if intervals and source in self._held:
-            parts = [split(each, intervals, rev) for each in self._held[source]]
+            parts = [split_lost(each, intervals, rev) for each in self._held[source]]
             self._held[source] = [left for left, _ in parts if left.revisions]
             self._lost += [gone for _, gone in parts if gone.revisions]
 
-    def all(self) -> list[Held]:
+    def all(self) -> list[Tallied]:
         return self._lost + [each for all_of in self._held.values() for each in all_of]
 
 
-def has(intervals: Sequence[Interval], rev: int) -> bool:
+def is_in(intervals: Sequence[Interval], rev: int) -> bool:
     """Whether a revision is in some rising intervals."""
     at = bisect.bisect_left(intervals, (rev + 1,)) - 1
     return at >= 0 and rev <= intervals[at][1]
@@ -148,7 +148,7 @@ def united(intervals: list[Interval]) -> list[Interval]:
     return found
 
 
-def intervals_of(ranges: str) -> list[Interval]:
+def intervals_of_ranges(ranges: str) -> list[Interval]:
     """The intervals of a rangelist, with those that are not inheritable."""
     found = []
     for each in ranges.split(",") if ranges else ():
@@ -173,7 +173,7 @@ def candidates(explicit: Explicit, life: Life) -> list[int]:
     return [life.first, *sorted(later)]
 
 
-def queries_of(explicit: Explicit, life: Life) -> list[Query[Answer]]:
+def queries_about_life(explicit: Explicit, life: Life) -> list[Query[Answer]]:
     """Where a life was, its mergeinfo in each candidate, and before that what its source had: nothing where neither ever
     had any."""
     places = [life.path] if life.source is None else [life.path, life.source[0]]
@@ -185,14 +185,14 @@ def queries_of(explicit: Explicit, life: Life) -> list[Query[Answer]]:
     return asked + [Mergeinfo(life.path, rev) for rev in candidates(explicit, life)]
 
 
-class Asked(NamedTuple):
+class LifeQuery(NamedTuple):
     """A query about a life."""
 
     life: Life
     query: Query[Answer]
 
 
-def gains_of(operative: dict[Life, list[int]], asked: Iterable[Asked], answers: Iterator[Answer]) -> list[Gain]:
+def gains_of(operative: dict[Life, list[int]], asked: Iterable[LifeQuery], answers: Iterator[Answer]) -> list[Gain]:
     """What each of these lives gained from the others, given their operative revisions and the answers, which are the
     next ones, to the queries about them."""
     sources = Sources(operative)
@@ -205,10 +205,10 @@ def gains_of(operative: dict[Life, list[int]], asked: Iterable[Asked], answers: 
                 tallies[life].begin(answer.value)
             else:
                 tallies[life].turn(answer.query.rev, answer.value)
-    return joined({life: tally.all() for life, tally in tallies.items()})
+    return joined_gains({life: tally.all() for life, tally in tallies.items()})
 
 
-def joined(held: dict[Life, list[Held]]) -> list[Gain]:
+def joined_gains(held: dict[Life, list[Tallied]]) -> list[Gain]:
     """The revisions that one revision of a target gained of one source, as one gain."""
     found: dict[tuple[Life, int, Life, int | None, bool], list[int]] = {}
     for target, each, is_carried in told_apart(held):
@@ -220,9 +220,9 @@ def joined(held: dict[Life, list[Held]]) -> list[Gain]:
     return sorted(gains, key=lambda gain: (gain.rev, gain.target, gain.revisions[-1], gain.source))
 
 
-def told_apart(held: dict[Life, list[Held]]) -> Iterator[tuple[Life, Held, bool]]:
+def told_apart(held: dict[Life, list[Tallied]]) -> Iterator[tuple[Life, Tallied, bool]]:
     """What a target gained, and whether another source carried it along."""
-    gained: dict[Life, dict[int, list[Held]]] = {}
+    gained: dict[Life, dict[int, list[Tallied]]] = {}
     for target, all_of in held.items():
         for each in all_of:
             gained.setdefault(target, {}).setdefault(each.gained, []).append(each)
@@ -245,7 +245,7 @@ def turns_in(turns: list[int], revisions: list[int]) -> Iterator[int]:
             yield rev
 
 
-def halves(target: Life, held: Held, carried: set[int]) -> Iterator[tuple[Life, Held, bool]]:
+def halves(target: Life, held: Tallied, carried: set[int]) -> Iterator[tuple[Life, Tallied, bool]]:
     """What was merged itself, and what was carried along."""
     if not carried or carried.isdisjoint(held.revisions):
         yield target, held, False

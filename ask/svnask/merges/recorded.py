@@ -12,7 +12,7 @@ from svnask.history.lives import Life
 from svnask.history.open_history import OpenHistory
 from svnask.mergeinfo.explicit import Explicit
 from svnask.merges.gains import Intervals, candidates, minus, united
-from svnask.merges.value_changes import Difference, Malformed, Values, difference
+from svnask.merges.value_changes import Difference, MalformedValue, Values, difference
 from svnask.paths import Place, is_at_or_below, rest_below, tops_of
 
 
@@ -27,7 +27,7 @@ def is_mergeinfo_alone(history: OpenHistory, explicit: Explicit, life: Life, rev
     )
 
 
-class Nearest(NamedTuple):
+class NearestText(NamedTuple):
     """The text of mergeinfo that a path has or inherits, and the rest of the path below that which has it."""
 
     text: bytes
@@ -80,29 +80,29 @@ class Recorded:
         for each in (following, *left) if following is not None else ():
             self._known[life.path, each] = found
 
-    def _nearest(self, path: bytes, rev: int) -> Nearest | None:
+    def _nearest(self, path: bytes, rev: int) -> NearestText | None:
         for top in tops_of(path):
             text = self._explicit.text(top, rev)
             if text is not None:
-                return Nearest(text, rest_below(path, top))
+                return NearestText(text, rest_below(path, top))
         return None
 
-    def _difference(self, before: Nearest | None, now: Nearest | None) -> Difference:
+    def _difference(self, before: NearestText | None, now: NearestText | None) -> Difference:
         if before is not None and now is not None and not before.rest and not now.rest:
             try:
                 return self._values.difference(before.text, now.text)
-            except Malformed:
+            except MalformedValue:
                 pass
         return difference(self._effective(before), self._effective(now))
 
-    def _effective(self, nearest: Nearest | None) -> Intervals:
+    def _effective(self, nearest: NearestText | None) -> Intervals:
         """What a text says, which is nothing where it is malformed."""
         if nearest is None:
             return {}
         try:
             text, rest = nearest
             return self._values.inheritable(text, rest) if rest else self._values.whole(text)
-        except Malformed:
+        except MalformedValue:
             return {}
 
 

@@ -67,7 +67,7 @@ class Question(NamedTuple):
     range: tuple[int, int] | None = None
 
 
-def revisions_in(runs: Iterable[Run], most: int, inheritable: bool) -> set[int]:
+def revisions_of_runs(runs: Iterable[Run], most: int, inheritable: bool) -> set[int]:
     found: set[int] = set()
     for run in runs:
         if run.inheritable == inheritable:
@@ -75,14 +75,14 @@ def revisions_in(runs: Iterable[Run], most: int, inheritable: bool) -> set[int]:
     return found
 
 
-def lines_of(value: Value, most: int) -> Lines:
+def lines_of_value(value: Value, most: int) -> Lines:
     """What a value says. A revision that is inheritable in one of several lines of a path is inheritable."""
-    whole = {path: revisions_in(runs, most, True) for path, runs in value.items()}
-    other = {path: revisions_in(runs, most, False) - whole[path] for path, runs in value.items()}
+    whole = {path: revisions_of_runs(runs, most, True) for path, runs in value.items()}
+    other = {path: revisions_of_runs(runs, most, False) - whole[path] for path, runs in value.items()}
     return Lines(whole, other, sorted(whole))
 
 
-def inherited(lines: Lines, rest: bytes) -> Lines:
+def inherited_lines(lines: Lines, rest: bytes) -> Lines:
     found = {joined(path, rest): revs for path, revs in lines.inheritable.items()}
     return Lines(found, {}, sorted(found))
 
@@ -133,7 +133,7 @@ def shifted(history: Listed, rest: bytes) -> Listed:
     return {joined(path, rest): revs for path, revs in history.items()}
 
 
-def common(lines: Mapping[bytes, set[int]], source: Listed) -> set[int]:
+def common_revisions(lines: Mapping[bytes, set[int]], source: Listed) -> set[int]:
     """The revisions that some line has at the place where the source was then."""
     return set().union(*(lines[path] & revs for path, revs in source.items() if path in lines)) if lines else set()
 
@@ -159,8 +159,8 @@ def sort_out(catalog: Catalog, source: Listed) -> Sorted:
     partial: set[int] = set()
     for path, lines in catalog.entries.items():
         there = shifted(source, rest_below(path, catalog.target.path))
-        wholes.append(common(lines.inheritable, there))
-        partial |= common(lines.other, there)
+        wholes.append(common_revisions(lines.inheritable, there))
+        partial |= common_revisions(lines.other, there)
     whole = set().union(*wholes) if wholes else set()
     lacking = {rev for rev in whole if any(rev not in each for each in wholes)}
     return Sorted(whole - lacking, partial | lacking)
@@ -242,7 +242,7 @@ def queries_of_pair(source: Target, target: Target, question: Question) -> list[
     return [Where(*source), Log(*source), *pairs]
 
 
-def queries_of(explicit: Explicit, source: Target, target: Target, question: Question) -> list[Query[Answer]]:
+def queries_of_question(explicit: Explicit, source: Target, target: Target, question: Question) -> list[Query[Answer]]:
     """All that is asked of svnhist for a question."""
     return queries_about(explicit, target, question) + queries_of_pair(source, target, question)
 
@@ -269,7 +269,7 @@ def as_answered(
     return Sorted(found.whole - operative | whole, found.partial - operative | partial)
 
 
-class Merges:
+class ShownMerges:
     """What was merged from sources, or is to be, given what svnhist answers to the queries about their targets."""
 
     def __init__(self, history: OpenHistory, explicit: Explicit, answers: Answers) -> None:
@@ -335,7 +335,7 @@ class Merges:
         if not answer.text and not self._has_value(query):
             return None
         value = {path: runs_of(ranges.encode("ascii")) for path, ranges in answer.value.items()}
-        return lines_of(value, self._history.head)
+        return lines_of_value(value, self._history.head)
 
     def _has_value(self, query: Mergeinfo) -> bool:
         """Whether a path or one above it has a value. Its effective mergeinfo may be empty even so."""
@@ -349,8 +349,8 @@ class Merges:
                 value = value_of(text)
                 if value is None:
                     return None
-                lines = lines_of(value, self._history.head)
-                return lines if above == query.path else inherited(lines, rest_below(query.path, above))
+                lines = lines_of_value(value, self._history.head)
+                return lines if above == query.path else inherited_lines(lines, rest_below(query.path, above))
         return None
 
 

@@ -53,7 +53,7 @@ def spans_of(revisions: Iterable[int]) -> list[Span]:
     return found
 
 
-def without(span: Span, others: Sequence[Span]) -> Iterator[Span]:
+def outside(span: Span, others: Sequence[Span]) -> Iterator[Span]:
     """What of a span is in none of some others, which are rising."""
     lo = span.lo
     for other in others:
@@ -95,7 +95,7 @@ class Paths:
         return found[bisect.bisect_left(found, span.lo) : bisect.bisect_right(found, span.hi)]
 
 
-class Nearest(NamedTuple):
+class NearestValue(NamedTuple):
     """The nearest path above one that has a value, and what it gives there."""
 
     path: bytes
@@ -106,7 +106,7 @@ def whole_runs(runs: Iterable[Run]) -> list[Run]:
     return [run for run in runs if run.inheritable]
 
 
-def inherited(explicit: Explicit, path: bytes, head: int) -> Nearest | None:
+def inherited(explicit: Explicit, path: bytes, head: int) -> NearestValue | None:
     """What the nearest value above a path gives it, if that can be read."""
     for above in [each for each in tops_of(path) if each != path]:
         text = explicit.text(above, head)
@@ -115,7 +115,7 @@ def inherited(explicit: Explicit, path: bytes, head: int) -> Nearest | None:
             if value is None:
                 return None
             rest = rest_below(path, above)
-            return Nearest(above, {joined(source, rest): whole_runs(runs) for source, runs in value.items()})
+            return NearestValue(above, {joined(source, rest): whole_runs(runs) for source, runs in value.items()})
     return None
 
 
@@ -126,10 +126,10 @@ def findings_of_source(paths: Paths, path: bytes, source: bytes, runs: Sequence[
     if not lives:
         yield Finding(path, source, text_of(spans), NO_PATH)
         return
-    gone = [each for span in spans for each in without(span, lives)]
+    gone = [each for span in spans for each in outside(span, lives)]
     if gone:
         yield Finding(path, source, text_of(gone), NO_REVISION)
-    idle = [span for span in spans if not paths.operative(source, span) and not list(without(span, lives))]
+    idle = [span for span in spans if not paths.operative(source, span) and not list(outside(span, lives))]
     if idle:
         yield Finding(path, source, text_of(idle), NOT_OPERATIVE)
 
@@ -138,7 +138,7 @@ def operative_of(paths: Paths, source: bytes, runs: Iterable[Run]) -> set[int]:
     return {rev for run in runs for rev in paths.operative(source, Span(run.lo, run.hi))}
 
 
-def findings_of_nearest(paths: Paths, path: bytes, value: Value, nearest: Nearest) -> Iterator[Finding]:
+def findings_of_nearest(paths: Paths, path: bytes, value: Value, nearest: NearestValue) -> Iterator[Finding]:
     """Where a value says less than what the nearest one above gives, or the same."""
     above = decoded(nearest.path)
     is_same, is_empty = True, True

@@ -86,7 +86,7 @@ class Traces:
         """Asks about those of some places that are not known, all at once."""
         asked: dict[bytes, list[Life]] = {}
         for path, rev in places:
-            if self._piece(path, rev) is None and not any(has(life, rev) for life in asked.get(path, ())):
+            if self._piece(path, rev) is None and not any(has_place(life, rev) for life in asked.get(path, ())):
                 life = self._life(path, rev)
                 if life is not None:
                     asked.setdefault(path, []).append(life)
@@ -98,7 +98,7 @@ class Traces:
         head = self._history.head
         if rev > head or not is_askable(path) or not self._tree.exists(path, rev):
             return None
-        return next(life for life in self._tree.lives(path, head) if has(life, rev))
+        return next(life for life in self._tree.lives(path, head) if has_place(life, rev))
 
     def _ask(self, places: Sequence[Place]) -> None:
         """Asks about some places, and through these about older ones of which svnhist can't be asked."""
@@ -134,7 +134,7 @@ class Traces:
         return Cut(self, rev, piece.segments, least)
 
 
-def has(life: Life, rev: int) -> bool:
+def has_place(life: Life, rev: int) -> bool:
     return life.first <= rev <= life.last
 
 

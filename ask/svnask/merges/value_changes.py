@@ -6,7 +6,7 @@ import re
 from collections.abc import Container, Iterator, Sequence
 from typing import NamedTuple
 
-from svnask.copy.changes import source_of
+from svnask.copy.changes import copy_source_of
 from svnask.copy.store import Record
 from svnask.history.open_history import OpenHistory
 from svnask.mergeinfo.explicit import Explicit
@@ -32,7 +32,7 @@ class Difference(NamedTuple):
                 total[path] = united([*total[path], *intervals]) if path in total else intervals
 
 
-class Line(NamedTuple):
+class ValueLine(NamedTuple):
     """A line of a value: its revisions, and those of them that are inherited. For Subversion a range goes on where
     revisions are no longer inherited as another one."""
 
@@ -43,7 +43,7 @@ class Line(NamedTuple):
     is_plain: bool
 
 
-class Malformed(Exception):
+class MalformedValue(Exception):
     """A value can't be read."""
 
 
@@ -52,7 +52,7 @@ class Values:
     mostly the ranges alone that did."""
 
     def __init__(self) -> None:
-        self._lines: dict[bytes, Line] = {}
+        self._lines: dict[bytes, ValueLine] = {}
         # Those known to have a plain line for each of their paths, by their identity: long texts are slow to hash.
         self._plain: dict[int, bytes] = {}
         self._last = b""
@@ -108,28 +108,28 @@ class Values:
                 found[path] = line.inheritable if before is None else united([*before, *line.inheritable])
         return found
 
-    def _of(self, text: bytes) -> list[Line]:
+    def _of(self, text: bytes) -> list[ValueLine]:
         try:
             return [self._lines.get(line) or self._read(line) for line in lines_of(text)]
         except ValueError as error:
-            raise Malformed from error
+            raise MalformedValue from error
 
-    def _read(self, line: bytes) -> Line:
+    def _read(self, line: bytes) -> ValueLine:
         found = self._lines[line] = line_in(line)
         return found
 
 
-def line_in(text: bytes) -> Line:
+def line_in(text: bytes) -> ValueLine:
     """What a line says. `ValueError` where Subversion can't read it."""
     name, _, ranges = text.rpartition(b":")
     simple = simple_runs(ranges)
     if simple is not None and name.startswith(b"/"):
         path = source_path(name)
-        return Line(path, simple, simple, path == name)
+        return ValueLine(path, simple, simple, path == name)
     path, runs = line_of(text)
     inheritable = intervals_of(runs, True)
     is_plain = text.startswith(path + b":") and is_rising(runs)
-    return Line(path, sorted(inheritable + intervals_of(runs, False)), inheritable, is_plain)
+    return ValueLine(path, sorted(inheritable + intervals_of(runs, False)), inheritable, is_plain)
 
 
 def simple_runs(ranges: bytes) -> list[Interval] | None:
@@ -161,21 +161,21 @@ def differing(known: bytes, other: bytes) -> tuple[Intervals, Intervals]:
     """The lines in which two texts differ, of those of one path the ranges from the first to the last difference. The
     known one has a plain line for each path. `ValueError` where the other one may not have."""
     these, those = map(lines_of, middles(known, other))
-    left = ranges_of(without(these, those))
-    more = ranges_of(without(those, these))
+    left = rangelists_of(without_line(these, those))
+    more = rangelists_of(without_line(those, these))
     if len(those) != len(these) - len(left) + len(more):
         raise ValueError("a path has two lines")
     for path in more:
         if path in left:
-            left[path], more[path] = cut(left[path], more[path])
+            left[path], more[path] = cut_ranges(left[path], more[path])
         elif b"\n%s:" % path in b"\n" + known:
             raise ValueError("a path has two lines")
-    return read(left), read(more)
+    return read_lines(left), read_lines(more)
 
 
 def middles(these: bytes, those: bytes) -> tuple[bytes, bytes]:
     """Two texts without the lines that they have in common at their begins and at their ends."""
-    first = these.rfind(b"\n", 0, common(these, those)) + 1
+    first = these.rfind(b"\n", 0, common_length(these, those)) + 1
     these, those = these[first:], those[first:]
     # The newline before the last lines stays: it ends a line of these texts.
     newline = these.find(b"\n", len(these) - common_at_end(these, those))
@@ -183,18 +183,18 @@ def middles(these: bytes, those: bytes) -> tuple[bytes, bytes]:
     return these[: len(these) - last], those[: len(those) - last]
 
 
-def without(lines: list[bytes], others: list[bytes]) -> list[bytes]:
+def without_line(lines: list[bytes], others: list[bytes]) -> list[bytes]:
     known = set(others)
     return [line for line in lines if line not in known]
 
 
-def ranges_of(lines: list[bytes]) -> dict[bytes, bytes]:
+def rangelists_of(lines: list[bytes]) -> dict[bytes, bytes]:
     """The rangelists of plain lines, by their paths."""
     pairs = [line.rpartition(b":") for line in lines]
     return {path: ranges for path, _, ranges in pairs}
 
 
-def read(lines: dict[bytes, bytes]) -> Intervals:
+def read_lines(lines: dict[bytes, bytes]) -> Intervals:
     """What lines say. `ValueError` where one is not plain."""
     found = {}
     for path, ranges in lines.items():
@@ -205,7 +205,7 @@ def read(lines: dict[bytes, bytes]) -> Intervals:
     return found
 
 
-def cut(these: bytes, those: bytes) -> tuple[bytes, bytes]:
+def cut_ranges(these: bytes, those: bytes) -> tuple[bytes, bytes]:
     """The ranges in which two rangelists differ, with one on each side that they have in common."""
     if b"," not in these or b"," not in those:
         return these, those
@@ -217,11 +217,11 @@ def cut(these: bytes, those: bytes) -> tuple[bytes, bytes]:
 
 def front(these: bytes, those: bytes) -> int:
     """How far two rangelists have ranges in common, but for the last one of these."""
-    end = these.rfind(b",", 0, common(these, those))
+    end = these.rfind(b",", 0, common_length(these, those))
     return these.rfind(b",", 0, max(end, 0)) + 1
 
 
-def common(these: bytes, those: bytes) -> int:
+def common_length(these: bytes, those: bytes) -> int:
     """How many bytes two texts have in common at their begin."""
     low, high = 0, min(len(these), len(those))
     while low < high:
@@ -285,7 +285,7 @@ class MergeinfoChanges:
         if rev not in self._known:
             try:
                 self._known[rev] = dict(self._differences(rev))
-            except Malformed:
+            except MalformedValue:
                 self._known[rev] = {}
         return self._known[rev]
 
@@ -318,7 +318,7 @@ class MergeinfoChanges:
             is_new = any(change.letter in ("A", "R") for change in self._history.changes(rev))
             records = self._history.records(rev, rev) if is_new else ()
             self._copies[rev] = [record for record in records if record.action in ("add", "replace")]
-        return source_of(self._copies[rev], path) or (path, rev - 1)
+        return copy_source_of(self._copies[rev], path) or (path, rev - 1)
 
     def _add_inherited(self, found: Difference, path: bytes, rev: int) -> None:
         """Adds what a path gained and lost of what it inherits, where that is not as it was."""
@@ -341,7 +341,7 @@ class MergeinfoChanges:
                         if top == path
                         else self._values.inheritable(text, rest_below(path, top))
                     )
-                except Malformed:
+                except MalformedValue:
                     return None
         return None
 
@@ -353,7 +353,7 @@ class MergeinfoChanges:
             if text is not None:
                 try:
                     return self._values.inheritable(text)
-                except Malformed:
+                except MalformedValue:
                     return None
         return None
 

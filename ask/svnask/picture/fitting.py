@@ -7,7 +7,7 @@ from __future__ import annotations
 
 from collections import Counter
 
-from svnask.picture.graph import Drawable, Graph, Left
+from svnask.picture.graph import Drawable, Graph, LeftOut
 from svnask.picture.layout import TOP, Layout
 from svnask.projects import TRUNK
 
@@ -31,7 +31,7 @@ def fitted(found: Drawable, height: int) -> Graph:
         lanes = [lane for number, lane in enumerate(found.lanes) if number in chosen]
         graph = found.graph(lanes, has_carried=False)
     carried = sum(merge.is_carried for merge in whole.merges)
-    return graph._replace(left=Left(len(whole.lanes) - len(graph.lanes), carried, full))
+    return graph._replace(left=LeftOut(len(whole.lanes) - len(graph.lanes), carried, full))
 
 
 def height_of(graph: Graph) -> int:

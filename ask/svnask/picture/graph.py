@@ -21,7 +21,7 @@ from svnask.history.open_history import OpenHistory
 from svnask.mergeinfo.explicit import Explicit
 from svnask.mergeinfo.values import line_of, lines_of
 from svnask.merges import gains as merges
-from svnask.merges.gains import Asked, Gain
+from svnask.merges.gains import Gain, LifeQuery
 from svnask.merges.recorded import is_mergeinfo_alone
 from svnask.paths import tops_of
 from svnask.projects import TAG, TRUNK, kind_of
@@ -40,7 +40,7 @@ class Lane(NamedTuple):
     revisions: list[int]
 
 
-class Copy(NamedTuple):
+class LaneCopy(NamedTuple):
     """How a lane began. `source` is the lane that was copied, whole or in part, if it is one."""
 
     life: Life
@@ -48,7 +48,7 @@ class Copy(NamedTuple):
     source: int | None
 
 
-class Merge(NamedTuple):
+class LaneMerge(NamedTuple):
     """What a revision of a lane gained of another lane: an arrow from the newest revision. See `Gain`. Where what was
     merged, or what it was merged into, is below the paths of the lanes, `of` and `into` are its path. `is_record_only`
     says that the revision changed only mergeinfo there."""
@@ -82,7 +82,7 @@ class View(NamedTuple):
     is_folded: bool = True
 
 
-class Left(NamedTuple):
+class LeftOut(NamedTuple):
     """What is left out of a graph: how many lanes, how many merges that came with others, and how high a picture with
     these is."""
 
@@ -96,12 +96,12 @@ class Graph(NamedTuple):
 
     view: View
     lanes: list[Lane]
-    copies: list[Copy]
-    merges: list[Merge]
+    copies: list[LaneCopy]
+    merges: list[LaneMerge]
     dots: list[Dot]
     columns: list[int]
     places: list[int]
-    left: Left | None = None
+    left: LeftOut | None = None
 
     def column_of(self, rev: int) -> int:
         """The column that has a revision. What is older than all that is drawn is in the first one."""
@@ -127,7 +127,7 @@ class Drawable(NamedTuple):
         numbers = {life: number for number, lane in enumerate(lanes) for life in lane.lives}
         copies = list(copies_of(lanes, numbers, since))
         merged = [each for each in self.merging.merges(self.gains, numbers) if has_carried or not each.is_carried]
-        drawn = [cut(lane, since) for lane in lanes]
+        drawn = [cut_lane(lane, since) for lane in lanes]
         columns, places = columns_of(self.history, drawn, set(keys_of(drawn, copies, merged, since)), self.view)
         return Graph(self.view, drawn, copies, merged, list(dots_of(drawn, columns)), columns, places)
 
@@ -143,11 +143,13 @@ def drawable(history: OpenHistory, patterns: Sequence[bytes], view: View = View(
     tree, explicit = history.tree, history.explicit
     lives = branches.lives_of(history, patterns)
     parts = Parts(tree, explicit, Finder(lives), history.head)
-    asked = [Asked(life, query) for life in lives for query in merges.queries_of(explicit, life)] + list(parts.asked())
+    asked = [LifeQuery(life, query) for life in lives for query in merges.queries_about_life(explicit, life)] + list(
+        parts.asked()
+    )
     known = list(dict.fromkeys([*lives, *parts.wholes]))
     answers = history.ask(branches.logs_of(known) + [query for _, query in asked])
     operative = branches.operative(known, answers)
-    chained = ordered(
+    chained = ordered_lanes(
         [
             Lane(chain, kind_of(chain[0].path), [rev for life in chain for rev in operative[life]])
             for chain in chains(lives)
@@ -186,18 +188,18 @@ def copied_since(lanes: list[Lane], since: int) -> Iterator[Life]:
             yield source
 
 
-def cut(lane: Lane, since: int) -> Lane:
+def cut_lane(lane: Lane, since: int) -> Lane:
     """What a lane has from a revision on."""
     lives = [life for life in lane.lives if is_since(life, since)]
     return lane._replace(lives=lives, revisions=lane.revisions[bisect.bisect_left(lane.revisions, since) :])
 
 
-def copies_of(lanes: list[Lane], numbers: dict[Life, int], since: int) -> Iterator[Copy]:
+def copies_of(lanes: list[Lane], numbers: dict[Life, int], since: int) -> Iterator[LaneCopy]:
     finder = Finder(numbers)
     for number, lane in enumerate(lanes):
         life = lane.lives[0]
         if life.source is not None and life.first >= since:
-            yield Copy(life, number, finder.lane(life, numbers))
+            yield LaneCopy(life, number, finder.lane(life, numbers))
 
 
 def chains(lives: Iterable[Life]) -> list[list[Life]]:
@@ -279,7 +281,7 @@ class Parts:
             self._lives[path] = list(self._tree.lives(path, self._head)) if is_askable(path) else []
         return self._lives[path]
 
-    def asked(self) -> Iterator[Asked]:
+    def asked(self) -> Iterator[LifeQuery]:
         """The queries about what each one gained: its mergeinfo where that was set, and where it inherited some
         before."""
         for life, revs in self._set.items():
@@ -287,7 +289,7 @@ class Parts:
             before = {rev - 1 for rev in revs if rev == first or self._explicit.text(life.path, rev - 1) is None}
             queries: list[Query[Answer]] = [Where(life.path, life.last)]
             queries += [Mergeinfo(life.path, rev) for rev in sorted(revs | before)]
-            yield from (Asked(life, query) for query in queries)
+            yield from (LifeQuery(life, query) for query in queries)
 
     def whole(self, life: Life) -> Life:
         return self.wholes.get(life, life)
@@ -342,7 +344,7 @@ def gained_of(gains: Iterable[Gain]) -> dict[tuple[Life, int], list[Gain]]:
     return found
 
 
-def ordered(lanes: list[Lane]) -> list[Lane]:
+def ordered_lanes(lanes: list[Lane]) -> list[Lane]:
     """Lanes from the top. The trunk is first. Below each lane are its copies, the newest source first, each with its
     own ones: in this order no curve of a copy crosses a lane."""
     places = {life: place for place, lane in enumerate(lanes) for life in lane.lives}
@@ -373,15 +375,15 @@ class Merging:
         self._history, self._explicit, self._parts = history, explicit, parts
         self._is_alone: dict[tuple[Life, int], bool] = {}
 
-    def merges(self, gains: Iterable[Gain], numbers: dict[Life, int]) -> Iterator[Merge]:
+    def merges(self, gains: Iterable[Gain], numbers: dict[Life, int]) -> Iterator[LaneMerge]:
         """The gains of lives that are in lanes, by the numbers of these, joined where lives are in one lane."""
-        found: dict[tuple[object, ...], Merge] = {}
+        found: dict[tuple[object, ...], LaneMerge] = {}
         for gain in gains:
             source, target = (numbers.get(self._parts.whole(life)) for life in (gain.source, gain.target))
             if source is not None and target is not None:
                 of, into = (life.path if life in self._parts.wholes else None for life in (gain.source, gain.target))
                 state = gain.lost, gain.is_carried, self._is_record_only(gain)
-                merge = Merge(source, target, gain.rev, [], *state, of, into)
+                merge = LaneMerge(source, target, gain.rev, [], *state, of, into)
                 found.setdefault((source, target, gain.rev, *state, of, into), merge).revisions.extend(gain.revisions)
         for merge in found.values():
             merge.revisions.sort()
@@ -400,7 +402,7 @@ def newest(revisions: Sequence[int], rev: int) -> Sequence[int]:
     return revisions[max(at - 1, 0) : at]
 
 
-def keys_of(lanes: list[Lane], copies: list[Copy], merged: list[Merge], since: int) -> Iterator[int]:
+def keys_of(lanes: list[Lane], copies: list[LaneCopy], merged: list[LaneMerge], since: int) -> Iterator[int]:
     """The revisions that have a column of their own. What is older than the first one drawn is in the one before it."""
     if any(lane.lives[0].first < since for lane in lanes):
         yield since - 1
@@ -438,7 +440,7 @@ def parts_of_time(history: OpenHistory, revisions: list[int], count: int) -> tup
     at = 0
     for part in range(count if end > begin else 1):
         edge = divmod(begin + (end - begin) * (part + 1) // count, dates.MICROS)
-        last = dates.revision_at(edge, revisions[-1], lambda rev: date_of(history, rev))
+        last = dates.revision_at(edge, revisions[-1], lambda rev: date_or_oldest(history, rev))
         upto = len(revisions) if part == count - 1 or end <= begin else bisect.bisect_right(revisions, last)
         if upto > at:
             at = upto
@@ -447,16 +449,16 @@ def parts_of_time(history: OpenHistory, revisions: list[int], count: int) -> tup
     return columns, places
 
 
-def date_of(history: OpenHistory, rev: int) -> bytes:
+def date_or_oldest(history: OpenHistory, rev: int) -> bytes:
     """The date of a revision. One that has none, or none that can be read, is taken for the oldest."""
     date = history.revision(rev).date or b""
-    return OLDEST if dates.read(date) is None else date
+    return OLDEST if dates.read_date(date) is None else date
 
 
 def microseconds(history: OpenHistory, revisions: Iterable[int]) -> int:
     """The first date that some revisions have, if one has any."""
-    found = next((date for rev in revisions if (date := date_of(history, rev)) != OLDEST), OLDEST)
-    seconds, micros = dates.read(found) or (0, 0)
+    found = next((date for rev in revisions if (date := date_or_oldest(history, rev)) != OLDEST), OLDEST)
+    seconds, micros = dates.read_date(found) or (0, 0)
     return seconds * dates.MICROS + micros
 
 

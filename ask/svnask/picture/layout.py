@@ -12,7 +12,7 @@ from collections.abc import Iterator
 from typing import NamedTuple
 
 from svnask.history.lives import Life
-from svnask.picture.graph import Copy, Graph, Lane, newest
+from svnask.picture.graph import Graph, Lane, LaneCopy, newest
 from svnask.picture.titles import span_of
 from svnask.projects import BRANCH, TAG, TRUNK
 from svnask.texts import readable
@@ -28,7 +28,7 @@ SMALLER, FAR = 0.87, 700
 NARROW = frozenset("fijlrtI.,:;'|/ ()[]-")
 
 
-class Place(NamedTuple):
+class LanePlace(NamedTuple):
     x: float
     y: float
 
@@ -150,31 +150,31 @@ class Layout:
     def y(self, lane: int) -> float:
         return self._middles[lane]
 
-    def at(self, lane: int, rev: int) -> Place:
-        return Place(self.x(self._graph.column_of(rev)), self.y(lane))
+    def at(self, lane: int, rev: int) -> LanePlace:
+        return LanePlace(self.x(self._graph.column_of(rev)), self.y(lane))
 
     def end(self, lane: int) -> float:
         """Where the line of a lane ends."""
         return self.left + self._ends[lane]
 
-    def source(self, copy: Copy) -> Place | None:
+    def source(self, copy: LaneCopy) -> LanePlace | None:
         """Where the curve of a copy begins, if its source has a lane: at the source's revision."""
-        return None if copy.source is None else Place(self._x_of_source(copy), self.y(copy.source))
+        return None if copy.source is None else LanePlace(self._x_of_source(copy), self.y(copy.source))
 
-    def turn(self, copy: Copy) -> float:
+    def turn(self, copy: LaneCopy) -> float:
         """Where that curve meets the line of the copy."""
         to = self.x(self._graph.column_of(copy.life.first))
         return to - 0.6 * self.step if copy.source is None else min(self._x_of_source(copy) + self.step, to)
 
-    def names_on_line(self, lane: int) -> list[tuple[Place, str]]:
+    def names_on_line(self, lane: int) -> list[tuple[LanePlace, str]]:
         """The names on the line of a lane. One that has no room before the next one is left out."""
-        found: list[tuple[Place, str]] = []
+        found: list[tuple[LanePlace, str]] = []
         for place, name in reversed(list(self._names_on_line(lane))):
             if not found or place.x + width_of(name) * SMALLER <= found[-1][0].x:
                 found.append((place, name))
         return found[::-1]
 
-    def _names_on_line(self, lane: int) -> Iterator[tuple[Place, str]]:
+    def _names_on_line(self, lane: int) -> Iterator[tuple[LanePlace, str]]:
         """Where a line gets another name, and far from where its name stands already."""
         lives = self._graph.lanes[lane].lives
         before = self.left if lane in self.names else float("-inf")
@@ -184,9 +184,9 @@ class Layout:
                 if place.x - before > FAR or (place == start and len(lives) > 1):
                     yield place, name_on_line(life, self._graph.lanes[lane])
                     before = place.x
-                place = Place(place.x + 2 * FAR, place.y)
+                place = LanePlace(place.x + 2 * FAR, place.y)
 
-    def _x_of_source(self, copy: Copy) -> float:
+    def _x_of_source(self, copy: LaneCopy) -> float:
         assert copy.source is not None and copy.life.source is not None
         lane = self._graph.lanes[copy.source]
         changed = newest(lane.revisions, copy.life.source[1]) or [lane.lives[0].first]

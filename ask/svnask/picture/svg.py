@@ -6,8 +6,8 @@ from html import escape
 from typing import NamedTuple
 
 from svnask.history.open_history import OpenHistory
-from svnask.picture.graph import Copy, Dot, Graph, Left, Merge
-from svnask.picture.layout import GAP, TAIL, TOP, Layout, Place
+from svnask.picture.graph import Dot, Graph, LaneCopy, LaneMerge, LeftOut
+from svnask.picture.layout import GAP, TAIL, TOP, LanePlace, Layout
 from svnask.picture.titles import Titles, about_copy, about_end, about_lane, dated
 from svnask.projects import BRANCH, TAG, TRUNK
 
@@ -57,7 +57,7 @@ def element(title: str, *inner: str) -> str:
     return "<g><title>%s</title>%s</g>\n" % (escape(title, quote=False), "".join(inner))
 
 
-def text(x: float, y: float, content: str, kind: str, anchor: str = "start") -> str:
+def text_element(x: float, y: float, content: str, kind: str, anchor: str = "start") -> str:
     return '<text x="%s" y="%s" class="%s" text-anchor="%s">%s</text>\n' % (
         decimal(x),
         decimal(y),
@@ -86,7 +86,7 @@ class Picture:
     def pieces(self) -> Iterator[str]:
         yield self._front()
         if not self._graph.lanes:
-            yield text(GAP, TOP, "no path matches the patterns", "small")
+            yield text_element(GAP, TOP, "no path matches the patterns", "small")
         yield from self._revisions()
         yield from self._guides()
         yield from map(self._copy, self._graph.copies)
@@ -96,7 +96,7 @@ class Picture:
         yield from self._ends()
         yield from self._names()
         if self._left:
-            yield text(GAP, self._layout.height - 18, self._left, "left-out")
+            yield text_element(GAP, self._layout.height - 18, self._left, "left-out")
         yield self._legend.text
         yield "</svg>\n"
 
@@ -131,9 +131,9 @@ class Picture:
             x = places[column]
             yield '<path class="grid" d="M%s %d V%s"/>\n' % (decimal(x), TOP, decimal(bottom))
             for y in [TOP - 12, bottom + 20][: 1 + (len(self._layout.rows) > MOST_ROWS)]:
-                yield text(x, y, "r%d" % columns[column], "small", "middle")
+                yield text_element(x, y, "r%d" % columns[column], "small", "middle")
         for column in chosen(places, DATE_ROOM, DATES_APART):
-            yield text(places[column], TOP - 30, dated(self._history, columns[column]), "small", "middle")
+            yield text_element(places[column], TOP - 30, dated(self._history, columns[column]), "small", "middle")
 
     def _guides(self) -> Iterator[str]:
         """From each name at the left to the line that it names."""
@@ -141,7 +141,7 @@ class Picture:
             place = self._layout.at(number, self._graph.lanes[number].lives[0].first)
             yield '<path class="guide" d="M%s H%s"/>\n' % (points(self._layout.left, place.y), decimal(place.x))
 
-    def _copy(self, copy: Copy) -> str:
+    def _copy(self, copy: LaneCopy) -> str:
         """A curve from the source to the line of the copy, and along it to the revision that made it. Where the source
         has no lane it is a stub."""
         assert copy.life.source is not None
@@ -176,7 +176,7 @@ class Picture:
         )
         return element(about_lane(lane), line, tail if self._layout.is_cut(number) else "")
 
-    def _merge(self, merges: list[Merge]) -> str:
+    def _merge(self, merges: list[LaneMerge]) -> str:
         """An arrow, which leaves and arrives upright, for some merges."""
         merge = merges[0]
         start = self._layout.at(merge.source, merge.revisions[-1])
@@ -188,7 +188,7 @@ class Picture:
         path = "M%s C%s" % (points(*start), points(start.x, leave, to.x, tip - way * reach, to.x, tip - way * 6))
         head = "M%s l-3.5 %d h7 z" % (points(to.x, tip), -way * 7)
         colour = self._colour(merge.source)
-        kind = kind_of(merge) + " part" * is_of_part(merge)
+        kind = arrow_style(merge) + " part" * is_of_part(merge)
         return element(
             self._titles.merges(merges),
             '<path class="hit" d="%s"/>' % path,
@@ -200,7 +200,7 @@ class Picture:
 
     def _dot(self, dot: Dot) -> str:
         lane = self._graph.lanes[dot.lane]
-        place = Place(self._layout.x(dot.column), self._layout.y(dot.lane))
+        place = LanePlace(self._layout.x(dot.column), self._layout.y(dot.lane))
         is_first = any(life.first in dot.revisions and life.source is not None for life in lane.lives)
         colour = self._colour(dot.lane)
         circle = '<circle class="dot" cx="%s" cy="%s" r="%s" fill="%s" stroke="%s"/>' % (
@@ -226,14 +226,14 @@ class Picture:
         for number, lane in enumerate(self._graph.lanes):
             if number in self._layout.names:
                 y = self._layout.y(number) + 4
-                name = text(self._layout.left - GAP, y, self._layout.names[number], "left", "end")
+                name = text_element(self._layout.left - GAP, y, self._layout.names[number], "left", "end")
                 yield element(about_lane(lane), name)
             for place, words in self._layout.names_on_line(number):
-                yield element(about_lane(lane), text(place.x + 2, place.y - 7, words, "name"))
+                yield element(about_lane(lane), text_element(place.x + 2, place.y - 7, words, "name"))
 
     def _kinds(self) -> set[str]:
         """The kinds of marks that the picture has."""
-        found = {kind_of(merge) for merge in self._graph.merges}
+        found = {arrow_style(merge) for merge in self._graph.merges}
         found.update("record-only" for merge in self._graph.merges if merge.is_record_only)
         found.update("part" for merge in self._graph.merges if is_of_part(merge))
         found.update("cut" for number in range(len(self._graph.lanes)) if self._layout.is_cut(number))
@@ -241,30 +241,30 @@ class Picture:
         return found | {"copy" for copy in self._graph.copies} | {"dot" for dot in self._graph.dots}
 
 
-def kind_of(merge: Merge) -> str:
+def arrow_style(merge: LaneMerge) -> str:
     """How the line of an arrow looks."""
     if merge.is_carried:
         return "carried"
     return "lost" if merge.lost is not None else "recorded" if merge.is_record_only else "merged"
 
 
-def arrows_of(graph: Graph, most: float) -> list[list[Merge]]:
+def arrows_of(graph: Graph, most: float) -> list[list[LaneMerge]]:
     """The merges that are drawn as one arrow: those that look alike, between the same places. Where that makes too many
     arrows, neighbours between the same lanes are joined, and stand where the newest one does."""
-    arrows: list[list[Merge]] = []
+    arrows: list[list[LaneMerge]] = []
     for step in (1 << power for power in range(len(graph.columns).bit_length() + 1)):
-        found: dict[tuple[object, ...], list[Merge]] = {}
+        found: dict[tuple[object, ...], list[LaneMerge]] = {}
         for merge in graph.merges:
             columns = graph.column_of(merge.revisions[-1]) // step, graph.column_of(merge.rev) // step
             ends = merge.source, merge.target, columns if step == 1 else columns[1]
-            found.setdefault((*ends, kind_of(merge), merge.is_record_only, is_of_part(merge)), []).append(merge)
+            found.setdefault((*ends, arrow_style(merge), merge.is_record_only, is_of_part(merge)), []).append(merge)
         arrows = [sorted(merges, key=lambda merge: -merge.rev) for merges in found.values()]
         if len(arrows) <= most:
             break
     return arrows
 
 
-def is_of_part(merge: Merge) -> bool:
+def is_of_part(merge: LaneMerge) -> bool:
     return merge.of is not None or merge.into is not None
 
 
@@ -294,7 +294,7 @@ MARKS = (
 )
 
 
-def about_left(left: Left | None) -> str:
+def about_left(left: LeftOut | None) -> str:
     """How much is left out, and by which option it comes back."""
     if left is None:
         return ""
@@ -319,9 +319,9 @@ def legend_of(kinds: set[str], width: float, y: float) -> Legend:
     in_row = max(int((width - GAP) // cell), 1)
     parts: list[str] = []
     for place, (_, mark, says) in enumerate(marks):
-        at = Place(GAP + place % in_row * cell, y + place // in_row * LEGEND_ROW)
+        at = LanePlace(GAP + place % in_row * cell, y + place // in_row * LEGEND_ROW)
         parts.append('<g class="mark" transform="translate(%s)">%s</g>\n' % (points(*at), mark))
-        parts.append(text(at.x + 34, at.y + 4, says, "small"))
+        parts.append(text_element(at.x + 34, at.y + 4, says, "small"))
     return Legend("".join(parts), GAP + cell * min(in_row, len(marks)), (len(marks) - 1) // in_row * LEGEND_ROW)
 
 

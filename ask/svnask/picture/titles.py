@@ -5,25 +5,25 @@ from svnask.history import dates
 from svnask.history.lives import Life
 from svnask.history.open_history import OpenHistory
 from svnask.log.plain import first_line, head_line
-from svnask.picture.graph import Copy, Dot, Graph, Lane, Merge
+from svnask.picture.graph import Dot, Graph, Lane, LaneCopy, LaneMerge
 from svnask.texts import readable
 
 MOST_LISTED = 24
 
 
-def listed(revisions: list[int]) -> str:
+def shortened(revisions: list[int]) -> str:
     """Rising revisions, of many only the newest ones."""
     shown = ", ".join(f"r{rev}" for rev in revisions[-MOST_LISTED:])
     more = len(revisions) - MOST_LISTED
     return f"{shown}, and {more} older" if more > 0 else shown
 
 
-def name_of(life: Life) -> str:
+def name_of_life(life: Life) -> str:
     return readable(life.path)
 
 
 def dated(history: OpenHistory, rev: int) -> str:
-    shown = dates.shown(history.revision(rev).date)
+    shown = dates.shown_date(history.revision(rev).date)
     return shown[:10] if shown[0].isdigit() else shown
 
 
@@ -33,24 +33,24 @@ def about_revision(history: OpenHistory, rev: int) -> str:
     return "%s\n%s" % (readable(head_line(revision)), readable(first_line(revision)))
 
 
-def about_copy(copy: Copy) -> str:
+def about_copy(copy: LaneCopy) -> str:
     assert copy.life.source is not None
     path, rev = copy.life.source
-    return f"r{copy.life.first}: {name_of(copy.life)} is a copy of {readable(path)}@{rev}"
+    return f"r{copy.life.first}: {name_of_life(copy.life)} is a copy of {readable(path)}@{rev}"
 
 
 def about_move(before: Life, life: Life) -> str:
-    return f"r{life.first}: moved from {name_of(before)} to {name_of(life)}"
+    return f"r{life.first}: moved from {name_of_life(before)} to {name_of_life(life)}"
 
 
 def about_end(history: OpenHistory, life: Life) -> str:
     rev = life.last + 1
-    return f"r{rev}: {name_of(life)} is deleted or replaced\n{about_revision(history, rev)}"
+    return f"r{rev}: {name_of_life(life)} is deleted or replaced\n{about_revision(history, rev)}"
 
 
 def about_lane(lane: Lane) -> str:
     """The names of a lane, and the revisions in which it has them."""
-    return "\n".join(f"{name_of(life)} {span_of(life)}" for life in lane.lives)
+    return "\n".join(f"{name_of_life(life)} {span_of(life)}" for life in lane.lives)
 
 
 def span_of(life: Life) -> str:
@@ -76,13 +76,13 @@ class Titles:
     def _note(self, lane: int, rev: int, text: str) -> None:
         self._notes.setdefault((lane, rev), []).append(text)
 
-    def merge(self, merge: Merge) -> str:
+    def merge(self, merge: LaneMerge) -> str:
         source, target = (self._graph.lanes[lane] for lane in (merge.source, merge.target))
         names = (
             name_at(source, merge.revisions[-1]) if merge.of is None else readable(merge.of),
             name_at(target, merge.rev) if merge.into is None else readable(merge.into),
         )
-        text = "r%d: %s of %s into %s" % (merge.rev, listed(merge.revisions), *names)
+        text = "r%d: %s of %s into %s" % (merge.rev, shortened(merge.revisions), *names)
         if merge.is_record_only:
             text += ", only recorded as merged"
         if merge.is_carried:
@@ -91,7 +91,7 @@ class Titles:
             text += f", no longer merged from r{merge.lost} on"
         return text
 
-    def merges(self, merges: list[Merge]) -> str:
+    def merges(self, merges: list[LaneMerge]) -> str:
         more = len(merges) - MOST_LISTED
         lines = [self.merge(merge) for merge in merges[:MOST_LISTED]]
         return "\n".join(lines + [f"and {more} more"] * (more > 0))
@@ -101,10 +101,10 @@ class Titles:
         newest = dot.revisions[-1]
         lines = [name_at(self._graph.lanes[dot.lane], newest), about_revision(self._history, newest)]
         if len(dot.revisions) > 1:
-            lines.append("with %s" % listed(dot.revisions[:-1]))
+            lines.append("with %s" % shortened(dot.revisions[:-1]))
         return "\n".join(lines + [note for rev in dot.revisions for note in self._notes.get((dot.lane, rev), [])])
 
 
 def name_at(lane: Lane, rev: int) -> str:
     """The name of a lane in a revision."""
-    return name_of(next((life for life in lane.lives if life.first <= rev <= life.last), lane.lives[-1]))
+    return name_of_life(next((life for life in lane.lives if life.first <= rev <= life.last), lane.lives[-1]))

@@ -23,7 +23,7 @@ CARRIED, SAME = ("TZ", "SVNASK_DEBUG"), ("SVNHIST", "SVNHIST_LIVE")
 OWN = frozenset(("-", "-h", "--help", "-V", "--version", "--no-cache"))
 
 
-class Reply(NamedTuple):
+class ServerReply(NamedTuple):
     """What a server says: a status, lines for standard error, and a file with what goes to standard output."""
 
     status: int
@@ -55,7 +55,7 @@ def connection_of(source: str, access: Sequence[str] = ()) -> socket.socket | No
     top = files.cache_folder()
     if top is None or not os.path.isdir(top):
         return None
-    with sockets.opened(top) as folder:
+    with sockets.opened_folder(top) as folder:
         for place in places_of(source, access):
             name = sockets.socket_name(place)
             if os.path.lexists(os.path.join(top, name)):
@@ -66,7 +66,7 @@ def connection_of(source: str, access: Sequence[str] = ()) -> socket.socket | No
     return None
 
 
-def asked(words: Sequence[str]) -> Reply | None:
+def ask_server(words: Sequence[str]) -> ServerReply | None:
     """The reply of a server to a question. There is none where no server is there, or where it does not answer this."""
     source = source_word(words)
     if source is None or not OWN.isdisjoint(words):
@@ -82,7 +82,7 @@ def asked(words: Sequence[str]) -> Reply | None:
         return None
 
 
-def reply_of(connection: socket.socket) -> Reply | None:
+def reply_of(connection: socket.socket) -> ServerReply | None:
     """The reply of a server, if it is whole. What is printed comes with it, as an open file."""
     text, found_files, _, _ = socket.recv_fds(connection, PIECE, 1)
     files = list(found_files)
@@ -94,14 +94,14 @@ def reply_of(connection: socket.socket) -> Reply | None:
     try:
         if files and text.endswith(b"\n"):
             found = json.loads(text)
-            return Reply(found["status"], found["said"], files.pop())
+            return ServerReply(found["status"], found["said"], files.pop())
     finally:
         for file in files:
             os.close(file)
     return None
 
 
-def printed(reply: Reply) -> int:
+def print_reply(reply: ServerReply) -> int:
     """Prints what a server said, and gives the status."""
     # Where nobody reads it, this ends silently, as other filters do.
     signal.signal(signal.SIGPIPE, signal.SIG_DFL)
@@ -122,5 +122,5 @@ def status_of_server(words: Sequence[str]) -> int | None:
     answered."""
     if sys.stdout is None:
         return None
-    reply = asked(words)
-    return None if reply is None else printed(reply)
+    reply = ask_server(words)
+    return None if reply is None else print_reply(reply)

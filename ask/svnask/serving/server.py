@@ -56,7 +56,7 @@ def serve(given: argparse.Namespace) -> None:
     with OpenSource(given) as source:
         source.asked(given, lambda history: running.check(history, given.dump))
         os.makedirs(top, mode=0o700, exist_ok=True)
-        with sockets.opened(top) as folder, Server(source, place, folder) as server:
+        with sockets.opened_folder(top) as folder, Server(source, place, folder) as server:
             line = object_line({"source": place}) if given.json else b"serving %s\n" % os.fsencode(place)
             sys.stdout.buffer.write(line)
             sys.stdout.buffer.flush()

@@ -18,7 +18,7 @@ from svnask.texts import say
 ABOUT = "type a question, as after 'svnask SOURCE': log trunk; or VERB --help, or exit\nverbs: %s\n"
 
 
-def run(given: argparse.Namespace) -> int:
+def run_shell(given: argparse.Namespace) -> int:
     """Answers each line, and gives the status of the last one that had no answer."""
     if given.dump == "-":
         raise Usage("the shell reads its questions from the standard input: name a file or a repository")
@@ -32,7 +32,7 @@ def run(given: argparse.Namespace) -> int:
         for line in lines():
             if line.strip() in ("exit", "quit"):
                 break
-            status = asked(source, given, line) or status
+            status = answer_line(source, given, line) or status
     return status
 
 
@@ -56,7 +56,7 @@ def lines() -> Iterator[str]:
             sys.stdout.write("\n")
 
 
-def asked(source: OpenSource, given: argparse.Namespace, line: str) -> int:
+def answer_line(source: OpenSource, given: argparse.Namespace, line: str) -> int:
     """The status of one question."""
     try:
         words = shlex.split(line.rstrip("\n"))

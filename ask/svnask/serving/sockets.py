@@ -38,7 +38,7 @@ def peer_of(connection: socket.socket) -> int:
 
 
 @contextlib.contextmanager
-def opened(top: str) -> Iterator[int]:
+def opened_folder(top: str) -> Iterator[int]:
     """The descriptor of a folder."""
     descriptor = os.open(top, os.O_RDONLY | os.O_DIRECTORY)
     try:

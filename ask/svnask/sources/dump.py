@@ -71,7 +71,7 @@ class Dump(Source):
     def entry(self) -> Entry | None:
         """A pipe, an empty file, one without a name and one of which a part was read are not kept."""
         top = files.cache_folder()
-        place = place_of(self.file) if self.file is not None else os.path.realpath(os.fsencode(self.name))
+        place = real_path_of(self.file) if self.file is not None else os.path.realpath(os.fsencode(self.name))
         return None if top is None or place is None else Entry(top, self.kind, place)
 
     def state(self, part: int | None = None) -> State:
@@ -139,7 +139,7 @@ class Dump(Source):
         return is_there and end > 1 and found.startswith(section, end)
 
 
-def place_of(file: BinaryIO) -> bytes | None:
+def real_path_of(file: BinaryIO) -> bytes | None:
     """The real path of a file of which nothing was read."""
     status = os.fstat(file.fileno())
     if not stat.S_ISREG(status.st_mode) or not status.st_size or file.tell():

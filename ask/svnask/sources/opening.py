@@ -35,10 +35,10 @@ def source_of(name: str, access: Access = Access(), is_offline: bool = False) ->
         folder = repository.Folder(name, access)
         if is_repository or folder.is_kept:
             return folder
-    return Dump(name, opened(name, is_offline))
+    return Dump(name, opened_file(name, is_offline))
 
 
-def opened(name: str, is_offline: bool) -> BinaryIO | None:
+def opened_file(name: str, is_offline: bool) -> BinaryIO | None:
     if name == "-" and sys.stdin is None:
         raise Failed("cannot read the standard input: it is closed")
     try:
@@ -99,7 +99,7 @@ def rewritten(kept: Store, sections: Iterable[tuple[int, bytes]], file: IO[bytes
     return found._replace(undated=copy.undated, sums=copy.sums)
 
 
-class Held(NamedTuple):
+class StoredSource(NamedTuple):
     """What is kept of a source."""
 
     kind: str
@@ -109,7 +109,7 @@ class Held(NamedTuple):
     used: float
 
 
-def held() -> Iterator[Held]:
+def stored_sources() -> Iterator[StoredSource]:
     """All that is kept, what was used last first."""
     top = files.cache_folder()
     found = []
@@ -121,5 +121,5 @@ def held() -> Iterator[Held]:
                 continue
             kind, place = index.kept.kind.decode("ascii", "replace"), index.kept.place
             size, used = cache.size_of(each.path), each.stat().st_mtime
-            found.append(Held(kind, place, len(index.revisions) - 1, size, used))
+            found.append(StoredSource(kind, place, len(index.revisions) - 1, size, used))
     yield from sorted(found, key=lambda each: (-each.used, each.place))

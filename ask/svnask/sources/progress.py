@@ -56,7 +56,7 @@ class Bar(Progress):
             done, count = max(read - first, 0) + 1, last - first + 1
             left = seconds * (count - done) / done
             share = 100 * done // count
-            self._show("reading the repository: r%d of r%d, %3d %%, %s left" % (read, last, share, shown(left)))
+            self._show("reading the repository: r%d of r%d, %3d %%, %s left" % (read, last, share, shown_time(left)))
 
     def waits(self, name: str) -> None:
         if sys.stderr is not None and sys.stderr.isatty():
@@ -80,7 +80,7 @@ class Bar(Progress):
             sys.stderr.flush()
 
 
-def shown(seconds: float) -> str:
+def shown_time(seconds: float) -> str:
     """A time as minutes and seconds, or hours and minutes."""
     minutes, rest = divmod(int(seconds), 60)
     return "%d:%02d" % (minutes, rest) if minutes < 60 else "%d h %02d min" % divmod(minutes, 60)

@@ -25,7 +25,7 @@ LINE_END = re.compile(rb"\r\n?")
 OFFLINE = "--offline answers from what is kept of it"
 
 
-class Asked(Source):
+class SubversionSource(Source):
     """A repository, of which Subversion is asked."""
 
     root: str
@@ -142,7 +142,7 @@ class Asked(Source):
         first, last = len(copy.revisions), self.now.youngest
         words = self.dumped(first, last)
         try:
-            with subversion.printed(*words) as stream:
+            with subversion.output_of(*words) as stream:
                 stripper = Stripper(Window(stream, copy.read), file.write, places=True, people=True, known=copy)
                 stripper.run(lambda read: progress.of_revisions(len(copy.revisions) - 1, first, last))
         except Error as error:
@@ -162,7 +162,7 @@ def normal(properties: Properties) -> Properties:
     return {name: LINE_END.sub(b"\n", value).partition(b"\0")[0] for name, value in properties.items()}
 
 
-class Folder(Asked):
+class Folder(SubversionSource):
     """The folder of a repository."""
 
     kind = b"folder"
@@ -181,7 +181,7 @@ class Folder(Asked):
 
     def new_properties(self) -> Iterable[tuple[int, bytes]]:
         with tempfile.TemporaryFile() as file:
-            with subversion.printed("svnadmin", "dump-revprops", "-q", self.folder) as stream:
+            with subversion.output_of("svnadmin", "dump-revprops", "-q", self.folder) as stream:
                 stripper = Stripper(Window(stream), file.write, people=True)
                 found = stripper.run()
             if found.fault is not None:
@@ -196,7 +196,7 @@ def sections_in(file: IO[bytes], copy: Copy) -> Iterator[tuple[int, bytes]]:
         yield rev, file.read(end - begin).partition(b"\n\n")[2]
 
 
-class Address(Asked):
+class Address(SubversionSource):
     """A repository by a URL, which may be that of a path in it."""
 
     kind = b"url"

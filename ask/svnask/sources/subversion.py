@@ -15,7 +15,7 @@ from typing import IO, NamedTuple
 
 from svnask.copy.store import properties_of as properties_of_section
 from svnask.digits import number
-from svnask.engine.talk import name_of
+from svnask.engine.talk import name_of_signal
 from svnask.errors import Failed, Unreached
 from svnask.sources.urls import ancestors, canonical
 
@@ -70,7 +70,7 @@ class Subversion(NamedTuple):
         return found._replace(youngest=self._youngest(found.root))
 
     def _look(self, url: str, *options: str) -> Repository:
-        with printed("svn", "info", "--xml", *options, *self.words, without_peg(url)) as stream:
+        with output_of("svn", "info", "--xml", *options, *self.words, without_peg(url)) as stream:
             found = list(elements(stream, "entry"))
         root, uuid = (found[0].findtext(f"repository/{name}") if found else None for name in ("root", "uuid"))
         if root is None or uuid is None:
@@ -78,7 +78,7 @@ class Subversion(NamedTuple):
         return Repository(canonical(root), uuid.encode("utf-8"), int(found[0].attrib["revision"]))
 
     def _youngest(self, root: str) -> int:
-        with printed("svn", "log", "--xml", "-q", "-r", "HEAD", *self.words, without_peg(root)) as stream:
+        with output_of("svn", "log", "--xml", "-q", "-r", "HEAD", *self.words, without_peg(root)) as stream:
             return max((int(each.attrib["revision"]) for each in elements(stream, "logentry")), default=0)
 
     def has_date(self, url: str, runs: Sequence[tuple[int, int]]) -> bool:
@@ -87,7 +87,7 @@ class Subversion(NamedTuple):
         if sum(last - first + 1 for first, last in runs) <= MOST_NAMED:
             words = ["-c", ",".join(str(rev) for first, last in runs for rev in range(first, last + 1))]
         command = ("svn", "log", "--xml", "-q", *words, *self.words, without_peg(url))
-        with printed(*command, is_read_whole=False) as stream:
+        with output_of(*command, is_read_whole=False) as stream:
             for element in elements(stream, "logentry"):
                 rev = int(element.attrib["revision"])
                 _, last = runs[max(bisect.bisect_left(runs, (rev + 1,)) - 1, 0)]
@@ -100,31 +100,33 @@ class Subversion(NamedTuple):
         several ways, and svnrdump does not."""
         words = ("svn", "proplist", "--revprop", "-v", "--xml", "-r", str(rev))
         try:
-            with printed(*words, *self.words, root) as stream:
-                found = {each.attrib["name"].encode("utf-8"): value_of(each) for each in elements(stream, "property")}
+            with output_of(*words, *self.words, root) as stream:
+                found = {
+                    each.attrib["name"].encode("utf-8"): property_value(each) for each in elements(stream, "property")
+                }
             if not any(ESCAPED.search(value.decode("utf-8", "ignore")) for value in found.values()):
                 return found
         except Unreached as error:
             if not str(error).startswith(MIXED):
                 raise
-        with printed(*self.dumped(root, rev, rev), is_read_whole=False) as stream:
+        with output_of(*self.dumped(root, rev, rev), is_read_whole=False) as stream:
             return properties_of_section(first_section(stream))
 
     def all_properties(self, root: str, last: int) -> Iterator[tuple[int, Properties]]:
         """The properties of all revisions from 0 on. Those that the log can't carry are asked for by themselves."""
         yield 0, self.properties(root, 0)
         words = ("svn", "log", "--xml", "--with-all-revprops", "-r", f"1:{last}")
-        with printed(*words, *self.words, without_peg(root)) as stream:
+        with output_of(*words, *self.words, without_peg(root)) as stream:
             for element in elements(stream, "logentry"):
                 rev = int(element.attrib["revision"])
-                found, is_all = properties_of(element)
+                found, is_all = properties_in_log(element)
                 yield rev, found if is_all else {**self.properties(root, rev), **found}
 
     def dumped(self, root: str, first: int, last: int) -> Sequence[str]:
         return ("svnrdump", "dump", "-q", "--incremental", "-r", f"{first}:{last}", *self.words, root)
 
 
-def properties_of(entry: xml.Element) -> tuple[Properties, bool]:
+def properties_in_log(entry: xml.Element) -> tuple[Properties, bool]:
     """The properties in an entry of a log that are there as they are, and whether these are all. An empty date is not
     there."""
     found: Properties = {}
@@ -133,7 +135,7 @@ def properties_of(entry: xml.Element) -> tuple[Properties, bool]:
         if text is not None and not ESCAPED.search(text):
             found[name] = text.encode("utf-8")
     is_all = len(found) == sum(text is not None for text in texts.values()) and bool(texts[b"svn:date"])
-    found.update((each.attrib["name"].encode("utf-8"), value_of(each)) for each in entry.iter("property"))
+    found.update((each.attrib["name"].encode("utf-8"), property_value(each)) for each in entry.iter("property"))
     return found, is_all
 
 
@@ -149,7 +151,7 @@ def first_section(stream: IO[bytes]) -> bytes:
     return b""
 
 
-def value_of(element: xml.Element) -> bytes:
+def property_value(element: xml.Element) -> bytes:
     """The value of a property."""
     text = (element.text or "").encode("utf-8")
     return base64.b64decode(text) if element.get("encoding") == "base64" else text
@@ -176,7 +178,7 @@ def elements(stream: IO[bytes], tag: str) -> Iterator[xml.Element]:
 
 
 @contextmanager
-def printed(*words: str, is_read_whole: bool = True) -> Iterator[IO[bytes]]:
+def output_of(*words: str, is_read_whole: bool = True) -> Iterator[IO[bytes]]:
     """What a command prints, which has ended well at the end, or its failure is raised. It may ask for a password on the
     terminal, which is also its standard input."""
     with tempfile.TemporaryFile() as errors:
@@ -203,7 +205,7 @@ def printed(*words: str, is_read_whole: bool = True) -> Iterator[IO[bytes]]:
 def failure(command: str, status: int, said: str) -> Failed | Unreached:
     """Why a command failed, by its status and what it said."""
     if status < 0:
-        return Failed(f"{command} was ended by {name_of(-status)}")
+        return Failed(f"{command} was ended by {name_of_signal(-status)}")
     lines = [found[1] for found in map(ERROR.match, said.splitlines()) if found]
     if not lines:
         return Failed(f"{command} ended with status {status}" + (said.strip() and ": " + said.strip().splitlines()[-1]))

@@ -20,7 +20,7 @@ class BranchesVerb(Verb):
         add_patterns(parser, "**")
 
     def text(self, history: OpenHistory, given: Namespace) -> Iterator[bytes]:
-        for each in branches.listed(history, patterns_of(history, given)):
+        for each in branches.listed_branches(history, patterns_of(history, given)):
             life = each.life
             fields = [life.path, b"r%d-r%d" % (life.first, life.last)]
             fields += [(b"moved " if each.is_moved else b"") + origin_of(life), b"changed in r%d" % each.last_change]
@@ -31,7 +31,7 @@ class BranchesVerb(Verb):
             yield b"\t".join(fields + [b"folder"] * each.is_folder) + b"\n"
 
     def objects(self, history: OpenHistory, given: Namespace) -> Iterator[Object]:
-        for each in branches.listed(history, patterns_of(history, given)):
+        for each in branches.listed_branches(history, patterns_of(history, given)):
             found = dict(object_of_life(each.life), last_change=each.last_change, is_moved=each.is_moved)
             moved_to = None if each.moved_to is None else decoded(each.moved_to.path)
             yield {**found, "moved_to": moved_to, "is_folder": each.is_folder}

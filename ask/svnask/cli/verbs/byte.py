@@ -5,7 +5,7 @@ from argparse import ArgumentParser, Namespace
 from collections.abc import Iterator
 
 from svnask.asking.verb import Object, Verb, counted, object_of_record
-from svnask.cli.verbs.record import described
+from svnask.cli.verbs.record import described_record
 from svnask.copy.store import Record
 from svnask.errors import Failed
 from svnask.history.open_history import OpenHistory
@@ -30,7 +30,7 @@ class ByteVerb(Verb):
     def text(self, history: OpenHistory, given: Namespace) -> Iterator[bytes]:
         at, record = self.block(history, given)
         if record is not None:
-            return described(history, record)
+            return described_record(history, record)
         return iter([b"block at byte %d\n" % at] + [b"  " + line + b"\n" for line in history.header(at)])
 
     def objects(self, history: OpenHistory, given: Namespace) -> Iterator[Object]:

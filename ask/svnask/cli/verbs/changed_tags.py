@@ -29,12 +29,12 @@ class ChangedTagsVerb(Verb):
             yield {**found, "events": [object_of_event(history, event) for event in events]}
 
 
-def text_of_event(event: branches.Event) -> bytes:
+def text_of_event(event: branches.TagEvent) -> bytes:
     what = b"%s in r%d" % (event.what.encode("ascii"), event.rev)
     return what + b" to " + event.other[0] if event.what == branches.RENAMED and event.other is not None else what
 
 
-def object_of_event(history: OpenHistory, event: branches.Event) -> Object:
+def object_of_event(history: OpenHistory, event: branches.TagEvent) -> Object:
     revision = history.revision(event.rev)
     found: Object = {"what": event.what, "revision": event.rev}
     found.update(author=shown(revision.author), date=shown(revision.date))

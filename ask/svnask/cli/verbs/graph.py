@@ -49,7 +49,7 @@ class GraphVerb(Verb):
         height = HEIGHT if given.height is None else given.height
         if height < FEWEST:
             raise Usage(f"--height takes {FEWEST} pixels or more")
-        pieces = picture.svg_of(history, fitting.fitted(drawable(history, given), height))
+        pieces = picture.svg_of(history, fitting.fitted(drawable_of(history, given), height))
         if given.output is None:
             yield from pieces
         else:
@@ -65,7 +65,7 @@ class GraphVerb(Verb):
         ):
             if value is not None:
                 raise Usage(f"{option} is for the picture: --json prints objects")
-        whole = drawable(history, given)
+        whole = drawable_of(history, given)
         found = whole.graph(whole.lanes)
         for number, lane in enumerate(found.lanes):
             lives = [object_of_life(life) for life in lane.lives]
@@ -87,7 +87,7 @@ class GraphVerb(Verb):
             }
 
 
-def drawable(history: OpenHistory, given: Namespace) -> graph.Drawable:
+def drawable_of(history: OpenHistory, given: Namespace) -> graph.Drawable:
     since = 0 if given.since is None else known(history, revision_of(history, given.since))
     width = WIDTH if given.width is None else given.width
     if width < FEWEST:

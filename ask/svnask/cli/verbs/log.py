@@ -12,7 +12,7 @@ from svnask.errors import Denied, Failed, Usage
 from svnask.history.open_history import OpenHistory
 from svnask.history.targets import paths_below, ranges_of, target_of
 from svnask.log import selection as log
-from svnask.log.forms import AUTHOR, DATE, SHOWN, Form, Wanted, entries, printed
+from svnask.log.forms import AUTHOR, DATE, SHOWN, Form, Wanted, log_entries, printed_log
 from svnask.log.plain import PlainForm
 from svnask.log.search import Glob, Group, folded
 from svnask.log.xml import XmlForm
@@ -62,7 +62,7 @@ class LogVerb(Verb):
             "--with-revprop", dest="names", metavar="NAME", action="append", default=[], help=OF_PROPERTY
         )
         for option, about in ((SEARCH, OF_SEARCH), (SEARCH_AND, OF_SEARCH_AND)):
-            parser.add_argument(option, dest="groups", metavar="PATTERN", action=Searched, default=[], help=about)
+            parser.add_argument(option, dest="groups", metavar="PATTERN", action=SearchAction, default=[], help=about)
 
     def options(self, history: OpenHistory, given: Namespace) -> log.Options:
         """Which revisions are asked for."""
@@ -79,18 +79,18 @@ class LogVerb(Verb):
     def items(self, history: OpenHistory, given: Namespace) -> list[log.Item]:
         if given.diff:
             raise Usage(NO_CONTENTS)
-        target, *paths = [*filter(None, [given.target]), *given.paths, *lines_of(given.targets)] or [""]
+        target, *paths = [*filter(None, [given.target]), *given.paths, *lines_of_file(given.targets)] or [""]
         asked = target_of(history, target), paths_below(paths), self.options(history, given)
         if given.merges:
             return merged_log.items_of(history, *asked)
-        return [*map(log.Item, log.entries(history, *asked))]
+        return [*map(log.Item, log.log_items(history, *asked))]
 
     def text(self, history: OpenHistory, given: Namespace) -> Iterator[bytes]:
         wanted = wanted_of(given)
         items = self.items(history, given)
         if given.xml and given.verbose:
             history.find_kinds(rev for item in items for rev in (*item.left_out, item.rev) if rev >= 0)
-        return printed(history, items, wanted, self.form(given))
+        return printed_log(history, items, wanted, self.form(given))
 
     @staticmethod
     def form(given: Namespace) -> Form:
@@ -100,13 +100,13 @@ class LogVerb(Verb):
         if given.xml:
             raise Usage("--xml prints no objects: it is not taken with --json")
         wanted = wanted_of(given)
-        for entry in entries(history, self.items(history, given), wanted, PlainForm(given.quiet)):
+        for entry in log_entries(history, self.items(history, given), wanted, PlainForm(given.quiet)):
             if entry is not None:
                 merged = {"merged_via": list(entry.via), "is_reverse": entry.is_reverse} if given.merges else {}
                 yield {**object_of_revision(history, entry.revision.number), **merged}
 
 
-def lines_of(name: str | None) -> list[str]:
+def lines_of_file(name: str | None) -> list[str]:
     """The lines of a file that names targets."""
     try:
         return [] if name is None else [line for line in read_text(name).splitlines() if line]
@@ -119,7 +119,7 @@ def read_text(name: str) -> str:
         return file.read()
 
 
-class Searched(Action):
+class SearchAction(Action):
     """`--search` begins a group of patterns, and `--search-and` adds to the last one."""
 
     def __call__(self, parser: ArgumentParser, given: Namespace, values: Any, option: str | None = None) -> None:

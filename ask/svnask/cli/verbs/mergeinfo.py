@@ -10,7 +10,7 @@ from svnask.errors import Denied, Usage
 from svnask.history.open_history import OpenHistory, one
 from svnask.history.targets import known, place_of, range_of, target_of
 from svnask.log import selection as log
-from svnask.log.forms import Wanted, printed
+from svnask.log.forms import Wanted, printed_log
 from svnask.log.plain import PlainForm
 from svnask.merges import diagram
 from svnask.merges import show_revs as mergeinfo
@@ -81,11 +81,11 @@ class MergeinfoVerb(Verb):
         if source.rev > history.head and question.verb == "merged":
             # Without mergeinfo of the target `svn` does not look at the source.
             answers = history.answers(mergeinfo.queries_about(explicit, target, question))
-            if mergeinfo.Merges(history, explicit, answers).has_none(target, question.is_recursive):
+            if mergeinfo.ShownMerges(history, explicit, answers).has_none(target, question.is_recursive):
                 return []
         known(history, source.rev)
-        answers = history.answers(mergeinfo.queries_of(explicit, source, target, question))
-        return mergeinfo.Merges(history, explicit, answers).shown(source, target, question)
+        answers = history.answers(mergeinfo.queries_of_question(explicit, source, target, question))
+        return mergeinfo.ShownMerges(history, explicit, answers).shown(source, target, question)
 
     def summary(self, history: OpenHistory, given: Namespace) -> diagram.Summary:
         source = target_of(history, given.source)
@@ -93,7 +93,7 @@ class MergeinfoVerb(Verb):
 
     def log(self, history: OpenHistory, given: Namespace) -> Iterator[bytes]:
         items = [log.Item(rev) for rev, _ in self.revisions(history, given)]
-        return printed(history, items, Wanted(is_verbose=given.verbose), PlainForm(given.quiet, given.incremental))
+        return printed_log(history, items, Wanted(is_verbose=given.verbose), PlainForm(given.quiet, given.incremental))
 
     def text(self, history: OpenHistory, given: Namespace) -> Iterator[bytes]:
         self.judge(given)
@@ -102,7 +102,7 @@ class MergeinfoVerb(Verb):
         if given.show_revs:
             return mergeinfo.show_revs_text(self.revisions(history, given))
         if given.target is not None:
-            return diagram.text(self.summary(history, given))
+            return diagram.diagram_text(self.summary(history, given))
         return (b"%s:%s\n" % (path, ranges.encode("ascii")) for path, ranges in self.value(history, given).items())
 
     def objects(self, history: OpenHistory, given: Namespace) -> Iterator[Object]:

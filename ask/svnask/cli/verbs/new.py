@@ -9,7 +9,7 @@ from svnask.branches.gained import Gained, gained
 from svnask.history.open_history import OpenHistory
 from svnask.history.targets import target_of
 from svnask.log import selection as log
-from svnask.log.forms import Wanted, printed
+from svnask.log.forms import Wanted, printed_log
 from svnask.log.plain import PlainForm, summary_of
 
 
@@ -25,7 +25,9 @@ class NewVerb(Verb):
     def text(self, history: OpenHistory, given: Namespace) -> Iterator[bytes]:
         found = self.gained(history, given)
         if given.verbose:
-            yield from printed(history, [log.Item(each.rev) for each in found], Wanted(is_verbose=True), PlainForm())
+            yield from printed_log(
+                history, [log.Item(each.rev) for each in found], Wanted(is_verbose=True), PlainForm()
+            )
             return
         for each in found:
             yield b"r%d\t%s\n" % (each.rev, summary_of(history.revision(each.rev)))

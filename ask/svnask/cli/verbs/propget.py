@@ -18,7 +18,7 @@ from svnask.texts import decoded
 MERGEINFO = "svn:mergeinfo"
 
 
-class Found(NamedTuple):
+class FoundValue(NamedTuple):
     """A path and the text that it has itself."""
 
     path: bytes
@@ -45,7 +45,7 @@ class PropgetVerb(Verb):
             "--no-newline", "--strict", dest="bare", action="store_true", help="without a newline at the end"
         )
 
-    def found(self, history: OpenHistory, given: Namespace) -> list[Found]:
+    def found(self, history: OpenHistory, given: Namespace) -> list[FoundValue]:
         """All that is printed. A target without a value has one below it, or the question has no answer."""
         if given.property != MERGEINFO:
             raise Usage(f"of the properties of paths svnask knows {MERGEINFO} alone")
@@ -76,14 +76,16 @@ class PropgetVerb(Verb):
             yield {"path": decoded(path), "value": shown(text)}
 
 
-def found_at(explicit: Explicit, target: Target, is_recursive: bool) -> list[Found]:
+def found_at(explicit: Explicit, target: Target, is_recursive: bool) -> list[FoundValue]:
     """The text of a target, or of all paths at and below it."""
     if is_recursive:
-        return [Found(*each) for each in sorted(explicit.below(*target), key=lambda each: components(in_url(each[0])))]
+        return [
+            FoundValue(*each) for each in sorted(explicit.below(*target), key=lambda each: components(in_url(each[0])))
+        ]
     text = explicit.text(*target)
     if text is None:
         raise Denied("E200000", f"Property '{MERGEINFO}' not found on '{decoded(target.path)}'")
-    return [Found(target.path, text)]
+    return [FoundValue(target.path, text)]
 
 
 VERB = PropgetVerb()

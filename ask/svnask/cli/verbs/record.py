@@ -12,7 +12,7 @@ from svnask.history.open_history import OpenHistory
 from svnask.texts import encoded
 
 
-def described(history: OpenHistory, record: Record) -> Iterator[bytes]:
+def described_record(history: OpenHistory, record: Record) -> Iterator[bytes]:
     yield encoded(about_record(record)) + b"\n"
     yield from (b"  " + line + b"\n" for line in history.header(record.at))
 
@@ -31,7 +31,7 @@ class RecordVerb(Verb):
         raise Failed("there is no record %d: %s" % (given.number, has % history.index.records), 1)
 
     def text(self, history: OpenHistory, given: Namespace) -> Iterator[bytes]:
-        return described(history, self.record(history, given))
+        return described_record(history, self.record(history, given))
 
     def objects(self, history: OpenHistory, given: Namespace) -> Iterator[Object]:
         yield object_of_record(self.record(history, given))

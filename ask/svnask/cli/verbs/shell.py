@@ -11,7 +11,7 @@ class ShellVerb(Verb):
     needs_history = False
 
     def run(self, given: Namespace) -> int:
-        return shell.run(given)
+        return shell.run_shell(given)
 
 
 VERB = ShellVerb()

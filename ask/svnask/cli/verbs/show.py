@@ -7,7 +7,7 @@ from collections.abc import Iterator
 from svnask.asking.verb import Object, Verb, object_of_revision
 from svnask.history.open_history import OpenHistory
 from svnask.history.targets import known, revision_of
-from svnask.log.forms import Entry, as_wanted
+from svnask.log.forms import LogEntry, as_wanted
 from svnask.log.plain import RULE, PlainForm
 
 
@@ -21,7 +21,7 @@ class ShowVerb(Verb):
 
     def text(self, history: OpenHistory, given: Namespace) -> Iterator[bytes]:
         revision = as_wanted(history.revision(self.revision(history, given)), None)
-        yield PlainForm().entry(Entry(revision, history.changes(revision.number))) + RULE
+        yield PlainForm().entry(LogEntry(revision, history.changes(revision.number))) + RULE
 
     def objects(self, history: OpenHistory, given: Namespace) -> Iterator[Object]:
         yield object_of_revision(history, self.revision(history, given))

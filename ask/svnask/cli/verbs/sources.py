@@ -7,7 +7,7 @@ from collections.abc import Iterator
 
 from svnask.asking.verb import Object, Verb, object_line, write_all
 from svnask.errors import Usage
-from svnask.sources.opening import held
+from svnask.sources.opening import stored_sources
 from svnask.texts import decoded, encoded
 
 FORM = "{source}\tr{youngest}\t{bytes} bytes\tused {last_use}\n"
@@ -24,7 +24,7 @@ class SourcesVerb(Verb):
 
 
 def held_objects() -> Iterator[Object]:
-    for each in held():
+    for each in stored_sources():
         used = time.strftime("%Y-%m-%dT%H:%M:%SZ", time.gmtime(each.used))
         place = decoded(each.place)
         yield {"source": place, "kind": each.kind, "youngest": each.youngest, "bytes": each.size, "last_use": used}
